@@ -1,3 +1,6 @@
 pub mod AttributeLemmas
 pub mod NumberLemmas
 pub mod MatchLemmas
+pub mod TextLemmas
+pub mod ItemLemmas
+pub mod GapLemmas

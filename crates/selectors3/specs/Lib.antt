@@ -7,3 +7,7 @@ pub mod Specificities
 pub mod Views
 pub mod SpecificityViews
 pub mod TriedElements
+pub mod Readings
+pub mod Reads
+pub mod Grammar
+pub mod ReadSelectors

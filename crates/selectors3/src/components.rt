@@ -65,6 +65,30 @@ pub enum Structure {
     NthLastOfType(Progression),
 }
 
+/// What siblings a pseudo-class with `An+B` numbers.
+#[derive(Clone, Copy)]
+pub(crate) enum Numbering {
+    /// `:nth-child(..)`
+    Child,
+    /// `:nth-last-child(..)`
+    LastChild,
+    /// `:nth-of-type(..)`
+    OfType,
+    /// `:nth-last-of-type(..)`
+    LastOfType,
+}
+
+/// A pseudo-class with a list of compound selectors.
+#[derive(Clone, Copy)]
+pub(crate) enum ListKind {
+    /// `:not(..)`
+    Not,
+    /// `:is(..)`
+    Is,
+    /// `:where(..)`
+    Where,
+}
+
 /// A condition on an attribute.
 #[derive(Clone, Copy)]
 pub struct AttributeTest<'a> {

@@ -1,26 +1,37 @@
 //! Selectors of level 3 with their meaning on elements, and of level 4 the flag `i`, `:is()`, `:where()`
 //! and `:not()` with lists of compound selectors.
 //!
-//! A `Selector3` is made of its components. It has a specificity, and `matches` is true exactly if there
-//! is a placement: an element for each compound selector, related as the combinators say. An element is
-//! any type with the trait `Element3`.
+//! `Selector3::parse` reads a text as `specs/Grammar` says, or reports why and where it is refused. A
+//! selector can also be made of its components. It has a specificity, and `matches` is true exactly if
+//! there is a placement: an element for each compound selector, related as the combinators say. An
+//! element is any type with the trait `Element3`.
 //!
-//! Selectors are not read from texts, printed or put into an index yet, and `:lang()` is missing.
+//! Escapes, namespaces, `:lang()`, and lists within the lists of `:not()`, `:is()` and `:where()` are
+//! not read. Selectors are not printed or put into an index yet.
 #![tactic(auto)]
 
+mod attribute_selectors;
 mod attributes;
 mod components;
+mod compounds;
 mod element;
 mod matching;
 mod meeting;
+mod numbers;
 mod progression;
+mod pseudo_classes;
+mod reading;
+mod refusal;
 mod selector;
 mod specificity;
+mod texts;
+mod words;
 
 pub use components::{
     AttributeTest, Comparison, Compound, Condition, Part, Progression, Signed, Simple, Structure,
 };
 pub use element::Element3;
+pub use refusal::{Reason, Refusal};
 pub use selector::Selector3;
 pub use sibling_matching::Combinator;
 pub use specificity::Specificity;

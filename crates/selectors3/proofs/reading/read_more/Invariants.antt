@@ -1,0 +1,20 @@
+use Rattle.std.proofs.Common.{◌≡◌, ◌<◌, ◌∷◌, [], length, map}
+use denote.Text.{Utf8}
+use denote.Shadow.{shadow}
+use Rattle.std.specs.Option.{option_to_list}
+use Rattle.selectors3.specs.Components.Condition.{simple}
+use Rattle.selectors3.specs.Grammar.{next_part}
+use Rattle.selectors3.specs.Readings.{items, items_up_to, found_before}
+use Rattle.selectors3.specs.Views.{part_of}
+use Rattle.selectors3.proofs.reading.read_more.Given as goal
+
+abbrev pub invariant-parts : goal.invariant-parts
+invariant-parts l = record {
+  text : shadow (Utf8 l.rest);
+  found : found_before (map part_of l.parts.items) (items_up_to l.left next_part l.rest)
+      ≡ found_before (part_of l.fn.first ∷ []) (items next_part l.fn.text);
+  some : 0 < length l.parts.items;
+}
+
+abbrev pub decreases-parts : goal.decreases-parts
+decreases-parts l = l.left

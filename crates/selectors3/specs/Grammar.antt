@@ -1,0 +1,450 @@
+-- The grammar of selectors (Selectors 3, section 10). Names and strings have no escapes.
+use Rattle.std.specs.Prelude.{ℕ, ◌+◌, ◌-◌, ◌*◌, Bool, true, false, not, ◌&&◌, ◌||◌, ◌==◌, min, if◌then◌else◌, List, [], ◌∷◌, take, drop, codes, Option, Some, None, nat_le}
+use Rattle.std.specs.Option.{option_map}
+use Rattle.std.specs.List.{prefix_len}
+use Rattle.std.specs.Str.{str_eq_ignore_ascii_case}
+use Rattle.simplecss_text.specs.AsciiBytes.{asterisk, backslash, close_bracket, close_parenthesis, colon, comma, equals_sign, full_stop, greater_than_sign, hyphen, number_sign, open_bracket, open_parenthesis, plus_sign, tilde, underscore, vertical_bar}
+use Rattle.simplecss_text.specs.Bytes.{past, past_one, starts, starts_by, is_digit}
+use Rattle.simplecss_text.specs.Characters.{is_letter}
+use Rattle.simplecss_text.specs.Comments.{gap as gap_before}
+use Rattle.simplecss_text.specs.Reading.{Reading as TextReading, got as text_got, fails as text_fails}
+use Rattle.simplecss_text.specs.Strings.{is_quote}
+use Rattle.css_syntax.specs.Tokens.{is_newline, is_name_byte}
+use Rattle.sibling_matching.specs.declared.Combinator.{Combinator}
+use Rattle.sibling_matching.specs.declared.Combinator.TheVariants.{Descendant, Child, Adjacent, Sibling}
+use Rattle.selectors3.specs.declared.components.Numbering.{Numbering}
+use Rattle.selectors3.specs.declared.components.Numbering.TheVariants.{Child as OfChild, LastChild as OfLastChild, OfType, LastOfType as OfLastType}
+use Rattle.selectors3.specs.declared.components.ListKind.{ListKind}
+use Rattle.selectors3.specs.declared.components.ListKind.TheVariants.{Not, Is, Where}
+use Rattle.selectors3.specs.declared.refusal.Reason.TheVariants.{NoSelector, NoName, NotClosed, BrokenString, Escape, NoOperator, NoValue, UnknownFlag, NoProgression, UnknownFunction, Unexpected}
+use Rattle.selectors3.specs.Components.{Comparison, Signed, Progression, Structure, Simple, Condition, Part, Selector}
+use Rattle.selectors3.specs.Components.Comparison.{equals, has_word, has_subtag, starts as starts_with, ends as ends_with, contains}
+use Rattle.selectors3.specs.Components.Structure.{root, empty, first_child, last_child, only_child, first_of_type, last_of_type, only_of_type, nth_child, nth_last_child, nth_of_type, nth_last_of_type}
+use Rattle.selectors3.specs.Components.Simple.{universal, type_name, id, class, has_attribute, attribute, structure, state}
+use Rattle.selectors3.specs.Components.Condition.{simple, negation, any_of, where_any}
+use Rattle.selectors3.specs.Readings.{Reading, got, refused, Reader, follow, ◌>>=◌, ◌>>◌, give, refuse, Step, item, none, stop, as_item, with_first, items}
+
+-- ---- gaps, names, strings
+
+-- a gap is read, or a comment in it is not closed
+abbrev pub closed_gap : List ℕ → TextReading Bool → Reading Bool
+closed_gap text (text_got spaced rest) = got spaced rest
+closed_gap text (text_fails fault rest) = refused NotClosed text
+
+-- space bytes and comments: whether there is a space byte outside the comments
+unfoldable pub gap : Reader Bool
+gap text = closed_gap text (gap_before text)
+
+-- the longest run of bytes at the start of which the test is true
+abbrev pub run : (ℕ → Bool) → List ℕ → List ℕ
+run test text = take (prefix_len test text) text
+
+-- an underscore, a letter, or a byte of a character past ASCII
+abbrev pub begins_word : ℕ → Bool
+begins_word b = is_letter b || b == underscore || nat_le 128 b
+
+-- such a byte, or two hyphens, or a hyphen and such a byte
+abbrev pub begins_name : List ℕ → Bool
+begins_name [] = false
+begins_name (b ∷ text) =
+    begins_word b || (b == hyphen && starts_by (λ c. begins_word c || c == hyphen) text)
+
+-- a name, which no escape continues
+unfoldable pub name : Reader (List ℕ)
+name text =
+    if begins_name text
+    then (if starts backslash (past is_name_byte text) then refused Escape (past is_name_byte text)
+    else got (run is_name_byte text) (past is_name_byte text))
+    else refused NoName text
+
+-- a byte of a string: neither its quote, nor a backslash, nor a newline
+abbrev pub is_plain : ℕ → ℕ → Bool
+is_plain quote b = not (b == quote || (b == backslash || is_newline b))
+
+-- the quote after the bytes of a string
+abbrev pub closed_string : ℕ → List ℕ → List ℕ → Reading (List ℕ)
+closed_string quote value [] = refused NotClosed []
+closed_string quote value (b ∷ rest) =
+    if b == quote then got value rest else refused BrokenString (b ∷ rest)
+
+-- a string, from after its quote
+unfoldable pub string : ℕ → Reader (List ℕ)
+string quote text =
+    closed_string quote (run (is_plain quote) text) (past (is_plain quote) text)
+
+-- the byte, which is required
+abbrev pub closing : ℕ → Reader (Unit {0})
+closing byte text = if starts byte text then got tt (past_one text) else refused NotClosed text
+
+-- ---- attributes
+
+-- an operator of two bytes, by its first
+abbrev pub two_bytes : ℕ → Option Comparison
+two_bytes b =
+    if b == tilde then Some has_word
+    else (if b == vertical_bar then Some has_subtag
+    else (if b == 94 then Some starts_with
+    else (if b == 36 then Some ends_with
+    else (if b == asterisk then Some contains else None))))
+
+abbrev pub compared_by : List ℕ → Option Comparison → Reading (Option Comparison)
+compared_by text None = refused NoOperator text
+compared_by text (Some comparison) =
+    if starts equals_sign (past_one text) then got (Some comparison) (past_one (past_one text))
+    else refused NoOperator text
+
+-- an operator, or the end of the attribute selector
+unfoldable pub comparison : Reader (Option Comparison)
+comparison [] = refused NotClosed []
+comparison (b ∷ text) =
+    if b == close_bracket then got None (b ∷ text)
+    else (if b == equals_sign then got (Some equals) text
+    else compared_by (b ∷ text) (two_bytes b))
+
+-- a string or a name
+unfoldable pub value : Reader (List ℕ)
+value [] = refused NoValue []
+value (b ∷ text) = if is_quote b then string b text else name (b ∷ text)
+
+abbrev pub flag_named : List ℕ → List ℕ → Reader Bool
+flag_named start word rest =
+    if str_eq_ignore_ascii_case word (codes "i") then got true rest
+    else (if str_eq_ignore_ascii_case word (codes "s") then got false rest
+    else refused UnknownFlag start)
+
+-- whether there is the flag `i`
+unfoldable pub flag : Reader Bool
+flag text =
+    if starts close_bracket text then got false text else follow (name text) (flag_named text)
+
+-- what follows the operator
+unfoldable pub compared : List ℕ → Comparison → Reader Simple
+compared n c = do
+  gap
+  v ← value
+  gap
+  ignores ← flag
+  gap
+  closing close_bracket
+  give (attribute n c v ignores)
+
+abbrev pub by_comparison : List ℕ → Option Comparison → Reader Simple
+by_comparison n None = closing close_bracket >> give (has_attribute n)
+by_comparison n (Some c) = compared n c
+
+-- an attribute selector, from after its bracket
+unfoldable pub attribute_selector : Reader Simple
+attribute_selector = do
+  gap
+  n ← name
+  gap
+  c ← comparison
+  by_comparison n c
+
+-- ---- An+B
+
+-- a digit more, up to the greatest `u32`
+abbrev pub with_digit : ℕ → ℕ → ℕ
+with_digit so_far b = min (10 * so_far + (b - 48)) 4294967295
+
+-- the number of the digits at the start, after those that spell `so_far`, and the rest
+abbrev pub digits : ℕ → List ℕ → ℕ × List ℕ
+digits so_far [] = (so_far, [])
+digits so_far (b ∷ text) =
+    if is_digit b then digits (with_digit so_far b) text else (so_far, b ∷ text)
+
+-- whether a minus is next, and the rest after the sign that is next
+abbrev pub sign : List ℕ → Bool × List ℕ
+sign [] = (false, [])
+sign (b ∷ text) =
+    if b == hyphen then (true, text) else (if b == plus_sign then (false, text) else (false, b ∷ text))
+
+abbrev pub signed : Bool → ℕ → Signed
+signed is_negative size = record { is_negative = is_negative; size = size }
+
+abbrev pub stepping : Signed → Signed → Progression
+stepping step offset = record { step = step; offset = offset }
+
+-- the digits of the offset, after its sign
+abbrev pub offset_after : Signed → Bool → Reader Progression
+offset_after step is_negative text =
+    if starts_by is_digit text
+    then got (stepping step (signed is_negative (digits 0 text).0)) (digits 0 text).1
+    else refused NoProgression text
+
+abbrev pub is_sign : ℕ → Bool
+is_sign b = b == hyphen || b == plus_sign
+
+-- the offset, if there is a sign
+unfoldable pub offset_or_none : Signed → Reader Progression
+offset_or_none step text =
+    if starts_by is_sign text
+    then follow (gap (sign text).1) (λ spaced. offset_after step (sign text).0)
+    else got (stepping step (signed false 0)) text
+
+-- what follows the `n`
+unfoldable pub with_offset : Signed → Reader Progression
+with_offset step = do
+  gap
+  offset_or_none step
+
+-- `n`
+abbrev pub is_n : ℕ → Bool
+is_n b = b == 110 || b == 78
+
+abbrev pub word_progression : List ℕ → List ℕ → Reader Progression
+word_progression start word rest =
+    if str_eq_ignore_ascii_case word (codes "odd")
+    then got (stepping (signed false 2) (signed false 1)) rest
+    else (if str_eq_ignore_ascii_case word (codes "even")
+    then got (stepping (signed false 2) (signed false 0)) rest
+    else refused NoProgression start)
+
+-- after the digits of a number: it is the step if an `n` follows, and else the offset
+abbrev pub numbered : Bool → ℕ → Reader Progression
+numbered is_negative size text =
+    if starts_by is_n text then with_offset (signed is_negative size) (past_one text)
+    else got (stepping (signed false 0) (signed is_negative size)) text
+
+-- after its sign
+abbrev pub unsigned : List ℕ → Bool → Reader Progression
+unsigned start is_negative text =
+    if starts_by is_digit text then numbered is_negative (digits 0 text).0 (digits 0 text).1
+    else (if starts_by is_n text then with_offset (signed is_negative 1) (past_one text)
+    else follow (name start) (word_progression start))
+
+-- `An+B`, `odd` or `even`
+unfoldable pub progression : Reader Progression
+progression text = unsigned text (sign text).0 (sign text).1
+
+-- ---- pseudo-classes
+
+abbrev pub is_word : List ℕ → List ℕ → Bool
+is_word word n = str_eq_ignore_ascii_case n word
+
+-- a structural pseudo-class without an argument
+abbrev pub plain_structure : List ℕ → Option Structure
+plain_structure n =
+    if is_word (codes "root") n then Some root
+    else (if is_word (codes "empty") n then Some empty
+    else (if is_word (codes "first-child") n then Some first_child
+    else (if is_word (codes "last-child") n then Some last_child
+    else (if is_word (codes "only-child") n then Some only_child
+    else (if is_word (codes "first-of-type") n then Some first_of_type
+    else (if is_word (codes "last-of-type") n then Some last_of_type
+    else (if is_word (codes "only-of-type") n then Some only_of_type else None)))))))
+
+abbrev pub numbering : List ℕ → Option Numbering
+numbering n =
+    if is_word (codes "nth-child") n then Some OfChild
+    else (if is_word (codes "nth-last-child") n then Some OfLastChild
+    else (if is_word (codes "nth-of-type") n then Some OfType
+    else (if is_word (codes "nth-last-of-type") n then Some OfLastType else None)))
+
+abbrev pub numbered_by : Numbering → Progression → Structure
+numbered_by OfChild p = nth_child p
+numbered_by OfLastChild p = nth_last_child p
+numbered_by OfType p = nth_of_type p
+numbered_by OfLastType p = nth_last_of_type p
+
+abbrev pub list_kind : List ℕ → Option ListKind
+list_kind n =
+    if is_word (codes "not") n then Some Not
+    else (if is_word (codes "is") n then Some Is
+    else (if is_word (codes "where") n then Some Where else None))
+
+abbrev pub plain_pseudo : List ℕ → Option Structure → Simple
+plain_pseudo n None = state n
+plain_pseudo n (Some s) = structure s
+
+abbrev pub functional : List ℕ → Option Numbering → Reader Simple
+functional start None = λ text. refused UnknownFunction start
+functional start (Some kind) = do
+  gap
+  p ← progression
+  gap
+  closing close_parenthesis
+  give (structure (numbered_by kind p))
+
+abbrev pub pseudo_by : List ℕ → List ℕ → Reader Simple
+pseudo_by start n text =
+    if starts open_parenthesis text then functional start (numbering n) (past_one text)
+    else got (plain_pseudo n (plain_structure n)) text
+
+-- a pseudo-class without a list, from after its colon
+unfoldable pub pseudo_class : Reader Simple
+pseudo_class text = follow (name text) (pseudo_by text)
+
+-- ---- compound selectors
+
+-- two colons
+abbrev pub begins_pseudo_element : List ℕ → Bool
+begins_pseudo_element text = starts colon text && starts colon (past_one text)
+
+-- `*` or a name
+unfoldable pub type_selector : List ℕ → Step Simple
+type_selector text =
+    if starts asterisk text then item universal (past_one text)
+    else (if begins_name text then as_item type_name (name text) else none)
+
+-- the next simple selector of a compound selector
+unfoldable pub next_simple : List ℕ → Step Simple
+next_simple [] = none
+next_simple (b ∷ text) =
+    if b == full_stop then as_item class (name text)
+    else (if b == number_sign then as_item id (name text)
+    else (if b == open_bracket then as_item (λ s. s) (attribute_selector text)
+    else (if b == colon && not (starts colon text) then as_item (λ s. s) (pseudo_class text)
+    else none)))
+
+-- there is one
+abbrev pub some_of : {A : Type 0} → List ℕ → Reading (List A) → Reading (List A)
+some_of text (got [] rest) = refused NoSelector text
+some_of text (got (x ∷ xs) rest) = got (x ∷ xs) rest
+some_of text (refused reason rest) = refused reason rest
+
+abbrev pub after_type : List ℕ → Step Simple → Reading (List Simple)
+after_type text (item s rest) = with_first s (items next_simple rest)
+after_type text none = some_of text (items next_simple text)
+after_type text (stop reason rest) = refused reason rest
+
+-- a compound selector in a list
+unfoldable pub compound : Reader (List Simple)
+compound text = after_type text (type_selector text)
+
+-- a further one, after a comma
+abbrev pub comma_compound : Reader (List Simple)
+comma_compound = gap >> compound
+
+abbrev pub after_gap : Reading Bool → Step (List Simple)
+after_gap (refused reason rest) = stop reason rest
+after_gap (got spaced rest) =
+    if starts comma rest then as_item (λ c. c) (comma_compound (past_one rest)) else none
+
+unfoldable pub next_compound : List ℕ → Step (List Simple)
+next_compound text = after_gap (gap text)
+
+abbrev pub listed : ListKind → List (List Simple) → Condition
+listed Not compounds = negation compounds
+listed Is compounds = any_of compounds
+listed Where compounds = where_any compounds
+
+abbrev pub one_more : {A : Type 0} → A → Reader (List A) → Reader (List A)
+one_more x next text = with_first x (next text)
+
+-- the list of a pseudo-class, from after its parenthesis
+unfoldable pub compound_list : Reader (List (List Simple))
+compound_list = do
+  gap
+  c ← compound
+  compounds ← one_more c (items next_compound)
+  gap
+  closing close_parenthesis
+  give compounds
+
+-- the kind of list that begins at a colon, and the rest after its parenthesis
+abbrev pub list_after : List ℕ → Option (ListKind × List ℕ)
+list_after text =
+    if starts open_parenthesis (past is_name_byte text)
+    then option_map (λ kind. (kind, past_one (past is_name_byte text)))
+    (list_kind (run is_name_byte text))
+    else None
+
+unfoldable pub list_start : List ℕ → Option (ListKind × List ℕ)
+list_start text = if starts colon text then list_after (past_one text) else None
+
+abbrev pub simple_item : Step Simple → Step Condition
+simple_item (item s rest) = item (simple s) rest
+simple_item none = none
+simple_item (stop reason rest) = stop reason rest
+
+abbrev pub condition_by : List ℕ → Option (ListKind × List ℕ) → Step Condition
+condition_by text None = simple_item (next_simple text)
+condition_by text (Some start) = as_item (listed start.0) (compound_list start.1)
+
+-- the next condition of a compound selector
+unfoldable pub next_condition : List ℕ → Step Condition
+next_condition text = condition_by text (list_start text)
+
+-- a compound selector may be empty before a pseudo-element
+abbrev pub some_or_element : List ℕ → Reading (List Condition) → Reading (List Condition)
+some_or_element text reading =
+    if begins_pseudo_element text then reading else some_of text reading
+
+abbrev pub after_type_name : List ℕ → Step Simple → Reading (List Condition)
+after_type_name text (item s rest) = with_first (simple s) (items next_condition rest)
+after_type_name text none = some_or_element text (items next_condition text)
+after_type_name text (stop reason rest) = refused reason rest
+
+-- a compound selector
+unfoldable pub conditions : Reader (List Condition)
+conditions text = after_type_name text (type_selector text)
+
+-- ---- selectors
+
+-- a sign that joins compound selectors
+abbrev pub sign_combinator : ℕ → Option Combinator
+sign_combinator b =
+    if b == greater_than_sign then Some Child
+    else (if b == plus_sign then Some Adjacent
+    else (if b == tilde then Some Sibling else None))
+
+-- a compound selector may begin by this byte
+abbrev pub begins_compound : ℕ → Bool
+begins_compound b =
+    begins_word b || b == hyphen || b == asterisk || b == full_stop || b == number_sign
+    || b == open_bracket || b == colon
+
+abbrev pub joined_by : Combinator → List Condition → Part
+joined_by combinator conditions = record { combinator = combinator; conditions = conditions }
+
+abbrev pub signed_part : Combinator → Reader (List Condition)
+signed_part combinator = gap >> conditions
+
+abbrev pub by_sign : Bool → List ℕ → Option Combinator → Step Part
+by_sign spaced text (Some combinator) =
+    as_item (joined_by combinator) (signed_part combinator (past_one text))
+by_sign spaced text None =
+    if spaced && starts_by begins_compound text
+    then as_item (joined_by Descendant) (conditions text) else none
+
+abbrev pub first_sign : List ℕ → Option Combinator
+first_sign [] = None
+first_sign (b ∷ text) = sign_combinator b
+
+abbrev pub part_after : Reading Bool → Step Part
+part_after (refused reason rest) = stop reason rest
+part_after (got spaced rest) = by_sign spaced rest (first_sign rest)
+
+-- the next compound selector and what joins it to the one before
+unfoldable pub next_part : List ℕ → Step Part
+next_part text = part_after (gap text)
+
+-- the pseudo-element, if there is one
+unfoldable pub pseudo_element : Reader (Option (List ℕ))
+pseudo_element text =
+    if begins_pseudo_element text
+    then follow (name (past_one (past_one text))) (λ n. give (Some n)) else got None text
+
+abbrev pub at_end : Reader (Unit {0})
+at_end [] = got tt []
+at_end (b ∷ text) = refused Unexpected (b ∷ text)
+
+abbrev pub selector_with : List Part → Option (List ℕ) → Selector
+selector_with parts element = record { parts = parts; pseudo_element = element }
+
+-- the compound selectors of a selector
+unfoldable pub parts : Reader (List Part)
+parts = do
+  gap
+  first ← conditions
+  one_more (joined_by Descendant first) (items next_part)
+
+-- a text that is a selector
+unfoldable pub selector : Reader Selector
+selector = do
+  all ← parts
+  element ← pseudo_element
+  gap
+  at_end
+  give (selector_with all element)

@@ -1,0 +1,250 @@
+//! Reads compound selectors and lists of them.
+ghost use Rattle.std.specs.Prelude.{◌≡◌, ◌∷◌, [], map, option_map, option_to_list};
+ghost use Rattle.selectors3.specs.Grammar.{type_selector, next_simple as next_simple_of, compound as compound_of_text};
+ghost use Rattle.selectors3.specs.Grammar.{next_compound as next_compound_of, compound_list, list_start, listed as listed_as};
+ghost use Rattle.selectors3.specs.Grammar.{next_condition as next_condition_of, conditions as conditions_of};
+ghost use Rattle.selectors3.specs.Grammar.{begins_pseudo_element as begins_pseudo_element_of};
+ghost use Rattle.selectors3.specs.Components.Condition.{simple};
+ghost use Rattle.selectors3.specs.Readings.{items, found_before};
+ghost use Rattle.selectors3.specs.Reads.{reading_of, step_of, Reads, Finds};
+ghost use Rattle.selectors3.specs.Views.{simple_of, compound_of, condition_of};
+
+use crate::attribute_selectors::read_attribute;
+use crate::components::{Compound, Condition, ListKind, Simple};
+use crate::pseudo_classes::{list_kind, read_pseudo_class};
+use crate::refusal::{Reason, Refusal};
+use crate::texts::{split_ascii, split_name};
+use crate::words::{begins_name, read_closing, read_gap, read_name};
+use simplecss_text::readers;
+use std::alloc::Global;
+
+/// Reads `*` or a name, if one is next.
+#[tactic(auto, unfolding(crate::specs::Grammar::type_selector))]
+fn read_type<'a>(text: &'a str) -> Result<Option<(Simple<'a>, &'a str)>, Refusal<'a>>
+    ensures { step_of simple_of result ≡ type_selector text.now }
+{
+    if let Some((b'*', rest)) = split_ascii(text) {
+        return Ok(Some((Simple::Universal, rest)));
+    }
+    if !begins_name(text) {
+        return Ok(None);
+    }
+    let (name, rest) = read_name(text)?;
+    Ok(Some((Simple::TypeName(name), rest)))
+}
+
+/// Reads the next simple selector of a compound selector, if there is one.
+#[tactic(auto, unfolding(crate::specs::Grammar::next_simple))]
+fn next_simple<'a>(text: &'a str) -> Result<Option<(Simple<'a>, &'a str)>, Refusal<'a>>
+    ensures { step_of simple_of result ≡ next_simple_of text.now }
+{
+    match split_ascii(text) {
+        Some((b'.', rest)) => {
+            let (name, rest) = read_name(rest)?;
+            Ok(Some((Simple::Class(name), rest)))
+        }
+        Some((b'#', rest)) => {
+            let (name, rest) = read_name(rest)?;
+            Ok(Some((Simple::Id(name), rest)))
+        }
+        Some((b'[', rest)) => Ok(Some(read_attribute(rest)?)),
+        Some((b':', rest)) if !readers::starts(rest, b':') => Ok(Some(read_pseudo_class(rest)?)),
+        _ => Ok(None),
+    }
+}
+
+/// Reads simple selectors after those that were found.
+fn read_simples<'a>(
+    alloc: Global,
+    first: Option<Simple<'a>>,
+    text: &'a str,
+) -> Result<(Vec<Simple<'a>>, &'a str), Refusal<'a>>
+    ensures { Reads (λ v. map simple_of v.items) result
+        (found_before (map simple_of (option_to_list first.entry)) (items next_simple_of text.now)) }
+{
+    let mut simples = Vec::new(alloc);
+    if let Some(simple) = first {
+        simples.push(simple)?;
+    }
+    let mut rest = text;
+    let mut left = text.len();
+    'simples: while left > 0 {
+        match next_simple(rest)? {
+            Some((simple, after)) => {
+                simples.push(simple)?;
+                rest = after;
+            }
+            None => return Ok((simples, rest)),
+        }
+        left -= 1;
+    }
+    Ok((simples, rest))
+}
+
+/// Reads a compound selector in a list.
+#[tactic(auto, unfolding(crate::specs::Grammar::compound))]
+fn read_compound<'a>(alloc: Global, text: &'a str) -> Result<(Compound<'a>, &'a str), Refusal<'a>>
+    ensures { Reads compound_of result (compound_of_text text.now) }
+{
+    let (simples, rest) = match read_type(text)? {
+        Some((simple, rest)) => read_simples(alloc, Some(simple), rest)?,
+        None => read_simples(alloc, None, text)?,
+    };
+    if simples.is_empty() {
+        return Err(Refusal::new(Reason::NoSelector, text));
+    }
+    Ok((Compound { simples }, rest))
+}
+
+/// Reads a comma and a further compound selector, if there is a comma.
+#[tactic(auto, unfolding(crate::specs::Grammar::next_compound))]
+fn next_compound<'a>(
+    alloc: Global,
+    text: &'a str,
+) -> Result<Option<(Compound<'a>, &'a str)>, Refusal<'a>>
+    ensures { Finds compound_of result (next_compound_of text.now) }
+{
+    let (_, rest) = read_gap(text)?;
+    let Some((b',', rest)) = split_ascii(rest) else {
+        return Ok(None);
+    };
+    let (_, rest) = read_gap(rest)?;
+    Ok(Some(read_compound(alloc, rest)?))
+}
+
+/// Reads further compound selectors of a list.
+fn read_compounds<'a>(
+    alloc: Global,
+    first: Compound<'a>,
+    text: &'a str,
+) -> Result<(Vec<Compound<'a>>, &'a str), Refusal<'a>>
+    ensures { Reads (λ v. map compound_of v.items) result
+        (found_before (compound_of first.entry ∷ []) (items next_compound_of text.now)) }
+{
+    let mut compounds = Vec::new(alloc);
+    compounds.push(first)?;
+    let mut rest = text;
+    let mut left = text.len();
+    'compounds: while left > 0 {
+        match next_compound(alloc, rest)? {
+            Some((compound, after)) => {
+                compounds.push(compound)?;
+                rest = after;
+            }
+            None => return Ok((compounds, rest)),
+        }
+        left -= 1;
+    }
+    Ok((compounds, rest))
+}
+
+/// Reads the list of a pseudo-class, from after its parenthesis.
+#[tactic(auto, unfolding(crate::specs::Grammar::compound_list))]
+fn read_list<'a>(alloc: Global, text: &'a str) -> Result<(Vec<Compound<'a>>, &'a str), Refusal<'a>>
+    ensures { Reads (λ v. map compound_of v.items) result (compound_list text.now) }
+{
+    let (_, rest) = read_gap(text)?;
+    let (first, rest) = read_compound(alloc, rest)?;
+    let (compounds, rest) = read_compounds(alloc, first, rest)?;
+    let (_, rest) = read_gap(rest)?;
+    let (_, rest) = read_closing(b')', rest)?;
+    Ok((compounds, rest))
+}
+
+/// Returns which pseudo-class with a list is next, if one is, and the rest after its parenthesis.
+#[tactic(auto, unfolding(crate::specs::Grammar::list_start))]
+fn take_list_start<'a>(text: &'a str) -> Option<(ListKind, &'a str)>
+    ensures { option_map (λ it. (it.0, it.1.now)) result ≡ list_start text.now }
+{
+    let Some((b':', rest)) = split_ascii(text) else {
+        return None;
+    };
+    let (name, rest) = split_name(rest);
+    let Some((b'(', rest)) = split_ascii(rest) else {
+        return None;
+    };
+    let kind = list_kind(name)?;
+    Some((kind, rest))
+}
+
+/// Returns the condition of this kind with the list.
+fn listed<'a>(kind: ListKind, compounds: Vec<Compound<'a>>) -> Condition<'a>
+    ensures { condition_of result ≡ listed_as kind (map compound_of compounds.entry.items) }
+{
+    match kind {
+        ListKind::Not => Condition::Not(compounds),
+        ListKind::Is => Condition::Is(compounds),
+        ListKind::Where => Condition::Where(compounds),
+    }
+}
+
+/// Reads the next condition of a compound selector, if there is one.
+#[tactic(auto, unfolding(crate::specs::Grammar::next_condition))]
+fn next_condition<'a>(
+    alloc: Global,
+    text: &'a str,
+) -> Result<Option<(Condition<'a>, &'a str)>, Refusal<'a>>
+    ensures { Finds condition_of result (next_condition_of text.now) }
+{
+    if let Some((kind, rest)) = take_list_start(text) {
+        let (compounds, rest) = read_list(alloc, rest)?;
+        return Ok(Some((listed(kind, compounds), rest)));
+    }
+    match next_simple(text)? {
+        Some((simple, rest)) => Ok(Some((Condition::Simple(simple), rest))),
+        None => Ok(None),
+    }
+}
+
+/// Reads conditions after those that were found.
+fn read_more<'a>(
+    alloc: Global,
+    first: Option<Simple<'a>>,
+    text: &'a str,
+) -> Result<(Vec<Condition<'a>>, &'a str), Refusal<'a>>
+    ensures { Reads (λ v. map condition_of v.items) result
+        (found_before (map (λ s. simple (simple_of s)) (option_to_list first.entry)) (items next_condition_of text.now)) }
+{
+    let mut conditions = Vec::new(alloc);
+    if let Some(simple) = first {
+        conditions.push(Condition::Simple(simple))?;
+    }
+    let mut rest = text;
+    let mut left = text.len();
+    'conditions: while left > 0 {
+        match next_condition(alloc, rest)? {
+            Some((condition, after)) => {
+                conditions.push(condition)?;
+                rest = after;
+            }
+            None => return Ok((conditions, rest)),
+        }
+        left -= 1;
+    }
+    Ok((conditions, rest))
+}
+
+/// Whether two colons are next.
+pub(crate) fn begins_pseudo_element(text: &str) -> bool
+    ensures { result ≡ begins_pseudo_element_of text.now }
+{
+    matches!(text.as_bytes(), [b':', b':', ..])
+}
+
+/// Reads a compound selector, which may be empty before a pseudo-element.
+#[tactic(auto, unfolding(crate::specs::Grammar::conditions))]
+pub(crate) fn read_conditions<'a>(
+    alloc: Global,
+    text: &'a str,
+) -> Result<(Vec<Condition<'a>>, &'a str), Refusal<'a>>
+    ensures { Reads (λ v. map condition_of v.items) result (conditions_of text.now) }
+{
+    let (conditions, rest) = match read_type(text)? {
+        Some((simple, rest)) => read_more(alloc, Some(simple), rest)?,
+        None => read_more(alloc, None, text)?,
+    };
+    if conditions.is_empty() && !begins_pseudo_element(text) {
+        return Err(Refusal::new(Reason::NoSelector, text));
+    }
+    Ok((conditions, rest))
+}

@@ -1,0 +1,156 @@
+//! Reads selectors.
+ghost use Rattle.std.specs.Prelude.{◌≡◌, ◌<◌, ◌∷◌, [], IfOk, IfNone, IfSome, None, Some, length, map, option_map};
+ghost use Rattle.selectors3.specs.Grammar.{next_part as next_part_of, parts as parts_of};
+ghost use Rattle.selectors3.specs.Grammar.{pseudo_element as pseudo_element_of, sign_combinator as sign_combinator_of};
+ghost use Rattle.selectors3.specs.Grammar.{begins_compound as begins_compound_of, first_sign};
+ghost use Rattle.simplecss_text.specs.Bytes.{starts_by, past_one};
+ghost use Rattle.selectors3.specs.Readings.{items, found_before};
+ghost use Rattle.selectors3.specs.Reads.{reading_of, Reads, Finds};
+ghost use Rattle.selectors3.specs.Views.{part_of};
+
+use crate::components::Part;
+use crate::compounds::read_conditions;
+use crate::refusal::{Reason, Refusal};
+use crate::texts::split_ascii;
+use crate::words::{read_gap, read_name};
+use crate::{Combinator, Selector3};
+use std::alloc::Global;
+
+/// Returns the combinator of a sign.
+fn sign_combinator(byte: u8) -> Option<Combinator>
+    ensures { result ≡ sign_combinator_of byte }
+{
+    match byte {
+        b'>' => Some(Combinator::Child),
+        b'+' => Some(Combinator::Adjacent),
+        b'~' => Some(Combinator::Sibling),
+        _ => None,
+    }
+}
+
+/// Returns the combinator that is next, if it is a sign, and the rest after it.
+fn take_sign<'a>(text: &'a str) -> Option<(Combinator, &'a str)>
+    ensures none { IfNone result (first_sign text.now ≡ None) }
+    ensures some { IfSome result
+        (λ it. (first_sign text.now ≡ Some it.0) × (it.1.now ≡ past_one text.now)) }
+{
+    let (byte, rest) = split_ascii(text)?;
+    let combinator = sign_combinator(byte)?;
+    Some((combinator, rest))
+}
+
+/// Whether a compound selector may begin here.
+fn begins_compound(text: &str) -> bool
+    ensures { result ≡ starts_by begins_compound_of text.now }
+{
+    match text.as_bytes() {
+        [] => false,
+        [byte, ..] => {
+            byte.is_ascii_alphabetic()
+                || *byte >= 128
+                || matches!(byte, b'_' | b'-' | b'*' | b'.' | b'#' | b'[' | b':')
+        }
+    }
+}
+
+/// Reads a combinator and the compound selector after it, if there is one.
+#[tactic(auto, unfolding(crate::specs::Grammar::next_part))]
+fn next_part<'a>(alloc: Global, text: &'a str) -> Result<Option<(Part<'a>, &'a str)>, Refusal<'a>>
+    ensures { Finds part_of result (next_part_of text.now) }
+{
+    let (spaced, rest) = read_gap(text)?;
+    if let Some((combinator, rest)) = take_sign(rest) {
+        let (_, rest) = read_gap(rest)?;
+        let (conditions, rest) = read_conditions(alloc, rest)?;
+        let part = Part {
+            combinator,
+            conditions,
+        };
+        return Ok(Some((part, rest)));
+    }
+    if !(spaced && begins_compound(rest)) {
+        return Ok(None);
+    }
+    let (conditions, rest) = read_conditions(alloc, rest)?;
+    let part = Part {
+        combinator: Combinator::Descendant,
+        conditions,
+    };
+    Ok(Some((part, rest)))
+}
+
+/// Reads the compound selectors after the first.
+fn read_more<'a>(
+    alloc: Global,
+    first: Part<'a>,
+    text: &'a str,
+) -> Result<(Vec<Part<'a>>, &'a str), Refusal<'a>>
+    ensures reads { Reads (λ v. map part_of v.items) result
+        (found_before (part_of first.entry ∷ []) (items next_part_of text.now)) }
+    ensures some { IfOk result (λ it. 0 < length it.0.items) }
+{
+    let mut parts = Vec::new(alloc);
+    parts.push(first)?;
+    let mut rest = text;
+    let mut left = text.len();
+    'parts: while left > 0 {
+        match next_part(alloc, rest)? {
+            Some((part, after)) => {
+                parts.push(part)?;
+                rest = after;
+            }
+            None => return Ok((parts, rest)),
+        }
+        left -= 1;
+    }
+    Ok((parts, rest))
+}
+
+/// Reads the compound selectors of a selector.
+#[tactic(auto, unfolding(crate::specs::Grammar::parts))]
+fn read_parts<'a>(alloc: Global, text: &'a str) -> Result<(Vec<Part<'a>>, &'a str), Refusal<'a>>
+    ensures reads { Reads (λ v. map part_of v.items) result (parts_of text.now) }
+    ensures some { IfOk result (λ it. 0 < length it.0.items) }
+{
+    let (_, rest) = read_gap(text)?;
+    let (conditions, rest) = read_conditions(alloc, rest)?;
+    let first = Part {
+        combinator: Combinator::Descendant,
+        conditions,
+    };
+    read_more(alloc, first, rest)
+}
+
+/// Reads the pseudo-element, if there is one.
+#[tactic(auto, unfolding(crate::specs::Grammar::pseudo_element))]
+fn read_pseudo_element<'a>(text: &'a str) -> Result<(Option<&'a str>, &'a str), Refusal<'a>>
+    ensures { reading_of (λ name. option_map (λ n. n.now) name) result ≡ pseudo_element_of text.now }
+{
+    let Some((b':', rest)) = split_ascii(text) else {
+        return Ok((None, text));
+    };
+    let Some((b':', rest)) = split_ascii(rest) else {
+        return Ok((None, text));
+    };
+    let (name, rest) = read_name(rest)?;
+    Ok((Some(name), rest))
+}
+
+impl<'a> Selector3<'a> {
+    ghost use Rattle.selectors3.specs.Grammar.{selector};
+    ghost use Rattle.selectors3.specs.ReadSelectors.{Parses};
+
+    /// Reads a text that is a selector.
+    #[tactic(auto, unfolding(crate::specs::Grammar::selector))]
+    pub fn parse(alloc: Global, text: &'a str) -> Result<Selector3<'a>, Refusal<'a>>
+        ensures { Parses result (selector text.now) }
+    {
+        let (parts, rest) = read_parts(alloc, text)?;
+        let (pseudo_element, rest) = read_pseudo_element(rest)?;
+        let (_, rest) = read_gap(rest)?;
+        if !rest.is_empty() {
+            return Err(Refusal::new(Reason::Unexpected, rest));
+        }
+        Ok(Selector3::new(parts, pseudo_element))
+    }
+}

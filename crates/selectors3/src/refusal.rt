@@ -1,0 +1,80 @@
+//! Why a text is no selector.
+ghost use Rattle.std.specs.Prelude.{◌≡◌};
+
+use std::alloc::{AllocError, AllocFailed};
+
+/// Why a text is no selector that is read here.
+#[derive(Clone, Copy, Debug, PartialEq, Eq)]
+pub enum Reason {
+    /// An allocation failed.
+    Memory,
+    /// There is no selector here.
+    NoSelector,
+    /// There is no name here.
+    NoName,
+    /// A bracket, a parenthesis or a string is not closed.
+    NotClosed,
+    /// There is a newline or a backslash in the string.
+    BrokenString,
+    /// There is a backslash in the name: escapes are not read.
+    Escape,
+    /// There is no attribute operator here.
+    NoOperator,
+    /// There is no value here: neither a name nor a string.
+    NoValue,
+    /// There is another flag than `i` and `s`.
+    UnknownFlag,
+    /// There is no `An+B`, `odd` or `even` here.
+    NoProgression,
+    /// There is no functional pseudo-class of this name, or none that is read here.
+    UnknownFunction,
+    /// This does not continue the selector.
+    Unexpected,
+}
+
+/// Why, and where, a text is no selector.
+#[derive(Clone, Copy, Debug, PartialEq)]
+pub struct Refusal<'a> {
+    /// Why.
+    pub reason: Reason,
+    /// The text from there on. If an allocation failed, it is empty.
+    pub rest: &'a str,
+}
+
+impl<'a> Refusal<'a> {
+    /// Returns a refusal.
+    pub(crate) fn new(reason: Reason, rest: &'a str) -> Refusal<'a>
+        ensures reason { result.reason ≡ reason }
+        ensures rest { result.rest.now ≡ rest.now }
+    {
+        Refusal { reason, rest }
+    }
+}
+
+impl<'a> From<AllocError> for Refusal<'a> {
+    ghost use Rattle.std.specs.Prelude.{◌≡◌};
+    ghost use Rattle.selectors3.specs.declared.refusal.Reason.TheVariants.{Memory};
+
+    ghost from_gives = { λ _ refusal. refusal.reason ≡ Memory };
+
+    fn from(_error: AllocError) -> Refusal<'a> {
+        Refusal {
+            reason: Reason::Memory,
+            rest: "",
+        }
+    }
+}
+
+impl<'a, T: Drop> From<AllocFailed<T>> for Refusal<'a> {
+    ghost use Rattle.std.specs.Prelude.{◌≡◌};
+    ghost use Rattle.selectors3.specs.declared.refusal.Reason.TheVariants.{Memory};
+
+    ghost from_gives = { λ _ refusal. refusal.reason ≡ Memory };
+
+    fn from(_error: AllocFailed<T>) -> Refusal<'a> {
+        Refusal {
+            reason: Reason::Memory,
+            rest: "",
+        }
+    }
+}

@@ -1,0 +1,81 @@
+//! Gaps, names and strings.
+ghost use Rattle.std.specs.Prelude.{◌≡◌, ◌<◌};
+ghost use Rattle.selectors3.specs.Grammar.{gap, name as name_of, string as string_of, closing as closing_of};
+ghost use Rattle.selectors3.specs.Grammar.{begins_word as begins_word_of, begins_name as begins_name_of};
+ghost use Rattle.selectors3.specs.Reads.{reading_of};
+
+use crate::refusal::{Reason, Refusal};
+use crate::texts::{split_ascii, split_name, split_plain};
+use simplecss_text::readers;
+use simplecss_text::stream::Stream;
+
+/// Skips space bytes and comments, and returns whether there was a space byte outside the comments.
+pub(crate) fn read_gap<'a>(text: &'a str) -> Result<(bool, &'a str), Refusal<'a>>
+    ensures { reading_of (λ spaced. spaced) result ≡ gap text.now }
+{
+    let mut stream = Stream::new(text);
+    match readers::consume_gap(&mut stream) {
+        Ok(spaced) => Ok((spaced, stream.slice_tail())),
+        Err(_) => Err(Refusal::new(Reason::NotClosed, text)),
+    }
+}
+
+/// Whether the byte may begin a name.
+fn begins_word(byte: u8) -> bool
+    ensures { result ≡ begins_word_of byte }
+{
+    byte.is_ascii_alphabetic() || byte == b'_' || byte >= 128
+}
+
+/// Whether a name begins here.
+pub(crate) fn begins_name(text: &str) -> bool
+    ensures { result ≡ begins_name_of text.now }
+{
+    match text.as_bytes() {
+        [] => false,
+        [byte] => begins_word(*byte),
+        [byte, next, ..] => {
+            begins_word(*byte) || (*byte == b'-' && (begins_word(*next) || *next == b'-'))
+        }
+    }
+}
+
+/// Reads a name.
+#[tactic(auto, unfolding(crate::specs::Grammar::name))]
+pub(crate) fn read_name<'a>(text: &'a str) -> Result<(&'a str, &'a str), Refusal<'a>>
+    ensures { reading_of (λ n. n.now) result ≡ name_of text.now }
+{
+    if !begins_name(text) {
+        return Err(Refusal::new(Reason::NoName, text));
+    }
+    let (name, rest) = split_name(text);
+    if readers::starts(rest, b'\\') {
+        return Err(Refusal::new(Reason::Escape, rest));
+    }
+    Ok((name, rest))
+}
+
+/// Reads a string, from after its quote.
+#[tactic(auto, unfolding(crate::specs::Grammar::string))]
+pub(crate) fn read_string<'a>(quote: u8, text: &'a str) -> Result<(&'a str, &'a str), Refusal<'a>>
+    requires { quote < 128 }
+    ensures { reading_of (λ n. n.now) result ≡ string_of quote text.now }
+{
+    let (value, rest) = split_plain(quote, text);
+    match split_ascii(rest) {
+        Some((byte, after)) if byte == quote => Ok((value, after)),
+        _ if rest.is_empty() => Err(Refusal::new(Reason::NotClosed, rest)),
+        _ => Err(Refusal::new(Reason::BrokenString, rest)),
+    }
+}
+
+/// Consumes the byte, which is required.
+pub(crate) fn read_closing<'a>(byte: u8, text: &'a str) -> Result<((), &'a str), Refusal<'a>>
+    requires { byte < 128 }
+    ensures { reading_of (λ u. u) result ≡ closing_of byte text.now }
+{
+    match split_ascii(text) {
+        Some((first, rest)) if first == byte => Ok(((), rest)),
+        _ => Err(Refusal::new(Reason::NotClosed, text)),
+    }
+}
