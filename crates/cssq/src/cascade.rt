@@ -8,7 +8,6 @@ ghost use Rattle.simplecss.specs.Statements.{StyleRule};
 ghost use Rattle.simplecss.specs.DeclarationViews.{declaration_of, declarations_of};
 ghost use Rattle.simplecss.specs.RuleViews.{rule_of, rules_of, rules_in};
 ghost use Rattle.simplecss.specs.Matching.{AreMatches};
-ghost use Rattle.cssq_page.specs.PageNodes.{Spot, page_tree};
 ghost use Rattle.cssq.specs.Winners.{Wins, IsStated, IsWinner, HasNoWinner, WinsForItsName};
 ghost use Rattle.cssq.specs.Winners.{ListsInOrder, HaveOwnNames};
 ghost use Rattle.cssq.specs.RuleWinners.{better_of, InRule, IsCandidate, IsOutdone, IsPassedOver};
@@ -117,17 +116,17 @@ pub fn winning<'a, E: Element>(
     winner
 }
 
-/// Returns what `winning` returns for an element of a page, by the indices of the rules that match
-/// it.
-pub(crate) fn winning_among<'a>(
+/// Returns what [`winning`] returns for an element of a tree, by the indices of the rules that match
+/// it, as an index finds them. `E` is the type of the tree's elements.
+pub fn winning_among<'a, E: Element>(
     rules: &[Rule<'a>],
     indices: &[usize],
     name: &str,
 ) -> Option<Declaration<'a>>
     requires { All (λ index. index < length rules.now) indices.now }
-    ensures { (element : Spot)
-        → AreMatches page_tree element (map (λ rule. rule.selector) rules.now) indices.now
-        → Wins (IsStated page_tree element (rules_of rules.now)) name.now
+    ensures { (element : E.Node)
+        → AreMatches E.tree element (map (λ rule. rule.selector) rules.now) indices.now
+        → Wins (IsStated E.tree element (rules_of rules.now)) name.now
         (option_map declaration_of result) }
 {
     let mut winner: Option<Declaration<'a>> = None;

@@ -22,7 +22,7 @@ ghost use Rattle.simplecss.specs.RuleViews.{rules_of, rules_in};
 
 use crate::cascade::winning_among;
 use crate::walk::Walk;
-use cssq_page::tree::{Page, TreeFault};
+use cssq_page::tree::{Node, Page, TreeFault};
 use itoa::Buffer;
 use log::Log;
 use simplecss::{Declaration, Reading, Rule, RuleIndex, Selector, StyleSheet, Warnings};
@@ -296,7 +296,7 @@ fn push_element<'a>(
         LineContent::Winner(name) => push_winner(
             out,
             element + 1,
-            winning_among(rules, indices, name),
+            winning_among::<Node<'_, '_>>(rules, indices, name),
         ),
     }
 }

@@ -1,19 +1,15 @@
 -- What a call over a tree answers.
--- Serves `calls::{matches, select, style_text}` and `pages::push_winning`.
-use Rattle.std.proofs.Common.{◌≡◌, ℕ, ◌↔◌, List, Option, None, Some, IfSome, refl, sym, subst}
-use Rattle.std.specs.Prelude.{Result, Ok, Err, MatchResult, IsNone, string_bytes}
+-- Serves `calls::{matches, select, style_text}`.
+use Rattle.std.proofs.Common.{◌≡◌, ℕ, List, Some, sym, subst}
+use Rattle.std.specs.Prelude.{Result, Ok, Err, MatchResult, string_bytes}
 use Rattle.std.specs.declared.string.String.{String}
-use Rattle.std.specs.Option.{option_map}
 use Rattle.std.specs.Str.{IsUtf8}
 use Rattle.simplecss.specs.Components.{Component}
-use Rattle.simplecss.specs.Declarations.{StyleDeclaration}
 use Rattle.simplecss.specs.SelectorLists.{list_of}
 use Rattle.simplecss.specs.Sheets.{sheet}
 use Rattle.simplecss.specs.Statements.{StyleRule}
 use Rattle.simplecss.specs.ThisEdition.{this_edition}
-use Rattle.simplecss.specs.Trees.{Tree}
 use Rattle.simplecss_tree.specs.Rows.{Row}
-use Rattle.cssq.specs.Winners.{IsStated, Wins, IsWinner, HasNoWinner}
 use Rattle.simplecss_c.specs.declared.answer.Failure.{Failure}
 use Rattle.simplecss_c.specs.declared.answer.Failure.TheVariants.{Memory}
 use Rattle.simplecss_c.specs.Outcomes.{outcome_of}
@@ -39,14 +35,6 @@ page_due IsText buffer ends limit passed texts rows has utf8 tree rules read (Ok
 )
 page_due IsText buffer ends limit passed texts rows has utf8 tree rules read (Err failure) due =
     subst (λ failure. IsPageCall IsText buffer ends limit passed (Err failure)) (sym due) tt
-
--- what wins, or that none does
-pub wins_or_none : {Node D : Type 0} (tree : Tree Node) (n : Node) (rules : List StyleRule)
-    (name : List ℕ) (f : D → StyleDeclaration) (r : Option D)
-    → IfSome r (λ d. IsWinner tree n name rules (f d)) → (IsNone r ↔ HasNoWinner tree n name rules)
-    → Wins (IsStated tree n rules) name (option_map f r)
-wins_or_none tree n rules name f None some none = none.0 refl
-wins_or_none tree n rules name f (Some d) some none = some
 
 -- the text that is due for a list of selectors, or a refused allocation
 pub select_due : {Z : Type 0} (text : List ℕ) (passed : Passed) (selectors : List (List Component))

@@ -25,11 +25,7 @@ use simplecss_tree::Tree;
 use std::alloc::Global;
 
 /// The style sheet of texts, whose rules may hold at most this number of declarations.
-fn read_sheet<'a>(
-    alloc: Global,
-    texts: &[&'a str],
-    limit: usize,
-) -> Result<StyleSheet<'a>, Failure>
+fn read_sheet<'a>(alloc: Global, texts: &[&'a str], limit: usize) -> Result<StyleSheet<'a>, Failure>
     ensures { MatchResult result (λ read. IsReadWithin limit (map (λ text. text.now) texts.now)
         (rules_in read)) (λ failure. FailsWithin ⊥ (λ fault. ⊥) ⊥
         (limit < kept_in_all this_edition (map (λ text. text.now) texts.now)) failure) }
@@ -56,12 +52,7 @@ pub fn selector(alloc: Global, text: &[u8]) -> Result<String, Failure>
 }
 
 /// The printed sheet.
-pub fn sheet(
-    alloc: Global,
-    buffer: &[u8],
-    ends: &[usize],
-    limit: usize,
-) -> Result<String, Failure>
+pub fn sheet(alloc: Global, buffer: &[u8], ends: &[usize], limit: usize) -> Result<String, Failure>
     ensures { IsSheetCall IsPrinted buffer.now ends.now limit (outcome_of result) }
 {
     let texts = texts_of(alloc, buffer, ends)?;
@@ -71,12 +62,7 @@ pub fn sheet(
 }
 
 /// The lines of the rules of a sheet, in JSON.
-pub fn rules(
-    alloc: Global,
-    buffer: &[u8],
-    ends: &[usize],
-    limit: usize,
-) -> Result<String, Failure>
+pub fn rules(alloc: Global, buffer: &[u8], ends: &[usize], limit: usize) -> Result<String, Failure>
     ensures { IsSheetCall IsRuleLines buffer.now ends.now limit (outcome_of result) }
 {
     let texts = texts_of(alloc, buffer, ends)?;
@@ -184,7 +170,7 @@ fn style_text(
     let texts = texts_of(alloc, buffer, ends)?;
     let tree = read_tree(alloc, tree.elements, tree.strings, tree.ends)?;
     let sheet = read_sheet(alloc, &texts, limit)?;
-    winner_lines(alloc, &sheet, &tree, name)
+    winner_lines(alloc, &sheet.rules, &tree, name)
 }
 
 /// What wins for a name on each element of a tree.

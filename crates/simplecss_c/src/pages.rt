@@ -4,7 +4,7 @@ ghost use Rattle.std.specs.Prelude.{◌≡◌, ◌+◌, ◌^◌, ◌<◌, ◌++�
 ghost use Rattle.std.specs.Prelude.{length, map, string_bytes};
 ghost use Rattle.std.specs.Option.{option_map};
 ghost use Rattle.simplecss.specs.DeclarationViews.{declaration_of};
-ghost use Rattle.simplecss.specs.RuleViews.{rules_of, rules_in};
+ghost use Rattle.simplecss.specs.RuleViews.{rules_of};
 ghost use Rattle.cssq.specs.MatchRuns.{numbers_line};
 ghost use Rattle.cssq.specs.StyleRuns.{style_line};
 ghost use Rattle.simplecss_c.specs.AnswerLines.{selected_line, indices_line, IsLineOf, AreLinesOf};
@@ -13,9 +13,9 @@ ghost use Rattle.simplecss_c.specs.AnswerLines.{IsWinnersLine, AreWinnersLines};
 
 use crate::answer::Failure;
 use crate::json::push_declarations;
-use cssq::cascade::{Cascade, winning};
-use simplecss::{Declaration, HasSelector, Rule, RuleIndex, StyleSheet};
-use simplecss_tree::Tree;
+use cssq::cascade::{Cascade, winning_among};
+use simplecss::{Declaration, HasSelector, Rule, RuleIndex};
+use simplecss_tree::{Node, Tree};
 use std::alloc::{AllocError, Global};
 use std::fmt::Write as _;
 
@@ -131,38 +131,47 @@ pub fn lines<'a, T: HasSelector<'a>>(
     Ok(text)
 }
 
-/// Appends the line of what wins for a name on an element, which is given by its index.
-fn push_winning(
+/// Appends the line of what wins for a name on an element, which is given by its index, by an index
+/// of the rules. What was in `indices` is dropped.
+fn push_winning<'a>(
     out: &mut String,
-    sheet: &StyleSheet<'_>,
+    name: &str,
+    index: &RuleIndex<'a>,
+    rules: &[Rule<'a>],
     tree: &Tree<'_>,
     element: usize,
-    name: &str,
+    indices: &mut Vec<usize>,
 ) -> Result<(), AllocError>
+    requires index { index.now ≡ map (λ rule. rule.selector) rules.now }
     requires element { element < length tree.now }
     requires number { element + 1 < 2 ^ 64 }
     ensures { OnOk result
-        ((line : List ℕ) × IsWinnerLine name.now (rules_in sheet.now) tree.now element line
+        ((line : List ℕ) × IsWinnerLine name.now (rules_of rules.now) tree.now element line
         × (string_bytes out.new ≡ string_bytes out.old ++ line)) }
 {
     let node = tree.node(element).unwrap();
-    push_winner(out, element + 1, winning(sheet, &node, name))
+    index.matching(rules, &node, indices)?;
+    let indices = indices.as_slice();
+    let winner = winning_among::<Node<'_, '_>>(rules, indices, name);
+    push_winner(out, element + 1, winner)
 }
 
 /// The lines of what wins for a name on each element of a tree.
 pub fn winner_lines(
     alloc: Global,
-    sheet: &StyleSheet<'_>,
+    rules: &[Rule<'_>],
     tree: &Tree<'_>,
     name: &str,
 ) -> Result<String, Failure>
     ensures { MatchResult result
-        (λ text. AreWinnerLines name.now (rules_in sheet.now) tree.now (string_bytes text))
+        (λ text. AreWinnerLines name.now (rules_of rules.now) tree.now (string_bytes text))
         (λ failure. failure ≡ Failure.Memory) }
 {
+    let index = RuleIndex::new(alloc, rules)?;
+    let mut indices = Vec::new(alloc);
     let mut text = String::new(alloc);
     for element in 0..tree.len() {
-        push_winning(&mut text, sheet, tree, element, name)?;
+        push_winning(&mut text, name, &index, rules, tree, element, &mut indices)?;
     }
     Ok(text)
 }

@@ -18,7 +18,7 @@ pub returns : goal.returns
 returns c =
     let texts : List (List ℕ) = map (λ text. text.now) c.args.texts.now in
     let not : ¬ (c.args.limit < kept_in_all this_edition texts) = λ over.
-        absurd (cc ((c.in_ok-read.ensures.limit (λ e. absurd (cc))).1 over)) in (
+    absurd (cc ((c.in_ok-read.ensures.limit (λ e. absurd (cc))).1 over)) in (
       c.in_ok-read.ensures.sheet_of [] c.new-sheet.ensures.sheet,
       omega (arith, not),
     )

@@ -1,5 +1,5 @@
-use Rattle.std.proofs.Common.{map, subst}
-use Rattle.simplecss.specs.RuleViews.{rules_in}
+use Rattle.std.proofs.Common.{map, ap, ◌∙◌, subst}
+use Rattle.simplecss.specs.RuleViews.{rules_of}
 use Rattle.simplecss_c.specs.Calls.{IsReadWithin, passed_of}
 use Rattle.simplecss_c.specs.AnswerLines.{AreWinnerLines}
 use Rattle.simplecss_c.proofs.PageCalls.{page_due}
@@ -10,7 +10,8 @@ returns c =
     page_due (AreWinnerLines c.args.name.now) c.args.buffer.now c.args.ends.now c.args.limit
     (passed_of c.args.tree) (map (λ text. text.now) c.in_ok-texts.texts.items) c.in_ok-tree.tree
     c.in_ok-texts.ensures c.in_ok-tree.ensures.0 c.in_ok-tree.ensures.1
-    (rules_in c.in_ok-sheet.sheet)
+    (rules_of c.deref-2.result.now)
     (subst (λ texts. IsReadWithin c.args.limit (map (λ text. text.now) texts)
-    (rules_in c.in_ok-sheet.sheet)) c.deref.ensures.value c.in_ok-sheet.ensures)
+    (rules_of c.deref-2.result.now)) c.deref.ensures.value
+    (ap rules_of c.deref-2.ensures.value ∙ c.in_ok-sheet.ensures.0, c.in_ok-sheet.ensures.1))
     c.winner_lines.result c.winner_lines.ensures
