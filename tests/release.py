@@ -34,6 +34,7 @@ TOP = os.path.dirname(os.path.dirname(os.path.abspath(__file__)))
 MADE = os.path.join(TOP, "out", "release")
 REGISTRY = "/usr/share/cargo/registry"
 TEXTS = 20_000
+NO_LIMIT = 2**64 - 1
 checks = Counts()
 expect = checks.expect
 left_out = []
@@ -129,7 +130,7 @@ class Library:
 
     def answers(self, text):
         """The answers of compare.mjs."""
-        sheet = library_calls.buffer_of([text])
+        sheet = (*library_calls.buffer_of([text]), NO_LIMIT)
         return [self.call("sheet", *sheet), self.call("selector", text), self.call("skipped", text), self.call("list", text),
                 self.call("rules", *sheet), self.call("match", *sheet, *self.page), self.call("styles", *sheet, *self.page)]
 

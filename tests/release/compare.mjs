@@ -11,11 +11,11 @@ for (let at = 0; at < input.length; ) {
   const length = Number(input.readBigUInt64LE(at));
   const text = input.subarray(at + 8, at + 8 + length);
   at += 8 + length;
-  const ends = new BigUint64Array([BigInt(length)]);
+  const sheet = [text, new BigUint64Array([BigInt(length)]), 2n ** 64n - 1n];
   const answers = [
-    css.call('sheet', [text, ends]), css.call('selector', [text]), css.call('skipped', [text]), css.call('list', [text]),
-    css.call('rules', [text, ends]), css.call('match', [text, ends, ...shape()], { tree: true }),
-    css.call('styles', [text, ends, ...shape()], { tree: true }),
+    css.call('sheet', sheet), css.call('selector', [text]), css.call('skipped', [text]), css.call('list', [text]),
+    css.call('rules', sheet), css.call('match', [...sheet, ...shape()], { tree: true }),
+    css.call('styles', [...sheet, ...shape()], { tree: true }),
   ];
   for (const answer of answers) {
     const bytes = Buffer.from(answer ?? '');
