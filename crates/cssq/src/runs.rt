@@ -23,7 +23,6 @@ ghost use Rattle.simplecss.specs.RuleViews.{rules_of, rules_in};
 use crate::cascade::winning_among;
 use crate::walk::Walk;
 use cssq_page::tree::{Node, Page, TreeFault};
-use itoa::Buffer;
 use log::Log;
 use simplecss::{Declaration, Reading, Rule, RuleIndex, Selector, StyleSheet, Warnings};
 use std::alloc::{AllocError, AllocFailed, Global};
@@ -211,13 +210,13 @@ pub fn run_sheet<R: Log, W: Write>(
     }
 }
 
-/// Adds the digits of a number. A formatter would take several times as long.
+/// Adds the digits of a number.
 #[inline(always)]
 fn push_number(out: &mut String, number: usize) -> Result<(), AllocError>
     ensures { OnOk result (string_bytes out.new ≡ string_bytes out.old ++ decimal number) }
 {
-    let mut digits = Buffer::new();
-    out.push_str(digits.format(number))
+    write!(out, "{number}")?;
+    Ok(())
 }
 
 /// Adds the line of an element: its number, and the numbers of the rules with these indices.

@@ -10,4 +10,3 @@ pub mod Attributes
 pub mod PageLines
 pub mod AboveLines
 pub mod Marking
-pub mod NearCounts

@@ -22,7 +22,6 @@ ghost use Rattle.cssq_page.specs.internal.Spans.{AreValues, IsCut, text_in};
 mod entry;
 
 use entry::{Entry, Values};
-use memchr::memchr;
 use simplecss_selector::{AttributeOperator, Element, Keyed, PseudoClass};
 use std::alloc::{AllocError, Global};
 use std::collections::BTreeSet;
@@ -89,39 +88,12 @@ struct Line<'t> {
 /// How many attribute fields are compared in pairs.
 const FEW: usize = 16;
 
-/// How many bytes are looked at one by one, before the others are searched several at a time.
-const NEAR: usize = 16;
-
-/// How many bytes precede the first such byte, one by one. All of them do where there is none.
-#[inline(always)]
-fn count_near(bytes: &[u8], byte: u8) -> usize
-    ensures { result ≡ position_or_len (λ b. b == byte) bytes.now }
-{
-    bytes.iter().take_while(|b| **b != byte).count()
-}
-
-/// Does what [`count_near`] does, several bytes at a time.
-fn count_far(bytes: &[u8], byte: u8) -> usize
-    ensures { result ≡ position_or_len (λ b. b == byte) bytes.now }
-{
-    memchr(byte, bytes).unwrap_or(bytes.len())
-}
-
-/// How many bytes precede the first such byte. All of them do where there is none. Most fields are
-/// short: a loop finds their ends sooner than a search of several bytes at a time.
+/// How many bytes precede the first such byte. All of them do where there is none.
 #[inline(always)]
 fn count_before(bytes: &[u8], byte: u8) -> usize
     ensures { result ≡ position_or_len (λ b. b == byte) bytes.now }
 {
-    if bytes.len() <= NEAR {
-        return count_near(bytes, byte);
-    }
-    let near = count_near(&bytes[..NEAR], byte);
-    if near < NEAR {
-        near
-    } else {
-        count_far(bytes, byte)
-    }
+    bytes.iter().take_while(|b| **b != byte).count()
 }
 
 /// How many bytes of a text precede the first such byte. All of them do where there is none.
