@@ -2,9 +2,7 @@
 
 use crate::same::same;
 use log::sink::{Discard, Memory};
-use simplecss::{
-    Declaration, Reading, Report, Rule, Selector, SheetError, Silent, StyleSheet, Warnings,
-};
+use simplecss::{Declaration, Reading, Rule, Selector, SheetError, Silent, StyleSheet, Warnings};
 use std::alloc::AllocError;
 use std::test::Fail;
 
@@ -177,14 +175,10 @@ fn refuses_a_short_text_of_many_declarations(rt: HostRuntime) -> Result<(), Fail
 }
 
 /// Returns the sheet of the texts, without a limit.
-fn read_texts<'a, P: Report<'a>>(
-    rt: &HostRuntime,
-    report: &mut P,
-    texts: &[&'a str],
-) -> Result<StyleSheet<'a>, SheetError> {
+fn read_texts<'a>(rt: &HostRuntime, texts: &[&'a str]) -> Result<StyleSheet<'a>, SheetError> {
     let mut sheet = StyleSheet::new(rt.alloc());
     let how = Reading {
-        report,
+        report: &mut Silent,
         most: usize::MAX,
     };
     sheet.read(how, rt.alloc(), texts)?;
@@ -193,7 +187,7 @@ fn read_texts<'a, P: Report<'a>>(
 
 #[test]
 fn reads_all_texts_at_once(rt: HostRuntime) -> Result<(), Fail> {
-    let none = read_texts(&rt, &mut Silent, &[])?;
+    let none = read_texts(&rt, &[])?;
     same(&rt, prints(&rt, &none, "")?, true, "no texts");
     let texts = [
         "#x { a:b }",
@@ -203,7 +197,7 @@ fn reads_all_texts_at_once(rt: HostRuntime) -> Result<(), Fail> {
         "#y { e:f } q { g:h }",
         ", p { i:j",
     ];
-    let sheet = read_texts(&rt, &mut Silent, &texts)?;
+    let sheet = read_texts(&rt, &texts)?;
     let want = "p { c:d; }\nq { g:h; }\np { i:j; }\n*[id='x'] { a:b; }\n*[id='y'] { e:f; }";
     same(&rt, prints(&rt, &sheet, want)?, true, want);
     Ok(())
@@ -218,7 +212,11 @@ fn warns_of_all_texts_in_order(rt: HostRuntime) -> Result<(), Fail> {
         "':le' is not supported. Selector skipped.",
     ];
     let sink = Memory::new(rt.alloc());
-    read_texts(&rt, &mut Warnings::new(&sink), &texts)?;
+    let how = Reading {
+        report: &mut Warnings::new(&sink),
+        most: usize::MAX,
+    };
+    StyleSheet::new(rt.alloc()).read(how, rt.alloc(), &texts)?;
     let lines = sink.into_lines();
     same(&rt, lines.len(), messages.len(), "the lines");
     for (line, message) in lines.as_slice().iter().zip(messages) {
