@@ -1,6 +1,7 @@
 //! Sheets that are read, printed, edited and copied.
 
 use crate::same::same;
+use log::Log;
 use log::sink::{Discard, Memory};
 use simplecss::{Declaration, Reading, Rule, Selector, SheetError, Silent, StyleSheet, Warnings};
 use std::alloc::AllocError;
@@ -203,6 +204,16 @@ fn reads_all_texts_at_once(rt: HostRuntime) -> Result<(), Fail> {
     Ok(())
 }
 
+/// Reads the texts into a sheet, with their warnings to the log.
+fn warn_of_texts<R: Log>(rt: &HostRuntime, log: &R, texts: &[&str]) -> Result<(), SheetError> {
+    let mut sheet = StyleSheet::new(rt.alloc());
+    let how = Reading {
+        report: &mut Warnings::new(log),
+        most: usize::MAX,
+    };
+    sheet.read(how, rt.alloc(), texts)
+}
+
 #[test]
 fn warns_of_all_texts_in_order(rt: HostRuntime) -> Result<(), Fail> {
     let texts = ["> {}", "a { b:c }", "@import 'subs.css';", ":le {}"];
@@ -212,11 +223,7 @@ fn warns_of_all_texts_in_order(rt: HostRuntime) -> Result<(), Fail> {
         "':le' is not supported. Selector skipped.",
     ];
     let sink = Memory::new(rt.alloc());
-    let how = Reading {
-        report: &mut Warnings::new(&sink),
-        most: usize::MAX,
-    };
-    StyleSheet::new(rt.alloc()).read(how, rt.alloc(), &texts)?;
+    warn_of_texts(&rt, &sink, &texts)?;
     let lines = sink.into_lines();
     same(&rt, lines.len(), messages.len(), "the lines");
     for (line, message) in lines.as_slice().iter().zip(messages) {
