@@ -2,7 +2,7 @@
 //! the printed sheet, the printed selector, what is skipped, and the matches and winners on a tree, each with its length first.
 use simplecss::cascade::{Cascade, Rules};
 use simplecss::index::RuleIndex;
-use simplecss::skipped::find_faults;
+use simplecss::skipped::{find_skipped, Place};
 use simplecss::tree::Tree;
 use simplecss::{Selector, StyleSheet};
 use std::fmt::Write as _;
@@ -57,6 +57,15 @@ fn winners(tree: &Tree, sheet: &StyleSheet) -> String {
     out
 }
 
+fn skipped(text: &str) -> String {
+    let (mut out, mut place) = (String::new(), Place::START);
+    for part in find_skipped(text) {
+        place = place.find(text, part.from);
+        writeln!(out, "{}:{}:{}", place.pos, part.why.words(), part.quote()).unwrap();
+    }
+    out
+}
+
 fn answers(tree: &Tree, text: &str) -> [String; 5] {
     let sheet = StyleSheet::parse(text);
     let end = if sheet.rules.is_empty() { "" } else { "\n" };
@@ -64,8 +73,7 @@ fn answers(tree: &Tree, text: &str) -> [String; 5] {
         let [a, b, c] = it.specificity();
         format!("{it}\t{a},{b},{c}\n")
     });
-    let faults = find_faults(text).into_iter().map(|it| format!("{}:{}:{}\n", it.pos, it.reason, it.quote()));
-    [format!("{sheet}{end}"), selector, faults.collect(), matches(tree, &sheet), winners(tree, &sheet)]
+    [format!("{sheet}{end}"), selector, skipped(text), matches(tree, &sheet), winners(tree, &sheet)]
 }
 
 fn main() {

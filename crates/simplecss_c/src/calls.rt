@@ -19,8 +19,7 @@ use crate::texts::{text_of, texts_of};
 use crate::{json, lists};
 use cssq::runs::{selector_line, sheet_text};
 use log::sink::Discard;
-use simplecss::{Reading, Selector, Silent, StyleSheet};
-use simplecss_faults::find_faults;
+use simplecss::{Reading, Selector, Silent, StyleSheet, find_skipped};
 use simplecss_tree::Tree;
 use std::alloc::Global;
 
@@ -74,8 +73,9 @@ pub fn rules(alloc: Global, buffer: &[u8], ends: &[usize], limit: usize) -> Resu
 pub fn skipped(alloc: Global, text: &[u8]) -> Result<String, Failure>
     ensures { IsSkippedCall text.now (outcome_of result) }
 {
-    let faults = find_faults(alloc, text_of(text)?)?;
-    Ok(json::fault_lines(alloc, &faults)?)
+    let text = text_of(text)?;
+    let skipped = find_skipped(alloc, text)?;
+    Ok(json::skipped_lines(alloc, text, &skipped)?)
 }
 
 /// The lines of a list of selectors, in JSON.

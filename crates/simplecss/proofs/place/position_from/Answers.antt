@@ -1,7 +1,7 @@
 use Rattle.std.proofs.Common.{◌≡◌, ℕ, List, length, min, ap, ◌∙◌, arith}
 use Rattle.simplecss_text.specs.Positions.{in_whole, position}
-use Rattle.simplecss_faults.proofs.OffsetPositions.{offset-from}
-use Rattle.simplecss_faults.proofs.finding.position_from.Goals as goal
+use Rattle.simplecss.proofs.PlaceLemmas.{offset-from}
+use Rattle.simplecss.proofs.place.position_from.Goals as goal
 
 pub returns-in-Some : goal.returns-in-Some
 returns-in-Some c known boundary later =

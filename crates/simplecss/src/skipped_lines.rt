@@ -1,6 +1,6 @@
-//! Warnings of what is skipped, a line each.
-use crate::finding::{Known, fault, find};
-use simplecss::{Report, Skipped};
+//! Lines of what is skipped.
+use crate::Place;
+use simplecss_text::report::{Report, Skipped};
 use std::alloc::AllocError;
 use std::fmt::Display;
 use std::io;
@@ -11,7 +11,7 @@ use std::io::Write;
 ///
 /// After an error of the writer nothing more is written.
 #[derive(Debug, Drop)]
-pub struct FaultLines<'n, 'a, W: Write> {
+pub struct SkippedLines<'n, 'a, W: Write> {
     /// Where the lines are written.
     out: W,
     /// The names of the texts, in order.
@@ -20,21 +20,22 @@ pub struct FaultLines<'n, 'a, W: Write> {
     begun: usize,
     /// The text that is read.
     text: &'a str,
-    /// The last offset of it that was reported.
-    known: Known,
+    /// The last place of it that a line names.
+    place: Place,
     /// The first error of the writer.
     outcome: io::Result<()>,
 }
 
-impl<'n, 'a, W: Write + Drop> FaultLines<'n, 'a, W> {
-    /// A reporter for texts with these names, in order. A text after those has an empty name.
+impl<'n, 'a, W: Write + Drop> SkippedLines<'n, 'a, W> {
+    /// Returns a reporter for texts with these names, in order. A text after those has an empty
+    /// name.
     pub fn new(out: W, names: &'n [&'n str]) -> Self {
-        FaultLines {
+        SkippedLines {
             out,
             names,
             begun: 0,
             text: "",
-            known: Known::START,
+            place: Place::START,
             outcome: Ok(()),
         }
     }
@@ -42,7 +43,7 @@ impl<'n, 'a, W: Write + Drop> FaultLines<'n, 'a, W> {
     /// Writes what is still in the writer's buffers. Fails if this does, or if a line could not be
     /// written.
     pub fn finish(self) -> io::Result<()> {
-        let FaultLines {
+        let SkippedLines {
             mut out,
             outcome,
             ..
@@ -52,28 +53,23 @@ impl<'n, 'a, W: Write + Drop> FaultLines<'n, 'a, W> {
     }
 }
 
-impl<'n, 'a, W: Write> FaultLines<'n, 'a, W> {
-    /// The name of the text that is read.
-    fn name(&self) -> &'n str {
-        match self.names.get(self.begun.saturating_sub(1)) {
-            Some(name) => *name,
-            None => "",
-        }
-    }
-
+impl<'n, 'a, W: Write> SkippedLines<'n, 'a, W> {
     /// Writes a line with other words: the name of the text that is read, the row and the column
     /// where this rest of it begins, and the words.
     pub fn write_line<D: Display>(&mut self, rest: &'a str, words: &D) {
-        self.known = find(self.text, self.known, rest);
-        let name = self.name();
-        let pos = self.known.pos();
+        self.place = self.place.find(self.text, rest);
+        let name = match self.names.get(self.begun.saturating_sub(1)) {
+            Some(name) => *name,
+            None => "",
+        };
+        let pos = self.place.pos;
         if self.outcome.is_ok() {
             self.outcome = writeln!(self.out, "{name}:{pos}: {words}");
         }
     }
 }
 
-impl<'n, 'a, W: Write> Report<'a> for FaultLines<'n, 'a, W> {
+impl<'n, 'a, W: Write> Report<'a> for SkippedLines<'n, 'a, W> {
     ghost State = { Unit {0} };
 
     ghost state = { λ _. tt };
@@ -84,7 +80,7 @@ impl<'n, 'a, W: Write> Report<'a> for FaultLines<'n, 'a, W> {
 
     fn begin(&mut self, text: &'a str) {
         self.text = text;
-        self.known = Known::START;
+        self.place = Place::START;
         self.begun = self.begun.saturating_add(1);
     }
 
@@ -92,11 +88,7 @@ impl<'n, 'a, W: Write> Report<'a> for FaultLines<'n, 'a, W> {
     fn declared(&mut self, _from: &'a str, _value: &'a str) {}
 
     fn report(&mut self, skipped: Skipped<'a>) -> Result<(), AllocError> {
-        let fault = fault(self.text, &mut self.known, skipped);
-        let name = self.name();
-        if self.outcome.is_ok() {
-            self.outcome = writeln!(self.out, "{name}:{fault}");
-        }
+        self.write_line(skipped.from, &skipped);
         Ok(())
     }
 }

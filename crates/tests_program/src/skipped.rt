@@ -1,13 +1,12 @@
 //! What reading a sheet's text skips.
 
 use crate::printed::prints_alike;
-use simplecss::{Error, TextPos};
-use simplecss_faults::{Reason, find_faults};
+use simplecss::{Error, Place, Refusal, TextPos, Why, find_skipped};
 use std::alloc::{AllocError, Global};
 use std::fmt::Write as _;
 use std::test::Fail;
 
-/// The faults in each text: row and column, what is quoted, and why, a line each.
+/// What is skipped of each text: row and column, what is quoted, and why, a line each.
 const FOUND: &[(&str, &str)] = &[
     ("", ""),
     ("a { }", ""),
@@ -62,17 +61,19 @@ const FOUND: &[(&str, &str)] = &[
         "1:5: 'b': broken declaration\n1:8: '}': unexpected closing brace\n",
     ),
     (
-        // The first fault of a selector is its reason.
+        // A selector is skipped for what is first at fault.
         "a:b[:c { d:e }",
         "1:1: 'a:b[:c': unknown pseudo-class\n",
     ),
 ];
 
-/// Returns the faults in the text, a line each.
+/// Returns what is skipped of the text, a line each.
 fn found(alloc: Global, text: &str) -> Result<String, AllocError> {
     let mut lines = String::new(alloc);
-    for fault in &find_faults(alloc, text)? {
-        writeln!(lines, "{fault}")?;
+    let mut place = Place::START;
+    for part in &find_skipped(alloc, text)? {
+        place = place.find(text, part.from);
+        writeln!(lines, "{}: {part}", place.pos)?;
     }
     Ok(lines)
 }
@@ -85,45 +86,66 @@ fn finds_what_is_skipped(rt: HostRuntime) -> Result<(), Fail> {
     Ok(())
 }
 
-/// A position in an error counts from the start of the whole text.
+/// A position in an error counts from the start of the selector.
 #[test]
 fn returns_the_error(rt: HostRuntime) -> Result<(), Fail> {
-    let faults = find_faults(rt.alloc(), "x { y:z }\n a[b=] { c:d }")?;
-    assert_eq!(rt; faults.len(), 1);
+    let text = "x { y:z }\n a[b=] { c:d }";
+    let skipped = find_skipped(rt.alloc(), text)?;
+    assert_eq!(rt; skipped.len(), 1);
+    let (within, error) = (&text[11..], Error::InvalidIdent(TextPos::new(1, 5)));
     assert_eq!(rt;
-        faults[0].reason,
-        Reason::Selector(Error::InvalidIdent(TextPos::new(2, 6)))
+        skipped[0].why,
+        Why::Selector(Refusal::Faulty { within, error })
     );
     Ok(())
 }
 
 #[test]
 fn prints_alike_under_all_options(rt: HostRuntime) -> Result<(), Fail> {
-    let line = "1:1: 'a < b': invalid ident";
-    for fault in &find_faults(rt.alloc(), "a < b { c:d }")? {
-        assert!(rt; prints_alike(rt.alloc(), fault, line)?);
-        assert!(rt; prints_alike(rt.alloc(), &fault.reason, "invalid ident")?);
+    for part in &find_skipped(rt.alloc(), "a < b { c:d }")? {
+        assert!(rt; prints_alike(rt.alloc(), part, "'a < b': invalid ident")?);
+        assert!(rt; prints_alike(rt.alloc(), &part.why, "invalid ident")?);
     }
     Ok(())
 }
 
-/// Returns the number of faults in the text, and how many of its bytes are quoted.
-fn quoted(alloc: Global, text: &str) -> Result<(usize, usize), AllocError> {
-    let faults = find_faults(alloc, text)?;
-    let mut bytes = 0usize;
-    for fault in &faults {
-        bytes = bytes.saturating_add(fault.text.len());
+/// Where places are counted from an earlier one or, if that is later, from the start.
+const PLACES: &[(usize, TextPos)] = &[
+    (0, TextPos { row: 1, col: 1 }),
+    (4, TextPos { row: 1, col: 4 }),
+    (7, TextPos { row: 2, col: 2 }),
+    (3, TextPos { row: 1, col: 3 }),
+    (8, TextPos { row: 2, col: 3 }),
+];
+
+#[test]
+fn counts_places(rt: HostRuntime) -> Result<(), Fail> {
+    let text = "a\u{e9}b.\ncde";
+    let mut place = Place::START;
+    for (offset, pos) in PLACES {
+        place = place.find(text, &text[*offset..]);
+        assert_eq!(rt; (place.offset, place.pos), (*offset, *pos));
     }
-    Ok((faults.len(), bytes))
+    Ok(())
+}
+
+/// Returns the number of skipped parts of the text, and how many of its bytes are skipped.
+fn counted(alloc: Global, text: &str) -> Result<(usize, usize), AllocError> {
+    let skipped = find_skipped(alloc, text)?;
+    let mut bytes = 0usize;
+    for part in &skipped {
+        bytes = bytes.saturating_add(part.text().len());
+    }
+    Ok((skipped.len(), bytes))
 }
 
 /// An at-sign with no name is a statement of its own.
 #[test]
-fn quotes_no_more_than_a_statement(rt: HostRuntime) -> Result<(), Fail> {
+fn skips_no_more_than_a_statement(rt: HostRuntime) -> Result<(), Fail> {
     let mut text = String::new(rt.alloc());
     for _ in 0..20_000 {
         text.push('@')?;
     }
-    assert_eq!(rt; quoted(rt.alloc(), text.as_str())?, (20_000, 20_000));
+    assert_eq!(rt; counted(rt.alloc(), text.as_str())?, (20_000, 20_000));
     Ok(())
 }

@@ -1,14 +1,18 @@
 //! Hints: parts of a style sheet that are kept, and that its author hardly meant.
 ghost use Rattle.std.specs.Prelude.{◌≡◌, IfSome, Some};
-ghost use Rattle.simplecss.specs.ThisEdition.{this_edition};
+ghost use Rattle.simplecss_text.specs.ThisEdition.{this_edition};
 ghost use Rattle.simplecss_declaration.specs.ValueStarts.{value_from};
 
-use crate::fault::first_line;
-use crate::finding::{Known, find};
-use crate::parentheses::is_left_open;
-use simplecss::stream::Stream;
-use simplecss::{Declaration, DeclarationTokenizer, Selector, Silent, StatementReader, TextPos};
-use simplecss_declaration::find_value;
+mod parentheses;
+
+use crate::hints::parentheses::is_left_open;
+use crate::{Place, StatementReader};
+use simplecss_declaration::{Declaration, DeclarationTokenizer, find_value};
+use simplecss_selector::Selector;
+use simplecss_text::TextPos;
+use simplecss_text::quoting::first_line;
+use simplecss_text::report::Silent;
+use simplecss_text::stream::Stream;
 use std::alloc::{AllocError, Global};
 use std::fmt;
 
@@ -20,12 +24,12 @@ pub struct Hint<'a> {
     /// The text from there on.
     pub from: &'a str,
     /// What is surprising about it.
-    pub surprise: Surprise<'a>,
+    pub kind: HintKind<'a>,
 }
 
 /// What is surprising about a part of a style sheet that is kept.
 #[derive(Clone, Copy, Debug, PartialEq)]
-pub enum Surprise<'a> {
+pub enum HintKind<'a> {
     /// The text begins with a byte order mark, which belongs to the first name.
     ByteOrderMark,
     /// A selector is the `*` of a `*/` that closes no comment.
@@ -44,26 +48,26 @@ pub enum Surprise<'a> {
 /// Prints the row and the column, and what is surprising.
 impl fmt::Display for Hint<'_> {
     fn fmt<W: fmt::Write>(&self, f: &mut fmt::Formatter<W>) -> fmt::Result {
-        write!(f, "{}: {}", self.pos, self.surprise)
+        write!(f, "{}: {}", self.pos, self.kind)
     }
 }
 
 /// Prints what is surprising in a few words, without a position.
-impl fmt::Display for Surprise<'_> {
+impl fmt::Display for HintKind<'_> {
     fn fmt<W: fmt::Write>(&self, f: &mut fmt::Formatter<W>) -> fmt::Result {
         let (value, words) = match *self {
-            Surprise::ByteOrderMark => {
+            HintKind::ByteOrderMark => {
                 return f.write_str("a byte order mark is part of the first name");
             }
-            Surprise::StrayCommentEnd => {
+            HintKind::StrayCommentEnd => {
                 return f.write_str("a '*/' that closes no comment is read as the selector '*'");
             }
-            Surprise::OtherSelectors => {
+            HintKind::OtherSelectors => {
                 return f.write_str("a selector is refused, and the others are kept");
             }
-            Surprise::CutValue(value) => (value, "the value is cut here"),
-            Surprise::OpenParenthesis(value) => (value, "a parenthesis of the value is left open"),
-            Surprise::MarkWithoutImportant(value) => (value, "'!' without 'important' follows"),
+            HintKind::CutValue(value) => (value, "the value is cut here"),
+            HintKind::OpenParenthesis(value) => (value, "a parenthesis of the value is left open"),
+            HintKind::MarkWithoutImportant(value) => (value, "'!' without 'important' follows"),
         };
         let quote = first_line(value);
         write!(f, "'{quote}': {words}")
@@ -75,8 +79,8 @@ impl fmt::Display for Surprise<'_> {
 struct Found<'a> {
     /// The text.
     text: &'a str,
-    /// The offset of the last hint.
-    known: Known,
+    /// The place of the last hint.
+    place: Place,
     /// The hints, in order.
     hints: Vec<Hint<'a>>,
 }
@@ -86,24 +90,20 @@ impl<'a> Found<'a> {
     fn at_start(alloc: Global, text: &'a str) -> Result<Found<'a>, AllocError> {
         let mut found = Found {
             text,
-            known: Known::START,
+            place: Place::START,
             hints: Vec::new(alloc),
         };
         if text.starts_with('\u{feff}') {
-            found.push(text, Surprise::ByteOrderMark)?;
+            found.push(text, HintKind::ByteOrderMark)?;
         }
         Ok(found)
     }
 
     /// Adds a hint on the part that begins where this rest of the text does.
-    fn push(&mut self, from: &'a str, surprise: Surprise<'a>) -> Result<(), AllocError> {
-        self.known = find(self.text, self.known, from);
-        let pos = self.known.pos();
-        self.hints.push(Hint {
-            pos,
-            from,
-            surprise,
-        })?;
+    fn push(&mut self, from: &'a str, kind: HintKind<'a>) -> Result<(), AllocError> {
+        self.place = self.place.find(self.text, from);
+        let pos = self.place.pos;
+        self.hints.push(Hint { pos, from, kind })?;
         Ok(())
     }
 
@@ -131,10 +131,10 @@ impl<'a> Found<'a> {
             }
         }
         if keeps && refuses {
-            self.push(rule_set, Surprise::OtherSelectors)?;
+            self.push(rule_set, HintKind::OtherSelectors)?;
         }
         if let Some(part) = stray {
-            self.push(part, Surprise::StrayCommentEnd)?;
+            self.push(part, HintKind::StrayCommentEnd)?;
         }
         if !keeps {
             return Ok(None);
@@ -171,15 +171,15 @@ impl<'a> Found<'a> {
             return Ok(());
         };
         let after = after_blank(stated.get(value.len()..).unwrap_or(""));
-        let surprise = match after.chars().next() {
-            _ if is_left_open(value) => Surprise::OpenParenthesis(value),
+        let kind = match after.chars().next() {
+            _ if is_left_open(value) => HintKind::OpenParenthesis(value),
             None | Some(';' | '}') => return Ok(()),
             Some('!') if declaration.important => return Ok(()),
-            Some('!') => Surprise::MarkWithoutImportant(value),
+            Some('!') => HintKind::MarkWithoutImportant(value),
             Some(_) if is_last => return Ok(()),
-            Some(_) => Surprise::CutValue(value),
+            Some(_) => HintKind::CutValue(value),
         };
-        self.push(stated, surprise)
+        self.push(stated, kind)
     }
 }
 

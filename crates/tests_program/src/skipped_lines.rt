@@ -1,7 +1,6 @@
 //! The lines that are written for skipped text.
 
-use simplecss::{Reading, StyleSheet};
-use simplecss_faults::FaultLines;
+use simplecss::{Reading, SkippedLines, StyleSheet};
 use std::alloc::Global;
 use std::io;
 use std::io::{Cursor, Write};
@@ -24,7 +23,7 @@ const LINES: &[(&[&str], &str)] = &[
 
 /// Reads the texts into a sheet, and writes a line for what is skipped.
 fn read<W: Write + Drop>(alloc: Global, texts: &[&str], out: W) -> io::Result<()> {
-    let mut lines = FaultLines::new(out, &["x.css", "y.css"]);
+    let mut lines = SkippedLines::new(out, &["x.css", "y.css"]);
     let how = Reading {
         report: &mut lines,
         most: usize::MAX,
