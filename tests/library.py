@@ -1,10 +1,12 @@
 """Tests the C library and the Python package: builds the library by ./build, tests its calls by
 library_calls.py, compiles the C example by the toolchain's clang and runs it, refuses each request for memory of each
-call, one after another, installs into a folder, and runs the package's unit tests. The last line is `N passed, M failed`."""
+call, one after another, installs into a folder, runs the package's unit tests, and compares what it finds with soupsieve.
+The last line is `N passed, M failed`."""
 
 import glob
 import os
 import re
+import shutil
 import subprocess
 import sys
 import tempfile
@@ -158,6 +160,24 @@ def test_package():
     check(made.returncode == 0, "python3 -m simplecss", made.stderr)
 
 
+def test_types():
+    """The types of the package, as mypy finds them."""
+    if not shutil.which("mypy"):
+        print("left out: the types of the Python package: there is no mypy")
+        return
+    made = run(["mypy", "--strict", "--python-version=3.9", f"--cache-dir={os.devnull}", "python/simplecss"])
+    check(made.returncode == 0, "mypy", made.stdout.decode()[-1000:])
+
+
+def test_soup():
+    """Selectors find what soupsieve finds on the trees of html5lib, of Debian's Python."""
+    made = run(["/usr/bin/python3", os.path.join("tests", "browser.py"), "soup", *sorted(glob.glob(os.path.join(TOP, "tests", "mails", "*.html")))])
+    if b"left out" in made.stderr:
+        print("left out: soupsieve's answers: there is no html5lib or BeautifulSoup (python3-bs4, python3-html5lib)")
+        return
+    check(made.returncode == 0, "soupsieve", (made.stdout + made.stderr).decode()[-1000:])
+
+
 def main():
     """Runs all."""
     made = subprocess.run(["./build", "library"], cwd=TOP)
@@ -175,6 +195,8 @@ def main():
                 print("left out: the C example was not compiled: the system has no C headers or start files")
         library_calls.run(check, os.path.join(OUT, "libsimplecss.so"))
         test_package()
+        test_soup()
+    test_types()
     print(f"{passed} passed, {failed} failed")
     return 1 if failed else 0
 

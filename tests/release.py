@@ -3,8 +3,9 @@
 its tests, that it and the WebAssembly module answer as the proved library does on random texts, and that each package works
 where it is unpacked, outside the checkout.
 
-    tests/release.py [PART..]     PART is eraser, crate, wheel, program, npm or twice; without one all, and ./build release first
-    tests/release.py speed        parsing and matching beside Debian's librust-simplecss-dev
+    tests/release.py TOKENS [PART..]    TOKENS is the built `tests_tokens`; PART is eraser, crate, wheel, program, npm or twice;
+                                        without one all, and ./build release first
+    tests/release.py TOKENS speed       parsing and matching beside Debian's librust-simplecss-dev
 
 `SIMPLECSS_TESTS` may name a folder with the tests of the Rust crate 0.2.2: files `*.rs`, or texts in which lines
 `// ===== tests/NAME.rs =====` begin them. What was left out, since a tool or a package of Debian is missing, is named at the
@@ -142,14 +143,21 @@ def answered():
     return texts, [library.answers(text) for text in texts]
 
 
-def as_text(answers):
+def tokens_of(program, texts):
+    """What the proved program prints of each text: its tokens."""
+    done = run([program], input=b"\x01".join(texts))
+    expect(done.returncode == 0, f"{program}: status {done.returncode}: {done.stderr!r}")
+    return done.stdout.split(b"\x01")[:-1]
+
+
+def as_text(answers, tokens):
     """The same answers in the form of compare.rs."""
     sheet, selector, skipped, _, _, matches, styles = answers
     lines = [json.loads(line) for line in skipped.decode().splitlines()]
     faults = "".join(f"{it['row']}:{it['column']}:{it['reason']}:{it['text']}\n" for it in lines)
     rows = [json.loads(line) for line in styles.decode().splitlines()]
     winners = "".join("".join(f"{it['name']}={it['value']}={str(it['important']).lower()};" for it in row) + "\n" for row in rows)
-    return [sheet, selector, faults.encode(), matches, winners.encode()]
+    return [sheet, selector, faults.encode(), matches, winners.encode(), tokens]
 
 
 def compare(what, texts, wanted, got):
@@ -306,7 +314,7 @@ WARNED = "WARN: Selector parsing failed cause unexpected combinator.\nWARN: The 
 DRAWING = b"<svg><style>.a { fill: red } path { fill: blue !important; x: 1 }</style><path class='a' style='fill: none; x: 2'/></svg>"
 
 
-def test_crate(folder):
+def test_crate(tokens, folder):
     """The erased crate."""
     packed = made("simplecss-0.2.2.crate")
     cargo = Cargo(folder)
@@ -332,15 +340,16 @@ def test_crate(folder):
     needs = f'simplecss = {{ path = "{package}" }}\n'
     done = cargo(["run", "-q"], cargo.project("warnings", needs + 'log = "0.4"\n', **{"src/main.rs": WARNINGS}), "warnings")
     expect(done.stdout.decode() == WARNED, f"warnings: {done.stdout.decode()!r}")
-    compare_crate(cargo, needs)
+    compare_crate(cargo, needs, tokens)
 
 
-def compare_crate(cargo, needs):
-    """The crate answers as the proved library does."""
+def compare_crate(cargo, needs, tokens):
+    """The crate answers as the proved library does, and has the tokens of the proved program."""
     project = cargo.project("compare", needs, **{"src/main.rs": text_of("tests", "release", "compare.rs")})
     texts, wanted = answered()
     done = cargo(["run", "-q", "--release"], project, "the comparison", input=framed(texts))
-    compare("the Rust crate and the proved library", texts, [as_text(it) for it in wanted], parts_of(done.stdout, 5))
+    wanted = [as_text(*it) for it in zip(wanted, tokens_of(tokens, texts))]
+    compare("the Rust crate and the proved sources", texts, wanted, parts_of(done.stdout, 6))
 
 
 def test_speed(folder):
@@ -535,14 +544,33 @@ def test_npm(folder):
     expect('data-done="yes"' in dom and "(0,1,0) *[class~='note'] { color: red !important }" in dom and "at-rule not supported" in dom, f"the page: {dom[-800:]}")
 
 
+def second_checkout(folder):
+    """The files of this checkout elsewhere, as new ones in another order, with the parts that are built."""
+    names = run(["git", "-c", f"safe.directory={TOP}", "ls-files", "-z", "--cached", "--others", "--exclude-standard"]).stdout.decode().split("\0")
+    for name in reversed(names[:-1]):
+        path, copy = os.path.join(TOP, name), os.path.join(folder, name)
+        os.makedirs(os.path.dirname(copy), exist_ok=True)
+        if os.path.isfile(path):
+            shutil.copyfile(path, copy)
+    for name in ("out", "crates/cssq_cli/out"):
+        os.symlink(os.path.join(TOP, name), os.path.join(folder, name))
+
+
 def test_twice(folder):
-    """Another run makes the same bytes."""
+    """A second checkout of the commit makes the same bytes."""
     kit = os.path.dirname(run(["rt", "doc"]).stdout.decode().strip())
-    done = run([sys.executable, os.path.join(TOP, "tools", "release.py"), kit, os.path.join(folder, "again")])
+    checkout, again = os.path.join(folder, "checkout"), os.path.join(folder, "again")
+    if not has("git", "the second release"):
+        return
+    second_checkout(checkout)
+    when = run(["git", "-c", f"safe.directory={TOP}", "log", "-1", "--format=%ct"]).stdout.decode().strip()
+    environment = {"SOURCE_DATE_EPOCH": when, **os.environ, "LC_ALL": "C", "TZ": "Asia/Tokyo"}
+    done = run([sys.executable, os.path.join(checkout, "tools", "release.py"), kit, again], env=environment, umask=0o077)
     expect(done.returncode == int(b"not made" in done.stderr), f"the second release: {done}")
-    for path in sorted(glob.glob(os.path.join(MADE, "*"))):
-        with open(path, "rb") as first, open(os.path.join(folder, "again", os.path.basename(path)), "rb") as second:
-            expect(first.read() == second.read(), f"{os.path.basename(path)} has other bytes in a second run")
+    expect(sorted(os.listdir(again)) == sorted(os.listdir(MADE)), f"the second release makes {sorted(os.listdir(again))}")
+    for path in sorted(glob.glob(os.path.join(again, "*"))):
+        with open(path, "rb") as first, open(os.path.join(MADE, os.path.basename(path)), "rb") as second:
+            expect(first.read() == second.read(), f"{os.path.basename(path)} has other bytes in a second checkout")
     with open(os.path.join(MADE, "SHA256SUMS"), encoding="utf-8") as sums:
         for line in sums:
             total, _, name = line.strip().partition("  ")
@@ -557,7 +585,8 @@ def processor_time():
 
 def main(words):
     """Runs the parts that the words name."""
-    parts = {"eraser": test_eraser, "crate": test_crate, "wheel": test_wheel, "program": test_program, "npm": test_npm, "twice": test_twice, "speed": test_speed}
+    crate = functools.partial(test_crate, words.pop(0))
+    parts = {"eraser": test_eraser, "crate": crate, "wheel": test_wheel, "program": test_program, "npm": test_npm, "twice": test_twice, "speed": test_speed}
     if not words:
         done = run([os.path.join(TOP, "build"), "release"])
         lines = [line for line in done.stderr.decode().splitlines() if "not made" in line]
@@ -574,4 +603,6 @@ def main(words):
 
 
 if __name__ == "__main__":
-    sys.exit(main(sys.argv[1:]))
+    if not sys.argv[1:] or not os.access(sys.argv[1], os.X_OK):
+        sys.exit(__doc__)
+    sys.exit(main([os.path.abspath(sys.argv[1]), *sys.argv[2:]]))
