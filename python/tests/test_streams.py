@@ -58,6 +58,35 @@ class Encodings(unittest.TestCase):
             self.assertEqual((decoded, encode(decoded)), ("\ufeff<meta charset=koi8-r>é", page))
 
 
+# Doctypes, and whether browsers show such a page as old ones did (HTML Standard, "The initial insertion mode").
+OLD, NEW = True, False
+DOCTYPES = [
+    ("", OLD),
+    ("<!doctype html>", NEW),
+    ("<!DOCTYPEhtml>", NEW),
+    ("<!doctype html system 'about:legacy-compat'>", NEW),
+    ("<!doctype html x>", OLD),
+    ("<!doctype html public>", OLD),
+    ("<!doctype html public 'x'>", NEW),
+    ("<!doctype html public 'x' y>", OLD),
+    ("<!doctype html public 'x' 'y' z>", NEW),
+    ("<!doctype html", OLD),
+    ("<!doctype svg>", OLD),
+    ("<!DOCTYPE html PUBLIC '-//W3C//DTD HTML 3.2 Final//EN'>", OLD),
+    ("<!DOCTYPE html PUBLIC '-/W3C/DTD HTML 4.0 Transitional/EN'>", OLD),
+    ("<!DOCTYPE html PUBLIC '-//W3C//DTD HTML 4.01 Transitional//EN'>", OLD),
+    ("<!DOCTYPE html PUBLIC '-//W3C//DTD HTML 4.01 Transitional//EN' 'http://www.w3.org/TR/html4/loose.dtd'>", NEW),
+    ("<!DOCTYPE html PUBLIC '-//W3C//DTD XHTML 1.0 Transitional//EN' 'http://www.w3.org/x'>", NEW),
+]
+
+
+class Doctypes(unittest.TestCase):
+    def test_classes_of_old_pages_compare_without_case(self):
+        for doctype, is_old in DOCTYPES:
+            tree = simplecss.Tree.from_html(doctype + "<p class=a>")
+            self.assertEqual(len(tree.select(".A")), int(is_old), doctype)
+
+
 # Objects of SARIF 2.1.0 (its sections 3.13 to 3.52): the properties that each must have, and the form of each that may
 # be there. A form is another object, a list with one form, a set of values, a pattern, or a number that is the least.
 URI = re.compile(r"(?:[A-Za-z][-+.A-Za-z0-9]*:)?(?:[-\w.~:/?#\[\]@!$&'()*+,;=]|%[0-9A-Fa-f]{2})*", re.ASCII)
