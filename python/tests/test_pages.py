@@ -1,4 +1,5 @@
-"""What comes in and goes out: encodings of pages, forms of reports, and the streams and signals of the command line.
+"""What comes in and goes out: encodings, doctypes and presentation attributes of pages, forms of reports, and the
+streams and signals of the command line.
 
 The library must be built (`./build library`).
 """
@@ -87,6 +88,17 @@ class Doctypes(unittest.TestCase):
             self.assertEqual(len(tree.select(".A")), int(is_old), doctype)
 
 
+class Presentation(unittest.TestCase):
+    def test_attributes_that_are_properties(self):
+        tree = simplecss.Tree.from_html(
+            "<svg width=9><rect rx=1 x=2 cx=3 fill=red /><circle r=4 x=5 /><path d=M0,0 /><animate fill=freeze /></svg>"
+            "<p width=6>")
+        styles = simplecss.StyleSheet("rect { x: 7 }").styles(tree, specified=True)
+        found = {element.name: " ".join(sorted(map(str, styles[element]))) for element in tree if styles[element]}
+        self.assertEqual(found, {"svg": "width: 9", "rect": "fill: red rx: 1 x: 7", "circle": "r: 4",
+                                 "path": "d: M0,0"})
+
+
 # Objects of SARIF 2.1.0 (its sections 3.13 to 3.52): the properties that each must have, and the form of each that may
 # be there. A form is another object, a list with one form, a set of values, a pattern, or a number that is the least.
 URI = re.compile(r"(?:[A-Za-z][-+.A-Za-z0-9]*:)?(?:[-\w.~:/?#\[\]@!$&'()*+,;=]|%[0-9A-Fa-f]{2})*", re.ASCII)
@@ -121,7 +133,8 @@ def faults(value, form, where="$"):
         if isinstance(form, int):
             is_right = type(value) is int and value >= form
         else:
-            is_right = isinstance(value, str) and bool(value in form if isinstance(form, set) else form.fullmatch(value))
+            is_known = form.__contains__ if isinstance(form, set) else form.fullmatch
+            is_right = isinstance(value, str) and bool(is_known(value))
     if not is_right:
         yield where
     for each in inner:
@@ -220,7 +233,8 @@ class CommandLine(unittest.TestCase):
     def test_a_library_of_another_version(self):
         code = "import simplecss, simplecss._library as it; it.__version__ = '9'; simplecss.Selector('a')"
         environment = {**os.environ, "PYTHONPATH": FOLDER}
-        made = subprocess.run([sys.executable, "-c", code], env=environment, capture_output=True, text=True, check=False)
+        words = [sys.executable, "-c", code]
+        made = subprocess.run(words, env=environment, capture_output=True, text=True, check=False)
         self.assertIn(f"has version {simplecss.__version__}, and this package 9", made.stderr)
 
 
