@@ -188,7 +188,7 @@ ERASED = [
     ("struct A {\n    /// A list.\n    pub ghost items: { List Nat },\n    pub b: u8,\n}\n",
      "struct A {\n\n    pub b: u8,\n}\n"),
     ("let a = A { ghost items = { nil }, b: 1 };", "let a = A {  b: 1 };"),
-    ("#![tactic(auto)]\n#[derive(Drop)]\n#[derive(Clone, Drop, Debug)]\n#[tactic(auto, using(a))]\n#[inline]\nstruct A;\n",
+    ("#![tactic(auto)]\n#[derive(Drop)]\n#[derive(Clone, Drop, Debug)]\n#[tactic(auto)]\n#[inline]\nstruct A;\n",
      "\n\n#[derive(Clone, Debug)]\n\n#[inline]\nstruct A;\n"),
     ('let a = "ghost { requires }"; // ghost use x;\n', 'let a = "ghost { requires }"; // ghost use x;\n'),
     ("let a: &'static str = b; let c = '{'; let d = b'\\'';\n",
