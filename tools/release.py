@@ -77,9 +77,15 @@ def commit_time() -> int:
     return int(given or run("git", "-c", f"safe.directory={TOP}", "log", "-1", "--format=%ct"))
 
 
+def found_in(path: Path, pattern: str) -> str:
+    """Returns the part of a file that a pattern finds once."""
+    [found] = re.findall(pattern, path.read_text(encoding="utf-8"))
+    return str(found)
+
+
 def read_version() -> str:
     """Returns the version, which the header states."""
-    return re.search(r'SIMPLECSS_VERSION "(.*)"', (TOP / "include/simplecss.h").read_text())[1]
+    return found_in(TOP / "include/simplecss.h", r'SIMPLECSS_VERSION "(.*)"')
 
 
 class Release:
@@ -189,8 +195,8 @@ class Release:
 
     def metadata(self) -> str:
         """Returns the wheel's metadata, which pyproject.toml states."""
-        stated = (TOP / "python/pyproject.toml").read_text()
-        classifiers = re.findall(r'"(.*)"', re.search(r"(?s)classifiers = \[(.*?)\]", stated)[1])
+        stated = found_in(TOP / "python/pyproject.toml", r"(?s)classifiers = \[(.*?)\]")
+        classifiers = re.findall(r'"(.*)"', stated)
         lines = ["Metadata-Version: 2.4", "Name: simplecss", f"Version: {self.version}", f"Summary: {SUMMARY}",
                  "License-Expression: MIT OR Apache-2.0", *(f"License-File: {it.name}" for it in LICENCES),
                  *(f"Classifier: {it}" for it in classifiers), "Requires-Python: >=3.9",
@@ -211,8 +217,8 @@ class Release:
 
     def manual(self) -> bytes:
         """Returns the page of the manual: what `cssq --help` says."""
-        source = (TOP / "crates/cssq_cli/src/help.rt").read_text()
-        text = re.search(r'(?s)const HELP: &str = "\\\n(.*?)";', source)[1].replace("\\\\", "\\")
+        source = TOP / "crates/cssq_cli/src/help.rt"
+        text = found_in(source, r'(?s)const HELP: &str = "\\\n(.*?)";').replace("\\\\", "\\")
         first, _, rest = text.partition("\n\n")
         day = time.strftime("%Y-%m-%d", time.gmtime(self.when))
         shown = rest.replace("\\", "\\e").replace("-", "\\-").replace("\n.", "\n\\&.")
@@ -224,7 +230,7 @@ class Release:
     def installed(self) -> List[File]:
         """Returns the files of an installation, below its prefix."""
         shared = (TOP / "out/libsimplecss.so").read_bytes()
-        config, top = re.search(r'(?s)PKG_CONFIG = """(.*?)"""', (TOP / "build").read_text())[1], "${pcfiledir}/../.."
+        config, top = found_in(TOP / "build", r'(?s)PKG_CONFIG = """(.*?)"""'), "${pcfiledir}/../.."
         config = config.format(lib=top + "/lib", include=top + "/include", version=self.version)
         text = b"\n".join(it.read_bytes() for it in LICENCES)
         return [
