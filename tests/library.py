@@ -170,11 +170,12 @@ def test_package():
 
 
 def test_types():
-    """The types of the package, as mypy finds them."""
+    """The types of the package and of the scripts that build, as mypy finds them."""
     if not shutil.which("mypy"):
         print("left out: the types of the Python package: there is no mypy")
         return
-    made = run(["mypy", "--strict", "--python-version=3.9", f"--cache-dir={os.devnull}", "python/simplecss"])
+    words = ["mypy", "--strict", "--python-version=3.9", f"--cache-dir={os.devnull}"]
+    made = run([*words, "python/simplecss", "build", "tools/release.py", "tools/erase.py"])
     check(made.returncode == 0, "mypy", made.stdout.decode()[-1000:])
 
 
