@@ -39,6 +39,12 @@ SELECTORS = (
     "span span", "input[type=text]",
 )
 
+# What soupsieve finds less of, and why: the others are found by both.
+WIDER = {
+    "a:link": "a link in SVG",
+    "td[align=center]": "of the values that HTML compares without case, soupsieve compares those of `type`",
+}
+
 SCRIPT = """
 <script>
 const input = JSON.parse(document.getElementById("input").textContent), answer = [];
@@ -295,6 +301,9 @@ def compare_soup(names):
         found = []
         for selectors in SELECTORS:
             mine, theirs = [element.node for element in tree.select(selectors)], soup.select(selectors)
+            if selectors in WIDER:
+                known = set(map(id, theirs))
+                mine = [node for node in mine if id(node) in known]
             if len(mine) != len(theirs) or any(a is not b for a, b in zip(mine, theirs)):
                 found.append(f"{selectors}: {len(mine)}, by soupsieve {len(theirs)}")
         report.add(name, found)
