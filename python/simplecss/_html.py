@@ -1268,6 +1268,8 @@ class Builder:
             token.attributes = {
                 _SVG_ATTRIBUTES.get(key, key): value for key, value in token.attributes.items()
             }
+        elif "definitionurl" in token.attributes:
+            token.attributes["definitionURL"] = token.attributes.pop("definitionurl")
         self._insert(token, space)
         if token.is_closed:
             self._pop()

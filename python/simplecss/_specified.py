@@ -7,6 +7,7 @@ from typing import Dict, FrozenSet, Iterable, List, Union
 
 from ._css import declarations
 from ._declaration import Declaration
+from ._library import expect_text
 from ._tree import Element, Tree
 
 # What CSS 2.1 hands down (Appendix F), and what SVG does.
@@ -82,11 +83,19 @@ def specified_by(element: Element, winners: Iterable[Declaration]) -> List[Decla
     return list(found.values())
 
 
+def _names(inherit: Iterable[str]) -> FrozenSet[str]:
+    """Returns names of properties as a set. What is no text raises `TypeError`."""
+    names = frozenset((inherit,) if isinstance(inherit, str) else inherit)
+    for name in names:
+        expect_text(name)
+    return names
+
+
 def inherited(
     tree: Tree, styles: List[List[Declaration]], inherit: Inherit
 ) -> List[List[Declaration]]:
     """Returns the declarations of each element, after those that its parent hands down."""
-    names = INHERITED if isinstance(inherit, bool) else frozenset(inherit)
+    names = INHERITED if isinstance(inherit, bool) else _names(inherit)
     found: List[List[Declaration]] = []
     for element, winners in zip(tree, styles):
         parent = element.parent

@@ -87,6 +87,24 @@ class Doctypes(unittest.TestCase):
             self.assertEqual(len(tree.select(".A")), int(is_old), doctype)
 
 
+class Names(unittest.TestCase):
+    def test_nul_is_the_character_for_what_is_none(self):
+        element = simplecss.Tree.from_html("<p\0q a\0='b\0' A\ufffd=c>")[3]
+        self.assertEqual((element.name, element.attributes), ("p\ufffdq", {"a\ufffd": "b\ufffd"}))
+
+    def test_names_of_mathml(self):
+        element = simplecss.Tree.from_html("<math DefinitionURL=x>", is_part=True)[0]
+        self.assertEqual(element.attributes, {"definitionURL": "x"})
+
+    def test_what_is_no_element_and_no_name(self):
+        tree = simplecss.Tree.from_html("<p>")
+        for make in (lambda: simplecss.Tree([("p", {})]), lambda: simplecss.Tree.from_html("<p>", {"p": b"hover"}),
+                     lambda: simplecss.StyleSheet("p{a:b}").styles(tree, inherit=[b"a"])):
+            self.assertRaises(TypeError, make)
+        found = simplecss.StyleSheet("body{a:b}").style(tree, "a", inherit="a")
+        self.assertEqual(found[tree.select_one("p")].value, "b")
+
+
 class Presentation(unittest.TestCase):
     def test_attributes_that_are_properties(self):
         tree = simplecss.Tree.from_html(
