@@ -179,8 +179,16 @@ def test_types():
     check(made.returncode == 0, "mypy", made.stdout.decode()[-1000:])
 
 
+def test_other_trees():
+    """The tests over lxml and BeautifulSoup, by Debian's Python."""
+    made = run(["/usr/bin/python3", "-W", "ignore", "python/tests/test_simplecss.py", "OtherTrees"])
+    check(made.returncode == 0, "trees of other packages", made.stderr.decode()[-1000:])
+    if b"skipped" in made.stderr:
+        print("left out: the trees of other packages: there is no lxml or BeautifulSoup (python3-lxml, python3-bs4)")
+
+
 def test_soup():
-    """Selectors find what soupsieve finds on the trees of html5lib, of Debian's Python."""
+    """Selectors find what soupsieve finds on the trees of html5lib, by Debian's Python."""
     mails = sorted(glob.glob(os.path.join(TOP, "tests", "mails", "*.html")))
     made = run(["/usr/bin/python3", os.path.join("tests", "browser.py"), "soup", *mails])
     if b"left out" in made.stderr:
@@ -206,7 +214,11 @@ def main():
                 print("left out: the C example was not compiled: the system has no C headers or start files")
         library_calls.run(check, os.path.join(OUT, "libsimplecss.so"))
         test_package()
-        test_soup()
+        if os.path.exists("/usr/bin/python3"):
+            test_other_trees()
+            test_soup()
+        else:
+            print("left out: the trees of other packages and soupsieve's answers: there is no /usr/bin/python3")
     test_types()
     print(f"{passed} passed, {failed} failed")
     return 1 if failed else 0
