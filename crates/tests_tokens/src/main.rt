@@ -2,7 +2,8 @@
 //! have the byte 1 between them, and it ends what is printed of each.
 #![tactic(auto)]
 
-use simplecss::{DeclarationTokenizer, SelectorTokenizer};
+use simplecss_declaration::DeclarationTokenizer;
+use simplecss_selector::SelectorTokenizer;
 use std::io;
 use std::io::{BufWriter, Read, Write};
 
