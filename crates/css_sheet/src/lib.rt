@@ -3,8 +3,14 @@
 //! rules that it is in. Whether the condition of a group rule holds is for the caller to decide.
 #![tactic(auto)]
 
+mod alike;
 mod groups;
+mod kept;
 mod reader;
+mod selectors;
+mod sheet;
 mod state;
 
+pub use selectors::{RuleSelector, read_selectors};
+pub use sheet::read_sheet;
 pub use state::{Level, SheetReader};
