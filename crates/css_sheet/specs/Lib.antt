@@ -4,5 +4,3 @@ pub mod ReaderViews
 pub mod SelectorTexts
 pub mod RuleSelectors
 pub mod RuleViews
-pub mod ChosenRules
-pub mod internal

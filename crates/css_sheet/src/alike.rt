@@ -8,7 +8,8 @@ ghost use Rattle.css_sheet.specs.SelectorTexts.{is_alike as is_alike_of, compone
 
 use css_syntax::statements::begins_ident;
 use css_syntax::tokens::skip_word;
-use simplecss::{Selector, Silent};
+use simplecss_selector::Selector;
+use simplecss_text::report::Silent;
 use std::alloc::{AllocError, Global};
 
 /// Whether a name and a closing parenthesis are next.
@@ -82,7 +83,7 @@ pub(crate) fn read_alike<'a>(
         return Ok(None);
     }
     let (selector, end) = Selector::parse_front(&mut Silent, alloc, text)?;
-    if end == text.len() {
+    if text[end..].is_empty() {
         Ok(selector)
     } else {
         Ok(None)

@@ -5,12 +5,9 @@
 
 mod alike;
 mod groups;
-mod kept;
 mod reader;
 mod selectors;
-mod sheet;
 mod state;
 
 pub use selectors::{RuleSelector, read_selectors};
-pub use sheet::read_sheet;
 pub use state::{Level, SheetReader};

@@ -10,7 +10,7 @@ use crate::alike::read_alike;
 use css_selectors::{ListedSelector, SelectorForm, Selectors, is_valid};
 use css_syntax::quality::{fault_of, is_good};
 use css_syntax::{Fault, Prelude};
-use simplecss::Selector;
+use simplecss_selector::Selector;
 use std::alloc::{AllocError, Global};
 
 /// A selector of a rule set.
