@@ -1,3 +1,6 @@
 pub mod SheetItems
 pub mod GroupViews
 pub mod ReaderViews
+pub mod SelectorTexts
+pub mod RuleSelectors
+pub mod RuleViews

@@ -8,3 +8,4 @@ pub mod ListSteps
 pub mod AllCutUp
 pub mod Vectors
 pub mod RunSteps
+pub mod Decoding

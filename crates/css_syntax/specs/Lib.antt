@@ -4,6 +4,7 @@ pub mod ComponentValues
 pub mod Parts
 pub mod Statements
 pub mod DeclarationLists
+pub mod Escapes
 pub mod Views
 pub mod ListReaders
 pub mod internal
