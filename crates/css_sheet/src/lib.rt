@@ -7,4 +7,4 @@ mod groups;
 mod reader;
 mod state;
 
-pub use state::{Level, SheetReader};
+pub use state::{Level, Places, SheetReader};

@@ -7,9 +7,10 @@ ghost use Rattle.css_sheet.specs.ReaderViews.{level_of, levels_of, left_of, is_i
 ghost use Rattle.css_sheet.specs.ReaderViews.{conditions_of, condition_at, GivesItem, Steps};
 
 use crate::groups::group_of;
-use crate::state::{Level, SheetReader};
-use css_syntax::SheetPart;
-use css_syntax::statements::read_next;
+use crate::state::{Level, Places, SheetReader};
+use css_syntax::places::at_rule_prelude;
+use css_syntax::statements::{FoundPart, read_next};
+use css_syntax::{SheetPart, Statement};
 use std::alloc::{AllocError, Global};
 
 /// How many group rules may be open at once.
@@ -34,6 +35,12 @@ impl<'a> SheetReader<'a> {
         SheetReader {
             levels: Vec::new(alloc),
             rest: text,
+            end: text.len(),
+            places: Places {
+                start: 0,
+                prelude: 0,
+                block: 0,
+            },
         }
     }
 
@@ -44,6 +51,24 @@ impl<'a> SheetReader<'a> {
         &self.levels
     }
 
+    /// Returns where the item is that was read last.
+    pub fn places(&self) -> Places {
+        self.places
+    }
+
+    /// Where a statement of the innermost text is.
+    fn find(&self, found: &FoundPart<'a>) -> Places {
+        let prelude = match found.part.statement {
+            Statement::AtRule(_) => at_rule_prelude(found.from),
+            _ => found.from,
+        };
+        Places {
+            start: self.end.wrapping_sub(found.from.len()),
+            prelude: self.end.wrapping_sub(prelude.len()),
+            block: self.end.wrapping_sub(found.inside.len()),
+        }
+    }
+
     /// Leaves the innermost group rule, at its end.
     fn leave(&mut self) -> Step<'a>
         requires { next_statement (is_inside self.old) (left_of self.old) ≡ None }
@@ -52,6 +77,7 @@ impl<'a> SheetReader<'a> {
         match self.levels.pop() {
             Some(level) => {
                 self.rest = level.after;
+                self.end = level.after_end;
                 Step::Moved
             }
             None => Step::Ended,
@@ -65,18 +91,24 @@ impl<'a> SheetReader<'a> {
         let Some(found) = read_next(self.rest, !self.levels.is_empty()) else {
             return Ok(self.leave());
         };
+        let places = self.find(&found);
         match group_of(&found.part.statement) {
             Some(group) if self.levels.len() < DEEPEST => {
                 self.levels.push(Level {
                     name: group.name,
                     prelude: group.prelude,
                     after: found.rest,
+                    start: places.start,
+                    prelude_start: places.prelude,
+                    after_end: self.end,
                 })?;
                 self.rest = group.text;
+                self.end = places.block.wrapping_add(group.text.len());
                 Ok(Step::Moved)
             }
             _ => {
                 self.rest = found.rest;
+                self.places = places;
                 Ok(Step::Found(found.part))
             }
         }

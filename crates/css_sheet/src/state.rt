@@ -10,6 +10,23 @@ pub struct Level<'a> {
     pub prelude: &'a str,
     /// The text after it.
     pub after: &'a str,
+    /// The offset of its first byte in the sheet.
+    pub start: usize,
+    /// The offset of its prelude in the sheet.
+    pub prelude_start: usize,
+    /// The offset at which the text after it ends in the sheet.
+    pub after_end: usize,
+}
+
+/// Where an item is: offsets in the sheet, in bytes.
+#[derive(Clone, Copy, Debug, PartialEq)]
+pub struct Places {
+    /// The first byte.
+    pub start: usize,
+    /// The first byte of the prelude.
+    pub prelude: usize,
+    /// The first byte of the contents of the block, if the item has one.
+    pub block: usize,
 }
 
 /// Reads the statements of a sheet, and those of the blocks of its group rules, in source order.
@@ -21,5 +38,9 @@ pub struct SheetReader<'a> {
     pub(crate) levels: Vec<Level<'a>>,
     /// What is left of the innermost.
     pub(crate) rest: &'a str,
+    /// Where it ends in the sheet.
+    pub(crate) end: usize,
+    /// Where the item is that was read last.
+    pub(crate) places: Places,
     ghost few: { vec_len levels ≤ 64 },
 }

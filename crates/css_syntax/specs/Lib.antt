@@ -3,6 +3,7 @@ pub mod Tokens
 pub mod ComponentValues
 pub mod Parts
 pub mod Statements
+pub mod Contents
 pub mod DeclarationLists
 pub mod Views
 pub mod ListReaders

@@ -11,6 +11,7 @@ pub mod component_values;
 pub mod declarations;
 pub mod laws;
 pub mod parts;
+pub mod places;
 pub mod quality;
 pub mod statements;
 pub mod texts;

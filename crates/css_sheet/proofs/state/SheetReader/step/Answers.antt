@@ -19,7 +19,7 @@ returns-in_ok-push-in-Some-group_of c =
     enter-some old.levels.items c.push.new.self.items _ old.rest.now found.rest.now
     (sheet_part_of found.part) (group_text c.in-Some-group_of.group)
     c.in_ok-push-in-Some-group_of.ensures.items few
-    (ap (λ (b : Bool). next_statement b old.rest.now) (sym opened) ∙ c.in-Some.ensures)
+    (ap (λ (b : Bool). next_statement b old.rest.now) (sym opened) ∙ c.in-Some.ensures.read)
     c.in-Some-group_of.ensures refl
 
 pub returns-in_default-group_of : goal.returns-in_default-group_of
@@ -31,7 +31,7 @@ returns-in_default-group_of c =
     is_open_by old.levels.items old.levels.len c.is_empty.result c.is_empty.ensures len in
     let some : next_statement (is_some_open (texts old.levels.items)) old.rest.now
     ≡ Some (sheet_part_of found.part, found.rest.now) =
-    ap (λ (b : Bool). next_statement b old.rest.now) (sym opened) ∙ c.in-Some.ensures in
+    ap (λ (b : Bool). next_statement b old.rest.now) (sym opened) ∙ c.in-Some.ensures.read in
     elim c.in_default-group_of.branch [
       | in_default-group_of-via-in-Some-group_of+else-len-lt-DEEPEST w ↦
           found-alone old.levels.items old.rest.now found.rest.now (sheet_part_of found.part)
