@@ -1,2 +1,3 @@
 pub mod Sizes
 pub mod SheetSteps
+pub mod PlaceLemmas

@@ -1,5 +1,5 @@
 //! The state of a reader of sheets.
-ghost use Rattle.std.specs.Prelude.{◌≤◌, vec_len};
+ghost use Rattle.std.specs.Prelude.{◌≤◌, ◌<◌, ◌^◌, length, vec_len};
 
 /// A group rule that is open.
 #[derive(Clone, Copy, Debug, PartialEq)]
@@ -10,15 +10,15 @@ pub struct Level<'a> {
     pub prelude: &'a str,
     /// The text after it.
     pub after: &'a str,
-    /// The offset of its first byte in the sheet.
-    pub start: usize,
-    /// The offset of its prelude in the sheet.
-    pub prelude_start: usize,
-    /// The offset at which the text after it ends in the sheet.
+    /// The offset in the sheet at which the text after it ends.
     pub after_end: usize,
+    /// Where it is in the sheet.
+    pub places: Places,
+    ghost within: { length after.now ≤ after_end },
+    ghost few: { after_end < 2 ^ 63 },
 }
 
-/// Where an item is: offsets in the sheet, in bytes.
+/// Where an item or a group rule is: offsets in the sheet, in bytes.
 #[derive(Clone, Copy, Debug, PartialEq)]
 pub struct Places {
     /// The first byte.
@@ -27,6 +27,11 @@ pub struct Places {
     pub prelude: usize,
     /// The first byte of the contents of the block, if the item has one.
     pub block: usize,
+    /// The byte after these contents.
+    pub block_end: usize,
+    ghost start_short: { start < 2 ^ 63 },
+    ghost prelude_short: { prelude < 2 ^ 63 },
+    ghost block_short: { block_end < 2 ^ 63 },
 }
 
 /// Reads the statements of a sheet, and those of the blocks of its group rules, in source order.
@@ -38,9 +43,11 @@ pub struct SheetReader<'a> {
     pub(crate) levels: Vec<Level<'a>>,
     /// What is left of the innermost.
     pub(crate) rest: &'a str,
-    /// Where it ends in the sheet.
+    /// The offset in the sheet at which it ends.
     pub(crate) end: usize,
     /// Where the item is that was read last.
     pub(crate) places: Places,
+    ghost within: { length rest.now ≤ end },
+    ghost short: { end < 2 ^ 63 },
     ghost few: { vec_len levels ≤ 64 },
 }

@@ -8,3 +8,5 @@ pub mod ListSteps
 pub mod AllCutUp
 pub mod Vectors
 pub mod RunSteps
+pub mod PlacedSteps
+pub mod PlaceBounds

@@ -5,6 +5,7 @@ pub mod Parts
 pub mod Statements
 pub mod Contents
 pub mod DeclarationLists
+pub mod Placed
 pub mod Views
 pub mod ListReaders
 pub mod internal
