@@ -1,3 +1,4 @@
+pub mod Places
 pub mod SheetItems
 pub mod GroupViews
 pub mod ReaderViews

@@ -9,5 +9,5 @@ mod reader;
 mod selectors;
 mod state;
 
-pub use selectors::{RuleSelector, read_selectors};
-pub use state::{Level, SheetReader};
+pub use selectors::{RuleSelector, read_listed, read_selectors};
+pub use state::{Level, Places, SheetReader};

@@ -35,8 +35,8 @@ fn or_any(front: &str) -> &str
     if front.is_empty() { "*" } else { front }
 }
 
-/// Reads what the library can match of a part of a list.
-fn read_listed<'a>(
+/// Reads what the library can match of a part of a list. Fails only if an allocation fails.
+pub fn read_listed<'a>(
     alloc: Global,
     listed: &ListedSelector<'a>,
 ) -> Result<RuleSelector<'a>, AllocError>

@@ -9,3 +9,5 @@ pub mod AllCutUp
 pub mod Vectors
 pub mod RunSteps
 pub mod Decoding
+pub mod PlacedSteps
+pub mod PlaceBounds

@@ -12,6 +12,7 @@ pub mod declarations;
 pub mod escapes;
 pub mod laws;
 pub mod parts;
+pub mod places;
 pub mod quality;
 pub mod statements;
 pub mod texts;
