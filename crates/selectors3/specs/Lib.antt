@@ -10,4 +10,5 @@ pub mod TriedElements
 pub mod Readings
 pub mod Reads
 pub mod Grammar
+pub mod ReadViews
 pub mod ReadSelectors
