@@ -16,6 +16,8 @@ mod attributes;
 mod components;
 mod compounds;
 mod element;
+mod key;
+mod key_laws;
 mod matching;
 mod meeting;
 mod numbers;
@@ -33,6 +35,7 @@ pub use components::{
     AttributeTest, Comparison, Compound, Condition, Part, Progression, Signed, Simple, Structure,
 };
 pub use element::Element3;
+pub use key::Key;
 pub use refusal::{Reason, Refusal};
 pub use selector::Selector3;
 pub use sibling_matching::Combinator;
