@@ -205,13 +205,13 @@ class _Reader:
         levels = self._levels_of(value["levels"])
         if value["kind"] == "rule":
             return self._rule(value, levels)
-        return self._at_rule(value, levels) if value["kind"] == "at-rule" else _fault(value, levels)
+        return self._at_rule(value, levels) if value["kind"] == "at-rule" else self._fault(value, levels)
 
     def item(self, value: Dict[str, Any], levels: Tuple[Level, ...] = ()) -> Item:
         """Makes an item of a line, or of what a rule set has."""
         if value["kind"] == "declaration":
             return self._declaration(value)
-        return self._at_rule(value, levels) if value["kind"] == "at-rule" else _fault(value, levels)
+        return self._at_rule(value, levels) if value["kind"] == "at-rule" else self._fault(value, levels)
 
     def _levels_of(self, values: List[Dict[str, Any]]) -> Tuple[Level, ...]:
         """Makes the group rules of a statement, which most have in common."""
@@ -241,23 +241,25 @@ class _Reader:
     def _selector(self, value: Dict[str, Any]) -> ReadSelector:
         start, end = value["text"]
         element = value["pseudo_element"]
-        front = end
+        front, name = end, None
         if element is not None:
+            name = self.source.at(element).lstrip(":")
+            before = self.source.data[start : element[0]]
             # Before the name are one colon or two.
-            front = element[0] - 1 - (self.source.data[start : element[0]][-2:-1] == b":")
-        return ReadSelector(
-            self.source.at((start, end)),
-            self.source.at((start, front)),
-            None if element is None else self.source.at(element),
-            value["is_read"],
-            (start, end),
-        )
+            front = element[0] - (len(before) - len(before.rstrip(b":")))
+        at = self.source.at
+        return ReadSelector(at((start, end)), at((start, front)), name, value["is_read"], (start, end))
 
     def _declaration(self, value: Dict[str, Any]) -> ReadDeclaration:
         name = self.source.at(value["name"])
         name = name if name.startswith("--") else name.lower()
         declaration = Declaration(name, self.source.at(value["value"]), value["important"])
         return ReadDeclaration(declaration, value["closed"], (value["start"], value["end"]))
+
+    def _fault(self, value: Dict[str, Any], levels: Tuple[Level, ...]) -> Fault:
+        start = value["start"]
+        text = self.source.data[start : value["end"]].rstrip(b" \t\n\r\f")
+        return Fault(value["fault"], levels, (start, start + len(text)))
 
     def _at_rule(self, value: Dict[str, Any], levels: Tuple[Level, ...]) -> ReadAtRule:
         at = self.source.at
@@ -269,10 +271,6 @@ class _Reader:
 
 def _moved(span: Span, by: int) -> Span:
     return span[0] + by, span[1] + by
-
-
-def _fault(value: Dict[str, Any], levels: Tuple[Level, ...]) -> Fault:
-    return Fault(value["fault"], levels, (value["start"], value["end"]))
 
 
 def read_sheet(text: str) -> Tuple[Source, List[Statement]]:

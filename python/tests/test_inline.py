@@ -34,7 +34,7 @@ class Declarations(unittest.TestCase):
             "calc(100% - (2px + 1em))", "-webkit-calc(1px)", "10px\\9", "url(a;b.png)",
             "'a;b}c'", "rgb( 1 , 2 , 3 )", "min(2px, 1em) / var(--x)", "#fff url('x') no-repeat",
         ):
-            self.assertEqual(style_of("p { n: " + value + " }"), "n: " + value, value)
+            self.assertEqual(style_of("p { n: " + value + "}"), "n: " + value, value)
 
     def test_comments_round_a_value_are_no_part_of_it(self):
         self.assertEqual(style_of("p { n/**/: /* a; b */ 1px/**/2px /* c */ }"), "n: 1px/**/2px")

@@ -652,7 +652,7 @@ class CommandLine(unittest.TestCase):
         self.write(self.page, "<style>\n<!-- p { color: green } a < b {} -->\n</style><p>")
         self.assertEqual(self.lines("style", "color", self.page), [f"{self.page}:3:9: <p> color: green"])
         self.assertEqual(self.run_command("lint", self.page)[:2],
-                         (1, f"{self.page}:2:25: 'a < b {}': invalid selector\n"))
+                         (1, f"{self.page}:2:25: 'a < b {{}}': invalid selector\n"))
 
     def test_formats_of_lint(self):
         self.write(self.sheet, "a\n<\n50% {}")
