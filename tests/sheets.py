@@ -1,7 +1,7 @@
 #!/usr/bin/env python3
 """Compares what the Python package reads of real style sheets with tinycss2: the pairs of a selector and a declaration, contents of
 `@media` and other group rules included and pseudo-elements apart. Each pair of tinycss2 whose selector the library reads should be
-one of the package, but for one in a thousand, and none else.
+one of the package, but for one in a thousand, and none else. What docs/DIFFERENCES.md shows of today's grammar is what it reads.
 
     sheets.py [--sheets FOLDER] [--count N]
 
@@ -12,6 +12,7 @@ import argparse
 import collections
 import os
 import random
+import re
 import subprocess
 import sys
 
@@ -156,12 +157,28 @@ def compare(texts, counts):
     counts.expect(added == 0, f"{added} pairs are not of tinycss2")
 
 
+def check_document(counts):
+    """Compares what docs/DIFFERENCES.md shows of today's grammar: what is kept of a text, if not all, or that it is unmatched."""
+    with open(os.path.join(TOP, "docs", "DIFFERENCES.md"), encoding="utf-8") as file:
+        rows = re.findall(r"^\| `([^`]+)` \| [^|]* \|([^|]*)\| [^|]* \|$", file.read(), re.MULTILINE)
+    for text, shown in rows:
+        sheet = simplecss.StyleSheet(text)
+        lines = re.findall(r"`([^`]+)`", shown)
+        if lines:
+            counts.expect(str(sheet).split("\n") == lines, f"docs/DIFFERENCES.md: {text!r} has {str(sheet)!r}, and not {lines}")
+        else:
+            found = [] if sheet.skipped else ["unmatched" if sheet.unmatched else ""]
+            counts.expect(found == [shown.strip()], f"docs/DIFFERENCES.md: {text!r} is {found}, and not {shown!r}")
+    counts.expect(len(rows) > 15, f"docs/DIFFERENCES.md shows {len(rows)} texts")
+
+
 def main():
     parser = argparse.ArgumentParser()
     parser.add_argument("--count", type=int, default=150)
     parser.add_argument("--sheets", default="/usr/share")
     words = parser.parse_args()
     counts = Counts()
+    check_document(counts)
     try:
         import tinycss2  # noqa: F401
     except ImportError:

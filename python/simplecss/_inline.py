@@ -310,19 +310,26 @@ def _sort(statement: _Statement, found: RuleSet, sheet: _Sheet) -> None:
     if has_rules(found.items, source):
         statement.reason = "it has rules in it"
         return
-    if any(isinstance(each, ReadDeclaration) and not each.is_closed for each in found.items):
-        statement.reason = "the end of the text closes it"
-        return
     for each in found.selectors:
         one = sheet.known.get(each.text)
         if one is None or each.pseudo_element is not None or _STATE.search(one.text):
             statement.staying.append(each)
         else:
             statement.going.append((each.text, one))
+    if statement.staying and _is_open(found):
+        # No brace would close what stays.
+        statement.going, statement.staying = [], []
+        statement.reason = "the end of the text closes it"
+        return
     statement.is_whole = False
     statement.block = source.at((found.head[1], found.span[1])).strip() + "}" * (not found.is_closed)
     statement.declarations = found.declarations
     statement.families = frozenset(family_of(each.name) for each in found.declarations)
+
+
+def _is_open(found: RuleSet) -> bool:
+    """Whether the end of the text closes a declaration of a rule set."""
+    return any(isinstance(each, ReadDeclaration) and not each.is_closed for each in found.items)
 
 
 def has_rules(items: Iterable[Item], source: Source) -> bool:

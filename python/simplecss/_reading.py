@@ -17,6 +17,8 @@ Span = Tuple[int, int]
 # The bytes of UTF-8 that begin no character, and how many bytes are counted at once.
 _CONTINUING = bytes(range(0x80, 0xC0))
 _BLOCK = 4096
+# How many brackets may be open at once.
+_DEEPEST = 64
 
 
 class Condition(NamedTuple):
@@ -253,7 +255,9 @@ class _Reader:
     def _declaration(self, value: Dict[str, Any]) -> ReadDeclaration:
         name = self.source.at(value["name"])
         name = name if name.startswith("--") else name.lower()
-        declaration = Declaration(name, self.source.at(value["value"]), value["important"])
+        text = self.source.at(value["value"])
+        text = text if value["closed"] else _closed(name, text)
+        declaration = Declaration(name, text, value["important"])
         return ReadDeclaration(declaration, value["closed"], (value["start"], value["end"]))
 
     def _fault(self, value: Dict[str, Any], levels: Tuple[Level, ...]) -> Fault:
@@ -267,6 +271,27 @@ class _Reader:
         rule = AtRule(at(value["name"]).lower(), at(value["prelude"]), block, conditions_of(levels))
         start, end = value["block"] or (value["end"], value["end"])
         return ReadAtRule(rule, levels, value["closed"], (value["start"], value["end"]), (start, end))
+
+
+def _closed(name: str, value: str) -> str:
+    """Returns a value with what the end of the text closes: a string or a comment, and brackets."""
+    for mark in ("", '"', "'", "*/"):
+        text: Optional[str] = value + mark
+        for _ in range(_DEEPEST + 1):
+            if text is not None and not _is_open(name, text):
+                return text
+            more = (f"{text}{bracket}" for bracket in ")]}")
+            text = next((each for each in more if _is_open(name, each) is not None), None)
+            if text is None:
+                break
+    return value
+
+
+def _is_open(name: str, value: str) -> Optional[bool]:
+    """Whether the end of the text closes a declaration, or `None` for what is none."""
+    found = list(_Reader(f"{name}:{value}").lines("simplecss_declarations"))
+    is_one = len(found) == 1 and found[0]["kind"] == "declaration"
+    return not found[0]["closed"] if is_one else None
 
 
 def _moved(span: Span, by: int) -> Span:

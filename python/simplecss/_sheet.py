@@ -2,6 +2,7 @@
 
 from __future__ import annotations
 
+import itertools
 from typing import (
     Any,
     Callable,
@@ -23,11 +24,11 @@ from ._reading import (
     AtRule,
     Condition,
     Fault,
+    Level,
     ReadAtRule,
     RuleSet,
     Source,
     Statement,
-    conditions_of,
     read_sheet,
 )
 from ._selectors import Numbers, Reading, Specificity, lines_of, matched, printed, specificity_of
@@ -386,26 +387,29 @@ def _text_of(statement: Statement) -> str:
             name, value, important = item.declaration
             words.append(f"{name}:{value}{' !important' if important else ''};")
     selectors = ", ".join(each.text for each in statement.selectors)
-    return f"{selectors} {{ {''.join(words)} }}"
+    return f"{selectors} {{ {''.join(words)} }}" if words else f"{selectors} {{ }}"
 
 
 def _lines_of(statements: Iterable[Statement]) -> Iterator[str]:
     """Yields the printed lines of statements, which open and close their group rules."""
-    depth: Tuple[Condition, ...] = ()
+    before: Tuple[Level, ...] = ()
     for statement in statements:
         text = _text_of(statement)
-        if not text:
-            continue
-        conditions = conditions_of(statement.levels)
-        shared = 0
-        while shared < min(len(depth), len(conditions)) and depth[shared] == conditions[shared]:
-            shared += 1
-        yield from ("  " * level + "}" for level in range(len(depth) - 1, shared - 1, -1))
-        for level in range(shared, len(conditions)):
-            yield f"{'  ' * level}{conditions[level]} {{"
-        yield "  " * len(conditions) + text
-        depth = conditions
-    yield from ("  " * level + "}" for level in range(len(depth) - 1, -1, -1))
+        if text:
+            pairs = zip(before, statement.levels)
+            # Where two group rules begin, they are two.
+            shared = sum(1 for _ in itertools.takewhile(lambda pair: pair[0].span == pair[1].span, pairs))
+            yield from _closed(len(before), shared)
+            for depth, level in enumerate(statement.levels[shared:], shared):
+                yield f"{'  ' * depth}{level.condition} {{"
+            yield "  " * len(statement.levels) + text
+            before = statement.levels
+    yield from _closed(len(before), 0)
+
+
+def _closed(depth: int, kept: int) -> Iterator[str]:
+    """Yields the braces that close group rules down to a depth."""
+    return ("  " * level + "}" for level in range(depth - 1, kept - 1, -1))
 
 
 def _sheet_of(texts: Tuple[str, ...], grammar: str, limit: int) -> StyleSheet:

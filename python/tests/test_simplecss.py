@@ -163,7 +163,8 @@ class Today(unittest.TestCase):
             ("n: calc(1px + (2px)); m: 1", "n: calc(1px + (2px)); m: 1"),
             ("N: 1 ! Important", "n: 1 !important"), ("--N: {a:b}; --e:;", "--N: {a:b}; --e: "),
             ("*zoom: 1; n: 1", "n: 1"), ("n: 'a\n; m: 1", "m: 1"), ("n: url(//a/*/b.png)", "n: url(//a/*/b.png)"),
-            ("n: 10px\\9; m: 1", "n: 10px\\9; m: 1"), ("n: ];m:1", "m: 1"), ("n: 1; m: f(2", "n: 1; m: f(2"),
+            ("n: 10px\\9; m: 1", "n: 10px\\9; m: 1"), ("n: ];m:1", "m: 1"), ("n: 1; m: f(2", "n: 1; m: f(2)"),
+            ("n: f([{'é", "n: f([{'é'}])"), ("n: url(a", "n: url(a)"), ("n: f(/*", "n: f(/**/)"),
         ):
             self.assertEqual("; ".join(map(str, simplecss.declarations(block))), expected, block)
 
