@@ -636,6 +636,24 @@ class CommandLine(unittest.TestCase):
         ):
             self.assertEqual(self.kinds(text), expected, text)
 
+    def test_a_sheet_with_nine_mistakes(self):
+        text = """.a { color red; top: 1px }
+.b { left: 1px; : 2px; margin: ; }
+.c { content: "x
+; color: blue }
+.d, .e, { color: red }
+.f > { color: red }
+.g { width: calc(1px + 2px)); color: red }
+.h { color: red } }
+.i { color: red }
+.j { color: !importantly; background: url(a b.png) }
+@media print { .k { color: red }
+"""
+        self.assertEqual([kind for kind, _ in self.kinds(text)], [
+            "broken-declaration", "broken-declaration", "broken-declaration", "bad-string", "invalid-selector",
+            "invalid-selector", "stray-bracket", "stray-bracket", "broken-declaration", "bad-url",
+            "block-not-closed"])
+
     def test_what_is_not_evaluated(self):
         text = "@import 'a'; b ~ c, d { e: f } @supports (g: h) { i { j: k } } @media print { l { m: n } }"
         self.assertEqual(self.kinds(text), [])
