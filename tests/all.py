@@ -27,6 +27,7 @@ PLAIN = (
     ("syntax.py", ("example_today",)),
     ("script.py", ()),
     ("library.py", ()),
+    ("sheets.py", ()),
     ("release.py", ("tests_tokens",)),
 )
 # What tests want of Debian and work without, but for what they then leave out.

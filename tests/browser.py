@@ -5,16 +5,20 @@
     tests/browser.py trees [FILE..]      the elements and attributes of `Tree.from_html` with those of the browser
     tests/browser.py winners [FILE..]    which declarations of ten properties win on each element
     tests/browser.py soup [FILE..]       what selectors find, with soupsieve over html5lib (no browser)
+    tests/browser.py reports [FILE..]    whether the browser takes what `lint` reports of sheets: one in a hundred at most
+    tests/browser.py printed [FILE..]    the rules of sheets, and of these sheets as the package prints them
 
-Without files, `mails` takes those of `tests/mails`, and the others take these and pages of Debian packages below
-/usr/share/doc. Each test is a document. What differs is listed, and the last line is `N passed, M failed`. Run by hand,
-but for `soup`, which tests/library.py runs. The library is built by `./build library`.
+Without files, `mails` takes those of `tests/mails`, and the next three take these and pages of Debian packages below
+/usr/share/doc. `reports` takes sheets of Bootstrap, jQuery UI, Font Awesome and Sphinx below /usr/share, and `printed`
+200 of all there. Each test is a document. What differs is listed, and the last line is `N passed, M failed`. Run by
+hand, but for `soup`, which tests/library.py runs. The library is built by `./build library`.
 """
 import collections
 import glob
 import html
 import json
 import os
+import random
 import re
 import shutil
 import subprocess
@@ -25,6 +29,7 @@ TOP = os.path.dirname(os.path.dirname(os.path.abspath(__file__)))
 sys.path.insert(0, os.path.join(TOP, "python"))
 
 import simplecss  # noqa: E402
+from simplecss import _lint  # noqa: E402
 
 # How many differences of a document are listed.
 SHOWN = 4
@@ -98,11 +103,25 @@ function winners(frame, properties, values) {
     });
     return {marks, known, found};
 }
+function rules(text) {
+    const sheet = new CSSStyleSheet();
+    sheet.replaceSync(text);
+    return [...sheet.cssRules].map(rule => rule.cssText);
+}
+// Whether a rule set has rules, or a declaration has a property.
+function takes(text, isRule) {
+    if (isRule) return rules(text).length > 0;
+    const found = new CSSStyleSheet();
+    found.replaceSync("x{" + text + "}");
+    return found.cssRules[0].style.length > 0;
+}
 window.onload = () => {
     const frames = [...document.querySelectorAll("iframe")];
     if (input.kind == "mails")
         for (let i = 0; i < frames.length; i += 2) answer.push([styles(frames[i]), styles(frames[i + 1])]);
     if (input.kind == "trees") for (const text of input.texts) answer.push(tree(text));
+    if (input.kind == "reports") for (const [text, isRule] of input.texts) answer.push(takes(text, isRule));
+    if (input.kind == "printed") for (const [one, other] of input.texts) answer.push([rules(one), rules(other)]);
     if (input.kind == "winners")
         frames.forEach((frame, i) => answer.push(winners(frame, input.properties, input.values[i])));
     document.documentElement.textContent = "ANS" + "WER" + JSON.stringify(answer) + "END";
@@ -286,6 +305,47 @@ def compare_winners(names):
     return report.end()
 
 
+def sheets_in(folder, words=("",)):
+    """Returns the names of style sheets below a folder whose paths have one of the words, each text once."""
+    found = {}
+    for name in sorted(glob.glob(os.path.join(folder, "**", "*.css"), recursive=True)):
+        if os.path.isfile(name) and any(word in name for word in words) and 0 < os.path.getsize(name) < 300000:
+            found.setdefault(read(name), name)
+    return list(found.values())
+
+
+def compare_reports(names):
+    """Asks the browser whether it takes what `lint` reports, each text alone."""
+    names = names or sheets_in("/usr/share", ("bootstrap", "jquery-ui", "awesome", "sphinx"))
+    found = [(name, each) for name in names for each in _lint.findings(name, read(name))]
+    texts = [(each.text, each.reason in ("invalid selector", "stray bracket", "no block") and "{" in each.text) for _, each in found]
+    with tempfile.TemporaryDirectory() as folder:
+        answers = run_browser({"kind": "reports", "texts": texts}, [], folder)
+    taken = [f"{each.row}:{each.column}: {each.message}" for (_, each), answer in zip(found, answers) if answer]
+    for line in taken[:10]:
+        print(line)
+    rows = sum(read(name).count("\n") for name in names)
+    print(f"{len(names)} sheets of {rows} lines: {len(found)} reports, of which the browser takes {len(taken)}")
+    for kind, number in collections.Counter(each.kind for _, each in found).most_common():
+        print(f"{number} {kind}")
+    passed = len(taken) * 100 <= len(found)
+    print(f"{int(passed)} passed, {int(not passed)} failed")
+    return 0 if passed else 1
+
+
+def compare_printed(names):
+    """Compares the rules that the browser has of sheets and of what the package prints of them."""
+    report = Report()
+    every = sheets_in("/usr/share")
+    names = names or random.Random(1).sample(every, min(200, len(every)))
+    texts = [(read(name), str(simplecss.StyleSheet(read(name), limit=None))) for name in names]
+    with tempfile.TemporaryDirectory() as folder:
+        for name, (before, after) in zip(names, run_browser({"kind": "printed", "texts": texts}, [], folder)):
+            found = [f"{a[:120]}, printed {b[:120]}" for a, b in zip(before, after) if a != b]
+            report.add(name, found if len(before) == len(after) else [f"{len(before)} rules, printed {len(after)}", *found])
+    return report.end()
+
+
 def compare_soup(names):
     """Compares what selectors find with soupsieve, over the tree of html5lib."""
     try:
@@ -311,11 +371,13 @@ def compare_soup(names):
 
 
 def main():
-    kinds = {"mails": compare_mails, "trees": compare_trees, "winners": compare_winners, "soup": compare_soup}
+    kinds = {"mails": compare_mails, "trees": compare_trees, "winners": compare_winners, "soup": compare_soup,
+             "reports": compare_reports, "printed": compare_printed}
+    usual = {"mails": mails, "reports": list, "printed": list}
     words = sys.argv[1:] or ["mails"]
     if words[0] not in kinds:
         sys.exit(__doc__)
-    return kinds[words[0]](words[1:] or (mails() if words[0] == "mails" else pages()))
+    return kinds[words[0]](words[1:] or usual.get(words[0], pages)())
 
 
 if __name__ == "__main__":

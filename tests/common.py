@@ -1,4 +1,5 @@
-"""What the scripts of this folder share: counted expectations, and runs in which one request for memory is refused."""
+"""What the scripts of this folder share: counted expectations, runs in which one request for memory is refused, and real sheets."""
+import glob
 import os
 import subprocess
 
@@ -36,3 +37,17 @@ def run(program, shim, words, refuse, marked=False, **streams):
     with os.fdopen(reader, "rb") as counted:
         requests = counted.read()
     return child.returncode, out, err or b"", requests
+
+
+def real_sheets(folder):
+    """The style sheets in a folder, each once."""
+    found = set()
+    for path in sorted(glob.glob(os.path.join(folder, "**", "*.css"), recursive=True)):
+        try:
+            with open(path, encoding="utf-8", newline="") as file:
+                text = file.read()
+        except (UnicodeDecodeError, OSError):
+            continue
+        if len(text) < 300_000 and not set(text) & {"\0", "\1"}:
+            found.add(text)
+    return sorted(found)

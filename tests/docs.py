@@ -104,7 +104,7 @@ for crate, files in re.findall(r"^\| (`\w+`|tests, documents) \| (.*) \|$", read
 
 # ---- the sheets that docs/DIFFERENCES.md shows
 
-shown_sheets = re.findall(r"^\| `([^`]+)` \| ([^|]*) \| [^|]* \|$", read("docs/DIFFERENCES.md").split("## What surprises", 1)[-1], re.MULTILINE)
+shown_sheets = re.findall(r"^\| `([^`]+)` \| ([^|]*) \|[^|]*\| [^|]* \|$", read("docs/DIFFERENCES.md").split("## What surprises", 1)[-1], re.MULTILINE)
 with tempfile.TemporaryDirectory() as folder:
     for text, shown in shown_sheets:
         sheet = os.path.join(folder, "text.css")

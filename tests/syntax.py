@@ -8,14 +8,13 @@ sheets are those of FOLDER, else those that Debian's packages have put into /usr
 line is 'N passed, M failed'.
 """
 import argparse
-import glob
 import json
 import os
 import random
 import subprocess
 import sys
 
-from common import Counts
+from common import Counts, real_sheets
 
 # The pieces of random texts: what is rare in style sheets comes as often as what is common.
 PIECES = (
@@ -332,20 +331,6 @@ def random_texts(pieces, count, seed, starts):
     """Random texts, the same in each run."""
     source = random.Random(seed)
     return [source.choice(starts) + "".join(source.choice(pieces) for _ in range(source.choice((3, 6, 12, 20)))) for _ in range(count)]
-
-
-def real_sheets(folder):
-    """The style sheets in a folder, each once."""
-    found = set()
-    for path in sorted(glob.glob(os.path.join(folder, "**", "*.css"), recursive=True)):
-        try:
-            with open(path, encoding="utf-8", newline="") as file:
-                text = file.read()
-        except (UnicodeDecodeError, OSError):
-            continue
-        if len(text) < 300_000 and not set(text) & {"\0", "\1"}:
-            found.add(text)
-    return sorted(found)
 
 
 def has_tinycss2():

@@ -1,4 +1,4 @@
-"""CSS 2.1: selectors, style sheets, and which rules match the elements of a page.
+"""CSS: selectors, style sheets, and which rules match the elements of a page.
 
     >>> import simplecss
     >>> tree = simplecss.Tree.from_html("<ul><li class=a>one<li>two</ul>")
@@ -12,11 +12,14 @@ Every call may be made from any thread.
 from ._declaration import Declaration
 from ._inline import NotWritten, inline
 from ._library import LibraryError, LimitError, __version__, library_path
+from ._reading import AtRule, Condition, declarations
 from ._selectors import Selector, SelectorError
-from ._sheet import Rule, Skipped, StyleSheet
+from ._sheet import Rule, Skipped, StyleSheet, Unmatched
 from ._tree import Element, Item, Tree, TreeError
 
 __all__ = [
+    "AtRule",
+    "Condition",
     "Declaration",
     "Element",
     "Item",
@@ -30,7 +33,9 @@ __all__ = [
     "StyleSheet",
     "Tree",
     "TreeError",
+    "Unmatched",
     "__version__",
+    "declarations",
     "inline",
     "library_path",
 ]

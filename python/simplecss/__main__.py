@@ -17,7 +17,7 @@ from ._inline import NotWritten, inline
 from ._library import LibraryError, LimitError, __version__
 from ._page import Page
 from ._selectors import SelectorError
-from ._sheet import StyleSheet
+from ._sheet import PORT, TODAY, StyleSheet
 from ._tree import Element, Tree, TreeError
 from ._xml import is_xml
 
@@ -108,12 +108,14 @@ def _tree_of(name: str, text: str) -> Tree:
         raise _Failure(f"{name}:{error}", REFUSED) from None
 
 
-def _sheets(names: Sequence[str], page: str) -> StyleSheet:
+def _sheets(words: argparse.Namespace, page: str) -> StyleSheet:
     """Returns the sheet of files, or of the elements `style` of a page if there are none."""
+    names = words.files[:-1]
     if names:
-        return StyleSheet(*map(_read, names))
+        return StyleSheet(*map(_read, names), grammar=words.grammar)
     found = Page(page)
-    return StyleSheet(*(found.sheet_of(each) for each in found.styles() if found.is_plain(each)))
+    texts = [found.sheet_of(each) for each in found.styles() if found.is_plain(each)]
+    return StyleSheet(*texts, grammar=words.grammar)
 
 
 def _bold(text: str) -> str:
@@ -156,11 +158,11 @@ def _print_json(value: Any) -> None:
 
 
 def _match(words: argparse.Namespace) -> int:
-    *sheets, page = words.files
+    page = words.files[-1]
     text = _read_page(page)
-    sheet = _sheets(sheets, text)
+    sheet = _sheets(words, text)
     tree = _tree_of(page, text)
-    for element, found in zip(tree, sheet.match(tree)):
+    for element, found in zip(tree, sheet.match(tree, media=words.media)):
         if words.json:
             _print_json({"element": element.index, "name": element.name, "rules": found})
         else:
@@ -170,11 +172,11 @@ def _match(words: argparse.Namespace) -> int:
 
 
 def _style(words: argparse.Namespace) -> int:
-    *sheets, page = words.files
+    page = words.files[-1]
     text = _read_page(page)
-    sheet = _sheets(sheets, text)
+    sheet = _sheets(words, text)
     tree = _tree_of(page, text)
-    for element, winner in zip(tree, sheet.style(tree, words.name)):
+    for element, winner in zip(tree, sheet.style(tree, words.name, media=words.media)):
         if words.json:
             value = None if winner is None else winner._asdict()
             _print_json({"element": element.index, "name": element.name, "winner": value})
@@ -274,7 +276,8 @@ def _lint_files(words: argparse.Namespace) -> int:
     for name in words.sheets:
         try:
             text = _read_page(name) if _lint.is_page(name) else _read(name)
-            found += [each for each in _lint.findings(name, text) if _is_selected(each.kind, words)]
+            these = _lint.findings(name, text, words.all, words.grammar)
+            found += [each for each in these if _is_selected(each.kind, words)]
         except _Failure as failure:
             _say(str(failure))
             status = failure.status
@@ -292,7 +295,7 @@ def _lint_files(words: argparse.Namespace) -> int:
 
 
 def _parser() -> argparse.ArgumentParser:
-    parser = argparse.ArgumentParser(prog="simplecss", description="CSS 2.1 on real files.")
+    parser = argparse.ArgumentParser(prog="simplecss", description="CSS on real files.")
     parser.add_argument("--version", action="version", version=f"simplecss {__version__}")
     commands = parser.add_subparsers(dest="command", required=True)
 
@@ -304,15 +307,26 @@ def _parser() -> argparse.ArgumentParser:
 
     sheets = "style sheets (the page's own without any), and a page"
     command = add("match", _match, "Show which rules match each element.")
-    command.add_argument("files", nargs="+", metavar="FILE", help=sheets)
+    _add_reading(command, sheets)
     command = add("style", _style, "Show which declaration of a name wins on each element.")
     command.add_argument("name", metavar="NAME")
-    command.add_argument("files", nargs="+", metavar="FILE", help=sheets)
+    _add_reading(command, sheets)
     _add_select(add("select", _select, "Show the elements that a list of selectors matches."))
     command = add("inline", _inline, "Write style sheets into the style attributes of a page.")
     _add_inline(command)
-    _add_lint(add("lint", _lint_files, "Show what is skipped of style sheets, and those of pages."))
+    _add_lint(add("lint", _lint_files, "Show the mistakes in style sheets, and in those of pages."))
     return parser
+
+
+def _add_grammar(command: Any) -> None:
+    text = "the grammar of sheets: that of browsers, or that of the Rust crate"
+    command.add_argument("--grammar", choices=[TODAY, PORT], default=TODAY, help=text)
+
+
+def _add_reading(command: Any, files: str) -> None:
+    _add_grammar(command)
+    command.add_argument("--media", default="screen", metavar="TYPE", help="the type of media")
+    command.add_argument("files", nargs="+", metavar="FILE", help=files)
 
 
 def _add_select(command: Any) -> None:
@@ -350,6 +364,8 @@ def _add_lint(command: Any) -> None:
         "--select", action="append", metavar="KIND", help="report these kinds only, as `at-rule`"
     )
     command.add_argument("--ignore", action="append", metavar="KIND", help="leave these kinds out")
+    command.add_argument("--all", action="store_true", help="report what is not evaluated, too")
+    _add_grammar(command)
     command.add_argument("sheets", nargs="+", metavar="FILE")
 
 

@@ -1,7 +1,6 @@
 """Style sheets written into `style` attributes, as mail is prepared.
 
-Rule sets are cut into selectors and declarations by `_css`; which declarations win on an element is
-the library's answer.
+What a sheet has, and which of its selectors match an element, are the library's answers.
 """
 
 from __future__ import annotations
@@ -27,37 +26,38 @@ from typing import (
 )
 
 from . import _library as library
-from ._css import declarations, has_rules, pieces, statements, without_comments
-from ._declaration import Declaration
+from ._declaration import Declaration, cascaded
 from ._encoding import decode_page
 from ._page import Content, Page
-from ._selectors import Selector, SelectorError
-from ._sheet import Prepared
-from ._tree import Tree
+from ._reading import (
+    Item,
+    ReadAtRule,
+    ReadDeclaration,
+    ReadSelector,
+    RuleSet,
+    Source,
+    Statement,
+    read_sheet,
+)
+from ._selectors import Numbers, Printed, Selector, SelectorError, matched, printed
+from ._tree import STATES, Tree
 
-# What a selector may have that the library does not read and that browsers know. A rule set with
-# any other selector that is refused stays whole, since a browser may drop all of it.
+# The pseudo-classes and pseudo-elements that browsers know. A rule set whose selectors have others, or a
+# namespace, stays whole, since a browser may drop all of it.
 _KNOWN = re.compile(
     r"::?(?:before|after|first-line|first-letter|placeholder|selection|marker"
     r"|hover|active|focus|focus-within|focus-visible|link|visited|any-link|target|root|empty"
     r"|first-child|last-child|only-child|first-of-type|last-of-type|only-of-type"
     r"|enabled|disabled|checked|required|optional|valid|invalid|read-only|read-write"
-    r"|(?:not|has)\([^()]*[^()\s][^()]*\)|(?:is|where)\([^()]*\)"
+    r"|(?:not|has|is|where)\([^():]*\)"
     r"|nth-(?:last-)?(?:child|of-type)\(\s*(?:odd|even|[-+]?\d+|[-+]?\d*n(?:\s*[-+]\s*\d+)?)\s*\)"
     r"|lang\(\s*[-\w]+\s*\))"
     r"(?![-\w(])",
     re.IGNORECASE,
 )
-# What a browser refuses in a selector, as a value that is no name or string or a pseudo-element that
-# is not at the end, or reads otherwise than the library.
-_REFUSED = re.compile(
-    r"\\|(?:::[-\w]+|:(?:before|after|first-line|first-letter))(?![-\w])(?!\s*$|[:(])"
-    r"|:lang\([^)]*,"
-    r"""|=\s*(?!["']|-?[_a-zA-Z\u0080-\U0010ffff]|--)[^\]]*\]"""
-)
-# The pseudo-classes that depend on a state of the page.
+_UNKNOWN = re.compile(r":|\|(?!=)")
+# The pseudo-classes of a printed selector that depend on a state of the page, and a language in quotes.
 _STATE = re.compile(r""":(?!first-child\b|lang\([^"'])""")
-_MODERN = re.compile(r"[\w\])*]\s*~\s*[\w.#\[:*]|\[\s*[-\w]+\s*[$^*|~]?=?")
 # The ids, classes and attributes that mail clients add to a page, whose rules match nothing yet.
 _CLIENTS = re.compile(
     r"#(?:outlook|MessageViewBody|MessageWebViewDiv|body)\b|\.(?:ExternalClass|ReadMsgBody|yshortcuts"
@@ -65,7 +65,6 @@ _CLIENTS = re.compile(
     r"|x-apple-data-detectors|owa)|\bu\s*\+",
     re.IGNORECASE,
 )
-_BOX = re.compile(r"::|:(?:before|after|first-line|first-letter)\b")
 # What is dropped of a selector, so that the rest matches all that it does and maybe more.
 _DROPPED = re.compile(r"::?[-\w]+(?:\((?:[^()]|\([^()]*\))*\))?")
 _OPERATOR = re.compile(r"\[\s*([-\w]+)\s*[$^*~|]?=[^\]]*\]")
@@ -152,20 +151,23 @@ class _Group(NamedTuple):
 class _Statement:
     """A statement of a sheet: what of it is written into attributes, and what stays."""
 
-    def __init__(self, number: int, head: str, block: str) -> None:
+    def __init__(self, number: int, text: str, title: str, reason: str) -> None:
         self.number = number
-        self.head = head
-        self.block = block
-        # The selectors that are written into attributes, with their specificity, and the others.
-        self.going: List[Tuple[str, Specificity]] = []
-        self.staying: List[str] = []
-        self.declarations: List[Declaration] = []
+        self.text = text
+        # What it is called in a report, and why all of it stays.
+        self.title = title
+        self.reason = reason
+        self.is_whole = True
+        # The statements that it has, if it is a group rule, or itself.
+        self.inner: List[Statement] = []
+        # The selectors that are written into attributes, and those that stay.
+        self.going: List[Tuple[str, Printed]] = []
+        self.staying: List[ReadSelector] = []
+        self.block = ""
+        self.declarations: Tuple[Declaration, ...] = ()
         # The families of the declarations that stay, too.
         self.left: Set[str] = set()
         self.families: FrozenSet[str] = frozenset()
-        self.is_whole = True
-        # Why all of it stays.
-        self.reason = "an at-rule" if head.startswith("@") else "a browser may drop the list"
 
     def groups(self) -> List[_Group]:
         """Returns the declarations by name and importance, each where its last one is."""
@@ -179,14 +181,32 @@ class _Statement:
 
     def kept(self) -> List[str]:
         """Returns the text that stays."""
-        if self.is_whole:
-            return [self.head + self.block]
-        texts = [f"{', '.join(self.staying)} {self.block}"] if self.staying else []
+        if self.is_whole or not self.going:
+            return [self.text]
+        staying = ", ".join(each.text for each in self.staying)
+        texts = [f"{staying} {self.block}"] if staying else []
         left = [each for each in self.declarations if family_of(each.name) in self.left]
         if left:
-            selectors = ", ".join(selector for selector, _ in self.going)
-            texts.append(f"{selectors} {{ {'; '.join(map(str, left))} }}")
+            texts.append(f"{self._selectors()} {{ {'; '.join(map(str, left))} }}")
         return texts
+
+    def not_written(self) -> Iterator["NotWritten"]:
+        """Yields what of it is not written into attributes, and why."""
+        if self.is_whole:
+            yield NotWritten(self.title, self.reason)
+            return
+        for each in self.staying:
+            yield NotWritten(each.text, _reason_of(each))
+        if self.left:
+            yield NotWritten(self._selectors(), "a rule that stays could override it")
+
+    def _selectors(self) -> str:
+        return ", ".join(text for text, _ in self.going)
+
+    def keep_clients(self) -> None:
+        """Keeps the selectors for mail clients."""
+        clients = [each for each, _ in self.going if _CLIENTS.search(each)]
+        self.staying = [ReadSelector(each, each, None, True, (0, 0)) for each in clients] + self.staying
 
 
 class _Sheet:
@@ -195,10 +215,38 @@ class _Sheet:
     def __init__(self, css: str, content: Optional[Content], start: int) -> None:
         self.content = content
         self.statements: List[_Statement] = []
-        for head, block in statements(css):
-            statement = _Statement(start + len(self.statements), head, block)
-            if head.startswith("@") or _sort(statement):
-                self.statements.append(statement)
+        self.source, found = read_sheet(css)
+        # What the library prints of the selectors that it reads.
+        self.known = _printed_of(found)
+        group = (0, 0)
+        for each in found:
+            if not each.levels:
+                self._take(each, start)
+            elif each.levels[0].span != group:
+                group = each.levels[0].span
+                title = str(each.levels[0].condition)
+                self._add(start, self.source.at(group), title, "an at-rule").inner = [each]
+            else:
+                self.statements[-1].inner.append(each)
+
+    def _add(self, start: int, text: str, title: str, reason: str) -> _Statement:
+        statement = _Statement(start + len(self.statements), text, title, reason)
+        self.statements.append(statement)
+        return statement
+
+    def _take(self, found: Statement, start: int) -> None:
+        """Takes a statement that is in no group rule."""
+        text = self.source.at(found.span)
+        if isinstance(found, ReadAtRule):
+            title = f"@{found.rule.name} {found.rule.prelude}".rstrip()
+            self._add(start, text, title, "an at-rule").inner = [found]
+        elif isinstance(found, RuleSet):
+            title = self.source.at(found.head)
+            statement = self._add(start, text, title, "a browser may drop the list")
+            statement.inner = [found]
+            _sort(statement, found, self)
+        elif text.endswith("}"):
+            self._add(start, text, text.partition("{")[0].strip(), found.reason)
 
     def kept(self, newline: str) -> str:
         """Returns the text that stays."""
@@ -239,52 +287,66 @@ def family_of(name: str) -> str:
     return family or plain
 
 
-def _reason_of(selector: str) -> str:
+def _reason_of(selector: ReadSelector) -> str:
     """Returns why a selector stays."""
-    if _CLIENTS.search(selector):
+    if _CLIENTS.search(selector.text):
         return "it is for a mail client"
-    return "it has a pseudo-element" if _BOX.search(selector) else "it depends on a state, or is of CSS 3"
+    if selector.pseudo_element is not None:
+        return "it has a pseudo-element"
+    return "it depends on a state, or is of CSS 3"
 
 
-def _sort(statement: _Statement) -> bool:
-    """Sorts the selectors of a rule set. Whether it is one: browsers drop one with an empty
-    selector, or without a block."""
-    if not statement.block:
-        return False
-    block = statement.block[1:-1]
-    selectors = pieces(without_comments(statement.head), ",")
-    if not all(selectors):
-        return False
-    going: List[Tuple[str, Specificity]] = []
-    staying: List[str] = []
-    for selector in selectors:
-        if _REFUSED.search(selector):
-            return True
-        try:
-            found = Selector(selector)
-        except SelectorError:
-            if not _KNOWN.search(selector) and not _MODERN.search(selector):
-                return True
-            staying.append(selector)
-            continue
-        if _STATE.search(str(found)):
-            staying.append(selector)
+def _printed_of(statements: Iterable[Statement]) -> Dict[str, Printed]:
+    """Returns what the library prints of the selectors that it reads."""
+    sets = (each for each in statements if isinstance(each, RuleSet))
+    return printed(each.front or "*" for rules in sets for each in rules.selectors if each.is_read)
+
+
+def _sort(statement: _Statement, found: RuleSet, sheet: _Sheet) -> None:
+    """Sorts the selectors of a rule set, unless it stays whole."""
+    source = sheet.source
+    if any(_UNKNOWN.search(_KNOWN.sub("", each.text)) for each in found.selectors):
+        return
+    if has_rules(found.items, source):
+        statement.reason = "it has rules in it"
+        return
+    for each in found.selectors:
+        one = sheet.known.get(each.text)
+        if one is None or each.pseudo_element is not None or _STATE.search(one.text):
+            statement.staying.append(each)
         else:
-            going.append((selector, found.specificity))
-    statement.reason = "it has rules in it"
-    if not has_rules(block):
-        statement.is_whole = False
-        statement.going, statement.staying = going, staying
-        statement.declarations = declarations(block)
-        statement.families = frozenset(family_of(each.name) for each in statement.declarations)
-    return True
+            statement.going.append((each.text, one))
+    if statement.staying and _is_open(found):
+        # No brace would close what stays.
+        statement.going, statement.staying = [], []
+        statement.reason = "the end of the text closes it"
+        return
+    statement.is_whole = False
+    statement.block = source.at((found.head[1], found.span[1])).strip() + "}" * (not found.is_closed)
+    statement.declarations = found.declarations
+    statement.families = frozenset(family_of(each.name) for each in found.declarations)
+
+
+def _is_open(found: RuleSet) -> bool:
+    """Whether the end of the text closes a declaration of a rule set."""
+    return any(isinstance(each, ReadDeclaration) and not each.is_closed for each in found.items)
+
+
+def has_rules(items: Iterable[Item], source: Source) -> bool:
+    """Whether a block has rules in it, as newer browsers read it, or what they may read as some."""
+    for item in items:
+        if isinstance(item, ReadDeclaration):
+            name, value = item.declaration.name, item.declaration.value
+            if "{" in value and not name.startswith("--"):
+                return True
+        elif "{" in source.at(item.span):
+            return True
+    return False
 
 
 def _wider(selector: str) -> Tuple[str, Specificity]:
     """Returns a selector that matches all that a selector does and that the library reads, and the
     specificity, or a greater one."""
-    if _REFUSED.search(selector):
-        return _EVERYTHING, _GREATEST
     subject = selector.rpartition("~")[2] if "~=" not in selector else selector
     dropped = _DROPPED.findall(subject)
     text = _OPERATOR.sub(r"[\1]", _DROPPED.sub("\0", subject)).strip()
@@ -299,36 +361,43 @@ def _wider(selector: str) -> Tuple[str, Specificity]:
     return str(found), (ids, others + len(dropped), types)
 
 
-def _rules_of(css: str, number: int, is_layered: bool = False, level: int = 0) -> Iterator[_Kept]:
-    """Yields the rules of statements that stay, also of those within at-rules."""
-    if level > _DEEPEST:
-        yield _Kept(_EVERYTHING, _GREATEST, number, _ANYTHING, is_layered)
-        return
-    for head, block in statements(css):
-        inner = block[1:-1]
-        if head.startswith("@"):
-            if re.match(r"@(?:-\w+-)?(?:media|supports|container|layer|scope|document)\b", head):
-                is_inner = is_layered or head.startswith("@layer")
-                yield from _rules_of(inner, number, is_inner, level + 1)
-            continue
-        yield from _kept_rules(pieces(without_comments(head), ","), inner, number, is_layered)
+def _rules_of(
+    source: Source, statements: Iterable[Statement], number: int, is_layered: bool = False, level: int = 0
+) -> Iterator[_Kept]:
+    """Yields the rules of statements that stay, also those within at-rules."""
+    statements = list(statements)
+    known = _printed_of(statements)
+    for found in statements:
+        is_inner = is_layered or any(each.condition.name == "layer" for each in found.levels)
+        if isinstance(found, RuleSet):
+            declared = list(found.declarations)
+            if has_rules(found.items, source):
+                # What rules within it say is not looked at: they may say anything of any element.
+                yield _Kept(_EVERYTHING, _GREATEST, number, declared + _ANYTHING, is_inner)
+            else:
+                yield from _kept_rules(found.selectors, declared, known, number, is_inner)
+        elif isinstance(found, ReadAtRule) and found.rule.block is not None:
+            if level > _DEEPEST:
+                yield _Kept(_EVERYTHING, _GREATEST, number, _ANYTHING, is_inner)
+                return
+            yield from _rules_of(*read_sheet(found.rule.block), number, is_inner, level + 1)
 
 
 def _kept_rules(
-    selectors: Iterable[str], block: str, number: int, is_layered: bool
+    selectors: Iterable[ReadSelector],
+    declared: List[Declaration],
+    known: Dict[str, Printed],
+    number: int,
+    is_layered: bool,
 ) -> Iterator[_Kept]:
-    found = declarations(block)
-    if has_rules(block):
-        # What rules within it say is not looked at: they may say anything of any element.
-        yield _Kept(_EVERYTHING, _GREATEST, number, found + _ANYTHING, is_layered)
-        return
-    for selector in selectors:
+    """Yields a rule for each of these selectors of a rule set that stay."""
+    for each in selectors:
         # What a pseudo-element has is of another box.
-        if selector and not _BOX.search(selector):
-            text, specificity = _wider(selector)
+        if each.pseudo_element is None:
+            text, specificity = known.get(each.text) or _wider(each.text)
             if is_layered:
                 specificity = _GREATEST
-            yield _Kept(text, specificity, number, found, is_layered)
+            yield _Kept(text, specificity, number, declared, is_layered)
 
 
 class _Options(NamedTuple):
@@ -362,16 +431,17 @@ class _Inliner:
                 self.sheets.append(sheet)
                 number += len(sheet.statements)
             elif page.is_style_sheet(content):
-                self.kept.extend(_rules_of(text, number))
+                self.kept.extend(_rules_of(*read_sheet(text), number))
                 number += 1
         self.statements = [each for sheet in self.sheets for each in sheet.statements]
         self.numbered = {each.number: each for each in self.statements}
         # How many declarations the rules may hold yet.
         self.room = library.USUAL_LIMIT
         self.rules: List[List[_Group]] = []
-        self.rule_selectors: List[str] = []
-        self.lefts: Dict[Tuple[Tuple[int, ...], Tuple[int, ...]], FrozenSet[str]] = {}
-        self.prepared = self._prepare()
+        self.selectors: List[str] = []
+        self._prepare()
+        self.winners: Dict[bytes, List[_Group]] = {}
+        self.lefts: Dict[Tuple[bytes, bytes], FrozenSet[str]] = {}
 
     def _read(self, content: Content) -> Optional[str]:
         """Returns the sheet of an element, with its urls taken from where they are to be, or `None`
@@ -387,45 +457,42 @@ class _Inliner:
             css = _rebased(file.read_bytes().decode("utf-8-sig"), content.href)
         return css if self.options.base_url is None else _rebased(css, self.options.base_url)
 
-    def _prepare(self) -> Prepared:
-        """Makes the rules that are written into attributes."""
-        for statement in self.statements:
-            if statement.is_whole or statement.staying:
-                self._keep(statement)
-            groups = statement.groups()
-            self.room -= len(groups) * len(statement.going)
-            if self.room < 0:
-                raise library.LimitError("the rules would hold more declarations than the limit")
-            for selector, specificity in statement.going if groups else ():
-                self.rule_selectors.append(selector)
-                self.rules.append([each._replace(specificity=specificity) for each in groups])
+    def _prepare(self) -> None:
+        """Makes the rules that are written into attributes, in the order of the cascade."""
+        rules: List[Tuple[Printed, List[_Group]]] = []
+        for sheet in self.sheets:
+            for statement in sheet.statements:
+                self._keep(statement, sheet)
+                groups = statement.groups()
+                self.room -= len(groups) * len(statement.going)
+                if self.room < 0:
+                    raise library.LimitError("the rules would hold more declarations than the limit")
+                rules.extend((one, groups) for _, one in statement.going if groups)
+        rules.sort(key=lambda rule: rule[0].specificity)
         rewrite = self.tree._reading.rewrite
-        return Prepared(
-            (rewrite(str(Selector(selector)), '"'),
-             [(group.name, group.important, group) for group in groups])
-            for selector, groups in zip(self.rule_selectors, self.rules)
-        )
+        self.selectors = [rewrite(one.text, '"') for one, _ in rules]
+        self.rules = [
+            [each._replace(specificity=one.specificity) for each in groups] for one, groups in rules
+        ]
 
-    def _keep(self, statement: _Statement) -> None:
+    def _keep(self, statement: _Statement, sheet: _Sheet) -> None:
         """Notes the rules of a statement that stay."""
+        number = statement.number
         if statement.is_whole:
-            text = statement.head + statement.block
-            self.kept.extend(_rules_of(text, statement.number))
+            self.kept.extend(_rules_of(sheet.source, statement.inner, number))
         else:
-            block = statement.block[1:-1]
-            self.kept.extend(_kept_rules(statement.staying, block, statement.number, False))
+            declared = list(statement.declarations)
+            self.kept.extend(_kept_rules(statement.staying, declared, sheet.known, number, False))
 
     def write(self) -> None:
         """Writes what wins on each element into its attribute, and what stays into style elements."""
-        order = sorted(range(len(self.rules)), key=lambda rule: self.rules[rule][0].specificity)
-        matched: List[List[int]] = self.prepared.match(self.tree)
-        winners = self.prepared.styles(self.tree)
-        values: List[Any] = self.prepared.values
+        matching = matched(self.tree._arrays(), self.selectors)
+        numbers = Numbers(range(len(self.rules)))
         rivals = self._rivals()
         shown = self.page.shown()
         used: Set[int] = set()
         for index, tag in enumerate(self.page.tags):
-            rules = [order[each] for each in matched[index]]
+            rules = numbers[matching[index]]
             used.update(self.rules[rule][0].number for rule in rules)
             if not rules or not shown[index]:
                 continue
@@ -433,11 +500,11 @@ class _Inliner:
                 # The element has no tag of its own that an attribute could be written into.
                 self._leave(rules, _ALL_FAMILIES)
                 continue
-            groups = [values[each] for each in winners[index]]
-            left = self._left(winners[index], rivals.get(index, []))
+            winners = self._winners(matching[index], rules)
+            left = self._left(matching[index], winners, *rivals[index])
             if left:
                 self._leave(rules, left)
-            groups = [each for each in groups if not _is_in(each.name, left)]
+            groups = [each for each in winners if not _is_in(each.name, left)]
             if groups:
                 self.page.add_declarations(index, self._texts(groups, rules))
             if self.options.attributes:
@@ -448,6 +515,12 @@ class _Inliner:
         if self.options.remove_classes:
             self._remove_classes()
         self._write_sheets()
+
+    def _winners(self, key: bytes, rules: List[int]) -> List[_Group]:
+        """Returns what wins of rules, whose numbers are the key."""
+        if key not in self.winners:
+            self.winners[key] = cascaded(each for rule in rules for each in self.rules[rule])
+        return self.winners[key]
 
     def _rebase_attributes(self, base: str) -> None:
         for index, attributes in enumerate(self.tree._attributes):
@@ -473,34 +546,29 @@ class _Inliner:
     def not_written(self) -> Iterator[NotWritten]:
         """Yields what could not be written into attributes, and why."""
         for statement in self.statements:
-            if statement.is_whole:
-                yield NotWritten(statement.head.strip(), statement.reason)
-                continue
-            for selector in statement.staying:
-                yield NotWritten(selector, _reason_of(selector))
-            if statement.left:
-                selectors = ", ".join(selector for selector, _ in statement.going)
-                yield NotWritten(selectors, "a rule that stays could override it")
+            yield from statement.not_written()
 
-    def _rivals(self) -> Dict[int, List[_Kept]]:
-        """Returns for each element the rules that stay and may match it; of those of one rule set the
-        one of the greatest specificity."""
-        found: Dict[int, Dict[int, _Kept]] = {}
-        for rule in self.kept:
-            for index in self.tree._found(rule.selector):
-                rules = found.setdefault(index, {})
-                other = rules.get(id(rule.declarations))
-                if other is None or other.specificity < rule.specificity:
-                    rules[id(rule.declarations)] = rule
-        return {index: list(rules.values()) for index, rules in found.items()}
+    def _rivals(self) -> List[Tuple[bytes, List[_Kept]]]:
+        """Returns for each element the rules that stay and may match it, in some state of the page, and a
+        key for them."""
+        rewrite = self.tree._reading.rewrite
+        arrays = self.tree._arrays().with_states(sum(STATES.values()))
+        lines = matched(arrays, [rewrite(rule.selector, '"') for rule in self.kept])
+        numbers = Numbers(range(len(self.kept)))
+        found: Dict[bytes, List[_Kept]] = {}
+        for line in lines:
+            if line not in found:
+                found[line] = _strongest(self.kept[each] for each in numbers[line])
+        return [(line, found[line]) for line in lines]
 
-    def _left(self, winners: List[int], rivals: List[_Kept]) -> FrozenSet[str]:
+    def _left(
+        self, key: bytes, winners: List[_Group], rival_key: bytes, rivals: List[_Kept]
+    ) -> FrozenSet[str]:
         """Returns the families of the winners that rules which stay may override."""
-        key = (tuple(winners), tuple(map(id, rivals)))
-        if key not in self.lefts:
-            values: List[Any] = self.prepared.values
-            self.lefts[key] = _left_families([values[each] for each in winners], rivals)
-        return self.lefts[key]
+        keys = (key, rival_key)
+        if keys not in self.lefts:
+            self.lefts[keys] = _left_families(winners, rivals)
+        return self.lefts[keys]
 
     def _leave(self, rules: List[int], families: FrozenSet[str]) -> None:
         """Notes that the declarations of families stay, of all rules that match an element."""
@@ -531,8 +599,7 @@ class _Inliner:
         """Keeps the rules for mail clients that match nothing in the page."""
         for statement in self.statements:
             if statement.number not in used and not statement.is_whole:
-                clients = [each for each, _ in statement.going if _CLIENTS.search(each)]
-                statement.staying = clients + statement.staying
+                statement.keep_clients()
 
     def _write_sheets(self) -> None:
         newline = self.page.newline
@@ -543,6 +610,16 @@ class _Inliner:
                     self.page.add_sheet(kept)
             elif not self.options.keep_style and (sheet.has_written() or sheet.content.href is not None):
                 self.page.set_sheet(sheet.content, kept)
+
+
+def _strongest(rules: Iterable[_Kept]) -> List[_Kept]:
+    """Returns of the rules of each rule set the one of the greatest specificity."""
+    found: Dict[int, _Kept] = {}
+    for rule in rules:
+        other = found.get(id(rule.declarations))
+        if other is None or other.specificity < rule.specificity:
+            found[id(rule.declarations)] = rule
+    return list(found.values())
 
 
 def _beaten(winner: _Group, groups: List[_Group]) -> List[_Group]:

@@ -1,46 +1,160 @@
-"""What is skipped of style sheets, also of those in pages, and the forms in which it is reported."""
+"""Mistakes in style sheets, also in those of pages, and the forms in which they are reported."""
 
 from __future__ import annotations
 
 import json
 import urllib.parse
-from typing import Callable, Dict, Iterator, List, NamedTuple, Sequence, Tuple
+from typing import Callable, Dict, Iterable, Iterator, List, NamedTuple, Sequence, Set, Tuple
 from xml.sax.saxutils import escape, quoteattr
 
 from ._library import __version__
 from ._page import Page
-from ._sheet import StyleSheet
+from ._reading import (
+    Fault,
+    Item,
+    ReadDeclaration,
+    RuleSet,
+    Source,
+    Span,
+    Statement,
+    read_block,
+    read_sheet,
+)
+from ._sheet import PORT, TODAY, StyleSheet, holds
 from ._tokens import attributes_of, decode_value
 
 _PAGES = (".html", ".htm", ".xhtml", ".svg", ".xml")
+# The at-rules whose blocks have declarations.
+_DECLARING = frozenset("counter-style font-face font-palette-values page property view-transition viewport".split())
+# How many characters of a text a message has.
+_SHOWN = 60
 
 
 class Finding(NamedTuple):
-    """A part of a sheet that is skipped: its file and position, why, and its text."""
+    """A part of a sheet: its file, where it begins, why it is reported, its text, and where it ends."""
 
     file: str
     row: int
     column: int
     reason: str
     text: str
+    end_row: int
+    end_column: int
 
     @property
     def kind(self) -> str:
-        """The reason as one word, as `at-rule-not-supported`."""
+        """The reason as one word, as `broken-declaration`."""
         return self.reason.replace("'", "").replace(" ", "-")
 
     @property
     def message(self) -> str:
-        return f"'{self.text}': {self.reason}"
+        text = " ".join(self.text.split())
+        return f"'{text if len(text) <= _SHOWN else text[:_SHOWN] + '..'}': {self.reason}"
 
 
 class _Part(NamedTuple):
-    """A sheet in a file: its text, where it begins, and how many characters before it are ours."""
+    """A sheet or a style attribute in a file, and where it begins."""
 
     css: str
     row: int
     column: int
-    added: int = 0
+    is_attribute: bool = False
+
+
+# Why something is reported, and the offsets of the bytes where it begins and ends.
+_Problem = Tuple[str, Span]
+
+
+def _problems_of_sheet(statements: Iterable[Statement], shows_all: bool) -> Iterator[_Problem]:
+    """Yields the mistakes of statements, and with `shows_all` also what is not evaluated."""
+    groups: Set[Span] = set()
+    for statement in statements:
+        for level in statement.levels if shows_all else ():
+            is_known = any(holds(level.condition, media) for media in ("screen", "print"))
+            if level.span not in groups and not is_known:
+                yield "condition not evaluated", level.head
+            groups.add(level.span)
+        if isinstance(statement, RuleSet):
+            yield from _problems_of_rule(statement, shows_all)
+        else:
+            yield from _problems_of_item(statement, shows_all)
+
+
+def _problems_of_rule(rule: RuleSet, shows_all: bool) -> Iterator[_Problem]:
+    if not rule.is_closed:
+        yield "block not closed", rule.head
+    for each in rule.selectors if shows_all else ():
+        if not each.is_read:
+            yield "selector not matched", each.span
+    for item in rule.items:
+        yield from _problems_of_item(item, shows_all)
+
+
+def _problems_of_item(item: Item, shows_all: bool) -> Iterator[_Problem]:
+    if isinstance(item, Fault):
+        yield item.reason, item.span
+    elif isinstance(item, ReadDeclaration):
+        if not item.is_closed:
+            yield "value not closed", item.span
+    else:
+        if not item.is_closed:
+            yield "block not closed", item.span
+        if shows_all:
+            yield "at-rule not evaluated", item.span
+        if item.rule.block is not None and item.rule.name in _DECLARING:
+            for each in read_block(item.rule.block)[1]:
+                for reason, (start, end) in _problems_of_item(each, shows_all):
+                    yield reason, (item.inner[0] + start, item.inner[0] + end)
+
+
+def _open_groups(source: Source, statements: Sequence[Statement]) -> Iterator[_Problem]:
+    """Yields the group rules that the end of the text closes: the last statement is in them."""
+    ends = [each.span[1] for each in statements[-1:]]
+    for level in reversed(statements[-1].levels if statements else ()):
+        # Its last byte is that of what is in it, or it is no brace.
+        if level.span[1] in ends or source.data[level.span[1] - 1 : level.span[1]] != b"}":
+            yield "block not closed", level.head
+        ends.append(level.span[1])
+
+
+def _end_of(statements: Iterable[Statement]) -> int:
+    """Returns where the last statement ends, or the group rule that it is in."""
+    ends = (each.levels[0].span[1] if each.levels else each.span[1] for each in statements)
+    return max(ends, default=0)
+
+
+def _open_comment(text: str, start: int) -> Iterator[Tuple[str, int, int]]:
+    """Yields the comment that is not closed after the last statement, if there is one."""
+    start = text.find("/*", start)
+    while start >= 0:
+        end = text.find("*/", start + 2)
+        if end < 0:
+            yield "comment not closed", start, len(text)
+            return
+        start = text.find("/*", end + 2)
+
+
+def _reported(part: _Part, shows_all: bool) -> Iterator[Tuple[str, int, int]]:
+    """Yields why something is reported, and the offsets of the characters where it begins and ends."""
+    if part.is_attribute:
+        source, items = read_block(part.css)
+        problems = [each for item in items for each in _problems_of_item(item, shows_all)]
+        end = max((item.span[1] for item in items), default=0)
+    else:
+        source, statements = read_sheet(part.css)
+        problems = [*_problems_of_sheet(statements, shows_all), *_open_groups(source, statements)]
+        end = _end_of(statements)
+    for reason, span in problems:
+        yield reason, source.offset(span[0]), source.offset(span[1])
+    yield from _open_comment(source.text, source.offset(end))
+
+
+def _reported_by_port(part: _Part) -> Iterator[Tuple[str, int, int]]:
+    """Yields what the grammar "simplecss" skips, as a whole text in braces for a style attribute."""
+    added = 2 * part.is_attribute
+    css = "x{" + part.css + "}" if part.is_attribute else part.css
+    for each in StyleSheet(css, grammar=PORT).skipped:
+        yield each.reason, max(each.start - added, 0), min(each.end - added, len(part.css))
 
 
 def is_page(name: str) -> bool:
@@ -66,19 +180,28 @@ def _parts_of(text: str) -> Iterator[_Part]:
                 is_quoted = each.value[0] in "\"'"
                 value = each.value[1:-1] if is_quoted else each.value
                 start = tag[0] + each.end - len(each.value) + is_quoted
-                yield _Part("x{" + decode_value(value) + "}", *position(start), 2)
+                yield _Part(decode_value(value), *position(start), True)
 
 
-def findings(name: str, text: str) -> List[Finding]:
-    """Returns what is skipped of a style sheet, or of those of a page, in order."""
+def _findings_of(name: str, part: _Part, shows_all: bool, grammar: str) -> Iterator[Finding]:
+    source = Source(part.css)
+
+    def position(offset: int) -> Tuple[int, int]:
+        row, column = source.position(offset)
+        return row + part.row - 1, column + (part.column - 1) * (row == 1)
+
+    found = _reported_by_port(part) if grammar == PORT else _reported(part, shows_all)
+    for reason, start, end in found:
+        yield Finding(name, *position(start), reason, part.css[start:end], *position(end))
+
+
+def findings(
+    name: str, text: str, shows_all: bool = False, grammar: str = TODAY
+) -> List[Finding]:
+    """Returns the mistakes of a style sheet, or of those of a page, in order; with `shows_all` also
+    what the library does not evaluate."""
     parts = list(_parts_of(text)) if is_page(name) else [_Part(text, 1, 1)]
-    found = []
-    for part in parts:
-        for each in StyleSheet(part.css).skipped:
-            is_first = each.row == 1
-            column = each.column + part.column - 1 - part.added if is_first else each.column
-            row = each.row + part.row - 1
-            found.append(Finding(name, row, max(column, 1), each.reason, each.text))
+    found = [each for part in parts for each in _findings_of(name, part, shows_all, grammar)]
     return sorted(found, key=lambda each: (each.row, each.column))
 
 
@@ -106,7 +229,8 @@ def _github(text: str, more: str = "") -> str:
 def as_github(found: Sequence[Finding]) -> str:
     """Returns a warning for each, as workflows of GitHub read them."""
     return "".join(
-        f"::warning file={_github(each.file, ':,')},line={each.row},col={each.column},"
+        f"::warning file={_github(each.file, ':,')},line={each.row},endLine={each.end_row},"
+        f"col={each.column},endColumn={each.end_column},"
         f"title={each.kind}::{_github(each.message)}\n"
         for each in found
     )
@@ -124,7 +248,10 @@ def as_sarif(found: Sequence[Finding]) -> str:
                 {
                     "physicalLocation": {
                         "artifactLocation": {"uri": urllib.parse.quote(each.file)},
-                        "region": {"startLine": each.row, "startColumn": each.column},
+                        "region": {
+                            "startLine": each.row, "startColumn": each.column,
+                            "endLine": each.end_row, "endColumn": each.end_column,
+                        },
                     }
                 }
             ],

@@ -5,7 +5,7 @@ from __future__ import annotations
 import functools
 import json
 import re
-from typing import TYPE_CHECKING, Any, List, Match, NamedTuple, Tuple
+from typing import TYPE_CHECKING, Any, Dict, Iterable, List, Match, NamedTuple, Sequence, Tuple
 
 from . import _library as library
 
@@ -85,8 +85,65 @@ def lines_of(output: bytes) -> List[Any]:
     return found
 
 
+Specificity = Tuple[int, int, int]
+
+
+class Printed(NamedTuple):
+    """A selector as the library prints it, and its specificity."""
+
+    text: str
+    specificity: Specificity
+
+
+def specificity_of(numbers: Sequence[int]) -> Specificity:
+    """Returns the three numbers of a specificity."""
+    ids, others, types = numbers
+    return ids, others, types
+
+
 def _list(data: bytes) -> library.Answer:
     return library.call("simplecss_list", data, room=256 + 8 * len(data))
+
+
+def _printed(text: str) -> List[Printed]:
+    """Returns the selectors of a list, or none if it is refused."""
+    answer = _list(library.encode(text))
+    values = lines_of(answer.output) if answer.status == library.DONE else []
+    return [Printed(each["selector"], specificity_of(each["specificity"])) for each in values]
+
+
+def printed(selectors: Iterable[str]) -> Dict[str, Printed]:
+    """Returns what the library prints of selectors, by their texts, but for those that it refuses."""
+    texts = list(dict.fromkeys(selectors))
+    found = _printed(",".join(texts)) if texts else []
+    if len(found) == len(texts):
+        return dict(zip(texts, found))
+    each = ((text, _printed(text)) for text in texts)
+    return {text: one[0] for text, one in each if len(one) == 1}
+
+
+def matched(tree: library.TreeArrays, selectors: Sequence[str]) -> List[bytes]:
+    """Returns for each element the numbers of the selectors that match it, which begin at 1, with
+    spaces between them."""
+    texts = [library.encode(each) for each in selectors]
+    ends = library.ends_of(map(len, texts))
+    name = "simplecss_match_selectors"
+    room = 1024 + 32 * tree.count
+    answer = library.call(name, b"".join(texts), ends, tree, room=room, with_fault=True)
+    return [line.partition(b":")[2] for line in library.output_of(name, answer).split(b"\n")[:-1]]
+
+
+class Numbers(Dict[bytes, List[int]]):
+    """What each text of numbers from 1 denotes among these: most elements share few texts."""
+
+    def __init__(self, numbered: Sequence[int]) -> None:
+        super().__init__()
+        self._numbered = numbered
+
+    def __missing__(self, numbers: bytes) -> List[int]:
+        found = [self._numbered[int(number) - 1] for number in numbers.split()]
+        self[numbers] = found
+        return found
 
 
 @functools.lru_cache(maxsize=512)
@@ -132,11 +189,10 @@ class Selector:
             raise SelectorError("more than one selector", 1, 1)
         self._source = text
         self._text: str = found[0]["selector"]
-        ids, others, types = found[0]["specificity"]
-        self._specificity: Tuple[int, int, int] = (ids, others, types)
+        self._specificity = specificity_of(found[0]["specificity"])
 
     @property
-    def specificity(self) -> Tuple[int, int, int]:
+    def specificity(self) -> Specificity:
         """The numbers of ids, of attributes and pseudo-classes, and of types; each at most 255."""
         return self._specificity
 

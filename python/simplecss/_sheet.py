@@ -2,33 +2,78 @@
 
 from __future__ import annotations
 
-from typing import Any, Dict, Iterable, List, NamedTuple, Optional, Tuple, TypeVar, Union, overload
+import itertools
+from typing import (
+    Any,
+    Callable,
+    Dict,
+    Iterable,
+    Iterator,
+    List,
+    NamedTuple,
+    Optional,
+    Tuple,
+    TypeVar,
+    Union,
+    overload,
+)
 
 from . import _library as library
-from ._declaration import Declaration
-from ._selectors import Reading, lines_of
+from ._declaration import Declaration, cascaded
+from ._reading import (
+    AtRule,
+    Condition,
+    Fault,
+    Level,
+    ReadAtRule,
+    RuleSet,
+    Source,
+    Statement,
+    read_sheet,
+)
+from ._selectors import Numbers, Reading, Specificity, lines_of, matched, printed, specificity_of
 from ._specified import Inherit, inherited, specified_by
 from ._tree import Element, Tree
 
 T = TypeVar("T")
 
+# The names of the grammars.
+TODAY = "today"
+PORT = "simplecss"
+
+# A media type, or what decides of the prelude of a group rule whether its rules apply.
+Media = Union[str, Callable[[str], bool]]
+
 
 class Rule(NamedTuple):
-    """A rule: the text of its `selector`, its `specificity`, and its `declarations`.
+    """A rule: the text of its `selector`, its `specificity`, and its `declarations`; the group rules
+    that it is in, the outermost first; and the name of its pseudo-element, which makes it a rule of
+    another box than the element that the selector matches.
 
     A rule set with three selectors is three rules.
     """
 
     selector: str
-    specificity: Tuple[int, int, int]
+    specificity: Specificity
     declarations: Tuple[Declaration, ...]
+    conditions: Tuple[Condition, ...] = ()
+    pseudo_element: Optional[str] = None
+
+
+class Unmatched(NamedTuple):
+    """A rule whose selector is valid, and which the library does not match: it applies to elements
+    that nobody asked for."""
+
+    selector: str
+    declarations: Tuple[Declaration, ...]
+    conditions: Tuple[Condition, ...]
 
 
 class Skipped(NamedTuple):
     """A part of a style sheet that is skipped.
 
     `row` and `column` begin at 1, and columns count characters. `source` is the index of the text
-    among those of the sheet.
+    among those of the sheet, and `start` and `end` are where the part begins and ends in it.
     """
 
     row: int
@@ -36,6 +81,8 @@ class Skipped(NamedTuple):
     reason: str
     text: str
     source: int
+    start: int
+    end: int
 
 
 class ByElement(List[T]):
@@ -51,201 +98,319 @@ class ByElement(List[T]):
         return super().__getitem__(key.index if isinstance(key, Element) else key)
 
 
-def _declaration(value: Dict[str, Any]) -> Declaration:
-    return Declaration(value["name"], value["value"], value["important"])
+class _Contents(NamedTuple):
+    """What the texts of a sheet have."""
+
+    rules: Tuple[Rule, ...]
+    unmatched: Tuple[Unmatched, ...]
+    at_rules: Tuple[AtRule, ...]
 
 
-class Prepared:
-    """The rules of a sheet as they are read for a tree. In their text a declaration's name and value
-    are numbers, so that the library decides between declarations whose values it need not read."""
+def holds(condition: Condition, media: Media) -> bool:
+    """Whether the rules of a group rule apply."""
+    is_media = condition.name == "media"
+    if callable(media):
+        return media(condition.prelude if is_media else str(condition))
+    return is_media and _has_type(condition.prelude, media.lower())
 
-    def __init__(
-        self,
-        rules: Iterable[Tuple[str, Iterable[Tuple[str, bool, object]]]],
-        limit: int = library.USUAL_LIMIT,
-    ) -> None:
-        """Takes a selector for each rule, and of each declaration its name, whether it is important,
-        and what it stands for."""
-        self.names: Dict[str, int] = {}
-        self.values: List[object] = []
-        words = []
-        for selector, declarations in rules:
-            words.append(selector + "{")
-            for name, important, value in declarations:
-                number = self.names.setdefault(name, len(self.names))
-                mark = " !important" if important else ""
-                words.append(f"n{number}:{len(self.values)}{mark};")
-                self.values.append(value)
-            words.append("}\n")
-        self.text = "".join(words)
-        self._data = self.text.encode("utf-8")
-        self._ends = library.ends_of((len(self._data),))
-        self._limit = limit
 
-    def _call(self, name: str, tree: Tree, *more: bytes, room: int) -> bytes:
-        arrays = tree._arrays()
-        room = 1024 + room * len(tree)
-        answer = library.call(
-            name, self._data, self._ends, self._limit, arrays, *more, room=room, with_fault=True
-        )
-        return library.output_of(name, answer)
-
-    def match(self, tree: Tree) -> "ByElement[List[int]]":
-        """Returns for each element the indices of the rules that match it."""
-        lines = self._call("simplecss_match", tree, room=32).split(b"\n")
-        lines.pop()
-        indices = _Indices()
-        return ByElement(indices[line.partition(b":")[2]].copy() for line in lines)
-
-    def styles(self, tree: Tree) -> List[List[int]]:
-        """Returns for each element the numbers of the declarations that win."""
-        output = self._call("simplecss_styles", tree, room=256)
-        return [[int(value["value"]) for value in values] for values in lines_of(output)]
-
-    def style(self, tree: Tree, name: str) -> List[Optional[int]]:
-        """Returns for each element the number of the declaration of the name that wins."""
-        number = self.names.get(name)
-        if number is None:
-            return [None] * len(tree)
-        output = self._call("simplecss_style", tree, b"n%d" % number, room=32)
-        found: List[Optional[int]] = []
-        for line in output.split(b"\n")[:-1]:
-            words = line.partition(b":")[2].split()
-            found.append(int(words[0]) if words else None)
-        return found
+def _has_type(prelude: str, media: str) -> bool:
+    """Whether a list of media queries has one of the media type, or of all, without features."""
+    for query in prelude.lower().split(","):
+        words = query.split()
+        if words[:1] == ["only"]:
+            words.pop(0)
+        if words in ([], ["all"], [media]):
+            return True
+        if len(words) == 2 and words[0] == "not" and words[1] not in ("all", media) and words[1].isalpha():
+            return True
+    return False
 
 
 class StyleSheet:
     """The style sheet of texts, read one after another.
 
     Its rules are in the order of their specificity, and rules of equal specificity in the order in
-    which they appear. What the library does not read is skipped. `str` is the printed sheet.
+    which they appear. `str` is the printed sheet.
 
-    A rule set has its declarations once for each of its selectors, so a short text may have rules
-    that take very much memory. Rules with more declarations than `limit` raise `LimitError`, before
-    they are stored; `None` is no limit.
+    The grammar "today" reads as browsers do (CSS Syntax 3), and "simplecss" as the Rust crate does.
+
+    A rule set counts its declarations once for each of its selectors. Rules with more declarations
+    than `limit` raise `LimitError`; `None` is no limit.
     """
 
-    def __init__(self, *texts: str, limit: Optional[int] = library.USUAL_LIMIT) -> None:
+    def __init__(
+        self, *texts: str, grammar: str = TODAY, limit: Optional[int] = library.USUAL_LIMIT
+    ) -> None:
+        if grammar not in (TODAY, PORT):
+            raise ValueError(f"no grammar: {grammar!r}")
         self._texts = tuple(library.encode(text) for text in texts)
-        self._buffer = b"".join(self._texts)
+        self._grammar = grammar
         self._limit = library.NO_LIMIT if limit is None else min(max(limit, 0), library.NO_LIMIT)
-        self._rules: Optional[Tuple[Rule, ...]] = None
-        self._prepared: Dict[Reading, Prepared] = {}
+        self._read: Optional[List[Tuple[Source, List[Statement]]]] = None
+        self._contents: Optional[_Contents] = None
+        self._selectors: Dict[Tuple[Reading, str], _Selectors] = {}
 
     def __reduce__(self) -> Tuple[Any, ...]:
-        return (_sheet_of, (tuple(text.decode("utf-8") for text in self._texts), self._limit))
+        texts = tuple(text.decode("utf-8") for text in self._texts)
+        return (_sheet_of, (texts, self._grammar, self._limit))
 
     def _call(self, name: str, room: int) -> bytes:
+        """Calls what reads the sheet by the grammar "simplecss"."""
         ends = library.ends_of(map(len, self._texts))
-        answer = library.call(name, self._buffer, ends, self._limit, room=room)
+        answer = library.call(name, b"".join(self._texts), ends, self._limit, room=room)
         return library.output_of(name, answer)
+
+    def _statements(self) -> List[Tuple[Source, List[Statement]]]:
+        """Returns what the texts have by the grammar "today"."""
+        if self._read is None:
+            self._read = [read_sheet(text.decode("utf-8")) for text in self._texts]
+        return self._read
+
+    def _all(self) -> _Contents:
+        if self._contents is None:
+            is_port = self._grammar == PORT
+            self._contents = self._contents_of_port() if is_port else self._contents_of_today()
+        return self._contents
+
+    def _contents_of_port(self) -> _Contents:
+        output = self._call("simplecss_rules", 1024 + 8 * sum(map(len, self._texts)))
+        return _Contents(tuple(map(_rule_of_port, lines_of(output))), (), ())
+
+    def _contents_of_today(self) -> _Contents:
+        statements = [each for _, found in self._statements() for each in found]
+        sets = [each for each in statements if isinstance(each, RuleSet)]
+        count = sum(len(each.selectors) * len(each.declarations) for each in sets)
+        if count > self._limit:
+            raise library.LimitError("the rules would hold more declarations than the limit")
+        rules, unmatched = _rules_of(sets)
+        at_rules = (each.rule for found in statements for each in _at_rules_of(found))
+        return _Contents(tuple(rules), tuple(unmatched), tuple(at_rules))
 
     @property
     def rules(self) -> Tuple[Rule, ...]:
         """The rules, those of smaller specificity first."""
-        if self._rules is None:
-            output = self._call("simplecss_rules", 1024 + 8 * len(self._buffer))
-            self._rules = tuple(
-                Rule(
-                    value["selector"],
-                    (value["specificity"][0], value["specificity"][1], value["specificity"][2]),
-                    tuple(_declaration(declaration) for declaration in value["declarations"]),
-                )
-                for value in lines_of(output)
-            )
-        return self._rules
+        return self._all().rules
+
+    @property
+    def unmatched(self) -> Tuple[Unmatched, ...]:
+        """The rules whose selectors are valid and not matched, in order."""
+        return self._all().unmatched
+
+    @property
+    def at_rules(self) -> Tuple[AtRule, ...]:
+        """The at-rules that are no group rules, as `@font-face`, in order."""
+        return self._all().at_rules
 
     @property
     def skipped(self) -> List[Skipped]:
         """What is skipped of the texts, in order."""
-        found = []
-        for source, text in enumerate(self._texts):
+        each = self._skipped_of_port() if self._grammar == PORT else self._skipped_of_today()
+        return list(each)
+
+    def _skipped_of_today(self) -> Iterator[Skipped]:
+        for number, (source, statements) in enumerate(self._statements()):
+            for fault in faults_of(statements):
+                start, end = map(source.offset, fault.span)
+                row, column = source.position(start)
+                text = source.text[start:end]
+                yield Skipped(row, column, fault.reason, text, number, start, end)
+
+    def _skipped_of_port(self) -> Iterator[Skipped]:
+        for number, text in enumerate(self._texts):
+            source = Source(text.decode("utf-8"))
             answer = library.call("simplecss_skipped", text, room=1024 + 2 * len(text))
             for value in lines_of(library.output_of("simplecss_skipped", answer)):
-                found.append(
-                    Skipped(value["row"], value["column"], value["reason"], value["text"], source)
-                )
-        return found
+                row, column, part = value["row"], value["column"], value["text"]
+                start = source.lines[row - 1] + column - 1
+                yield Skipped(row, column, value["reason"], part, number, start, start + len(part))
 
     def __str__(self) -> str:
-        return self._call("simplecss_sheet", 1024 + 4 * len(self._buffer)).decode("utf-8")[:-1]
+        if self._grammar == PORT:
+            room = 1024 + 4 * sum(map(len, self._texts))
+            return self._call("simplecss_sheet", room).decode("utf-8")[:-1]
+        # Printing obeys the limit, too.
+        self._all()
+        return "\n".join(line for _, found in self._statements() for line in _lines_of(found))
 
     def __repr__(self) -> str:
         return f"<StyleSheet of {len(self._texts)} texts>"
 
-    def _prepare(self, reading: Reading) -> Prepared:
-        """Returns the rules as they are read for a tree."""
-        if reading not in self._prepared:
-            rules = (
-                (
-                    reading.rewrite(rule.selector, '"'),
-                    [(each.name, each.important, each) for each in rule.declarations],
-                )
-                for rule in self.rules
-            )
-            self._prepared[reading] = Prepared(rules, self._limit)
-        return self._prepared[reading]
+    def _match(self, tree: Tree, media: Media) -> Tuple["_Selectors", List[bytes]]:
+        """Returns the selectors that are asked for, and for each element the numbers of those that
+        match it."""
+        if not isinstance(tree, Tree):
+            raise TypeError(f"a Tree is expected, not {type(tree).__name__}")
+        reading = tree._reading
+        if callable(media):
+            found = _Selectors(self.rules, reading, media)
+        else:
+            key = (reading, media)
+            if key not in self._selectors:
+                self._selectors[key] = _Selectors(self.rules, reading, media)
+            found = self._selectors[key]
+        return found, matched(tree._arrays(), found.texts)
 
-    def match(self, tree: Tree) -> "ByElement[List[int]]":
-        """Returns for each element the indices of the rules that match it, in order."""
-        return self._prepare(_reading_of(tree)).match(tree)
+    def match(self, tree: Tree, *, media: Media = "screen") -> "ByElement[List[int]]":
+        """Returns for each element the indices of the rules that match it, in order.
+
+        Of rules in `@media`, those apply whose prelude has the media type, or `all`, without
+        features. A callable decides instead: it is called with the prelude of each `@media`, and
+        with the text of each other group rule up to its block, as `@supports (a: b)`. Rules with a
+        pseudo-element match no element.
+        """
+        selectors, lines = self._match(tree, media)
+        return ByElement(selectors.rules[line].copy() for line in lines)
 
     def styles(
-        self, tree: Tree, *, specified: bool = False, inherit: Inherit = False
+        self,
+        tree: Tree,
+        *,
+        media: Media = "screen",
+        specified: bool = False,
+        inherit: Inherit = False,
     ) -> "ByElement[List[Declaration]]":
         """Returns for each element the winning declaration of each name (CSS 2.1 section 6.4.1).
 
         They are in the order in which the cascade applies them: in that of their rules, and in a
         rule as they appear. With `specified`, the declarations of the attribute `style` and the
         presentation attributes of SVG take part. `inherit` names the properties that an element
-        without a declaration has from its parent; `True` is those of CSS 2.1 and of SVG.
+        without a declaration has from its parent; `True` is those of CSS 2.1 and of SVG. `media` is
+        that of `match`.
         """
-        prepared = self._prepare(_reading_of(tree))
-        values: List[Any] = prepared.values
-        found: List[List[Declaration]] = [
-            [values[each] for each in numbers] for numbers in prepared.styles(tree)
-        ]
+        selectors, lines = self._match(tree, media)
+        winners: Dict[bytes, List[Declaration]] = {}
+        for line in lines:
+            if line not in winners:
+                rules = (self.rules[each] for each in selectors.rules[line])
+                winners[line] = cascaded(each for rule in rules for each in rule.declarations)
+        found = [winners[line].copy() for line in lines]
         if specified:
-            found = [specified_by(element, winners) for element, winners in zip(tree, found)]
+            found = [specified_by(element, each) for element, each in zip(tree, found)]
         if inherit:
             found = inherited(tree, found, inherit)
         return ByElement(found)
 
     def style(
-        self, tree: Tree, name: str, *, specified: bool = False, inherit: Inherit = False
+        self,
+        tree: Tree,
+        name: str,
+        *,
+        media: Media = "screen",
+        specified: bool = False,
+        inherit: Inherit = False,
     ) -> "ByElement[Optional[Declaration]]":
         """Returns for each element the winning declaration of the name, or `None`.
 
-        The name compares byte by byte. `specified` and `inherit` are those of `styles`.
+        The name compares byte by byte. `media`, `specified` and `inherit` are those of `styles`.
         """
         library.expect_text(name)
-        if specified or inherit:
-            every = self.styles(tree, specified=specified, inherit=inherit)
-            return ByElement(
-                next((each for each in found if each.name == name), None) for found in every
-            )
-        prepared = self._prepare(_reading_of(tree))
-        values: List[Any] = prepared.values
+        every = self.styles(tree, media=media, specified=specified, inherit=inherit)
         return ByElement(
-            None if found is None else values[found] for found in prepared.style(tree, name)
+            next((each for each in found if each.name == name), None) for found in every
         )
 
 
-def _sheet_of(texts: Tuple[str, ...], limit: int) -> StyleSheet:
-    return StyleSheet(*texts, limit=limit)
+class _Selectors:
+    """The selectors of the rules that apply, as they are read for a tree."""
+
+    def __init__(self, rules: Tuple[Rule, ...], reading: Reading, media: Media) -> None:
+        groups: Dict[Tuple[Condition, ...], bool] = {(): True}
+        indices = []
+        for index, rule in enumerate(rules):
+            if rule.conditions not in groups:
+                groups[rule.conditions] = all(holds(each, media) for each in rule.conditions)
+            if groups[rule.conditions] and rule.pseudo_element is None:
+                indices.append(index)
+        self.texts = [reading.rewrite(rules[index].selector, '"') for index in indices]
+        self.rules = Numbers(indices)
 
 
-def _reading_of(tree: Tree) -> Reading:
-    if not isinstance(tree, Tree):
-        raise TypeError(f"a Tree is expected, not {type(tree).__name__}")
-    return tree._reading
+def _rule_of_port(value: Dict[str, Any]) -> Rule:
+    declared = (
+        Declaration(each["name"], each["value"], each["important"]) for each in value["declarations"]
+    )
+    return Rule(value["selector"], specificity_of(value["specificity"]), tuple(declared))
 
 
-class _Indices(Dict[bytes, List[int]]):
-    """The indices that each text of numbers from 1 denotes: most elements share few texts."""
+def _rules_of(sets: List[RuleSet]) -> Tuple[List[Rule], List[Unmatched]]:
+    """Returns the rules of rule sets in the order of the cascade, and those that are not matched."""
+    known = printed(
+        each.front or "*" for found in sets for each in found.selectors if each.is_read
+    )
+    rules: List[Rule] = []
+    unmatched: List[Unmatched] = []
+    for found in sets:
+        declarations, conditions = found.declarations, found.conditions
+        for each in found.selectors:
+            one = known.get(each.front or "*") if each.is_read else None
+            if one is None:
+                unmatched.append(Unmatched(each.text, declarations, conditions))
+                continue
+            ids, others, types = one.specificity
+            types = types if each.pseudo_element is None else min(types + 1, 255)
+            rules.append(
+                Rule(one.text, (ids, others, types), declarations, conditions, each.pseudo_element)
+            )
+    rules.sort(key=lambda rule: rule.specificity)
+    return rules, unmatched
 
-    def __missing__(self, numbers: bytes) -> List[int]:
-        indices = [int(number) - 1 for number in numbers.split()]
-        self[numbers] = indices
-        return indices
+
+def _at_rules_of(statement: Statement) -> Iterator[ReadAtRule]:
+    """Yields the at-rule that a statement is, or those of its block."""
+    if isinstance(statement, ReadAtRule):
+        yield statement
+    elif isinstance(statement, RuleSet):
+        yield from (each for each in statement.items if isinstance(each, ReadAtRule))
+
+
+def faults_of(statements: Iterable[Statement]) -> Iterator[Fault]:
+    """Yields what is skipped of statements and in the blocks of rule sets, in order."""
+    for statement in statements:
+        if isinstance(statement, Fault):
+            yield statement
+        elif isinstance(statement, RuleSet):
+            yield from (each for each in statement.items if isinstance(each, Fault))
+
+
+def _text_of(statement: Statement) -> str:
+    """Returns the printed text of a statement."""
+    if isinstance(statement, ReadAtRule):
+        return str(statement.rule)
+    if isinstance(statement, Fault):
+        return ""
+    words = []
+    for item in statement.items:
+        if isinstance(item, ReadAtRule):
+            words.append(str(item.rule))
+        elif not isinstance(item, Fault):
+            name, value, important = item.declaration
+            words.append(f"{name}:{value}{' !important' if important else ''};")
+    selectors = ", ".join(each.text for each in statement.selectors)
+    return f"{selectors} {{ {''.join(words)} }}" if words else f"{selectors} {{ }}"
+
+
+def _lines_of(statements: Iterable[Statement]) -> Iterator[str]:
+    """Yields the printed lines of statements, which open and close their group rules."""
+    before: Tuple[Level, ...] = ()
+    for statement in statements:
+        text = _text_of(statement)
+        if text:
+            pairs = zip(before, statement.levels)
+            # Where two group rules begin, they are two.
+            shared = sum(1 for _ in itertools.takewhile(lambda pair: pair[0].span == pair[1].span, pairs))
+            yield from _closed(len(before), shared)
+            for depth, level in enumerate(statement.levels[shared:], shared):
+                yield f"{'  ' * depth}{level.condition} {{"
+            yield "  " * len(statement.levels) + text
+            before = statement.levels
+    yield from _closed(len(before), 0)
+
+
+def _closed(depth: int, kept: int) -> Iterator[str]:
+    """Yields the braces that close group rules down to a depth."""
+    return ("  " * level + "}" for level in range(depth - 1, kept - 1, -1))
+
+
+def _sheet_of(texts: Tuple[str, ...], grammar: str, limit: int) -> StyleSheet:
+    return StyleSheet(*texts, grammar=grammar, limit=limit)

@@ -3,11 +3,11 @@ parents (CSS 2.1 sections 6.2 and 6.4.3)."""
 
 from __future__ import annotations
 
-from typing import Dict, FrozenSet, Iterable, List, Union
+from typing import FrozenSet, Iterable, List, Union
 
-from ._css import declarations
-from ._declaration import Declaration
+from ._declaration import Declaration, cascaded
 from ._library import expect_text
+from ._reading import declarations
 from ._tree import Element, Tree
 
 # What CSS 2.1 hands down (Appendix F), and what SVG does.
@@ -55,7 +55,8 @@ Inherit = Union[bool, Iterable[str]]
 
 def _own(element: Element) -> List[Declaration]:
     """Returns the declarations of the attribute `style`."""
-    return declarations(element.attributes.get("style", ""))
+    text = element.attributes.get("style", "")
+    return declarations(text) if text else []
 
 
 def _presented(element: Element) -> List[Declaration]:
@@ -74,13 +75,7 @@ def _presented(element: Element) -> List[Declaration]:
 
 def specified_by(element: Element, winners: Iterable[Declaration]) -> List[Declaration]:
     """Returns the declaration of each name that wins among all of these, in order."""
-    found: Dict[str, Declaration] = {}
-    for declaration in (*_presented(element), *winners, *_own(element)):
-        before = found.get(declaration.name)
-        if before is None or declaration.important or not before.important:
-            found.pop(declaration.name, None)
-            found[declaration.name] = declaration
-    return list(found.values())
+    return cascaded((*_presented(element), *winners, *_own(element)))
 
 
 def _names(inherit: Iterable[str]) -> FrozenSet[str]:

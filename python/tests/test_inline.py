@@ -34,17 +34,17 @@ class Declarations(unittest.TestCase):
             "calc(100% - (2px + 1em))", "-webkit-calc(1px)", "10px\\9", "url(a;b.png)",
             "'a;b}c'", "rgb( 1 , 2 , 3 )", "min(2px, 1em) / var(--x)", "#fff url('x') no-repeat",
         ):
-            self.assertEqual(style_of("p { n: " + value + " }"), "n: " + value, value)
+            self.assertEqual(style_of("p { n: " + value + "}"), "n: " + value, value)
 
-    def test_comments_are_no_part_of_a_value(self):
-        self.assertEqual(style_of("p { n/**/: /* a; b */ 1px/**/2px }"), "n: 1px 2px")
+    def test_comments_round_a_value_are_no_part_of_it(self):
+        self.assertEqual(style_of("p { n/**/: /* a; b */ 1px/**/2px /* c */ }"), "n: 1px/**/2px")
         self.assertEqual(style_of("p { n: '/* a */' }"), "n: '/* a */'")
 
     def test_the_end_of_the_text_closes_a_block(self):
         self.assertEqual(style_of("p { n: 1; m: 2"), "n: 1; m: 2")
-        self.assertEqual(style_of("p { n: 1; m: f(2; o: 3 } p { q: 4 }"), "n: 1")
-        self.assertEqual(inline("<p>", "p:hover { n: 1"), "<style>\np:hover { n: 1}\n</style><p>")
-        self.assertEqual(inline("<p>", "@media x { p { n: 1 }"), "<style>\n@media x { p { n: 1 }}\n</style><p>")
+        for css in ("p { n: 1; m: f(2; o: 3 } p { q: 4 }", "p:hover { n: 1", "@media x { p { n: 1 }"):
+            self.assertEqual(inline("<p>", css), f"<style>\n{css}\n</style><p>")
+        self.assertEqual(inline("<p>", "p:hover, p { n: 1"), '<style>\np:hover { n: 1}\n</style><p style="n: 1">')
         self.assertEqual(inline("<p>", "p"), "<p>")
         self.assertEqual(inline("<p>", "@import x"), "<style>\n@import x\n</style><p>")
 
@@ -75,13 +75,9 @@ class Selectors(unittest.TestCase):
             self.assertEqual(text, f'<style>\n{selector} {{ n: 1 }}\n</style><p style="n: 1">', selector)
 
     def test_a_list_with_what_nobody_knows_stays_whole(self):
-        for selectors in ("p, p::x-y", "p < b, p", "p, .a\\:b", "p:unknown, p"):
+        for selectors in ("p, p::x-y", "p < b, p", "p, x|b", "p:unknown, p", "p,", ",p", "p,,b"):
             text = inline("<p>", selectors + " { n: 1 }")
             self.assertEqual(text, f"<style>\n{selectors} {{ n: 1 }}\n</style><p>")
-
-    def test_a_list_with_an_empty_selector_is_dropped(self):
-        for selectors in ("p,", ",p", "p,,b"):
-            self.assertEqual(inline("<p>", selectors + " { n: 1 }"), "<p>", selectors)
 
     def test_a_table_has_a_body(self):
         for page in ("<table><tr><td>", "<table><caption>x<tr><td>", "<table><tbody><tr><td>"):
@@ -155,7 +151,7 @@ class Documents(unittest.TestCase):
         self.assertEqual(
             inline('<s:svg xmlns:s="x"><s:style><![CDATA[a > b, .c{n:1} B{m:2} a:hover{o:3}]]></s:style>'
                    '<a><b/></a></s:svg>'.replace("<s:svg", "<?xml version='1.0'?><s:svg")),
-            "<?xml version='1.0'?><s:svg xmlns:s=\"x\"><s:style>\na:hover {o:3}\n</s:style>"
+            "<?xml version='1.0'?><s:svg xmlns:s=\"x\"><s:style>\na:hover{o:3}\n</s:style>"
             '<a><b style="n: 1"/></a></s:svg>')
         self.assertEqual(inline("<svg><RECT/></svg>", "rect { n: 1 }"), "<svg><RECT/></svg>")
         self.assertEqual(inline("<svg><a/></svg>", "a:hover { n: 1 }"),
@@ -285,9 +281,9 @@ class Injection(unittest.TestCase):
     def test_no_text_of_a_sheet_ends_the_style_element(self):
         for css, written in (
             ('p:hover{content:"</style><script>alert(1)</script>"}',
-             r'p:hover {content:"<\/style><script>alert(1)</script>"}'),
-            ("p:hover{content:'\\'</STYLE >'}", r"p:hover {content:'\'<\/STYLE >'}"),
-            ("p:hover{b:url(</style>)}", r"p:hover {b:url(<\/style>)}"),
+             r'p:hover{content:"<\/style><script>alert(1)</script>"}'),
+            ("p:hover{content:'\\'</STYLE >'}", r"p:hover{content:'\'<\/STYLE >'}"),
+            ("p:hover{b:url(</style>)}", r"p:hover{b:url(<\/style>)}"),
             ("@media x{/*</style>*/}", r"@media x{/*<\/style>*/}"),
             ("@import '</style/>';", r"@import '<\/style/>';"),
         ):
@@ -305,7 +301,7 @@ class Injection(unittest.TestCase):
         css = "p{quotes:'<&]]>'} p:hover{content:'</style>&amp;'} @media x{p>b{n:1}}"
         self.assertEqual(
             inline(page.replace("<head/>", "<head></head>"), css),
-            '<?xml version="1.0"?><html><head><style>\np:hover {content:\'&lt;/style>&amp;amp;\'}\n'
+            '<?xml version="1.0"?><html><head><style>\np:hover{content:\'&lt;/style>&amp;amp;\'}\n'
             "@media x{p>b{n:1}}\n</style></head><body>"
             "<p style=\"quotes: '&lt;&amp;]]>'\"/></body></html>")
 
@@ -313,7 +309,7 @@ class Injection(unittest.TestCase):
         for text in ("r:hover{a:'&lt;&amp;'} r{n:1}", "<![CDATA[r:hover{a:'<&'} r{n:1}]]>"):
             self.assertEqual(
                 inline(f"<svg><style>{text}</style><r/></svg>"),
-                "<svg><style>\nr:hover {a:'&lt;&amp;'}\n</style><r style=\"n: 1\"/></svg>")
+                "<svg><style>\nr:hover{a:'&lt;&amp;'}\n</style><r style=\"n: 1\"/></svg>")
 
     def test_an_unquoted_attribute_stays_one(self):
         self.assertEqual(inline('<p style=a:b"onclick=x>', "p { n: 1 }"),

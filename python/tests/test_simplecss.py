@@ -113,11 +113,103 @@ class Sheets(unittest.TestCase):
         self.assertEqual(square.skipped, [])
 
     def test_skipped(self):
-        sheet = simplecss.StyleSheet("a { b: c }", "\n @media print { } x:none { y: z }")
+        texts = "a { b: c; é; *d: e }", "\n é < f { g: h } i { j: é] }"
+        sheet = simplecss.StyleSheet(*texts)
+        self.assertEqual([each[:4] for each in sheet.skipped], [
+            (1, 11, "broken declaration", "é"), (1, 14, "broken declaration", "*d: e"),
+            (2, 2, "invalid selector", "é < f { g: h }"), (2, 21, "stray bracket", "j: é]")])
+        for each in sheet.skipped:
+            self.assertEqual(texts[each.source][each.start : each.end], each.text)
+
+
+class Port(unittest.TestCase):
+    """Sheets by the grammar of the Rust crate."""
+
+    def test_rules(self):
+        sheet = simplecss.StyleSheet("a { b: c; *d: e } f:g, h { i: J !IMPORTANT }", grammar="simplecss")
+        self.assertEqual(str(sheet), "a { b:c;d:e; }\nh { i:J; }")
+        self.assertEqual([rule.selector for rule in sheet.rules], ["a", "h"])
+        self.assertEqual((sheet.unmatched, sheet.at_rules), ((), ()))
+        tree = simplecss.Tree.from_html("<a><h>", is_part=True)
+        self.assertEqual(sheet.match(tree), [[0], [1]])
+        self.assertEqual(sheet.style(tree, "i"), [None, ("i", "J", False)])
+
+    def test_skipped(self):
+        texts = "a { b: c }", "\n @media print { } x:none { y: z }"
+        sheet = simplecss.StyleSheet(*texts, grammar="simplecss")
         self.assertEqual([(part.row, part.column, part.source) for part in sheet.skipped],
                          [(2, 2, 1), (2, 19, 1)])
         self.assertEqual(sheet.skipped[0].text, "@media print")
         self.assertEqual(sheet.skipped[1].reason, "unknown pseudo-class")
+        for each in sheet.skipped:
+            self.assertEqual(texts[1][each.start : each.end], each.text)
+
+    def test_no_other_grammar(self):
+        with self.assertRaises(ValueError):
+            simplecss.StyleSheet(grammar="css")
+
+
+class Today(unittest.TestCase):
+    """Sheets by the grammar of browsers."""
+
+    def styles(self, css, page="<p class=a><b>", **options):
+        """Returns what wins on the elements of a part of a page."""
+        tree = simplecss.Tree.from_html(page, is_part=True)
+        found = simplecss.StyleSheet(css).styles(tree, **options)
+        return ["; ".join(map(str, each)) for each in found]
+
+    def test_declarations(self):
+        for block, expected in (
+            ("n: calc(1px + (2px)); m: 1", "n: calc(1px + (2px)); m: 1"),
+            ("N: 1 ! Important", "n: 1 !important"), ("--N: {a:b}; --e:;", "--N: {a:b}; --e: "),
+            ("*zoom: 1; n: 1", "n: 1"), ("n: 'a\n; m: 1", "m: 1"), ("n: url(//a/*/b.png)", "n: url(//a/*/b.png)"),
+            ("n: 10px\\9; m: 1", "n: 10px\\9; m: 1"), ("n: ];m:1", "m: 1"), ("n: 1; m: f(2", "n: 1; m: f(2)"),
+            ("n: f([{'é", "n: f([{'é'}])"), ("n: url(a", "n: url(a)"), ("n: f(/*", "n: f(/**/)"),
+        ):
+            self.assertEqual("; ".join(map(str, simplecss.declarations(block))), expected, block)
+
+    def test_media(self):
+        css = ("@media print { p { n: 1 } } @media screen, tv { p { m: 2 } } @media all { b { o: 3 } }"
+               "@media not print { b { q: 4 } } @media (width > 1px) { b { r: 5 } } @supports (a: b) { b { s: 6 } }")
+        self.assertEqual(self.styles(css), ["m: 2", "o: 3; q: 4"])
+        self.assertEqual(self.styles(css, media="print"), ["n: 1", "o: 3"])
+        self.assertEqual(self.styles(css, media=lambda prelude: "(" in prelude), ["", "r: 5; s: 6"])
+        asked = []
+        self.styles(css, media=asked.append)
+        self.assertEqual(asked, ["print", "screen, tv", "all", "not print", "(width > 1px)", "@supports (a: b)"])
+
+    def test_conditions(self):
+        sheet = simplecss.StyleSheet("@Media x { @supports y { a { b: c } } d { e: f } @page { g: h } }")
+        self.assertEqual([tuple(map(str, rule.conditions)) for rule in sheet.rules],
+                         [("@media x", "@supports y"), ("@media x",)])
+        self.assertEqual(sheet.at_rules, (("page", "", "g: h", (("media", "x"),)),))
+        self.assertEqual(str(sheet), "@media x {\n  @supports y {\n    a { b:c; }\n  }\n  d { e:f; }\n"
+                                     "  @page { g: h }\n}")
+        self.assertEqual(str(simplecss.StyleSheet(str(sheet))), str(sheet))
+
+    def test_pseudo_elements(self):
+        sheet = simplecss.StyleSheet("p::before, .a:After, p { n: 1 } ::marker { m: 2 }")
+        self.assertEqual([(rule.selector, rule.specificity, rule.pseudo_element) for rule in sheet.rules],
+                         [("p", (0, 0, 1), None), ("*", (0, 0, 1), "marker"), ("p", (0, 0, 2), "before"),
+                          ("*[class~='a']", (0, 1, 1), "After")])
+        self.assertEqual(self.styles("p { n: 1 } p::before { n: 2 }"), ["n: 1", ""])
+
+    def test_what_is_not_matched_is_no_mistake(self):
+        sheet = simplecss.StyleSheet("@media x { a ~ b, c:nth-child(2) { d: e } } f, g < h { i: j }")
+        self.assertEqual([each.selector for each in sheet.unmatched], ["a ~ b", "c:nth-child(2)"])
+        self.assertEqual(sheet.unmatched[0].conditions, (("media", "x"),))
+        self.assertEqual((sheet.rules, [each.reason for each in sheet.skipped]), ((), ["invalid selector"]))
+
+    def test_the_cascade(self):
+        self.assertEqual(self.styles(".a { n: 1; n: 2 } p { n: 3 !important; m: 4 } p { m: 5; n: 6 }"),
+                         ["n: 3 !important; m: 5", ""])
+        self.assertEqual(self.styles("P { n: 1 } @media all { P { n: 2 } } B { n: 3 }"), ["n: 2", "n: 3"])
+
+    def test_hostile_texts(self):
+        for unit in ("a{", "@media{", "(", "/*", "url(", "a,", "a:b;", "\\", "[", "'", "@", "a{b:c}", "é{"):
+            sheet = simplecss.StyleSheet(unit * (100_000 // len(unit)), limit=None)
+            self.assertIsInstance(str(sheet), str)
+            self.assertIsInstance(sheet.skipped, list)
 
 
 class Trees(unittest.TestCase):
@@ -404,8 +496,9 @@ class Matching(unittest.TestCase):
 class LongTexts(unittest.TestCase):
     def test_long_texts(self):
         rule = "a{b:c}"
-        sheet = simplecss.StyleSheet(rule * (10_000_000 // len(rule)), limit=None)
-        self.assertEqual(len(str(sheet).split("\n")), 10_000_000 // len(rule))
+        for grammar, length in (("simplecss", 10_000_000), ("today", 600_000)):
+            sheet = simplecss.StyleSheet(rule * (length // len(rule)), limit=None, grammar=grammar)
+            self.assertEqual(len(str(sheet).split("\n")), length // len(rule))
 
 
 class Inlining(unittest.TestCase):
@@ -499,46 +592,102 @@ class CommandLine(unittest.TestCase):
         self.assertEqual(made.stdout, page.replace(b"<p>", b"<style>\r\np:hover { top: 1px }\r\n</style><p>")
                          .replace(b"<li>", b'<li style="color: red; margin: 0">'))
 
+    def write(self, name, text):
+        with open(name, "w", encoding="utf-8") as file:
+            file.write(text)
+
     def test_lint(self):
         self.assertEqual(self.run_command("lint", self.sheet), (0, "", ""))
-        with open(self.sheet, "w", encoding="utf-8") as file:
-            file.write("a { b: c }\n@x;")
-        finding = f"{self.sheet}:2:1: '@x': at-rule not supported\n"
+        self.write(self.sheet, "a { b: c }\n@x;\nd { e }")
+        finding = f"{self.sheet}:3:5: 'e': broken declaration\n"
         self.assertEqual(self.run_command("lint", self.sheet), (1, finding, ""))
         status, out, err = self.run_command("lint", self.sheet + "x", self.sheet)
         self.assertEqual((status, out, err.count("\n")), (4, finding, 1))
-        self.assertEqual(self.run_command("lint", "--ignore", "at-rule", self.sheet)[0], 0)
-        self.assertEqual(self.run_command("lint", "--select", "at-rule", self.sheet)[0], 1)
-        with open(self.page, "w", encoding="utf-8") as file:
-            file.write("<p\n style='b: c; d'>\n<style>\n  @x; </style>")
-        status, out, _ = self.run_command("lint", "--format", "json", self.page)
-        self.assertEqual([tuple(json.loads(line)[key] for key in ("row", "column", "kind"))
-                          for line in out.splitlines()],
-                         [(2, 15, "broken-declaration"), (4, 3, "at-rule-not-supported")])
+        self.assertEqual(self.run_command("lint", "--ignore", "broken", self.sheet)[0], 0)
+        self.assertEqual(self.run_command("lint", "--select", "broken", self.sheet)[0], 1)
+
+    def kinds(self, text, *words, name=None):
+        """The kinds that are reported, with what they are of."""
+        self.write(name or self.sheet, text)
+        lines = self.run_command("lint", "--json", *words, name or self.sheet)[1].splitlines()
+        found = []
+        for each in map(json.loads, lines):
+            rows = text.split("\n")[each["row"] - 1 : each["end_row"]]
+            rows[-1] = rows[-1][: each["end_column"] - 1]
+            found.append((each["kind"], "\n".join(rows)[each["column"] - 1 :]))
+        return found
+
+    def test_mistakes(self):
+        for text, expected in (
+            ("a { b: c; d e; f: g }", [("broken-declaration", "d e")]),
+            ("a { b: c; : d; e: }", [("broken-declaration", ": d"), ("broken-declaration", "e:")]),
+            ("a { b: 'c\n; d: e }", [("bad-string", "b: 'c")]),
+            ("a { b: c } } d { e: f }", [("stray-bracket", "} d { e: f }")]),
+            ("a { b: c) }", [("stray-bracket", "b: c)")]),
+            ("a, { b: c } d { e: f }", [("invalid-selector", "a, { b: c }")]),
+            ("a { b: url(c d) }", [("bad-url", "b: url(c d)")]),
+            ("a { b: c\n", [("block-not-closed", "a")]),
+            ("a { b: 'c", [("block-not-closed", "a"), ("value-not-closed", "b: 'c")]),
+            ("@media é { a { b: c }", [("block-not-closed", "@media é")]),
+            ("a { b: c } @media é {", [("block-not-closed", "@media é {")]),
+            ("a { b: c } /* d */ /*/", [("comment-not-closed", "/*/")]),
+            ("@font-face { a: b; é }", [("broken-declaration", "é")]),
+            ("é { b: c } d", [("no-block", "d")]),
+        ):
+            self.assertEqual(self.kinds(text), expected, text)
+
+    def test_a_sheet_with_nine_mistakes(self):
+        text = """.a { color red; top: 1px }
+.b { left: 1px; : 2px; margin: ; }
+.c { content: "x
+; color: blue }
+.d, .e, { color: red }
+.f > { color: red }
+.g { width: calc(1px + 2px)); color: red }
+.h { color: red } }
+.i { color: red }
+.j { color: !importantly; background: url(a b.png) }
+@media print { .k { color: red }
+"""
+        self.assertEqual([kind for kind, _ in self.kinds(text)], [
+            "broken-declaration", "broken-declaration", "broken-declaration", "bad-string", "invalid-selector",
+            "invalid-selector", "stray-bracket", "stray-bracket", "broken-declaration", "bad-url",
+            "block-not-closed"])
+
+    def test_what_is_not_evaluated(self):
+        text = "@import 'a'; b ~ c, d { e: f } @supports (g: h) { i { j: k } } @media print { l { m: n } }"
+        self.assertEqual(self.kinds(text), [])
+        self.assertEqual(self.kinds(text, "--all"), [
+            ("at-rule-not-evaluated", "@import 'a';"), ("selector-not-matched", "b ~ c"),
+            ("condition-not-evaluated", "@supports (g: h)")])
+        self.assertEqual([kind for kind, _ in self.kinds(text, "--grammar", "simplecss")],
+                         ["at-rule-not-supported", "invalid-ident", "at-rule-not-supported", "at-rule-not-supported"])
+
+    def test_mistakes_of_pages(self):
+        text = "<p\n style='b: c; d'>\n<style>\n  e { f } </style>"
+        self.assertEqual(self.kinds(text, name=self.page), [("broken-declaration", "d"), ("broken-declaration", "f")])
 
     def test_marks_around_a_sheet(self):
-        with open(self.page, "w", encoding="utf-8") as file:
-            file.write("<style>\n<!-- p { color: green } @x; -->\n</style><p>")
+        self.write(self.page, "<style>\n<!-- p { color: green } a < b {} -->\n</style><p>")
         self.assertEqual(self.lines("style", "color", self.page), [f"{self.page}:3:9: <p> color: green"])
         self.assertEqual(self.run_command("lint", self.page)[:2],
-                         (1, f"{self.page}:2:25: '@x': at-rule not supported\n"))
+                         (1, f"{self.page}:2:25: 'a < b {{}}': invalid selector\n"))
 
     def test_formats_of_lint(self):
-        with open(self.sheet, "w", encoding="utf-8") as file:
-            file.write("@x 50%\n{}")
+        self.write(self.sheet, "a\n<\n50% {}")
         _, out, _ = self.run_command("lint", "--format", "github", self.sheet)
-        self.assertEqual(out, f"::warning file={self.sheet},line=1,col=1,title=at-rule-not-supported::"
-                              "'@x 50%25': at-rule not supported\n")
+        self.assertEqual(out, f"::warning file={self.sheet},line=1,endLine=3,col=1,endColumn=7,title=invalid-selector::"
+                              "'a < 50%25 {}': invalid selector\n")
         _, out, _ = self.run_command("lint", "--format", "sarif", self.sheet)
         log = json.loads(out)
         self.assertEqual(log["version"], "2.1.0")
         result = log["runs"][0]["results"][0]
         self.assertEqual(result["ruleId"], log["runs"][0]["tool"]["driver"]["rules"][0]["id"])
         self.assertEqual(result["locations"][0]["physicalLocation"]["region"],
-                         {"startLine": 1, "startColumn": 1})
+                         {"startLine": 1, "startColumn": 1, "endLine": 3, "endColumn": 7})
         _, out, _ = self.run_command("lint", "--format", "checkstyle", self.sheet)
         error = xml.etree.ElementTree.fromstring(out.encode())[0][0]
-        self.assertEqual((error.get("line"), error.get("message")), ("1", "'@x 50%': at-rule not supported"))
+        self.assertEqual((error.get("line"), error.get("message")), ("1", "'a < 50% {}': invalid selector"))
 
     def test_statuses(self):
         self.assertEqual(self.run_command("select", "li,", self.page)[0], 1)

@@ -1,0 +1,318 @@
+"""What the library reads of style sheets and style attributes, by the grammar of today's CSS."""
+
+from __future__ import annotations
+
+import bisect
+import functools
+import itertools
+import json
+import re
+from typing import Any, Dict, Iterable, Iterator, List, NamedTuple, Optional, Sequence, Tuple, Union
+
+from . import _library as library
+from ._declaration import Declaration
+
+Span = Tuple[int, int]
+
+# The bytes of UTF-8 that begin no character, and how many bytes are counted at once.
+_CONTINUING = bytes(range(0x80, 0xC0))
+_BLOCK = 4096
+# How many brackets may be open at once.
+_DEEPEST = 64
+
+
+class Condition(NamedTuple):
+    """A group rule that a rule is in, as `@media print`: its `name` and its `prelude`."""
+
+    name: str
+    prelude: str
+
+    def __str__(self) -> str:
+        return f"@{self.name} {self.prelude}".rstrip()
+
+
+class AtRule(NamedTuple):
+    """An at-rule that has no rules, or none that are read: its `name`, what is before its block, its
+    `block`, if it has one, and the group rules that it is in."""
+
+    name: str
+    prelude: str
+    block: Optional[str]
+    conditions: Tuple[Condition, ...]
+
+    def __str__(self) -> str:
+        head = f"@{self.name} {self.prelude}".rstrip()
+        return f"{head};" if self.block is None else f"{head} {{ {self.block} }}"
+
+
+def _count(data: bytes) -> int:
+    """Returns how many characters begin in bytes of UTF-8."""
+    return len(data.translate(None, _CONTINUING))
+
+
+class Source:
+    """A text, and what stands at offsets of its bytes in UTF-8."""
+
+    def __init__(self, text: str) -> None:
+        self.text = text
+        self.data = library.encode(text)
+        self._is_ascii = len(self.data) == len(text)
+
+    def at(self, span: Sequence[int]) -> str:
+        """Returns the text between two offsets."""
+        start, end = span
+        return self.text[start:end] if self._is_ascii else self.data[start:end].decode("utf-8")
+
+    def offset(self, at: int) -> int:
+        """Returns the offset of the character whose first byte is at an offset."""
+        if self._is_ascii:
+            return at
+        block = at // _BLOCK
+        return self._counts[block] + _count(self.data[block * _BLOCK : at])
+
+    @functools.cached_property
+    def _counts(self) -> List[int]:
+        """How many characters begin before each block of bytes."""
+        starts = range(0, len(self.data), _BLOCK)
+        counts = (_count(self.data[start : start + _BLOCK]) for start in starts)
+        return [0, *itertools.accumulate(counts)]
+
+    @functools.cached_property
+    def lines(self) -> List[int]:
+        """The offsets of the characters that lines begin with."""
+        return [0, *(found.end() for found in re.finditer("\n", self.text))]
+
+    def position(self, offset: int) -> Tuple[int, int]:
+        """Returns the row and the column of a character, which begin at 1."""
+        row = bisect.bisect_right(self.lines, offset)
+        return row, offset - self.lines[row - 1] + 1
+
+
+class ReadSelector(NamedTuple):
+    """A selector of a list: its `text`, what of it is before a pseudo-element at its end, the name of
+    that one, and whether the library matches what is before it."""
+
+    text: str
+    front: str
+    pseudo_element: Optional[str]
+    is_read: bool
+    span: Span
+
+
+class ReadDeclaration(NamedTuple):
+    """A declaration, and whether nothing of it is open at the end of the text."""
+
+    declaration: Declaration
+    is_closed: bool
+    span: Span
+
+
+class Level(NamedTuple):
+    """A group rule that a statement is in, where it begins and ends, and where its prelude ends."""
+
+    condition: Condition
+    span: Span
+    head: Span
+
+
+class ReadAtRule(NamedTuple):
+    """An at-rule, the group rules that it is in, whether its block is closed, and where its block is."""
+
+    rule: AtRule
+    levels: Tuple[Level, ...]
+    is_closed: bool
+    span: Span
+    inner: Span
+
+
+class Fault(NamedTuple):
+    """What is skipped, why, and the group rules that it is in."""
+
+    reason: str
+    levels: Tuple[Level, ...]
+    span: Span
+
+
+Item = Union[ReadDeclaration, ReadAtRule, Fault]
+
+
+class RuleSet(NamedTuple):
+    """A rule set: its selectors, what its block has, and the group rules that it is in.
+
+    `head` ends where its block begins."""
+
+    selectors: Tuple[ReadSelector, ...]
+    items: Tuple[Item, ...]
+    levels: Tuple[Level, ...]
+    head: Span
+    is_closed: bool
+    span: Span
+
+    @property
+    def conditions(self) -> Tuple[Condition, ...]:
+        return conditions_of(self.levels)
+
+    @property
+    def declarations(self) -> Tuple[Declaration, ...]:
+        return declarations_in(self.items)
+
+
+Statement = Union[RuleSet, ReadAtRule, Fault]
+
+
+def conditions_of(levels: Iterable[Level]) -> Tuple[Condition, ...]:
+    """Returns the conditions of group rules."""
+    return tuple(level.condition for level in levels)
+
+
+def declarations_in(items: Iterable[Item]) -> Tuple[Declaration, ...]:
+    """Returns the declarations of a block."""
+    return tuple(item.declaration for item in items if isinstance(item, ReadDeclaration))
+
+
+class _Reader:
+    """Makes statements and items of what the library writes of a text."""
+
+    def __init__(self, text: str) -> None:
+        self.source = Source(text)
+        self._levels: Dict[Tuple[int, ...], Tuple[Level, ...]] = {}
+
+    def lines(self, name: str) -> Iterator[Any]:
+        """Yields what a call writes of the text."""
+        data = self.source.data
+        answer = library.call(name, data, room=1024 + 16 * len(data))
+        return map(json.loads, library.output_of(name, answer).splitlines())
+
+    def statements(self) -> Iterator[Statement]:
+        """Yields the statements of the text, and the group rules that have none, which the library does
+        not write."""
+        at = 0
+        for value in self.lines("simplecss_read"):
+            found = self._statement(value)
+            start, end = found.levels[0].span if found.levels else found.span
+            yield from self._groups_between(at, start)
+            yield found
+            at = max(at, end)
+        yield from self._groups_between(at, len(self.source.data))
+
+    def _groups_between(self, start: int, end: int) -> Iterator[ReadAtRule]:
+        """Yields the group rules between two statements."""
+        if start < end and b"@" in self.source.data[start:end]:
+            for item in read_block(self.source.at((start, end)))[1]:
+                if isinstance(item, ReadAtRule):
+                    yield item._replace(span=_moved(item.span, start), inner=_moved(item.inner, start))
+
+    def _statement(self, value: Dict[str, Any]) -> Statement:
+        """Makes a statement of a line."""
+        levels = self._levels_of(value["levels"])
+        if value["kind"] == "rule":
+            return self._rule(value, levels)
+        return self._at_rule(value, levels) if value["kind"] == "at-rule" else self._fault(value, levels)
+
+    def item(self, value: Dict[str, Any], levels: Tuple[Level, ...] = ()) -> Item:
+        """Makes an item of a line, or of what a rule set has."""
+        if value["kind"] == "declaration":
+            return self._declaration(value)
+        return self._at_rule(value, levels) if value["kind"] == "at-rule" else self._fault(value, levels)
+
+    def _levels_of(self, values: List[Dict[str, Any]]) -> Tuple[Level, ...]:
+        """Makes the group rules of a statement, which most have in common."""
+        key = tuple(value["name"][0] for value in values)
+        if key not in self._levels:
+            at = self.source.at
+            self._levels[key] = tuple(
+                Level(
+                    Condition(at(value["name"]).lower(), at(value["prelude"])),
+                    (value["start"], value["end"]),
+                    (value["start"], value["prelude"][1]),
+                )
+                for value in values
+            )
+        return self._levels[key]
+
+    def _rule(self, value: Dict[str, Any], levels: Tuple[Level, ...]) -> RuleSet:
+        return RuleSet(
+            tuple(map(self._selector, value["selectors"])),
+            tuple(self.item(each, levels) for each in value["items"]),
+            levels,
+            (value["prelude"][0], value["prelude"][1]),
+            value["closed"],
+            (value["start"], value["end"]),
+        )
+
+    def _selector(self, value: Dict[str, Any]) -> ReadSelector:
+        start, end = value["text"]
+        element = value["pseudo_element"]
+        front, name = end, None
+        if element is not None:
+            name = self.source.at(element).lstrip(":")
+            before = self.source.data[start : element[0]]
+            # Before the name are one colon or two.
+            front = element[0] - (len(before) - len(before.rstrip(b":")))
+        at = self.source.at
+        return ReadSelector(at((start, end)), at((start, front)), name, value["is_read"], (start, end))
+
+    def _declaration(self, value: Dict[str, Any]) -> ReadDeclaration:
+        name = self.source.at(value["name"])
+        name = name if name.startswith("--") else name.lower()
+        text = self.source.at(value["value"])
+        text = text if value["closed"] else _closed(name, text)
+        declaration = Declaration(name, text, value["important"])
+        return ReadDeclaration(declaration, value["closed"], (value["start"], value["end"]))
+
+    def _fault(self, value: Dict[str, Any], levels: Tuple[Level, ...]) -> Fault:
+        start = value["start"]
+        text = self.source.data[start : value["end"]].rstrip(b" \t\n\r\f")
+        return Fault(value["fault"], levels, (start, start + len(text)))
+
+    def _at_rule(self, value: Dict[str, Any], levels: Tuple[Level, ...]) -> ReadAtRule:
+        at = self.source.at
+        block = None if value["block"] is None else at(value["block"])
+        rule = AtRule(at(value["name"]).lower(), at(value["prelude"]), block, conditions_of(levels))
+        start, end = value["block"] or (value["end"], value["end"])
+        return ReadAtRule(rule, levels, value["closed"], (value["start"], value["end"]), (start, end))
+
+
+def _closed(name: str, value: str) -> str:
+    """Returns a value with what the end of the text closes: a string or a comment, and brackets."""
+    for mark in ("", '"', "'", "*/"):
+        text: Optional[str] = value + mark
+        for _ in range(_DEEPEST + 1):
+            if text is not None and not _is_open(name, text):
+                return text
+            more = (f"{text}{bracket}" for bracket in ")]}")
+            text = next((each for each in more if _is_open(name, each) is not None), None)
+            if text is None:
+                break
+    return value
+
+
+def _is_open(name: str, value: str) -> Optional[bool]:
+    """Whether the end of the text closes a declaration, or `None` for what is none."""
+    found = list(_Reader(f"{name}:{value}").lines("simplecss_declarations"))
+    is_one = len(found) == 1 and found[0]["kind"] == "declaration"
+    return not found[0]["closed"] if is_one else None
+
+
+def _moved(span: Span, by: int) -> Span:
+    return span[0] + by, span[1] + by
+
+
+def read_sheet(text: str) -> Tuple[Source, List[Statement]]:
+    """Returns the statements of a style sheet, also those in its group rules."""
+    reader = _Reader(text)
+    return reader.source, list(reader.statements())
+
+
+def read_block(text: str) -> Tuple[Source, List[Item]]:
+    """Returns what a style attribute or the block of a rule has."""
+    reader = _Reader(text)
+    return reader.source, list(map(reader.item, reader.lines("simplecss_declarations")))
+
+
+def declarations(text: str) -> List[Declaration]:
+    """Returns the declarations of a `style` attribute, in order.
+
+    Names are in lower case, but for those of custom properties. What is no declaration is skipped.
+    """
+    return list(declarations_in(read_block(text)[1]))
