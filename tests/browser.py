@@ -5,7 +5,7 @@
     tests/browser.py trees [FILE..]      the elements and attributes of `Tree.from_html` with those of the browser
     tests/browser.py winners [FILE..]    which declarations of ten properties win on each element
     tests/browser.py soup [FILE..]       what selectors find, with soupsieve over html5lib (no browser)
-    tests/browser.py reports [FILE..]    whether the browser takes what `lint` reports of sheets: at most 1 in 100
+    tests/browser.py reports [FILE..]    whether the browser takes what `lint` reports of sheets: one in a hundred at most
     tests/browser.py printed [FILE..]    the rules of sheets, and of these sheets as the package prints them
 
 Without files, `mails` takes those of `tests/mails`, and the next three take these and pages of Debian packages below
