@@ -448,17 +448,23 @@ def test_wheel(folder):
     install_from_checkout(folder)
 
 
+def has_modules(python, names):
+    """Whether a Python is there, and has these modules."""
+    return os.path.exists(python) and run([python, "-c", f"import {names}"]).returncode == 0
+
+
 def install_from_checkout(folder):
     """From a checkout pip makes a wheel with the library for this system, and where there is none, says what to do."""
-    if run([sys.executable, "-c", "import setuptools, wheel, pip"]).returncode:
-        packages = "(python3-setuptools, python3-wheel)"
-        left_out.append(f"pip install from a checkout: there is no setuptools or no wheel {packages}")
+    able = [it for it in (sys.executable, "/usr/bin/python3") if has_modules(it, "setuptools, wheel, pip")]
+    if not able:
+        packages = "(python3-setuptools, python3-wheel, python3-pip)"
+        left_out.append(f"pip install from a checkout: there is no setuptools, wheel or pip {packages}")
         return
     checkout = os.path.join(folder, "checkout")
     for name in ("python", "include"):
         made_by_pip = shutil.ignore_patterns("build", "*.egg-info")
         shutil.copytree(os.path.join(TOP, name), os.path.join(checkout, name), ignore=made_by_pip)
-    words = [sys.executable, "-m", "pip", "wheel", "-q", "--no-build-isolation", "--no-deps",
+    words = [able[0], "-m", "pip", "wheel", "-q", "--no-build-isolation", "--no-deps",
              "--disable-pip-version-check", "-w", "made", "./python"]
     done = run(words, checkout)
     is_refused = done.returncode != 0 and b"run ./build library first" in done.stdout + done.stderr

@@ -3,7 +3,7 @@ parents (CSS 2.1 sections 6.2 and 6.4.3)."""
 
 from __future__ import annotations
 
-from typing import FrozenSet, Iterable, List, Union
+from typing import Dict, FrozenSet, Iterable, List, Union
 
 from ._declaration import Declaration, cascaded
 from ._library import expect_text
