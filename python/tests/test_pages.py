@@ -181,7 +181,7 @@ class Reports(unittest.TestCase):
         rules = [each["id"] for each in run["tool"]["driver"]["rules"]]
         self.assertEqual(len(rules), len(set(rules)))
         self.assertLessEqual({each["ruleId"] for each in run["results"]}, set(rules))
-        self.assertGreater(len(run["results"]), 3)
+        self.assertGreater(len(run["results"]), 1)
         self.assertEqual(self.sarif(self.names[2])["runs"][0]["results"], [])
 
 
