@@ -1,11 +1,12 @@
 #!/usr/bin/env python3
-"""Every check of the repository. First `rt ci`: every proof from nothing, every test, every wrong body that must be refused,
-and the stored runs. Then, over the programs that it has built, each request for memory refused, and the program `cssq` with its
-words, files and streams. So nothing is proved twice. Last what the documents show, the scripts `cssq` and `build`, the
-C library with the Python package over it, and what people without the toolchain install.
+"""Every check of the repository. First `rt ci`: every proof from nothing, every test, every wrong body that must be
+refused, and the stored runs. Then, over the programs that it has built, each request for memory refused, and the
+program `cssq` with its words, files and streams. Last what the documents show, the scripts `cssq` and `build`, the C
+library with the Python package over it, and what people without the toolchain install. Only the crate of the C library
+is proved twice: `rt ci` keeps nothing of a static library.
 
-The last line is 'N passed, M failed', of all together, and the lines before it name what was left out, since a tool is missing.
-Where `CI` is set and it is root, it first installs the packages of Debian that the tests want.
+The last line is 'N passed, M failed', of all together, and the lines before it name what was left out, since a tool is
+missing. Where `CI` is set and it is root, it first installs the packages of Debian that the tests want.
 """
 import os
 import re
@@ -27,11 +28,12 @@ PLAIN = (
     ("script.py", ()),
     ("library.py", ()),
     ("sheets.py", ()),
-    ("release.py", ()),
+    ("release.py", ("tests_tokens",)),
 )
 # What tests want of Debian and work without, but for what they then leave out.
 PACKAGES = ("librust-roxmltree-dev", "librust-log-dev", "nodejs", "binaryen", "python3-venv", "python3-setuptools",
-            "python3-wheel", "gcc", "libc6-dev", "pkg-config", "python3-tinycss2", "python3-soupsieve", "python3-html5lib", "python3-lxml")
+            "python3-wheel", "gcc", "libc6-dev", "pkg-config", "python3-tinycss2", "python3-soupsieve", "python3-bs4",
+            "python3-html5lib", "python3-lxml", "mypy")
 LEFT_OUT = b"left out: "
 passed = failed = 0
 left_out = []
@@ -48,7 +50,8 @@ def shown(words, what):
     """Runs a command at the top, shows what it prints, and adds the counts of its last line."""
     global passed, failed
     last = b""
-    with subprocess.Popen(words, cwd=TOP, stdin=subprocess.DEVNULL, stdout=subprocess.PIPE, stderr=subprocess.STDOUT) as child:
+    streams = {"stdin": subprocess.DEVNULL, "stdout": subprocess.PIPE, "stderr": subprocess.STDOUT}
+    with subprocess.Popen(words, cwd=TOP, **streams) as child:
         for line in child.stdout:
             sys.stdout.buffer.write(line)
             sys.stdout.buffer.flush()
@@ -76,8 +79,8 @@ def shim_in(folder):
         fail(f"there is no clang at {clang}: the sweeps of tests/ were not made")
         return None
     shim = os.path.join(folder, "refuse.so")
-    words = [clang, "-O1", "-shared", "-fPIC", "-nostdlib", "-fuse-ld=lld", "-o", shim, os.path.join(TOP, "tests", "refuse.c")]
-    if subprocess.run(words, check=False).returncode:
+    words = [clang, "-O1", "-shared", "-fPIC", "-nostdlib", "-fuse-ld=lld", "-o", shim]
+    if subprocess.run([*words, os.path.join(TOP, "tests", "refuse.c")], check=False).returncode:
         fail("clang did not build tests/refuse.c: the sweeps of tests/ were not made")
         return None
     return shim
@@ -110,7 +113,8 @@ def install():
     environment = {**os.environ, "DEBIAN_FRONTEND": "noninteractive"}
     subprocess.run(["apt-get", "update"], env=environment, **quiet)
     for package in PACKAGES:
-        done = subprocess.run(["apt-get", "install", "-y", "--no-install-recommends", package], env=environment, **quiet)
+        words = ["apt-get", "install", "-y", "--no-install-recommends", package]
+        done = subprocess.run(words, env=environment, **quiet)
         if done.returncode:
             left_out.append(LEFT_OUT + f"{package} could not be installed".encode())
 

@@ -2,16 +2,16 @@
 """Compares the Python package with a browser: headless Chromium (Debian's package `chromium`).
 
     tests/browser.py mails [FILE..]      the computed styles of documents before and after `simplecss.inline`
-    tests/browser.py trees [FILE..]      the elements and attributes of `Tree.from_html` with those of the browser's tree
+    tests/browser.py trees [FILE..]      the elements and attributes of `Tree.from_html` with those of the browser
     tests/browser.py winners [FILE..]    which declarations of ten properties win on each element
     tests/browser.py soup [FILE..]       what selectors find, with soupsieve over html5lib (no browser)
-    tests/browser.py reports [FILE..]    whether the browser takes what `lint` reports of sheets: one in a hundred at most
+    tests/browser.py reports [FILE..]    whether the browser takes what `lint` reports: one in a hundred at most
     tests/browser.py printed [FILE..]    the rules of sheets, and of these sheets as the package prints them
 
 Without files, `mails` takes those of `tests/mails`, and the next three take these and pages of Debian packages below
-/usr/share/doc. `reports` takes sheets of Bootstrap, jQuery UI, Font Awesome and Sphinx below /usr/share, and `printed` 200 of all there.
-Each test is a document. What differs is listed, and the last line is `N passed, M failed`. Run by hand: the tests that `.ci/run`
-makes need no browser. The library is built by `./build library`.
+/usr/share/doc. `reports` takes sheets of Bootstrap, jQuery UI, Font Awesome and Sphinx below /usr/share, and `printed`
+200 of all there. Each test is a document. What differs is listed, and the last line is `N passed, M failed`. Run by
+hand, but for `soup`, which tests/library.py runs. The library is built by `./build library`.
 """
 import collections
 import glob
@@ -34,12 +34,21 @@ from simplecss import _lint  # noqa: E402
 # How many differences of a document are listed.
 SHOWN = 4
 # Properties that no shorthand sets.
-PROPERTIES = ("color", "display", "width", "height", "text-align", "vertical-align", "position", "float", "visibility", "z-index")
-SELECTORS = (
-    "*", "p", "a", "a[href]", "A[HREF]", "ul > li", "table td", "td + td", "tr td:first-child", "p + p", "[class]", "[id]", "div p a",
-    "li li", ":first-child", "html > body > *", "h1 + p", "head > title", "body h2, body h3", "img[alt]", "td[align=center]", "[lang|=en]",
-    "div > div > p", "pre code", "dl > dt + dd", "tbody > tr", "a:link", "span span", "input[type=text]",
+PROPERTIES = (
+    "color", "display", "width", "height", "text-align", "vertical-align", "position", "float", "visibility", "z-index",
 )
+SELECTORS = (
+    "*", "p", "a", "a[href]", "A[HREF]", "ul > li", "table td", "td + td", "tr td:first-child", "p + p", "[class]",
+    "[id]", "div p a", "li li", ":first-child", "html > body > *", "h1 + p", "head > title", "body h2, body h3",
+    "img[alt]", "td[align=center]", "[lang|=en]", "div > div > p", "pre code", "dl > dt + dd", "tbody > tr", "a:link",
+    "span span", "input[type=text]",
+)
+
+# What soupsieve finds less of, and why: the others are found by both.
+WIDER = {
+    "a:link": "a link in SVG",
+    "td[align=center]": "of the values that HTML compares without case, soupsieve compares those of `type`",
+}
 
 SCRIPT = """
 <script>
@@ -83,10 +92,14 @@ function winners(frame, properties, values) {
     }
     for (const sheet of page.styleSheets) mark(rules_of(sheet), "");
     const probe = page.createElement("i").style;
-    const known = values.map(([name, value]) => { probe.cssText = ""; probe.setProperty(name, value); return probe.getPropertyValue(name); });
+    const known = values.map(([name, value]) => {
+        probe.cssText = "";
+        probe.setProperty(name, value);
+        return probe.getPropertyValue(name);
+    });
     const found = [page.documentElement, ...all(page)].map(element => {
         const style = window.getComputedStyle(element);
-        return properties.map(name => { const at = style.getPropertyValue("--w-" + name); return at === "" ? -1 : Number(at); });
+        return properties.map(name => Number(style.getPropertyValue("--w-" + name) || -1));
     });
     return {marks, known, found};
 }
@@ -104,11 +117,13 @@ function takes(text, isRule) {
 }
 window.onload = () => {
     const frames = [...document.querySelectorAll("iframe")];
-    if (input.kind == "mails") for (let i = 0; i < frames.length; i += 2) answer.push([styles(frames[i]), styles(frames[i + 1])]);
+    if (input.kind == "mails")
+        for (let i = 0; i < frames.length; i += 2) answer.push([styles(frames[i]), styles(frames[i + 1])]);
     if (input.kind == "trees") for (const text of input.texts) answer.push(tree(text));
     if (input.kind == "reports") for (const [text, isRule] of input.texts) answer.push(takes(text, isRule));
     if (input.kind == "printed") for (const [one, other] of input.texts) answer.push([rules(one), rules(other)]);
-    if (input.kind == "winners") frames.forEach((frame, i) => answer.push(winners(frame, input.properties, input.values[i])));
+    if (input.kind == "winners")
+        frames.forEach((frame, i) => answer.push(winners(frame, input.properties, input.values[i])));
     document.documentElement.textContent = "ANS" + "WER" + JSON.stringify(answer) + "END";
 };
 window.onerror = text => { document.documentElement.textContent = "failed: " + text; };
@@ -116,18 +131,22 @@ window.onerror = text => { document.documentElement.textContent = "failed: " + t
 """
 
 
+FRAME = '<iframe width=800 height=600 sandbox="allow-same-origin" src="file://{}"></iframe>'
+PAGE = '<!DOCTYPE html><meta charset=utf-8><script id=input type="application/json">{}</script>'
+
+
 def run_browser(values, names, folder):
     """Returns the answer of the browser about documents in frames, of which these are the files."""
     browser = shutil.which("chromium") or shutil.which("chromium-browser") or shutil.which("google-chrome")
     if not browser:
         sys.exit("tests/browser.py: left out, for there is no chromium; Debian's package is `chromium`")
-    frames = "".join(f'<iframe width=800 height=600 sandbox="allow-same-origin" src="file://{html.escape(name)}"></iframe>' for name in names)
+    frames = "".join(FRAME.format(html.escape(name)) for name in names)
     data = json.dumps(values).replace("<", "\\u003c")
     page = os.path.join(folder, "pages.html")
     with open(page, "w", encoding="utf-8") as file:
-        file.write(f'<!DOCTYPE html><meta charset=utf-8><script id=input type="application/json">{data}</script>{frames}{SCRIPT}')
-    words = [browser, "--headless", "--no-sandbox", "--disable-gpu", "--allow-file-access-from-files", f"--user-data-dir={folder}/profile",
-             "--virtual-time-budget=60000", "--dump-dom", "file://" + page]
+        file.write(PAGE.format(data) + frames + SCRIPT)
+    words = [browser, "--headless", "--no-sandbox", "--disable-gpu", "--allow-file-access-from-files",
+             f"--user-data-dir={folder}/profile", "--virtual-time-budget=60000", "--dump-dom", "file://" + page]
     made = subprocess.run(words, capture_output=True, check=False)
     answer = re.search(r"ANSWER(.*)END", made.stdout.decode(), re.DOTALL)
     if not answer:
@@ -194,18 +213,16 @@ def compare_mails(names):
         for name, (before, after) in zip(names, run_browser({"kind": "mails"}, frames, folder)):
             found = [] if len(before) == len(after) > 0 else [f"elements: {len(before)}, after: {len(after)}"]
             for number, ((element, old), (_, new)) in enumerate(zip(before, after), 1):
-                found += [f"{number} <{element}> {each}: {old[each]!r}, after: {new.get(each)!r}" for each in old if old[each] != new.get(each)]
+                other = [each for each in old if old[each] != new.get(each)]
+                found += [f"{number} <{element}> {each}: {old[each]!r}, after: {new.get(each)!r}" for each in other]
             report.add(name, found)
     return report.end()
 
 
 def elements_of(text):
     """Returns the depth, name and attributes of each element, as the browser does."""
-    depths, found = {}, []
-    for element in simplecss.Tree.from_html(text):
-        depths[element.index] = 0 if element.parent is None else depths[element.parent.index] + 1
-        found.append([depths[element.index], element.name, sorted([key, value] for key, value in element.attributes.items())])
-    return found
+    return [[element.depth, element.name, sorted(map(list, element.attributes.items()))]
+            for element in simplecss.Tree.from_html(text)]
 
 
 def compare_trees(names):
@@ -217,7 +234,9 @@ def compare_trees(names):
             ours = elements_of(text)
             theirs = [[depth, element, sorted(attributes)] for depth, element, attributes in theirs]
             found = [f"{a}, in the browser {b}" for a, b in zip(ours, theirs) if a != b]
-            report.add(name, found if len(ours) == len(theirs) else [f"{len(ours)} elements, in the browser {len(theirs)}", *found])
+            if len(ours) != len(theirs):
+                found.insert(0, f"{len(ours)} elements, in the browser {len(theirs)}")
+            report.add(name, found)
     return report.end()
 
 
@@ -227,7 +246,8 @@ def sheets_of(name, tree):
     for element in tree:
         if element.attributes.get("media", "all").lower() not in ("", "all", "screen"):
             continue
-        if element.name == "style" and element.attributes.get("type", "").lower() in ("", "text/css") and "title" not in element.attributes:
+        is_sheet = element.attributes.get("type", "").lower() in ("", "text/css") and "title" not in element.attributes
+        if element.name == "style" and is_sheet:
             found.append(element.text)
         elif element.name == "link" and "stylesheet" in element.attributes.get("rel", "").lower().split():
             path = os.path.join(os.path.dirname(name), element.attributes.get("href", "").partition("?")[0])
@@ -237,7 +257,7 @@ def sheets_of(name, tree):
 
 
 def is_beyond(cause):
-    """Whether a rule of the browser is within an at-rule or another rule, or has a selector that the library does not read."""
+    """Whether a rule of the browser is within another, or has a selector that the library does not read."""
     if cause.startswith(("@", "nested")):
         return True
     try:
@@ -255,13 +275,15 @@ def compare_winners(names):
         tree = simplecss.Tree.from_html(read(name))
         sheet = simplecss.StyleSheet(*sheets_of(name, tree))
         ours.append([sheet.style(tree, each) for each in PROPERTIES])
-        values.append(sorted({(each, winner.value) for each, winners in zip(PROPERTIES, ours[-1]) for winner in winners if winner}))
+        rows = zip(PROPERTIES, ours[-1])
+        values.append(sorted({(each, winner.value) for each, winners in rows for winner in winners if winner}))
     with tempfile.TemporaryDirectory() as folder:
-        answers = run_browser({"kind": "winners", "properties": PROPERTIES, "values": values}, [os.path.abspath(name) for name in names], folder)
+        asked = {"kind": "winners", "properties": PROPERTIES, "values": values}
+        answers = run_browser(asked, [os.path.abspath(name) for name in names], folder)
     count = differing = beyond = 0
     causes = collections.Counter()
-    for name, winners, asked, answer in zip(names, ours, values, answers):
-        known = dict(zip(asked, answer["known"]))
+    for name, winners, tried, answer in zip(names, ours, values, answers):
+        known = dict(zip(tried, answer["known"]))
         found = []
         for index, theirs in enumerate(answer["found"]):
             for each, at, column in zip(PROPERTIES, theirs, winners):
@@ -278,7 +300,8 @@ def compare_winners(names):
         report.add(name, found)
     for cause, number in causes.most_common(15):
         print(f"{number} differ where the browser has `{cause}`")
-    print(f"{count - differing} of {count} winners are equal; {beyond} of the others are of rules that CSS 2.1 does not have")
+    equal = f"{count - differing} of {count} winners are equal"
+    print(f"{equal}; {beyond} of the others are of rules that CSS 2.1 does not have")
     return report.end()
 
 
@@ -295,7 +318,7 @@ def compare_reports(names):
     """Asks the browser whether it takes what `lint` reports, each text alone."""
     names = names or sheets_in("/usr/share", ("bootstrap", "jquery-ui", "awesome", "sphinx"))
     found = [(name, each) for name in names for each in _lint.findings(name, read(name))]
-    texts = [(each.text, each.reason in ("invalid selector", "stray bracket", "no block") and "{" in each.text) for _, each in found]
+    texts = [(each.text, each.text.endswith("}")) for _, each in found]
     with tempfile.TemporaryDirectory() as folder:
         answers = run_browser({"kind": "reports", "texts": texts}, [], folder)
     taken = [f"{each.row}:{each.column}: {each.message}" for (_, each), answer in zip(found, answers) if answer]
@@ -319,7 +342,8 @@ def compare_printed(names):
     with tempfile.TemporaryDirectory() as folder:
         for name, (before, after) in zip(names, run_browser({"kind": "printed", "texts": texts}, [], folder)):
             found = [f"{a[:120]}, printed {b[:120]}" for a, b in zip(before, after) if a != b]
-            report.add(name, found if len(before) == len(after) else [f"{len(before)} rules, printed {len(after)}", *found])
+            counts = [f"{len(before)} rules, printed {len(after)}"] if len(before) != len(after) else []
+            report.add(name, counts + found)
     return report.end()
 
 
@@ -329,7 +353,8 @@ def compare_soup(names):
         import bs4
         import html5lib  # noqa: F401
     except ImportError:
-        sys.exit("tests/browser.py: left out, for there is no html5lib or BeautifulSoup; Debian's packages are `python3-bs4 python3-html5lib`")
+        packages = "Debian's packages are `python3-bs4 python3-html5lib`"
+        sys.exit(f"tests/browser.py: left out, for there is no html5lib or BeautifulSoup; {packages}")
     report = Report()
     for name in names:
         soup = bs4.BeautifulSoup(read(name), "html5lib")
@@ -337,6 +362,9 @@ def compare_soup(names):
         found = []
         for selectors in SELECTORS:
             mine, theirs = [element.node for element in tree.select(selectors)], soup.select(selectors)
+            if selectors in WIDER:
+                known = set(map(id, theirs))
+                mine = [node for node in mine if id(node) in known]
             if len(mine) != len(theirs) or any(a is not b for a, b in zip(mine, theirs)):
                 found.append(f"{selectors}: {len(mine)}, by soupsieve {len(theirs)}")
         report.add(name, found)

@@ -1,4 +1,5 @@
-"""What the scripts of this folder share: counted expectations, runs in which one request for memory is refused, and real sheets."""
+"""What the scripts of this folder share: counted expectations, runs in which a request for memory is refused, and real
+sheets."""
 import glob
 import os
 import subprocess

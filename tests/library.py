@@ -1,10 +1,12 @@
 """Tests the C library and the Python package: builds the library by ./build, tests its calls by
 library_calls.py, compiles the C example by the toolchain's clang and runs it, refuses each request for memory of each
-call, one after another, installs into a folder, and runs the package's unit tests. The last line is `N passed, M failed`."""
+call, one after another, installs into a folder, runs the package's unit tests, and compares what it finds with
+soupsieve. The last line is `N passed, M failed`."""
 
 import glob
 import os
 import re
+import shutil
 import subprocess
 import sys
 import tempfile
@@ -46,11 +48,13 @@ def test_install(folder):
     """The prefix has the library, the header and the pkg-config file."""
     made = run(["./build", "library", "--prefix", folder])
     check(made.returncode == 0, "install", made.stderr.decode()[-500:])
-    for name in ("lib/libsimplecss.so.0", "lib/libsimplecss.so", "lib/libsimplecss.a", "include/simplecss.h", "lib/pkgconfig/simplecss.pc"):
+    libraries = ("lib/libsimplecss.so.0", "lib/libsimplecss.so", "lib/libsimplecss.a")
+    for name in (*libraries, "include/simplecss.h", "lib/pkgconfig/simplecss.pc"):
         check(os.path.isfile(os.path.join(folder, name)), "installed", name)
     with open(os.path.join(folder, "lib", "pkgconfig", "simplecss.pc"), encoding="utf-8") as file:
         lines = file.read().split("\n")
-    for line in ("libdir=${pcfiledir}/../../lib", "includedir=${pcfiledir}/../../include", f"Version: {library_calls.VERSION}", "Libs: -L${libdir} -lsimplecss"):
+    folders = ("libdir=${pcfiledir}/../../lib", "includedir=${pcfiledir}/../../include")
+    for line in (*folders, f"Version: {library_calls.VERSION}", "Libs: -L${libdir} -lsimplecss"):
         check(line in lines, "simplecss.pc", line)
 
 
@@ -58,7 +62,9 @@ def header_folders():
     """Returns where the system has C headers, which the toolchain's clang lacks, or None if a header is missing."""
     compilers = sorted(glob.glob("/usr/lib/gcc/*/*/include") + glob.glob("/usr/lib/llvm-*/lib/clang/*/include"))
     found = [path for path in compilers if os.path.isfile(os.path.join(path, "stddef.h"))][:1]
-    return found + ["/usr/include/x86_64-linux-gnu", "/usr/include"] if found and os.path.isfile("/usr/include/stdio.h") else None
+    if not found or not os.path.isfile("/usr/include/stdio.h"):
+        return None
+    return [*found, "/usr/include/x86_64-linux-gnu", "/usr/include"]
 
 
 def can_link(clang, folder, headers):
@@ -97,10 +103,12 @@ def test_example(clang, folder, headers):
 def test_refused(clang, folder, headers):
     """If a request for memory of a call is refused, the call reports it and writes nothing, or its answer is whole."""
     shim = os.path.join(folder, "refuse.so")
-    made = run([clang, "-O1", "-shared", "-fPIC", "-nostdlib", "-fuse-ld=lld", "-o", shim, os.path.join(TOP, "tests", "refuse.c")])
+    source = os.path.join(TOP, "tests", "refuse.c")
+    made = run([clang, "-O1", "-shared", "-fPIC", "-nostdlib", "-fuse-ld=lld", "-o", shim, source])
     check(made.returncode == 0, "refuse.c")
     program = os.path.join(folder, "refused")
-    words = [clang, *(f"-isystem{path}" for path in headers), "-I" + os.path.join(folder, "include"), "-Wall", "-Werror"]
+    include = "-I" + os.path.join(folder, "include")
+    words = [clang, *(f"-isystem{path}" for path in headers), include, "-Wall", "-Werror"]
     source = os.path.join(TOP, "tests", "library_refused.c")
     made = run([*words, source, os.path.join(folder, "lib", "libsimplecss.a"), "-o", program])
     check(made.returncode == 0, "library_refused.c", made.stderr.decode()[-500:])
@@ -123,13 +131,15 @@ def test_refused(clang, folder, headers):
 def test_sanitized(clang, folder, headers):
     """The example with AddressSanitizer, if the toolchain's archive of it links."""
     program = os.path.join(folder, "sanitized")
-    words = [clang, "-fsanitize=address", "-fno-sanitize-link-runtime", "-rdynamic", *(f"-isystem{path}" for path in headers),
-             "-I" + os.path.join(folder, "include")]
-    runtime = ["-Wl,--whole-archive", os.path.join(kit(), "c", "asan.a"), "-Wl,--no-whole-archive", "-lpthread", "-ldl", "-lm"]
+    words = [clang, "-fsanitize=address", "-fno-sanitize-link-runtime", "-rdynamic",
+             *(f"-isystem{path}" for path in headers), "-I" + os.path.join(folder, "include")]
+    runtime = ["-Wl,--whole-archive", os.path.join(kit(), "c", "asan.a"), "-Wl,--no-whole-archive",
+               "-lpthread", "-ldl", "-lm"]
     source = os.path.join(TOP, "tests", "library_refused.c")
     made = run([*words, source, os.path.join(folder, "lib", "libsimplecss.a"), *runtime, "-o", program])
     if made.returncode:
-        print("left out: AddressSanitizer over the C library does not link: " + made.stderr.decode().strip().split("\n")[-1][:200])
+        why = made.stderr.decode().strip().split("\n")[-1][:200]
+        print(f"left out: AddressSanitizer over the C library does not link: {why}")
         return
     for number in range(CALLS):
         made = run([program, str(number)])
@@ -152,10 +162,39 @@ def test_package():
     if bad or made.returncode:
         print(text)
         check(made.returncode == 0 or bad > 0, "unit tests")
-    made = run([sys.executable, "-c", "import simplecss; print(simplecss.__version__)"], env={**env, "PYTHONPATH": "python"})
+    env["PYTHONPATH"] = "python"
+    made = run([sys.executable, "-c", "import simplecss; print(simplecss.__version__)"], env=env)
     check(made.stdout.decode().strip() == library_calls.VERSION, "simplecss.__version__", made)
-    made = run([sys.executable, "-m", "simplecss", "--help"], env={**env, "PYTHONPATH": "python"})
+    made = run([sys.executable, "-m", "simplecss", "--help"], env=env)
     check(made.returncode == 0, "python3 -m simplecss", made.stderr)
+
+
+def test_types():
+    """The types of the package and of the scripts that build, as mypy finds them."""
+    if not shutil.which("mypy"):
+        print("left out: the types of the Python package: there is no mypy")
+        return
+    words = ["mypy", "--strict", "--python-version=3.9", f"--cache-dir={os.devnull}"]
+    made = run([*words, "python/simplecss", "build", "tools/release.py", "tools/erase.py"])
+    check(made.returncode == 0, "mypy", made.stdout.decode()[-1000:])
+
+
+def test_other_trees():
+    """The tests over lxml and BeautifulSoup, by Debian's Python."""
+    made = run(["/usr/bin/python3", "-W", "ignore", "python/tests/test_simplecss.py", "OtherTrees"])
+    check(made.returncode == 0, "trees of other packages", made.stderr.decode()[-1000:])
+    if b"skipped" in made.stderr:
+        print("left out: the trees of other packages: there is no lxml or BeautifulSoup (python3-lxml, python3-bs4)")
+
+
+def test_soup():
+    """Selectors find what soupsieve finds on the trees of html5lib, by Debian's Python."""
+    mails = sorted(glob.glob(os.path.join(TOP, "tests", "mails", "*.html")))
+    made = run(["/usr/bin/python3", os.path.join("tests", "browser.py"), "soup", *mails])
+    if b"left out" in made.stderr:
+        print("left out: soupsieve's answers: there is no html5lib or BeautifulSoup (python3-bs4, python3-html5lib)")
+        return
+    check(made.returncode == 0, "soupsieve", (made.stdout + made.stderr).decode()[-1000:])
 
 
 def main():
@@ -175,6 +214,12 @@ def main():
                 print("left out: the C example was not compiled: the system has no C headers or start files")
         library_calls.run(check, os.path.join(OUT, "libsimplecss.so"))
         test_package()
+        if os.path.exists("/usr/bin/python3"):
+            test_other_trees()
+            test_soup()
+        else:
+            print("left out: the trees of other packages and soupsieve's answers: there is no /usr/bin/python3")
+    test_types()
     print(f"{passed} passed, {failed} failed")
     return 1 if failed else 0
 

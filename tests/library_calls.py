@@ -231,7 +231,9 @@ def test_version(check):
         return found and found.group(1)
 
     for path, pattern in (("CHANGELOG.md", r"^## (\d\S+)"), ("include/simplecss.h", r'^#define SIMPLECSS_VERSION "(.*)"'),
-                          ("python/simplecss/_library.py", r'^__version__ = "(.*)"')):
+                          ("python/simplecss/_library.py", r'^__version__ = "(.*)"'),
+                          ("examples/pre-commit/pyproject.toml", r'^version = "(.*)"'),
+                          ("examples/pre-commit/pyproject.toml", r'"simplecss==(.*)"')):
         check(first(path, pattern) == VERSION, "version", path)
 
 

@@ -1,10 +1,11 @@
 #!/usr/bin/env python3
-"""Random style sheets and pages: the rules that the program finds by its index are those that a plain search for placements finds.
+"""Random style sheets and pages: the rules that the program finds by its index are those that a plain search for
+placements finds.
 
     pages.py PROGRAM    PROGRAM is the built `cssq`
 
-The search is written from CSS 2.1 sections 5.2 to 5.11, and the order from 6.4.3, but that `[id=x]` counts as `#x`. The inputs
-are equal in each run. The last line is 'N passed, M failed'.
+The search is written from CSS 2.1 sections 5.2 to 5.11, and the order from 6.4.3, but that `[id=x]` counts as `#x`.
+The inputs are equal in each run. The last line is 'N passed, M failed'.
 """
 import os
 import random
@@ -53,7 +54,8 @@ def printed(components):
     for combinator, (name, conditions) in components:
         text += combinator + (name or "*")
         for kind, key, value in conditions:
-            text += {".": "." + value, "#": "#" + value, ":": ":" + key, "": f"[{key}]"}.get(kind, f"[{key}{kind}'{value}']")
+            forms = {".": "." + value, "#": "#" + value, ":": ":" + key, "": f"[{key}]"}
+            text += forms.get(kind, f"[{key}{kind}'{value}']")
     return text
 
 
@@ -142,7 +144,8 @@ def main():
             for index in range(len(elements)):
                 found = [i + 1 for i, rule in enumerate(rules) if has_placement(elements, index, rule)]
                 wanted += f"{index + 1}:" + "".join(f" {i}" for i in found) + "\n"
-            done = subprocess.run([program, "match", sheet_path, page_path], stdin=subprocess.DEVNULL, capture_output=True, text=True, check=False)
+            words = [program, "match", sheet_path, page_path]
+            done = subprocess.run(words, stdin=subprocess.DEVNULL, capture_output=True, text=True, check=False)
             counts.expect((done.returncode, done.stdout) == (0, wanted), f"pair {number}")
     return counts.end()
 

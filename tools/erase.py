@@ -144,7 +144,8 @@ class Eraser:
 
 def without_writers(text: str, path: Path) -> str:
     """Gives functions Rust's formatter, which has no type of where it writes."""
-    head = re.compile(r"(fn \w+<)((?:'\w+, )*)W: (?:fmt::)?Write((?:, [^>]*)?>)(\((?:[^()]|\([^()]*\))*?\bFormatter)<W>")
+    names = r"(fn \w+<)((?:'\w+, )*)W: (?:fmt::)?Write((?:, [^>]*)?>)"
+    head = re.compile(names + r"(\((?:[^()]|\([^()]*\))*?\bFormatter)<W>")
     text = head.sub(lambda it: f"{it[1]}{it[2]}{it[3].removeprefix(', ')}{it[4]}<'_>", text)
     text = re.sub(r"(fn \w+)<>", r"\1", re.sub(r"(fn \w+<[^<>]*), >", r"\1>", text))
     if re.search(r"Formatter<W>", text):
@@ -229,7 +230,8 @@ def write_package(to: Path) -> None:
     (to / "src/erased/cssq/mod.rs").write_text("pub mod cascade;\n")
     (to / "src/erased/mod.rs").write_text("".join(f"pub mod {it};\n" for it in crates))
     # The oldest edition that the sources let it be: only the newest has conditions with several `let`.
-    edition, version = ("2024", "1.88") if re.search(r"&&\s*let\b|\b(if|while) let\b[^{;]*&&", whole) else ("2021", "1.81")
+    is_newest = re.search(r"&&\s*let\b|\b(if|while) let\b[^{;]*&&", whole)
+    edition, version = ("2024", "1.88") if is_newest else ("2021", "1.81")
     manifest = (to / "Cargo.toml").read_text()
     (to / "Cargo.toml").write_text(manifest.replace("EDITION", edition).replace("RUST", version))
     for licence in TOP.glob("LICENSE-*"):

@@ -1,11 +1,11 @@
 #!/usr/bin/env python3
-"""Makes what people without the toolchain install, from what ./build release has proved: Rust crate, wheels, tarball, Debian
-package, npm package, one page, and their sums.
+"""Makes what people without the toolchain install, from what ./build release has proved: Rust crate, wheels, tarball,
+Debian package, npm package, one page, and their sums.
 
     tools/release.py KIT [DIR]    KIT is the toolchain's folder; without DIR it writes to out/release
 
-The bytes are the same from two checkouts of one commit: names are sorted, and times are the commit's. What cannot be made, since
-a tool is missing, is named, and the status is 1.
+The bytes are the same from two checkouts of one commit: names are sorted, and times are the commit's. What cannot be
+made, since a tool is missing, is named, and the status is 1.
 """
 
 from __future__ import annotations
@@ -36,6 +36,7 @@ SUMMARY = "CSS 2.1 selectors and style sheets, over a library whose answers are 
 X86_TAGS = ("manylinux_2_5_x86_64", "manylinux1_x86_64", "musllinux_1_1_x86_64")
 ARM_TAGS = ("manylinux_2_17_aarch64", "musllinux_1_1_aarch64")
 # As the toolchain compiles its modules.
+SHARED = ["-shared", "-nostdlib", "-fuse-ld=lld", "-Wl,-s", "-Wl,-soname,libsimplecss.so.0"]
 FLAGS = ["-O3", "-ffunction-sections", "-fdata-sections", "--no-default-config", "-mllvm", "-sink-common-insts=false",
          "-mllvm", "-disable-machine-licm", "-mllvm", "-disable-postra-machine-licm"]
 
@@ -54,7 +55,7 @@ class File(NamedTuple):
 
 def run(*words: object, cwd: Path = TOP) -> bytes:
     """Runs a program, and returns what it prints."""
-    done = subprocess.run(list(map(str, words)), cwd=cwd, stdin=subprocess.DEVNULL, stdout=subprocess.PIPE, stderr=subprocess.PIPE, check=False)
+    done = subprocess.run(list(map(str, words)), cwd=cwd, stdin=subprocess.DEVNULL, capture_output=True, check=False)
     if done.returncode:
         sys.exit(f"tools/release.py: {words[0]} failed: {(done.stdout + done.stderr).decode()[-2000:]}")
     return done.stdout
@@ -76,9 +77,15 @@ def commit_time() -> int:
     return int(given or run("git", "-c", f"safe.directory={TOP}", "log", "-1", "--format=%ct"))
 
 
+def found_in(path: Path, pattern: str) -> str:
+    """Returns the part of a file that a pattern finds once."""
+    [found] = re.findall(pattern, path.read_text(encoding="utf-8"))
+    return str(found)
+
+
 def read_version() -> str:
     """Returns the version, which the header states."""
-    return re.search(r'SIMPLECSS_VERSION "(.*)"', (TOP / "include/simplecss.h").read_text())[1]
+    return found_in(TOP / "include/simplecss.h", r'SIMPLECSS_VERSION "(.*)"')
 
 
 class Release:
@@ -151,7 +158,7 @@ class Release:
         for source in (self.module_for(triple), PARTS / "c/heap.ll"):
             objects.append(self.room / (source.stem + ".o"))
             run(*words, "-c", "-x", "ir", source, "-o", objects[-1])
-        run(self.tools / "clang", f"--target={triple}", "-shared", "-nostdlib", "-fuse-ld=lld", "-Wl,-s", "-Wl,-soname,libsimplecss.so.0", "-Wl,--gc-sections", "-o", made, *objects)
+        run(self.tools / "clang", f"--target={triple}", *SHARED, "-Wl,--gc-sections", "-o", made, *objects)
         return made.read_bytes()
 
     # ---- Python
@@ -160,8 +167,8 @@ class Release:
         """Writes the wheels."""
         stripped = self.room / "x86.so"
         # As `strip` does: no names but those of the calls.
-        run(self.tools / "clang", "-shared", "-nostdlib", "-fuse-ld=lld", "-Wl,-s", "-Wl,-soname,libsimplecss.so.0", "-o", stripped,
-            "-Wl,--whole-archive", BUILT / "simplecss_c.a", "-Wl,--no-whole-archive", self.kit / "c/liblibc_c.a")
+        words = ["-Wl,--whole-archive", BUILT / "simplecss_c.a", "-Wl,--no-whole-archive", self.kit / "c/liblibc_c.a"]
+        run(self.tools / "clang", *SHARED, "-o", stripped, *words)
         self.make_wheel(X86_TAGS, stripped.read_bytes())
         self.make_wheel(ARM_TAGS, self.library_for_arm())
 
@@ -169,14 +176,14 @@ class Release:
         """Writes a wheel with this library."""
         info = f"simplecss-{self.version}.dist-info/"
         package = TOP / "python/simplecss"
-        files = {f"simplecss/{it.name}": it.read_bytes() for it in package.iterdir() if it.suffix == ".py" or it.name == "py.typed"}
+        files = {f"simplecss/{it.name}": it.read_bytes() for it in (*package.glob("*.py"), package / "py.typed")}
         files["simplecss/libsimplecss.so"] = library
         files.update({f"{info}licenses/{it.name}": it.read_bytes() for it in LICENCES})
         files[info + "METADATA"] = self.metadata().encode()
         files[info + "entry_points.txt"] = b"[console_scripts]\nsimplecss = simplecss.__main__:main\n"
-        lines = ["Wheel-Version: 1.0", "Generator: tools/release.py", "Root-Is-Purelib: false", *(f"Tag: py3-none-{it}" for it in tags)]
-        files[info + "WHEEL"] = ("\n".join(lines) + "\n").encode()
-        rows = [f"{name},sha256={base64.urlsafe_b64encode(hashlib.sha256(data).digest()).rstrip(b'=').decode()},{len(data)}" for name, data in sorted(files.items())]
+        lines = ["Wheel-Version: 1.0", "Generator: tools/release.py", "Root-Is-Purelib: false"]
+        files[info + "WHEEL"] = "".join(f"{it}\n" for it in (*lines, *(f"Tag: py3-none-{it}" for it in tags))).encode()
+        rows = [f"{name},sha256={digest_of(data)},{len(data)}" for name, data in sorted(files.items())]
         files[info + "RECORD"] = ("\n".join([*rows, info + "RECORD,,"]) + "\n").encode()
         out = io.BytesIO()
         with zipfile.ZipFile(out, "w", zipfile.ZIP_DEFLATED, compresslevel=9) as packed:
@@ -188,11 +195,12 @@ class Release:
 
     def metadata(self) -> str:
         """Returns the wheel's metadata, which pyproject.toml states."""
-        stated = (TOP / "python/pyproject.toml").read_text()
-        classifiers = re.findall(r'"(.*)"', re.search(r"(?s)classifiers = \[(.*?)\]", stated)[1])
+        stated = found_in(TOP / "python/pyproject.toml", r"(?s)classifiers = \[(.*?)\]")
+        classifiers = re.findall(r'"(.*)"', stated)
         lines = ["Metadata-Version: 2.4", "Name: simplecss", f"Version: {self.version}", f"Summary: {SUMMARY}",
                  "License-Expression: MIT OR Apache-2.0", *(f"License-File: {it.name}" for it in LICENCES),
-                 *(f"Classifier: {it}" for it in classifiers), "Requires-Python: >=3.9", "Description-Content-Type: text/markdown"]
+                 *(f"Classifier: {it}" for it in classifiers), "Requires-Python: >=3.9",
+                 "Description-Content-Type: text/markdown"]
         return "\n".join(lines) + "\n\n" + (TOP / "python/README.md").read_text()
 
     # ---- the program
@@ -200,7 +208,8 @@ class Release:
     def program(self) -> bytes:
         """Returns the program, linked with the C library, so that it starts on any distribution."""
         made = self.room / "cssq"
-        words = [need("gcc"), "-static", "-s", "-o", made, BUILT / "cssq_cli.o", self.kit / "c/libos_c.a", self.kit / "c/liblibc_c.a"]
+        parts = [BUILT / "cssq_cli.o", self.kit / "c/libos_c.a", self.kit / "c/liblibc_c.a"]
+        words = [need("gcc"), "-static", "-s", "-o", made, *parts]
         done = subprocess.run(list(map(str, words)), capture_output=True, text=True, check=False)
         if done.returncode:
             raise Missing("gcc with a static C library (libc6-dev)")
@@ -208,19 +217,21 @@ class Release:
 
     def manual(self) -> bytes:
         """Returns the page of the manual: what `cssq --help` says."""
-        source = (TOP / "crates/cssq_cli/src/help.rt").read_text()
-        text = re.search(r'(?s)const HELP: &str = "\\\n(.*?)";', source)[1].replace("\\\\", "\\")
+        source = TOP / "crates/cssq_cli/src/help.rt"
+        text = found_in(source, r'(?s)const HELP: &str = "\\\n(.*?)";').replace("\\\\", "\\")
         first, _, rest = text.partition("\n\n")
         day = time.strftime("%Y-%m-%d", time.gmtime(self.when))
         shown = rest.replace("\\", "\\e").replace("-", "\\-").replace("\n.", "\n\\&.")
-        return (f'.TH CSSQ 1 "{day}" "cssq {self.version}"\n.SH NAME\ncssq \\- CSS 2.1 selectors, style sheets and matching\n'
-                f".SH SYNOPSIS\n.B cssq\n[command operand..]\n.SH DESCRIPTION\n{first}\n.PP\n.nf\n{shown}.fi\n").encode()
+        return (f'.TH CSSQ 1 "{day}" "cssq {self.version}"\n.SH NAME\n'
+                "cssq \\- CSS 2.1 selectors, style sheets and matching\n"
+                ".SH SYNOPSIS\n.B cssq\n[command operand..]\n"
+                f".SH DESCRIPTION\n{first}\n.PP\n.nf\n{shown}.fi\n").encode()
 
     def installed(self) -> List[File]:
         """Returns the files of an installation, below its prefix."""
         shared = (TOP / "out/libsimplecss.so").read_bytes()
-        lib, top = (TOP / "build").read_text(), "${pcfiledir}/../.."
-        config = re.search(r'(?s)PKG_CONFIG = """(.*?)"""', lib)[1].format(lib=top + "/lib", include=top + "/include", version=self.version)
+        config, top = found_in(TOP / "build", r'(?s)PKG_CONFIG = """(.*?)"""'), "${pcfiledir}/../.."
+        config = config.format(lib=top + "/lib", include=top + "/include", version=self.version)
         text = b"\n".join(it.read_bytes() for it in LICENCES)
         return [
             File("bin/cssq", self.program(), 0o755),
@@ -252,7 +263,8 @@ Description: {SUMMARY}
  The program cssq, and the C library simplecss with its header.
 """
         sums = "".join(f"{hashlib.md5(it.data).hexdigest()}  usr/{it.name}\n" for it in sorted(files))
-        inner = [File("./control", control.encode()), File("./md5sums", sums.encode()), File("./triggers", b"activate-noawait ldconfig\n")]
+        triggers = b"activate-noawait ldconfig\n"
+        inner = [File("./control", control.encode()), File("./md5sums", sums.encode()), File("./triggers", triggers)]
         data = self.tarred([File(f"./usr/{it.name}", it.data, it.mode) for it in files])
         members = (("debian-binary", b"2.0\n"), ("control.tar.gz", self.tarred(inner)), ("data.tar.gz", data))
         self.write(f"cssq_{self.version}_amd64.deb", b"!<arch>\n" + b"".join(self.member(*it) for it in members))
@@ -286,22 +298,31 @@ Description: {SUMMARY}
         clang, linker = self.tools / "clang", self.room / "wasm-ld"
         words = [clang, f"--target={triple}", "-mcpu=lime1", "-mbulk-memory", "--no-default-config"]
         run(*words, *FLAGS, "-c", "-x", "ir", self.module_for(triple), "-o", self.room / "library.o")
-        run(*words, "-O2", "-ffreestanding", "-fno-builtin", "-nostdlib", "-c", PARTS / "wasm/runtime.c", "-o", self.room / "runtime.o")
+        run(*words, "-O2", "-ffreestanding", "-fno-builtin", "-nostdlib", "-c", PARTS / "wasm/runtime.c",
+            "-o", self.room / "runtime.o")
         # The toolchain's linker is every linker, by its name.
         linker.unlink(missing_ok=True)
         linker.symlink_to(clang)
         calls = re.findall(r"(?m)^uint32_t (simplecss_\w+)\(", (TOP / "include/simplecss.h").read_text())
         exports = [f"--export={it}" for it in calls]
         whole, lowered = self.room / "whole.wasm", self.room / "lowered.wasm"
-        run(linker, "-mwasm64", "--no-entry", "--stack-first", "-z", "stack-size=1048576", "--gc-sections", *exports, "-o", whole, self.room / "library.o", self.room / "runtime.o")
+        run(linker, "-mwasm64", "--no-entry", "--stack-first", "-z", "stack-size=1048576", "--gc-sections", *exports,
+            "-o", whole, self.room / "library.o", self.room / "runtime.o")
         whole.write_bytes(without_table(whole.read_bytes()))
-        run(optimizer, whole, "--enable-memory64", "--enable-bulk-memory", "--enable-sign-ext", "--enable-mutable-globals",
-            "--enable-nontrapping-float-to-int", "--enable-multivalue", "--memory64-lowering", "-Oz", "-o", lowered)
+        run(optimizer, whole, "--enable-memory64", "--enable-bulk-memory", "--enable-sign-ext",
+            "--enable-mutable-globals", "--enable-nontrapping-float-to-int", "--enable-multivalue",
+            "--memory64-lowering", "-Oz", "-o", lowered)
         return lowered.read_bytes()
 
 
+def digest_of(data: bytes) -> str:
+    """Returns the sum of a file, as a wheel's record has it."""
+    return base64.urlsafe_b64encode(hashlib.sha256(data).digest()).rstrip(b"=").decode()
+
+
 def without_table(module: bytes) -> bytes:
-    """Returns a module without its table, which has no elements, and without names: a table of 64 bits is refused by many engines."""
+    """Returns a module without its table, which has no elements, and without names: many engines refuse a table of 64
+    bits."""
 
     def number(at: int) -> Tuple[int, int]:
         value = shift = 0
@@ -335,8 +356,8 @@ def main(kit: str, to: Path) -> int:
                            (release.make_npm, "the npm package and the page")):
             try:
                 make()
-            except Missing as tool:
-                missing[what] = str(tool)
+            except Missing as lacking:
+                missing[what] = str(lacking)
     sums = "".join(f"{hashlib.sha256(it.read_bytes()).hexdigest()}  {it.name}\n" for it in sorted(to.iterdir()))
     (to / "SHA256SUMS").write_text(sums)
     for what, tool in missing.items():

@@ -129,16 +129,26 @@ def _position(name: str, element: Element) -> str:
     return _bold(name if row is None else f"{name}:{row}:{element.column}")
 
 
-def _path(element: Element) -> str:
+def _places(tree: Tree) -> List[int]:
+    """Returns of each element which child of its parent it is, from 1."""
+    # The last counts the roots.
+    counts = [0] * (len(tree) + 1)
+    found: List[int] = []
+    for element in tree:
+        parent = element.parent
+        index = -1 if parent is None else parent.index
+        counts[index] += 1
+        found.append(counts[index])
+    return found
+
+
+def _path(element: Element, places: List[int]) -> str:
     """Returns a selector of CSS 3 that matches the element only."""
     steps: List[str] = []
     node: Optional[Element] = element
     while node is not None:
         parent = node.parent
-        step = node.name
-        if parent is not None:
-            step += f":nth-child({parent.children.index(node) + 1})"
-        steps.append(step)
+        steps.append(node.name if parent is None else f"{node.name}:nth-child({places[node.index]})")
         node = parent
     return " > ".join(reversed(steps))
 
@@ -177,17 +187,29 @@ def _style(words: argparse.Namespace) -> int:
 
 def _select(words: argparse.Namespace) -> int:
     count = 0
+    status = DONE
     _progress.count = len(words.pages)
     for name in words.pages:
-        tree = _tree_of(name, _read_page(name))
         try:
-            found = tree.select(words.selectors)
-        except SelectorError as error:
-            raise _Failure(f"selector refused: {error}", REFUSED) from None
-        count += len(found)
-        _show_found(words, name, found)
+            tree = _tree_of(name, _read_page(name))
+        except _Failure as failure:
+            # The other pages are searched.
+            _say(str(failure))
+            status = max(status, failure.status)
+        else:
+            count += _select_in(words, name, tree)
         _progress.done += 1
-    return REFUSED if words.quiet and not count else DONE
+    return status or (REFUSED if words.quiet and not count else DONE)
+
+
+def _select_in(words: argparse.Namespace, name: str, tree: Tree) -> int:
+    """Prints what is asked for of a page. Returns how many elements were found."""
+    try:
+        found = tree.select(words.selectors)
+    except SelectorError as error:
+        raise _Failure(f"selector refused: {error}", REFUSED) from None
+    _show_found(words, name, found)
+    return len(found)
 
 
 def _show_found(words: argparse.Namespace, name: str, found: List[Element]) -> None:
@@ -197,11 +219,12 @@ def _show_found(words: argparse.Namespace, name: str, found: List[Element]) -> N
     if words.count:
         print(f"{name}:{len(found)}" if len(words.pages) > 1 else len(found))
         return
+    places = _places(found[0].tree) if words.json and found else []
     for element in found:
         if words.json:
             _print_json({
                 "file": name, "element": element.index, "name": element.name, "row": element.row,
-                "column": element.column, "path": _path(element), "attributes": element.attributes,
+                "column": element.column, "path": _path(element, places), "attributes": element.attributes,
             })
         elif words.text:
             print(" ".join(element.text.split()))

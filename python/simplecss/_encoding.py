@@ -15,24 +15,40 @@ _NAMED = re.compile(
     rb"""<\?xml[^>]*?\sencoding\s*=\s*["']([-\w.:]+)|<meta\s[^>]*?charset\s*=\s*["']?\s*([-\w.:]+)""",
     re.IGNORECASE,
 )
-# The names of ISO 8859-1 and ASCII mean windows-1252.
-_LATIN = frozenset(("iso8859-1", "ascii", "cp1252"))
+_COMMENT = re.compile(rb"<!--.*?-->", re.DOTALL)
+# The names that Python does not know, and what the names that it knows mean to browsers (Encoding
+# Standard, "Names and labels"). No other name is an encoding of a page.
+_UNKNOWN = {
+    "windows-31j": "cp932", "x-sjis": "cp932", "windows-874": "cp874", "dos-874": "cp874",
+    "windows-949": "cp949", "x-gbk": "gbk", "x-x-big5": "big5", "x-euc-jp": "euc_jp",
+    "iso-8859-8-i": "iso8859-8", "logical": "iso8859-8", "visual": "iso8859-8",
+    "x-mac-roman": "mac-roman", "x-mac-cyrillic": "mac-cyrillic", "x-cp1252": "cp1252",
+}
+_MEANT = {
+    "ascii": "cp1252", "iso8859-1": "cp1252", "iso8859-9": "cp1254", "iso8859-11": "cp874",
+    "tis-620": "cp874", "gb2312": "gb18030", "gbk": "gb18030", "shift_jis": "cp932",
+    "euc_kr": "cp949", "big5": "big5hkscs",
+    **{name: name for name in (
+        "utf-8 cp866 cp874 cp932 cp949 koi8-r koi8-u mac-roman mac-cyrillic gb18030 euc_jp iso2022_jp"
+        " iso8859-2 iso8859-3 iso8859-4 iso8859-5 iso8859-6 iso8859-7 iso8859-8 iso8859-10 iso8859-13"
+        " iso8859-14 iso8859-15 iso8859-16 cp1250 cp1251 cp1252 cp1253 cp1254 cp1255 cp1256 cp1257"
+        " cp1258"
+    ).split()},
+}
 
 
 def _named(data: bytes) -> str:
     """Returns the encoding that the front of a page names, or UTF-8."""
-    found = _NAMED.search(data, 0, 1024)
+    found = _NAMED.search(_COMMENT.sub(b"", data[:1024]))
     if not found:
         return "utf-8"
-    name = (found.group(1) or found.group(2)).decode("ascii", "replace")
+    label = (found.group(1) or found.group(2)).decode("ascii", "replace").lower()
     try:
-        name = codecs.lookup(name).name
+        name = codecs.lookup(_UNKNOWN.get(label, label)).name
     except LookupError:
         return "utf-8"
-    if name in _LATIN:
-        return "cp1252"
     # A page whose front can be read as ASCII is not in UTF-16.
-    return "utf-8" if name.startswith("utf-16") else name
+    return _MEANT.get(name, "utf-8")
 
 
 def decode_page(data: bytes) -> Tuple[str, Callable[[str], bytes]]:

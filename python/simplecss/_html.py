@@ -106,7 +106,7 @@ _QUIRKS = (
     "-//w3o//dtd w3 html", "-//webtechs//dtd mozilla html",
 )
 _DOCTYPE = re.compile(
-    r"""<!doctype[\s/]*(\w*)[^\S>]*(?:(public|system)\s*("[^">]*"|'[^'>]*')\s*("[^">]*"|'[^'>]*')?)?""",
+    r"""<!doctype\s*(\w*)\s*(?:(public|system)\s*("[^">]*"|'[^'>]*')\s*("[^">]*"|'[^'>]*')?)?\s*(>?)""",
     re.IGNORECASE,
 )
 
@@ -114,14 +114,15 @@ _DOCTYPE = re.compile(
 def is_quirky(doctype: str) -> bool:
     """Whether a doctype is one by which browsers show a page as old ones did."""
     found = _DOCTYPE.match(doctype)
-    if not found or found.group(1).lower() != "html":
+    if not found or found.group(1).lower() != "html" or not doctype.endswith(">"):
         return True
-    kind, first, second = (group.lower().strip("\"'") if group else "" for group in found.groups()[1:])
+    kind, first, second = (group.lower().strip("\"'") if group else "" for group in found.groups()[1:4])
     if kind == "system":
         return first == "http://www.ibm.com/data/dtd/v11/ibmxhtml1-transitional.dtd"
-    if kind == "" and re.match(r"<!doctype\s+html\s*>", doctype, re.IGNORECASE) is None:
+    # Something else follows the name or the identifier.
+    if not found.group(5) and found.group(4) is None:
         return True
-    if first.startswith(_QUIRKS) or first in ("-//w3c//dtd html 4.0 transitional//en", "html"):
+    if first.startswith(_QUIRKS) or first in ("-/w3c/dtd html 4.0 transitional/en", "html"):
         return True
     is_old = first.startswith(("-//w3c//dtd html 4.01 frameset//", "-//w3c//dtd html 4.01 transitional//"))
     return is_old and not second
@@ -1267,6 +1268,8 @@ class Builder:
             token.attributes = {
                 _SVG_ATTRIBUTES.get(key, key): value for key, value in token.attributes.items()
             }
+        elif "definitionurl" in token.attributes:
+            token.attributes["definitionURL"] = token.attributes.pop("definitionurl")
         self._insert(token, space)
         if token.is_closed:
             self._pop()

@@ -3,9 +3,10 @@ parents (CSS 2.1 sections 6.2 and 6.4.3)."""
 
 from __future__ import annotations
 
-from typing import FrozenSet, Iterable, List, Union
+from typing import Dict, FrozenSet, Iterable, List, Union
 
 from ._declaration import Declaration, cascaded
+from ._library import expect_text
 from ._reading import declarations
 from ._tree import Element, Tree
 
@@ -23,7 +24,8 @@ INHERITED: FrozenSet[str] = frozenset(
     " stroke-dashoffset stroke-linecap stroke-linejoin stroke-miterlimit stroke-opacity stroke-width"
     " text-anchor text-rendering writing-mode glyph-orientation-vertical".split()
 )
-# The attributes of SVG that are properties, too.
+# The attributes of SVG that are properties, too (SVG 2, "Presentation attributes"): of every element, and
+# of some only.
 _PRESENTATION: FrozenSet[str] = frozenset(
     "alignment-baseline baseline-shift clip-path clip-rule color color-interpolation"
     " color-interpolation-filters cursor direction display dominant-baseline fill fill-opacity"
@@ -32,9 +34,20 @@ _PRESENTATION: FrozenSet[str] = frozenset(
     " lighting-color marker-end marker-mid marker-start mask mask-type opacity overflow paint-order"
     " pointer-events shape-rendering stop-color stop-opacity stroke stroke-dasharray"
     " stroke-dashoffset stroke-linecap stroke-linejoin stroke-miterlimit stroke-opacity stroke-width"
-    " text-anchor text-decoration text-overflow text-rendering transform-origin unicode-bidi"
+    " text-anchor text-decoration text-overflow text-rendering transform transform-origin unicode-bidi"
     " vector-effect visibility white-space word-spacing writing-mode".split()
 )
+
+_PLACED: FrozenSet[str] = frozenset(("x", "y", "width", "height"))
+_GEOMETRY: Dict[str, FrozenSet[str]] = {
+    "circle": frozenset(("cx", "cy", "r")),
+    "ellipse": frozenset(("cx", "cy", "rx", "ry")),
+    "path": frozenset(("d",)),
+    "rect": _PLACED | {"rx", "ry"},
+    **dict.fromkeys(("foreignObject", "image", "svg", "symbol", "use"), _PLACED),
+}
+# Of these `fill` is something else.
+_ANIMATIONS: FrozenSet[str] = frozenset(("animate", "animateMotion", "animateTransform", "set"))
 
 # Which properties are handed down: the table above, some, or none.
 Inherit = Union[bool, Iterable[str]]
@@ -50,10 +63,13 @@ def _presented(element: Element) -> List[Declaration]:
     """Returns the declarations of presentation attributes."""
     if not element.is_drawn:
         return []
+    known = _PRESENTATION | _GEOMETRY.get(element.name, frozenset())
+    if element.name in _ANIMATIONS:
+        known -= {"fill"}
     return [
         Declaration(name, value.strip(), False)
         for name, value in element.attributes.items()
-        if name in _PRESENTATION and value.strip()
+        if name in known and value.strip()
     ]
 
 
@@ -62,11 +78,19 @@ def specified_by(element: Element, winners: Iterable[Declaration]) -> List[Decla
     return cascaded((*_presented(element), *winners, *_own(element)))
 
 
+def _names(inherit: Iterable[str]) -> FrozenSet[str]:
+    """Returns names of properties as a set. What is no text raises `TypeError`."""
+    names = frozenset((inherit,) if isinstance(inherit, str) else inherit)
+    for name in names:
+        expect_text(name)
+    return names
+
+
 def inherited(
     tree: Tree, styles: List[List[Declaration]], inherit: Inherit
 ) -> List[List[Declaration]]:
     """Returns the declarations of each element, after those that its parent hands down."""
-    names = INHERITED if isinstance(inherit, bool) else frozenset(inherit)
+    names = INHERITED if isinstance(inherit, bool) else _names(inherit)
     found: List[List[Declaration]] = []
     for element, winners in zip(tree, styles):
         parent = element.parent

@@ -159,6 +159,7 @@ class Tokenizer:
         # Whether `<![CDATA[` begins a section.
         self.has_cdata = False
         self._ends: Dict[str, Pattern[str]] = {}
+        self._has_nul = "\0" in text
 
     def next(self) -> Token:
         """Returns the next token."""
@@ -270,12 +271,17 @@ class Tokenizer:
         found = _COMMENT_END.search(self.text, offset)
         self.offset = found.end() if found else len(self.text)
 
+    def _named(self, text: str) -> str:
+        """Returns the name that a text of a tag is."""
+        name = lower(text)
+        return name.replace("\0", "\ufffd") if self._has_nul else name
+
     def _tag(self, kind: int, offset: int) -> Optional[Token]:
         """Reads a tag whose name begins at an offset. Returns `None` if it does not end."""
         text, start = self.text, self.offset
         found = _TAG_NAME.match(text, offset)
         offset = found.end() if found else offset
-        name = sys.intern(lower(found.group())) if found else ""
+        name = sys.intern(self._named(found.group())) if found else ""
         attributes: Dict[str, str] = {}
         item = _ATTRIBUTE.match(text, offset)
         while item:
@@ -286,8 +292,10 @@ class Tokenizer:
                 return None
             if value and value[0] in "\"'":
                 value = value[1:-1]
-            if not key.islower():
-                key = lower(key)
+            if self._has_nul:
+                value = value and value.replace("\0", "\ufffd")
+            if self._has_nul or not key.islower():
+                key = self._named(key)
             if key not in attributes:
                 attributes[sys.intern(key)] = decode_value(value) if value else ""
             item = _ATTRIBUTE.match(text, offset)

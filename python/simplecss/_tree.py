@@ -270,6 +270,8 @@ class Tree:
     def _check(self, index: int, item: Item, last: List[int]) -> None:
         """Raises an error for an element whose parent is not one of the elements still open."""
         depth = 0
+        if not isinstance(item, Item):
+            raise TypeError(f"an Item is expected, not {type(item).__name__}")
         if not isinstance(item.name, str) or not isinstance(item.attributes, Mapping):
             raise TypeError("an element has a text as its name and a mapping as its attributes")
         if item.parent is not None:
@@ -479,6 +481,8 @@ class Tree:
             raise TypeError("states are a mapping of selectors to names of states")
         more: Dict[int, FrozenSet[str]] = {}
         for selectors, names in states.items():
+            if isinstance(names, bytes):
+                raise TypeError("names of states are texts (str), not bytes")
             named = frozenset((names,) if isinstance(names, str) else names)
             if not named <= STATES.keys():
                 raise ValueError(f"no state of an element: {sorted(named - STATES.keys())[0]!r}")

@@ -1,10 +1,11 @@
 //! Answers of the erased crate, for tests/release.py: to each text of standard input, which is a length of 8 bytes and the bytes,
-//! the printed sheet, the printed selector, what is skipped, and the matches and winners on a tree, each with its length first.
+//! the printed sheet, the printed selector, what is skipped, the matches and winners on a tree, and the tokens, each with its length
+//! first.
 use simplecss::cascade::{Cascade, Rules};
 use simplecss::index::RuleIndex;
 use simplecss::skipped::find_faults;
 use simplecss::tree::Tree;
-use simplecss::{Selector, StyleSheet};
+use simplecss::{DeclarationTokenizer, Selector, SelectorTokenizer, StyleSheet};
 use std::fmt::Write as _;
 use std::io::{Read, Write};
 
@@ -57,7 +58,13 @@ fn winners(tree: &Tree, sheet: &StyleSheet) -> String {
     out
 }
 
-fn answers(tree: &Tree, text: &str) -> [String; 5] {
+/// What the program tests_tokens prints.
+fn tokens(text: &str) -> String {
+    let items = SelectorTokenizer::from(text).map(|it| format!("{it:?}\n"));
+    items.chain(DeclarationTokenizer::from(text).map(|it| format!("{it:?}\n"))).collect()
+}
+
+fn answers(tree: &Tree, text: &str) -> [String; 6] {
     let sheet = StyleSheet::parse(text);
     let end = if sheet.rules.is_empty() { "" } else { "\n" };
     let selector = Selector::parse(text).map_or(String::new(), |it| {
@@ -65,7 +72,7 @@ fn answers(tree: &Tree, text: &str) -> [String; 5] {
         format!("{it}\t{a},{b},{c}\n")
     });
     let faults = find_faults(text).into_iter().map(|it| format!("{}:{}:{}\n", it.pos, it.reason, it.quote()));
-    [format!("{sheet}{end}"), selector, faults.collect(), matches(tree, &sheet), winners(tree, &sheet)]
+    [format!("{sheet}{end}"), selector, faults.collect(), matches(tree, &sheet), winners(tree, &sheet), tokens(text)]
 }
 
 fn main() {

@@ -1,0 +1,260 @@
+"""What comes in and goes out: encodings, doctypes and presentation attributes of pages, forms of reports, and the
+streams and signals of the command line.
+
+The library must be built (`./build library`).
+"""
+
+import io
+import json
+import os
+import re
+import signal
+import subprocess
+import sys
+import tempfile
+import unittest
+from contextlib import redirect_stderr, redirect_stdout
+
+sys.path.insert(0, os.path.join(os.path.dirname(os.path.abspath(__file__)), ".."))
+
+import simplecss  # noqa: E402
+from simplecss import __main__ as command  # noqa: E402
+from simplecss._encoding import decode_page  # noqa: E402
+
+FOLDER = os.path.dirname(os.path.dirname(os.path.abspath(simplecss.__file__)))
+
+# Names of encodings, bytes, and what they are to browsers (Encoding Standard).
+ENCODINGS = [
+    ("utf-8", b"\xc3\xa9", "é"),
+    ("ISO-8859-1", b"\x80", "€"),
+    ("us-ascii", b"\x80", "€"),
+    ("iso-8859-9", b"\x80", "€"),
+    ("windows-1251", b"\xc6", "Ж"),
+    ("koi8-r", b"\xc1", "а"),
+    ("x-mac-roman", b"\x80", "Ä"),
+    ("windows-874", b"\xa1", "ก"),
+    ("shift_jis", b"\x87\x40", "①"),
+    ("windows-31j", b"\x87\x40", "①"),
+    ("gb2312", b"\x81\x40", "丂"),
+    ("euc-kr", b"\x81\x41", "갂"),
+    ("big5", b"\xa4\xa4", "中"),
+    # These are no encodings of pages.
+    ("utf-7", b"+AGE-", "+AGE-"),
+    ("hex", b"61", "61"),
+    ("none", b"\xc3\xa9", "é"),
+]
+
+
+class Encodings(unittest.TestCase):
+    def test_names(self):
+        for name, data, text in ENCODINGS:
+            page = b"<!-- <meta charset=koi8-u> --><meta charset='" + name.encode() + b"'>" + data
+            decoded, encode = decode_page(page)
+            self.assertEqual((decoded.partition("'>")[2], encode(decoded)), (text, page), name)
+
+    def test_marks(self):
+        for name, mark in (("utf-8", b"\xef\xbb\xbf"), ("utf-16-le", b"\xff\xfe"), ("utf-16-be", b"\xfe\xff")):
+            page = mark + "<meta charset=koi8-r>é".encode(name)
+            decoded, encode = decode_page(page)
+            self.assertEqual((decoded, encode(decoded)), ("\ufeff<meta charset=koi8-r>é", page))
+
+
+# Doctypes, and whether browsers show such a page as old ones did (HTML Standard, "The initial insertion mode").
+OLD, NEW = True, False
+DOCTYPES = [
+    ("", OLD),
+    ("<!doctype html>", NEW),
+    ("<!DOCTYPEhtml>", NEW),
+    ("<!doctype html system 'about:legacy-compat'>", NEW),
+    ("<!doctype html x>", OLD),
+    ("<!doctype html public>", OLD),
+    ("<!doctype html public 'x'>", NEW),
+    ("<!doctype html public 'x' y>", OLD),
+    ("<!doctype html public 'x' 'y' z>", NEW),
+    ("<!doctype svg>", OLD),
+    ("<!DOCTYPE html PUBLIC '-//W3C//DTD HTML 3.2 Final//EN'>", OLD),
+    ("<!DOCTYPE html PUBLIC '-/W3C/DTD HTML 4.0 Transitional/EN'>", OLD),
+    ("<!DOCTYPE html PUBLIC '-//W3C//DTD HTML 4.01 Transitional//EN'>", OLD),
+    ("<!DOCTYPE html PUBLIC '-//W3C//DTD HTML 4.01 Transitional//EN' 'http://www.w3.org/TR/html4/loose.dtd'>", NEW),
+    ("<!DOCTYPE html PUBLIC '-//W3C//DTD XHTML 1.0 Transitional//EN' 'http://www.w3.org/x'>", NEW),
+]
+
+
+class Doctypes(unittest.TestCase):
+    def test_classes_of_old_pages_compare_without_case(self):
+        for doctype, is_old in DOCTYPES:
+            tree = simplecss.Tree.from_html(doctype + "<p class=a>")
+            self.assertEqual(len(tree.select(".A")), int(is_old), doctype)
+
+
+class Names(unittest.TestCase):
+    def test_nul_is_the_character_for_what_is_none(self):
+        element = simplecss.Tree.from_html("<p\0q a\0='b\0' A\ufffd=c>")[3]
+        self.assertEqual((element.name, element.attributes), ("p\ufffdq", {"a\ufffd": "b\ufffd"}))
+
+    def test_names_of_mathml(self):
+        element = simplecss.Tree.from_html("<math DefinitionURL=x>", is_part=True)[0]
+        self.assertEqual(element.attributes, {"definitionURL": "x"})
+
+    def test_what_is_no_element_and_no_name(self):
+        tree = simplecss.Tree.from_html("<p>")
+        for make in (lambda: simplecss.Tree([("p", {})]), lambda: simplecss.Tree.from_html("<p>", {"p": b"hover"}),
+                     lambda: simplecss.StyleSheet("p{a:b}").styles(tree, inherit=[b"a"])):
+            self.assertRaises(TypeError, make)
+        found = simplecss.StyleSheet("body{a:b}").style(tree, "a", inherit="a")
+        self.assertEqual(found[tree.select_one("p")].value, "b")
+
+
+class Presentation(unittest.TestCase):
+    def test_attributes_that_are_properties(self):
+        tree = simplecss.Tree.from_html(
+            "<svg width=9><rect rx=1 x=2 cx=3 fill=red /><circle r=4 x=5 /><path d=M0,0 /><animate fill=freeze /></svg>"
+            "<p width=6>")
+        styles = simplecss.StyleSheet("rect { x: 7 }").styles(tree, specified=True)
+        found = {element.name: " ".join(sorted(map(str, styles[element]))) for element in tree if styles[element]}
+        self.assertEqual(found, {"svg": "width: 9", "rect": "fill: red rx: 1 x: 7", "circle": "r: 4",
+                                 "path": "d: M0,0"})
+
+
+# Objects of SARIF 2.1.0 (its sections 3.13 to 3.52): the properties that each must have, and the form of each that may
+# be there. A form is another object, a list with one form, a set of values, a pattern, or a number that is the least.
+URI = re.compile(r"(?:[A-Za-z][-+.A-Za-z0-9]*:)?(?:[-\w.~:/?#\[\]@!$&'()*+,;=]|%[0-9A-Fa-f]{2})*", re.ASCII)
+TEXT = re.compile(r"(?s).*")
+SARIF = {
+    "log": (("version", "runs"), {"$schema": URI, "version": {"2.1.0"}, "runs": ["run"]}),
+    "run": (("tool",), {"tool": "tool", "results": ["result"], "columnKind": {"utf16CodeUnits", "unicodeCodePoints"}}),
+    "tool": (("driver",), {"driver": "component"}),
+    "component": (("name",), {"name": TEXT, "version": TEXT, "informationUri": URI, "rules": ["descriptor"]}),
+    "descriptor": (("id",), {"id": TEXT, "name": TEXT, "shortDescription": "multiformat"}),
+    "multiformat": (("text",), {"text": TEXT, "markdown": TEXT}),
+    "result": (("message",), {"ruleId": TEXT, "ruleIndex": 0, "level": {"none", "note", "warning", "error"},
+                              "message": "message", "locations": ["location"]}),
+    "message": (("text",), {"text": TEXT}),
+    "location": ((), {"physicalLocation": "physical"}),
+    "physical": (("artifactLocation",), {"artifactLocation": "artifact", "region": "region"}),
+    "artifact": ((), {"uri": URI, "uriBaseId": TEXT}),
+    "region": ((), {"startLine": 1, "startColumn": 1, "endLine": 1, "endColumn": 1}),
+}
+
+
+def faults(value, form, where="$"):
+    """Yields what of a value of JSON has not its form."""
+    if isinstance(form, list):
+        is_right, inner = isinstance(value, list), [(each, form[0], f"{where}[]") for each in value]
+    elif isinstance(form, str):
+        required, known = SARIF[form]
+        is_right = isinstance(value, dict) and set(required) <= value.keys() <= known.keys()
+        inner = [(each, known[key], f"{where}.{key}") for key, each in value.items()] if is_right else []
+    else:
+        inner = []
+        if isinstance(form, int):
+            is_right = type(value) is int and value >= form
+        else:
+            is_known = form.__contains__ if isinstance(form, set) else form.fullmatch
+            is_right = isinstance(value, str) and bool(is_known(value))
+    if not is_right:
+        yield where
+    for each in inner:
+        yield from faults(*each)
+
+
+class Reports(unittest.TestCase):
+    def setUp(self):
+        folder = tempfile.TemporaryDirectory()
+        self.addCleanup(folder.cleanup)
+        self.names = [os.path.join(folder.name, name) for name in ("a b:%é.css", "b.css", "c.css")]
+        for name, text in zip(self.names, ("@x;\na { b }\n@y 'é\u0001';", "@x; a { b", "a { b: c }")):
+            with open(name, "w", encoding="utf-8") as file:
+                file.write(text)
+
+    def sarif(self, *names):
+        out = io.StringIO()
+        with redirect_stdout(out):
+            command.main(["lint", "--format", "sarif", *names])
+        return json.loads(out.getvalue())
+
+    def test_sarif(self):
+        self.assertEqual(list(faults({"runs": [{"tool": {}}], "version": "2"}, "log")), ["$.runs[].tool", "$.version"])
+        log = self.sarif(*self.names)
+        self.assertEqual(list(faults(log, "log")), [])
+        run = log["runs"][0]
+        rules = [each["id"] for each in run["tool"]["driver"]["rules"]]
+        self.assertEqual(len(rules), len(set(rules)))
+        self.assertLessEqual({each["ruleId"] for each in run["results"]}, set(rules))
+        self.assertGreater(len(run["results"]), 1)
+        self.assertEqual(self.sarif(self.names[2])["runs"][0]["results"], [])
+
+
+class Terminal(io.StringIO):
+    def isatty(self):
+        return True
+
+
+class CommandLine(unittest.TestCase):
+    def setUp(self):
+        folder = tempfile.TemporaryDirectory()
+        self.addCleanup(folder.cleanup)
+        self.folder = folder.name
+
+    def page(self, name, text):
+        path = os.path.join(self.folder, name)
+        with open(path, "w", encoding="utf-8") as file:
+            file.write(text)
+        return path
+
+    def start(self, *words, **options):
+        environment = {**os.environ, "PYTHONPATH": FOLDER}
+        return subprocess.Popen([sys.executable, "-m", "simplecss", *words], env=environment,
+                                stdout=subprocess.PIPE, stderr=subprocess.PIPE, **options)
+
+    def test_one_page_of_many_is_missing(self):
+        page = self.page("a.html", "<p>")
+        out, err = io.StringIO(), io.StringIO()
+        with redirect_stdout(out), redirect_stderr(err):
+            status = command.main(["select", "p", page, page + "x", page])
+        self.assertEqual((status, out.getvalue()), (4, f"{page}:1:1: <p>\n" * 2))
+        self.assertEqual(err.getvalue(), f"simplecss: cannot read {page}x: No such file or directory\n")
+
+    def test_paths_of_wide_pages(self):
+        page = self.page("a.html", "<p>" * 20_000)
+        out = io.StringIO()
+        with redirect_stdout(out):
+            self.assertEqual(command.main(["select", "--json", "p", page]), 0)
+        last = json.loads(out.getvalue().splitlines()[-1])
+        self.assertEqual(last["path"], "html > body:nth-child(2) > p:nth-child(20000)")
+
+    @unittest.skipUnless(hasattr(os, "mkfifo"), "there are no named pipes")
+    def test_interrupt_ends_at_once(self):
+        name = os.path.join(self.folder, "page")
+        os.mkfifo(name)
+        made = self.start("select", "b", name)
+        # Once the page is read, some seconds of work begin.
+        with open(name, "w", encoding="utf-8") as file:
+            file.write("<b><p>" * 50_000)
+        made.send_signal(signal.SIGINT)
+        out, err = made.communicate(timeout=60)
+        self.assertEqual((made.returncode, out, err), (130, b"", b""))
+
+    def test_progress(self):
+        # Some tenths of a second of work, after which a bar is due, and after a minute not.
+        page = self.page("a.html", "<b><p>" * 5_000)
+        self.addCleanup(setattr, command, "_PATIENCE", command._PATIENCE)
+        for patience, is_shown in ((0.0, True), (60.0, False)):
+            command._PATIENCE = patience
+            out, err = io.StringIO(), Terminal()
+            with redirect_stdout(out), redirect_stderr(err):
+                self.assertEqual(command.main(["select", "--count", "p", page, page]), 0)
+            self.assertEqual("simplecss: [" in err.getvalue(), is_shown)
+            # Nothing of it is left.
+            self.assertEqual(err.getvalue().endswith("\r\033[K"), is_shown)
+
+    def test_a_library_of_another_version(self):
+        code = "import simplecss, simplecss._library as it; it.__version__ = '9'; simplecss.Selector('a')"
+        environment = {**os.environ, "PYTHONPATH": FOLDER}
+        words = [sys.executable, "-c", code]
+        made = subprocess.run(words, env=environment, capture_output=True, text=True, check=False)
+        self.assertIn(f"has version {simplecss.__version__}, and this package 9", made.stderr)
+
+
+if __name__ == "__main__":
+    unittest.main()
