@@ -168,7 +168,7 @@ def compare(texts: Sequence[str], counts: Counts) -> None:
 
 
 def check_document(counts: Counts) -> None:
-    """Compares what docs/DIFFERENCES.md shows of today's grammar: what is kept of a text, if not all, or `unmatched`."""
+    """Compares what docs/DIFFERENCES.md shows of today's grammar: what is kept of a text, or `unmatched`."""
     with open(os.path.join(TOP, "docs", "DIFFERENCES.md"), encoding="utf-8") as file:
         rows = re.findall(r"^\| `([^`]+)` \| [^|]* \|([^|]*)\| [^|]* \|$", file.read(), re.MULTILINE)
     for text, shown in rows:
