@@ -117,7 +117,7 @@ for text in SHEETS:
     add("StyleSheet::read", ["sheets", text, "#x { a:b }", text], plain)
     add("StatementReader::read_next", ["statements", text], plain)
 for text in ["a < b, c:d { e } @f", "a < b { c:d }"]:
-    add("find_faults", ["faults", text], plain)
+    add("find_skipped", ["skipped", text], plain)
 CASCADE = ("#a .b { c:d !important; e:f } * { c:g } .b.i { h:j } b { c:k }", "0\ta\tid=a\n1\tb\tclass=i b\n1\tb\n")
 add("RuleIndex::new, matching", ["index", *CASCADE], plain)
 add("Recent::new", ["recent", CASCADE[0]], plain)

@@ -442,7 +442,7 @@ def main(linter, program, count):
                 file.write(text)
             wanted = "".join(f"{path}:{line(text, *skip)}\n" for skip in Reader(text).skipped())
             found, status = run([linter, path], "stdout")
-            counts.expect((found, status) == (wanted, int(bool(wanted))), f"sheet {number}: find_faults of {text!r}: {found!r}, not {wanted!r}")
+            counts.expect((found, status) == (wanted, int(bool(wanted))), f"sheet {number}: find_skipped of {text!r}: {found!r}, not {wanted!r}")
             found, status = run([program, "sheet", path], "stderr")
             found = "\n".join(each for each in found.split("\n") if not each.endswith(NOTES))
             counts.expect((found, status) == (wanted, 0), f"sheet {number}: the warnings of {text!r}: {found!r}, not {wanted!r}")

@@ -21,7 +21,6 @@ MAKES = {
     "selectors3": "selectors of level 3",
     "simplecss": "rules in order, index",
     "simplecss_tree": "trees of programs",
-    "simplecss_faults": "what is skipped, where",
     "cssq_page": "the tree of a text",
     "cssq": "winners, output",
     "cssq_cli": "files, words, statuses",

@@ -20,7 +20,7 @@ from typing import Dict, List, Tuple
 TOP = Path(__file__).resolve().parent.parent
 PARTS = TOP / "release/rust"
 # What the package has, with all that these use; of `cssq` only the cascade.
-WHOLE = ("simplecss", "simplecss_faults", "simplecss_tree")
+WHOLE = ("simplecss", "simplecss_tree")
 CASCADE = "cssq/src/cascade.rt"
 # The libraries of Rattle besides `std` whose names are there over Rust's.
 LIBRARIES = ("log",)

@@ -3,7 +3,7 @@
 //! first.
 use simplecss::cascade::{Cascade, Rules};
 use simplecss::index::RuleIndex;
-use simplecss::skipped::find_faults;
+use simplecss::skipped::{find_skipped, Place};
 use simplecss::tree::Tree;
 use simplecss::{DeclarationTokenizer, Selector, SelectorTokenizer, StyleSheet};
 use std::fmt::Write as _;
@@ -58,6 +58,15 @@ fn winners(tree: &Tree, sheet: &StyleSheet) -> String {
     out
 }
 
+fn skipped(text: &str) -> String {
+    let (mut out, mut place) = (String::new(), Place::START);
+    for part in find_skipped(text) {
+        place = place.find(text, part.from);
+        writeln!(out, "{}:{}:{}", place.pos, part.why.words(), part.quote()).unwrap();
+    }
+    out
+}
+
 /// What the program tests_tokens prints.
 fn tokens(text: &str) -> String {
     let items = SelectorTokenizer::from(text).map(|it| format!("{it:?}\n"));
@@ -71,8 +80,7 @@ fn answers(tree: &Tree, text: &str) -> [String; 6] {
         let [a, b, c] = it.specificity();
         format!("{it}\t{a},{b},{c}\n")
     });
-    let faults = find_faults(text).into_iter().map(|it| format!("{}:{}:{}\n", it.pos, it.reason, it.quote()));
-    [format!("{sheet}{end}"), selector, faults.collect(), matches(tree, &sheet), winners(tree, &sheet), tokens(text)]
+    [format!("{sheet}{end}"), selector, skipped(text), matches(tree, &sheet), winners(tree, &sheet), tokens(text)]
 }
 
 fn main() {

@@ -11,4 +11,7 @@ mod names;
 mod pseudos;
 
 pub use form::{ElementForm, SelectorForm, read_selector};
-pub use list::{ListedSelector, Selectors, is_valid, is_valid_list, prelude_fault};
+pub use list::{
+    FoundSelector, ListedSelector, Selectors, is_valid, is_valid_list, next_part, prelude_fault,
+    read_part,
+};

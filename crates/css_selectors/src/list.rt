@@ -1,5 +1,8 @@
 //! Lists of selectors (Selectors 4, section 4.1).
-ghost use Rattle.std.specs.Prelude.{◌≡◌, option_map};
+ghost use Rattle.std.specs.Prelude.{◌≡◌, option_map, IfSome};
+ghost use Rattle.simplecss_text.specs.AsciiBytes.{comma};
+ghost use Rattle.simplecss_text.specs.Bytes.{past_byte as past_byte_of};
+ghost use Rattle.css_syntax.specs.Tokens.{past_gap as past_gap_of};
 ghost use Rattle.css_selectors.specs.SelectorLists.{selector_part};
 ghost use Rattle.css_selectors.specs.SelectorLists.{next_selector as next_selector_of};
 ghost use Rattle.css_selectors.specs.SelectorLists.{is_valid as is_valid_of, all_valid, selectors};
@@ -26,15 +29,20 @@ pub struct ListedSelector<'a> {
 
 /// A part and the rest from the comma after it on.
 #[derive(Clone, Copy)]
-struct FoundSelector<'a> {
-    selector: ListedSelector<'a>,
-    rest: &'a str,
+pub struct FoundSelector<'a> {
+    /// The part.
+    pub selector: ListedSelector<'a>,
+    /// What is left from the part on.
+    pub from: &'a str,
+    /// The rest.
+    pub rest: &'a str,
 }
 
 /// Reads the part of a list at the start.
 #[tactic(auto, unfolding(crate::specs::SelectorLists::selector_part))]
-fn read_part(text: &str) -> FoundSelector<'_>
-    ensures { selector_part text.now ≡ (listed_of result.selector, result.rest.now) }
+pub fn read_part(text: &str) -> FoundSelector<'_>
+    ensures read { selector_part text.now ≡ (listed_of result.selector, result.rest.now) }
+    ensures from { result.from.now ≡ past_gap_of text.now }
 {
     let stops = Stops {
         semicolon: false,
@@ -43,21 +51,24 @@ fn read_part(text: &str) -> FoundSelector<'_>
         comma: true,
         in_value: false,
     };
-    let part = read_parts(stops, past_gap(text));
+    let from = past_gap(text);
+    let part = read_parts(stops, from);
     FoundSelector {
         selector: ListedSelector {
             text: part.text,
             form: read_selector(part.text),
         },
+        from,
         rest: part.rest,
     }
 }
 
 /// Reads the part after a comma, if there is one.
 #[tactic(auto, unfolding(crate::specs::SelectorLists::next_selector))]
-fn next_part(text: &str) -> Option<FoundSelector<'_>>
-    ensures { next_selector_of text.now
+pub fn next_part(text: &str) -> Option<FoundSelector<'_>>
+    ensures read { next_selector_of text.now
         ≡ option_map (λ found. (listed_of found.selector, found.rest.now)) result }
+    ensures from { IfSome result (λ found. found.from.now ≡ past_gap_of (past_byte_of comma text.now)) }
 {
     if readers::starts(text, b',') {
         Some(read_part(past_byte(text, b',')))

@@ -1,9 +1,12 @@
 -- What is to come after each step of the reader.
 -- Serves `SheetReader::{leave, step}`.
-use Rattle.std.proofs.Common.{◌≡◌, ℕ, zero, suc, ◌+◌, ◌<◌, ◌≤◌, Bool, true, false, List, [], ◌∷◌, ◌++◌, length, map, Option, Some, None, arith, refl, sym, ap, ◌∙◌, append_assoc, append-nil, length-append, not, ◌==◌, eqb-true}
-use Rattle.css_syntax.specs.Statements.{SheetText, next_statement, statements}
-use Rattle.css_syntax.proofs.ListSteps.{statements-some, statements-none}
-use Rattle.css_sheet.specs.SheetItems.{ConditionText, SheetItemText, GroupText, group_of, part_items, all_items, each_alone, items_in}
+use Rattle.std.proofs.Common.{◌≡◌, ℕ, zero, suc, ◌+◌, ◌-◌, ◌<◌, ◌≤◌, Bool, true, false, List, [], ◌∷◌, ◌++◌, length, map, Option, Some, None, arith, refl, sym, ap, ◌∙◌, append_assoc, append-nil, length-append, not, ◌==◌, eqb-true}
+use Rattle.css_syntax.specs.Statements.{SheetText, next_statement, past_between}
+use Rattle.css_syntax.specs.Contents.{statement_contents}
+use Rattle.css_syntax.specs.Placed.{placed_statements}
+use Rattle.css_syntax.proofs.PlacedSteps.{placed-statements-some, placed-statements-none}
+use Rattle.css_sheet.specs.Places.{PlacesText, places_by}
+use Rattle.css_sheet.specs.SheetItems.{ConditionText, SheetItemText, GroupText, group_of, condition_of, part_items, all_items, each_alone, items_in}
 use Rattle.css_sheet.specs.declared.state.Level.{Level}
 use Rattle.css_sheet.specs.declared.state.SheetReader.{SheetReader}
 use Rattle.css_sheet.specs.declared.reader.Step.{Step}
@@ -16,153 +19,201 @@ abbrev pub inside : List LevelText → Bool → Bool
 inside [] in_block = in_block
 inside (l ∷ more) in_block = true
 
+-- the places of the next statement of a text that ends at this offset
+abbrev pub place : (end : ℕ) → Bool → List ℕ → SheetText → PlacesText
+place end in_block text part =
+    places_by end part.statement (past_between in_block text)
+    (statement_contents in_block (past_between in_block text))
+
+-- an item
+abbrev pub an_item : List ConditionText → SheetText → PlacesText → SheetItemText
+an_item conditions part places =
+    record { conditions = conditions; part = part; places = places }
+
+-- a group rule that is open, in a text that ends at this offset, and after which this is left
+abbrev pub a_level : GroupText → PlacesText → (end : ℕ) → List ℕ → LevelText
+a_level group places end rest = record {
+  condition = condition_of group places (end - length rest);
+  after = rest;
+  after_end = end;
+}
+
 -- ---- the innermost text
 
-items-none : (n : ℕ) (in_block : Bool) (conditions : List ConditionText) (text : List ℕ)
-    → next_statement in_block text ≡ None → items_in n in_block conditions text ≡ []
+items-none : (n : ℕ) (in_block : Bool) (conditions : List ConditionText) (end : ℕ) (text : List ℕ)
+    → next_statement in_block text ≡ None → items_in n in_block conditions end text ≡ []
 unfolding items_in
-items-none zero in_block conditions text e =
-    ap (each_alone conditions) (statements-none in_block text e)
-items-none (suc n) in_block conditions text e =
-    ap (all_items (items_in n true) conditions) (statements-none in_block text e)
+items-none zero in_block conditions end text e =
+    ap (each_alone in_block conditions end) (placed-statements-none in_block text e)
+items-none (suc n) in_block conditions end text e =
+    ap (all_items (items_in n true) in_block conditions end)
+    (placed-statements-none in_block text e)
 
-items-alone : (in_block : Bool) (conditions : List ConditionText) (text rest : List ℕ)
+items-alone : (in_block : Bool) (conditions : List ConditionText) (end : ℕ) (text rest : List ℕ)
     (part : SheetText) → next_statement in_block text ≡ Some (part, rest)
-    → items_in zero in_block conditions text
-    ≡ record { conditions = conditions; part = part } ∷ items_in zero in_block conditions rest
+    → items_in zero in_block conditions end text
+    ≡ an_item conditions part (place end in_block text part)
+    ∷ items_in zero in_block conditions end rest
 unfolding items_in
-items-alone in_block conditions text rest part e =
-    ap (each_alone conditions) (statements-some in_block text rest part e)
+items-alone in_block conditions end text rest part e =
+    ap (each_alone in_block conditions end) (placed-statements-some in_block text rest part e)
 
-items-plain : (n : ℕ) (in_block : Bool) (conditions : List ConditionText) (text rest : List ℕ)
-    (part : SheetText) → next_statement in_block text ≡ Some (part, rest)
+items-plain : (n : ℕ) (in_block : Bool) (conditions : List ConditionText) (end : ℕ)
+    (text rest : List ℕ) (part : SheetText) → next_statement in_block text ≡ Some (part, rest)
     → group_of part.statement ≡ None
-    → items_in n in_block conditions text
-    ≡ record { conditions = conditions; part = part } ∷ items_in n in_block conditions rest
+    → items_in n in_block conditions end text
+    ≡ an_item conditions part (place end in_block text part)
+    ∷ items_in n in_block conditions end rest
 unfolding items_in
-items-plain zero in_block conditions text rest part e g =
-    ap (each_alone conditions) (statements-some in_block text rest part e)
-items-plain (suc n) in_block conditions text rest part e g =
-    let more = all_items (items_in n true) conditions (statements in_block rest) in
-    ap (all_items (items_in n true) conditions) (statements-some in_block text rest part e)
-    ∙ ap (λ (o : Option GroupText). part_items (items_in n true) conditions part o ++ more) g
+items-plain zero in_block conditions end text rest part e g =
+    ap (each_alone in_block conditions end) (placed-statements-some in_block text rest part e)
+items-plain (suc n) in_block conditions end text rest part e g =
+    let more = all_items (items_in n true) in_block conditions end
+    (placed_statements in_block rest) in
+    ap (all_items (items_in n true) in_block conditions end)
+    (placed-statements-some in_block text rest part e)
+    ∙ ap (λ (o : Option GroupText). part_items (items_in n true) conditions part
+    (place end in_block text part) (end - length rest) o ++ more) g
 
-items-group : (n : ℕ) (in_block : Bool) (conditions : List ConditionText) (text rest : List ℕ)
-    (part : SheetText) (group : GroupText) → next_statement in_block text ≡ Some (part, rest)
-    → group_of part.statement ≡ Some group
-    → items_in (suc n) in_block conditions text
-    ≡ items_in n true (conditions ++ group.condition ∷ []) group.text
-    ++ items_in (suc n) in_block conditions rest
+items-group : (n : ℕ) (in_block : Bool) (conditions : List ConditionText) (end : ℕ)
+    (text rest : List ℕ) (part : SheetText) (group : GroupText)
+    → next_statement in_block text ≡ Some (part, rest) → group_of part.statement ≡ Some group
+    → items_in (suc n) in_block conditions end text
+    ≡ items_in n true
+    (conditions ++ condition_of group (place end in_block text part) (end - length rest) ∷ [])
+    ((place end in_block text part).block + length group.text) group.text
+    ++ items_in (suc n) in_block conditions end rest
 unfolding items_in
-items-group n in_block conditions text rest part group e g =
-    let more = all_items (items_in n true) conditions (statements in_block rest) in
-    ap (all_items (items_in n true) conditions) (statements-some in_block text rest part e)
-    ∙ ap (λ (o : Option GroupText). part_items (items_in n true) conditions part o ++ more) g
+items-group n in_block conditions end text rest part group e g =
+    let more = all_items (items_in n true) in_block conditions end
+    (placed_statements in_block rest) in
+    ap (all_items (items_in n true) in_block conditions end)
+    (placed-statements-some in_block text rest part e)
+    ∙ ap (λ (o : Option GroupText). part_items (items_in n true) conditions part
+    (place end in_block text part) (end - length rest) o ++ more) g
 
 -- ---- with the group rules that are open
 
+-- in a group rule, whatever is open in it
+within : (more : List LevelText) (text rest : List ℕ) (part : SheetText)
+    → next_statement true text ≡ Some (part, rest)
+    → next_statement (inside more true) text ≡ Some (part, rest)
+within [] text rest part f = f
+within (m ∷ others) text rest part f = f
+
+inside-true : (more : List LevelText) → inside more true ≡ true
+inside-true [] = refl
+inside-true (m ∷ others) = refl
+
 pub still-enter : (levels : List LevelText) (n : ℕ) (in_block : Bool)
-    (conditions : List ConditionText) (text rest : List ℕ) (part : SheetText) (group : GroupText)
+    (conditions : List ConditionText) (end : ℕ) (text rest : List ℕ) (part : SheetText)
+    (group : GroupText)
     → length levels < n → next_statement (inside levels in_block) text ≡ Some (part, rest)
-    → group_of part.statement ≡ Some group
-    → still (levels ++ record { condition = group.condition; after = rest } ∷ []) n in_block
-    conditions group.text
-    ≡ still levels n in_block conditions text
-still-enter [] zero in_block conditions text rest part group h e g = absurd (omega arith)
-still-enter [] (suc n) in_block conditions text rest part group h e g =
-    sym (items-group n in_block conditions text rest part group e g)
-still-enter (l ∷ more) zero in_block conditions text rest part group h e g = absurd (omega arith)
-still-enter (l ∷ more) (suc n) in_block conditions text rest part group h e g =
-    ap (λ (items : List SheetItemText). items ++ items_in (suc n) in_block conditions l.after)
-    (still-enter more n true (conditions ++ l.condition ∷ []) text rest part group (omega arith)
-    (within more e) g)
-  where
-    within : (more : List LevelText) → next_statement true text ≡ Some (part, rest)
-        → next_statement (inside more true) text ≡ Some (part, rest)
-    within [] f = f
-    within (m ∷ others) f = f
+    → group_of part.statement ≡ Some group → (places : PlacesText)
+    → places ≡ place end (inside levels in_block) text part
+    → still (levels ++ a_level group places end rest ∷ []) n in_block conditions
+    (places.block + length group.text) group.text
+    ≡ still levels n in_block conditions end text
+still-enter [] zero in_block conditions end text rest part group h e g places p =
+    absurd (omega arith)
+still-enter [] (suc n) in_block conditions end text rest part group h e g places p =
+    ap (λ (q : PlacesText). items_in n true
+    (conditions ++ condition_of group q (end - length rest) ∷ []) (q.block + length group.text)
+    group.text ++ items_in (suc n) in_block conditions end rest) p
+    ∙ sym (items-group n in_block conditions end text rest part group e g)
+still-enter (l ∷ more) zero in_block conditions end text rest part group h e g places p =
+    absurd (omega arith)
+still-enter (l ∷ more) (suc n) in_block conditions end text rest part group h e g places p =
+    ap (λ (items : List SheetItemText).
+    items ++ items_in (suc n) in_block conditions l.after_end l.after)
+    (still-enter more n true (conditions ++ l.condition ∷ []) end text rest part group
+    (omega arith) (within more text rest part e) g places
+    (p ∙ ap (λ (b : Bool). place end b text part) (sym (inside-true more))))
 
 pub still-leave : (levels : List LevelText) (l : LevelText) (n : ℕ) (in_block : Bool)
-    (conditions : List ConditionText) (text : List ℕ) → length levels < n
+    (conditions : List ConditionText) (end : ℕ) (text : List ℕ) → length levels < n
     → next_statement true text ≡ None
-    → still (levels ++ l ∷ []) n in_block conditions text
-    ≡ still levels n in_block conditions l.after
-still-leave [] l zero in_block conditions text h e = absurd (omega arith)
-still-leave [] l (suc n) in_block conditions text h e =
-    ap (λ (items : List SheetItemText). items ++ items_in (suc n) in_block conditions l.after)
-    (items-none n true (conditions ++ l.condition ∷ []) text e)
-still-leave (k ∷ more) l zero in_block conditions text h e = absurd (omega arith)
-still-leave (k ∷ more) l (suc n) in_block conditions text h e =
-    ap (λ (items : List SheetItemText). items ++ items_in (suc n) in_block conditions k.after)
-    (still-leave more l n true (conditions ++ k.condition ∷ []) text (omega arith) e)
+    → still (levels ++ l ∷ []) n in_block conditions end text
+    ≡ still levels n in_block conditions l.after_end l.after
+still-leave [] l zero in_block conditions end text h e = absurd (omega arith)
+still-leave [] l (suc n) in_block conditions end text h e =
+    ap (λ (items : List SheetItemText).
+    items ++ items_in (suc n) in_block conditions l.after_end l.after)
+    (items-none n true (conditions ++ l.condition ∷ []) end text e)
+still-leave (k ∷ more) l zero in_block conditions end text h e = absurd (omega arith)
+still-leave (k ∷ more) l (suc n) in_block conditions end text h e =
+    ap (λ (items : List SheetItemText).
+    items ++ items_in (suc n) in_block conditions k.after_end k.after)
+    (still-leave more l n true (conditions ++ k.condition ∷ []) end text (omega arith) e)
 
-pub still-ends : (n : ℕ) (in_block : Bool) (conditions : List ConditionText) (text : List ℕ)
-    → next_statement in_block text ≡ None → still [] n in_block conditions text ≡ []
-still-ends n in_block conditions text e = items-none n in_block conditions text e
-
--- an item
-abbrev an_item : List ConditionText → SheetText → SheetItemText
-an_item conditions part = record { conditions = conditions; part = part }
+pub still-ends : (n : ℕ) (in_block : Bool) (conditions : List ConditionText) (end : ℕ)
+    (text : List ℕ) → next_statement in_block text ≡ None
+    → still [] n in_block conditions end text ≡ []
+still-ends n in_block conditions end text e = items-none n in_block conditions end text e
 
 -- the conditions of an item, a level at a time
 further : (conditions : List ConditionText) (l : LevelText) (more : List LevelText)
-    (part : SheetText)
-    → an_item ((conditions ++ l.condition ∷ []) ++ map condition_at more) part
-    ≡ an_item (conditions ++ (l.condition ∷ map condition_at more)) part
-further conditions l more part =
-    ap (λ (cs : List ConditionText). an_item cs part)
+    (part : SheetText) (places : PlacesText)
+    → an_item ((conditions ++ l.condition ∷ []) ++ map condition_at more) part places
+    ≡ an_item (conditions ++ (l.condition ∷ map condition_at more)) part places
+further conditions l more part places =
+    ap (λ (cs : List ConditionText). an_item cs part places)
     (append_assoc conditions (l.condition ∷ []) (map condition_at more))
 
 pub still-plain : (levels : List LevelText) (n : ℕ) (in_block : Bool)
-    (conditions : List ConditionText) (text rest : List ℕ) (part : SheetText) → length levels ≤ n
+    (conditions : List ConditionText) (end : ℕ) (text rest : List ℕ) (part : SheetText)
+    → length levels ≤ n
     → next_statement (inside levels in_block) text ≡ Some (part, rest)
-    → group_of part.statement ≡ None
-    → still levels n in_block conditions text
-    ≡ record { conditions = conditions ++ map condition_at levels; part = part }
-    ∷ still levels n in_block conditions rest
-still-plain [] n in_block conditions text rest part h e g =
-    items-plain n in_block conditions text rest part e g
-    ∙ ap (λ (cs : List ConditionText). an_item cs part
-    ∷ items_in n in_block conditions rest) (sym (append-nil conditions))
-still-plain (l ∷ more) zero in_block conditions text rest part h e g = absurd (omega arith)
-still-plain (l ∷ more) (suc n) in_block conditions text rest part h e g =
-    let after = items_in (suc n) in_block conditions l.after in
+    → group_of part.statement ≡ None → (places : PlacesText)
+    → places ≡ place end (inside levels in_block) text part
+    → still levels n in_block conditions end text
+    ≡ an_item (conditions ++ map condition_at levels) part places
+    ∷ still levels n in_block conditions end rest
+still-plain [] n in_block conditions end text rest part h e g places p =
+    items-plain n in_block conditions end text rest part e g
+    ∙ ap (λ (q : PlacesText). an_item conditions part q ∷ items_in n in_block conditions end rest)
+    (sym p)
+    ∙ ap (λ (cs : List ConditionText). an_item cs part places
+    ∷ items_in n in_block conditions end rest) (sym (append-nil conditions))
+still-plain (l ∷ more) zero in_block conditions end text rest part h e g places p =
+    absurd (omega arith)
+still-plain (l ∷ more) (suc n) in_block conditions end text rest part h e g places p =
+    let after = items_in (suc n) in_block conditions l.after_end l.after in
     let deeper = conditions ++ l.condition ∷ [] in
     ap (λ (items : List SheetItemText). items ++ after)
-    (still-plain more n true deeper text rest part (omega arith) (within more e) g)
-    ∙ ap (λ (item : SheetItemText). item ∷ (still more n true deeper rest ++ after))
-    (further conditions l more part)
-  where
-    within : (more : List LevelText) → next_statement true text ≡ Some (part, rest)
-        → next_statement (inside more true) text ≡ Some (part, rest)
-    within [] f = f
-    within (m ∷ others) f = f
+    (still-plain more n true deeper end text rest part (omega arith)
+    (within more text rest part e) g places
+    (p ∙ ap (λ (b : Bool). place end b text part) (sym (inside-true more))))
+    ∙ ap (λ (item : SheetItemText). item ∷ (still more n true deeper end rest ++ after))
+    (further conditions l more part places)
 
 -- a statement in as many group rules as may be open
 pub still-alone : (levels : List LevelText) (n : ℕ) (in_block : Bool)
-    (conditions : List ConditionText) (text rest : List ℕ) (part : SheetText) → length levels ≡ n
-    → next_statement (inside levels in_block) text ≡ Some (part, rest)
-    → still levels n in_block conditions text
-    ≡ record { conditions = conditions ++ map condition_at levels; part = part }
-    ∷ still levels n in_block conditions rest
-still-alone [] zero in_block conditions text rest part h e =
-    items-alone in_block conditions text rest part e
-    ∙ ap (λ (cs : List ConditionText). an_item cs part
-    ∷ items_in zero in_block conditions rest) (sym (append-nil conditions))
-still-alone [] (suc n) in_block conditions text rest part h e = absurd (omega arith)
-still-alone (l ∷ more) zero in_block conditions text rest part h e = absurd (omega arith)
-still-alone (l ∷ more) (suc n) in_block conditions text rest part h e =
-    let after = items_in (suc n) in_block conditions l.after in
+    (conditions : List ConditionText) (end : ℕ) (text rest : List ℕ) (part : SheetText)
+    → length levels ≡ n
+    → next_statement (inside levels in_block) text ≡ Some (part, rest) → (places : PlacesText)
+    → places ≡ place end (inside levels in_block) text part
+    → still levels n in_block conditions end text
+    ≡ an_item (conditions ++ map condition_at levels) part places
+    ∷ still levels n in_block conditions end rest
+still-alone [] zero in_block conditions end text rest part h e places p =
+    items-alone in_block conditions end text rest part e
+    ∙ ap (λ (q : PlacesText). an_item conditions part q ∷ items_in zero in_block conditions end rest)
+    (sym p)
+    ∙ ap (λ (cs : List ConditionText). an_item cs part places
+    ∷ items_in zero in_block conditions end rest) (sym (append-nil conditions))
+still-alone [] (suc n) in_block conditions end text rest part h e places p = absurd (omega arith)
+still-alone (l ∷ more) zero in_block conditions end text rest part h e places p =
+    absurd (omega arith)
+still-alone (l ∷ more) (suc n) in_block conditions end text rest part h e places p =
+    let after = items_in (suc n) in_block conditions l.after_end l.after in
     let deeper = conditions ++ l.condition ∷ [] in
     ap (λ (items : List SheetItemText). items ++ after)
-    (still-alone more n true deeper text rest part (omega arith) (within more e))
-    ∙ ap (λ (item : SheetItemText). item ∷ (still more n true deeper rest ++ after))
-    (further conditions l more part)
-  where
-    within : (more : List LevelText) → next_statement true text ≡ Some (part, rest)
-        → next_statement (inside more true) text ≡ Some (part, rest)
-    within [] f = f
-    within (m ∷ others) f = f
+    (still-alone more n true deeper end text rest part (omega arith)
+    (within more text rest part e) places
+    (p ∙ ap (λ (b : Bool). place end b text part) (sym (inside-true more))))
+    ∙ ap (λ (item : SheetItemText). item ∷ (still more n true deeper end rest ++ after))
+    (further conditions l more part places)
 
 -- ---- the group rules as a list
 
@@ -202,12 +253,13 @@ is_open_by (l ∷ more) len t e h = by (len == 0) refl
     by true f = absurd (omega (arith, h, eqb-true len 0 f))
     by false f = rw (e, f) refl
 
-pub leave-some : (before after : List Level) (level : Level) (text : List ℕ)
+pub leave-some : (before after : List Level) (level : Level) (end : ℕ) (text : List ℕ)
     → before ≡ after ++ level ∷ [] → length before ≤ 64
     → next_statement (is_some_open (texts before)) text ≡ None
-    → (still (texts after) 64 false [] level.after.now ≡ still (texts before) 64 false [] text)
+    → (still (texts after) 64 false [] level.after_end level.after.now
+    ≡ still (texts before) 64 false [] end text)
     × (size_after (texts after) + length level.after.now < size_after (texts before) + length text)
-leave-some before after level text e h none =
+leave-some before after level end text e h none =
     let l = level_of level in
     let all : texts before ≡ texts after ++ l ∷ [] = ap texts e ∙ map-last level_of after level in
     let few : length (texts after) < 64 =
@@ -223,30 +275,40 @@ leave-some before after level text e h none =
     (sym (ap is_some_open all ∙ open-last (texts after) l)) ∙ none in
     let size : size_after (texts before) ≡ size_after (texts after) + suc (length level.after.now) =
     ap size_after all ∙ size-last (texts after) l in (
-      sym (ap (λ (ls : List LevelText). still ls 64 false [] text) all
-          ∙ still-leave (texts after) l 64 false [] text few at_end),
+      sym (ap (λ (ls : List LevelText). still ls 64 false [] end text) all
+          ∙ still-leave (texts after) l 64 false [] end text few at_end),
       omega (arith, size),
     )
 
-pub leave-none : (before : List Level) (text : List ℕ) → length before ≡ 0
+pub leave-none : (before : List Level) (end : ℕ) (text : List ℕ) → length before ≡ 0
     → next_statement (is_some_open (texts before)) text ≡ None
-    → still (texts before) 64 false [] text ≡ []
-leave-none [] text h none = still-ends 64 false [] text none
-leave-none (l ∷ more) text h none = absurd (omega arith)
+    → still (texts before) 64 false [] end text ≡ []
+leave-none [] end text h none = still-ends 64 false [] end text none
+leave-none (l ∷ more) end text h none = absurd (omega arith)
 
 pub no_levels : (before after : List Level) → length before ≡ 0 → before ≡ after ++ []
     → after ≡ before
 no_levels before after h e = sym (e ∙ append-nil after)
 
-pub enter-some : (before after : List Level) (level : Level) (text rest : List ℕ) (part : SheetText)
-    (group : GroupText) → after ≡ before ++ level ∷ [] → length before < 64
+-- where a statement of the innermost text is
+place-open : (levels : List Level) (end : ℕ) (text : List ℕ) (part : SheetText) (places : PlacesText)
+    → places ≡ place end (is_some_open (texts levels)) text part
+    → places ≡ place end (inside (texts levels) false) text part
+place-open levels end text part places p =
+    p ∙ ap (λ (b : Bool). place end b text part) (sym (inside-open (texts levels)))
+
+pub enter-some : (before after : List Level) (level : Level) (end : ℕ) (text rest : List ℕ)
+    (part : SheetText) (group : GroupText) (places : PlacesText) → after ≡ before ++ level ∷ []
+    → length before < 64
     → next_statement (is_some_open (texts before)) text ≡ Some (part, rest)
     → group_of part.statement ≡ Some group
-    → level_of level ≡ record { condition = group.condition; after = rest }
-    → (still (texts after) 64 false [] group.text ≡ still (texts before) 64 false [] text)
+    → places ≡ place end (is_some_open (texts before)) text part
+    → level_of level ≡ a_level group places end rest
+    → (still (texts after) 64 false [] (places.block + length group.text) group.text
+    ≡ still (texts before) 64 false [] end text)
     × (size_after (texts after) + length group.text < size_after (texts before) + length text)
-enter-some before after level text rest part group e h some g same =
-    let l : LevelText = record { condition = group.condition; after = rest } in
+enter-some before after level end text rest part group places e h some g p same =
+    let l : LevelText = a_level group places end rest in
     let all : texts after ≡ texts before ++ l ∷ [] =
     ap texts e ∙ map-last level_of before level
     ∙ ap (λ (k : LevelText). texts before ++ k ∷ []) same in
@@ -255,8 +317,10 @@ enter-some before after level text rest part group e h some g same =
     ap (λ (b : Bool). next_statement b text) (inside-open (texts before)) ∙ some in
     let size : size_after (texts after) ≡ size_after (texts before) + suc (length rest) =
     ap size_after all ∙ size-last (texts before) l in (
-      ap (λ (ls : List LevelText). still ls 64 false [] group.text) all
-          ∙ still-enter (texts before) 64 false [] text rest part group few here g,
+      ap (λ (ls : List LevelText). still ls 64 false [] (places.block + length group.text)
+          group.text) all
+          ∙ still-enter (texts before) 64 false [] end text rest part group few here g places
+          (place-open before end text part places p),
       omega (
         arith,
         size,
@@ -264,23 +328,31 @@ enter-some before after level text rest part group e h some g same =
       ),
     )
 
-pub found-plain : (levels : List Level) (text rest : List ℕ) (part : SheetText) → length levels ≤ 64
+pub found-plain : (levels : List Level) (end : ℕ) (text rest : List ℕ) (part : SheetText)
+    (places : PlacesText) → length levels ≤ 64
     → next_statement (is_some_open (texts levels)) text ≡ Some (part, rest)
     → group_of part.statement ≡ None
-    → still (texts levels) 64 false [] text
-    ≡ an_item (map condition_at (texts levels)) part ∷ still (texts levels) 64 false [] rest
-found-plain levels text rest part h some g =
-    still-plain (texts levels) 64 false [] text rest part (omega
+    → places ≡ place end (is_some_open (texts levels)) text part
+    → still (texts levels) 64 false [] end text
+    ≡ an_item (map condition_at (texts levels)) part places
+    ∷ still (texts levels) 64 false [] end rest
+found-plain levels end text rest part places h some g p =
+    still-plain (texts levels) 64 false [] end text rest part (omega
     (arith, h, length-map level_of levels))
-    (ap (λ (b : Bool). next_statement b text) (inside-open (texts levels)) ∙ some) g
+    (ap (λ (b : Bool). next_statement b text) (inside-open (texts levels)) ∙ some) g places
+    (place-open levels end text part places p)
 
-pub found-alone : (levels : List Level) (text rest : List ℕ) (part : SheetText) → length levels ≡ 64
+pub found-alone : (levels : List Level) (end : ℕ) (text rest : List ℕ) (part : SheetText)
+    (places : PlacesText) → length levels ≡ 64
     → next_statement (is_some_open (texts levels)) text ≡ Some (part, rest)
-    → still (texts levels) 64 false [] text
-    ≡ an_item (map condition_at (texts levels)) part ∷ still (texts levels) 64 false [] rest
-found-alone levels text rest part h some =
-    still-alone (texts levels) 64 false [] text rest part (length-map level_of levels ∙ h)
-    (ap (λ (b : Bool). next_statement b text) (inside-open (texts levels)) ∙ some)
+    → places ≡ place end (is_some_open (texts levels)) text part
+    → still (texts levels) 64 false [] end text
+    ≡ an_item (map condition_at (texts levels)) part places
+    ∷ still (texts levels) 64 false [] end rest
+found-alone levels end text rest part places h some p =
+    still-alone (texts levels) 64 false [] end text rest part (length-map level_of levels ∙ h)
+    (ap (λ (b : Bool). next_statement b text) (inside-open (texts levels)) ∙ some) places
+    (place-open levels end text part places p)
 
 pub levels-conditions : (levels : List Level)
     → map (λ level. condition_at (level_of level)) levels ≡ map condition_at (texts levels)

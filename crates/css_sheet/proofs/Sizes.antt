@@ -82,7 +82,8 @@ unfolding Fits
 group_with-fits n rule found rest h = by (is_group_name rule.name)
   where
     by : (t : Bool) → Fits n (if t then Some (record {
-      condition = record { name = rule.name; prelude = rule.prelude.text };
+      name = rule.name;
+      prelude = rule.prelude.text;
       text = found.text;
     }) else None) rest
     by true = h

@@ -4,6 +4,7 @@ use Rattle.css_sheet.specs.SheetItems.{GroupText}
 
 abbrev pub group_text : Group → GroupText
 group_text g = record {
-  condition = record { name = g.name.now; prelude = g.prelude.now };
+  name = g.name.now;
+  prelude = g.prelude.now;
   text = g.text.now;
 }

@@ -1,22 +1,30 @@
 -- What contracts see of a reader of sheets, and what is still to come.
-use Rattle.std.specs.Prelude.{◌≡◌, ℕ, zero, suc, ◌<◌, ◌+◌, Bool, true, false, List, [], ◌∷◌, ◌++◌, length, map, Option, Some, None}
+use Rattle.std.specs.Prelude.{◌≡◌, ℕ, zero, suc, ◌<◌, ◌+◌, ◌-◌, Bool, true, false, List, [], ◌∷◌, ◌++◌, length, map, Option, Some, None}
 use Rattle.css_syntax.specs.declared.statements.SheetPart.{SheetPart}
 use Rattle.css_syntax.specs.Views.{sheet_part_of}
 use Rattle.css_sheet.specs.declared.state.Level.{Level}
+use Rattle.css_sheet.specs.Places.{PlacesText, places_of}
 use Rattle.css_sheet.specs.declared.state.SheetReader.{SheetReader}
 use Rattle.css_sheet.specs.declared.reader.Step.{Step}
 use Rattle.css_sheet.specs.declared.reader.Step.TheVariants as steps
 use Rattle.css_sheet.specs.SheetItems.{ConditionText, SheetItemText, items_in, deepest_group}
 
--- A group rule that is open, and the text after it.
+-- A group rule that is open, and the text after it with the offset at which that ends.
 pub record LevelText : Type 0 where
   pub condition : ConditionText
   pub after : List ℕ
+  pub after_end : ℕ
 
 abbrev pub level_of : Level → LevelText
 level_of l = record {
-  condition = record { name = l.name.now; prelude = l.prelude.now };
+  condition = record {
+    name = l.name.now;
+    prelude = l.prelude.now;
+    places = places_of l.places;
+    end = l.after_end - length l.after.now;
+  };
   after = l.after.now;
+  after_end = l.after_end;
 }
 
 -- the group rules that are open, from the outermost
@@ -31,13 +39,15 @@ abbrev pub conditions_of : SheetReader → List ConditionText
 conditions_of r = map condition_at (levels_of r)
 
 -- What is to come where these group rules are open in those, `n` further ones may be nested, and
--- this text is left of the innermost: its items, and then those after each group rule.
-abbrev pub still : List LevelText → ℕ → Bool → List ConditionText → List ℕ → List SheetItemText
-still [] n in_block conditions text = items_in n in_block conditions text
-still (l ∷ more) zero in_block conditions text = []
-still (l ∷ more) (suc n) in_block conditions text =
-    still more n true (conditions ++ l.condition ∷ []) text
-    ++ items_in (suc n) in_block conditions l.after
+-- this text, which ends at this offset, is left of the innermost: its items, and then those after
+-- each group rule.
+abbrev pub still : List LevelText → ℕ → Bool → List ConditionText → (end : ℕ) → List ℕ
+    → List SheetItemText
+still [] n in_block conditions end text = items_in n in_block conditions end text
+still (l ∷ more) zero in_block conditions end text = []
+still (l ∷ more) (suc n) in_block conditions end text =
+    still more n true (conditions ++ l.condition ∷ []) end text
+    ++ items_in (suc n) in_block conditions l.after_end l.after
 
 -- the text that is left of the innermost
 abbrev pub left_of : SheetReader → List ℕ
@@ -51,13 +61,25 @@ is_some_open (l ∷ more) = true
 abbrev pub is_inside : SheetReader → Bool
 is_inside r = is_some_open (levels_of r)
 
+-- the offset at which it ends
+abbrev pub end_of : SheetReader → ℕ
+end_of r = r.end
+
+-- where the item is that was read last
+abbrev pub places_now : SheetReader → PlacesText
+places_now r = places_of r.places
+
 -- the items that are still to come
 abbrev pub to_come : SheetReader → List SheetItemText
-to_come r = still (levels_of r) deepest_group false [] (left_of r)
+to_come r = still (levels_of r) deepest_group false [] (end_of r) (left_of r)
 
 -- the item that was read last
 abbrev pub item_of : SheetReader → SheetPart → SheetItemText
-item_of r part = record { conditions = conditions_of r; part = sheet_part_of part }
+item_of r part = record {
+  conditions = conditions_of r;
+  part = sheet_part_of part;
+  places = places_now r;
+}
 
 -- A call returned the first of the items that were to come, and the others still are; or none was
 -- to come, and none is.

@@ -1,18 +1,24 @@
 -- The rule sets of a sheet, and of the blocks of its conditional group rules (CSS Conditional Rules
 -- 3, section 2), in source order, each with the group rules that it is in.
-use Rattle.std.specs.Prelude.{ℕ, zero, suc, Bool, true, false, ◌||◌, if◌then◌else◌, List, [], ◌∷◌, ◌++◌, codes, Option, Some, None}
+use Rattle.std.specs.Prelude.{ℕ, zero, suc, ◌+◌, ◌-◌, length, Bool, true, false, ◌||◌, if◌then◌else◌, List, [], ◌∷◌, ◌++◌, codes, Option, Some, None}
 use Rattle.std.specs.Str.{str_eq_ignore_ascii_case}
-use Rattle.css_syntax.specs.Statements.{BlockText, AtRuleText, StatementText, rule_set, at_rule_statement, skipped_statement, SheetText, statements}
+use Rattle.css_syntax.specs.Statements.{BlockText, AtRuleText, StatementText, rule_set, at_rule_statement, skipped_statement, SheetText}
+use Rattle.css_syntax.specs.Placed.{PlacedStatement, placed_statements}
+use Rattle.css_sheet.specs.Places.{PlacesText, places_in}
 
--- A group rule that others are in: its name and its prelude.
+-- A group rule that others are in: its name and its prelude, where it is, and the offset after it.
 pub record ConditionText : Type 0 where
   pub name : List ℕ
   pub prelude : List ℕ
+  pub places : PlacesText
+  pub end : ℕ
 
--- A statement that is no group rule, with the group rules that it is in, from the outermost.
+-- A statement that is no group rule, with the group rules that it is in, from the outermost, and
+-- where it is.
 pub record SheetItemText : Type 0 where
   pub conditions : List ConditionText
   pub part : SheetText
+  pub places : PlacesText
 
 -- the at-rules whose blocks have statements, whatever their names mean
 abbrev pub is_group_name : List ℕ → Bool
@@ -24,19 +30,17 @@ is_group_name name =
     || str_eq_ignore_ascii_case name (codes "document")
     || str_eq_ignore_ascii_case name (codes "-moz-document")
 
--- A group rule, with the text of its block.
+-- A group rule: its name, its prelude and the text of its block.
 pub record GroupText : Type 0 where
-  pub condition : ConditionText
+  pub name : List ℕ
+  pub prelude : List ℕ
   pub text : List ℕ
 
 abbrev pub group_with : AtRuleText → Option BlockText → Option GroupText
 group_with rule None = None
 group_with rule (Some block) =
     if is_group_name rule.name
-    then Some (record {
-      condition = record { name = rule.name; prelude = rule.prelude.text };
-      text = block.text;
-    })
+    then Some (record { name = rule.name; prelude = rule.prelude.text; text = block.text })
     else None
 
 -- the group rule that a statement is, if it is one with a block
@@ -49,33 +53,59 @@ group_of (skipped_statement fault) = None
 abbrev pub deepest_group : ℕ
 deepest_group = 64
 
--- the items of a statement, by what reads those of a block
-abbrev pub part_items :
-    (List ConditionText → List ℕ → List SheetItemText) → List ConditionText → SheetText
+-- the condition that a group rule with these places is, with the offset after it
+abbrev pub condition_of : GroupText → PlacesText → (end : ℕ) → ConditionText
+condition_of group places end =
+    record { name = group.name; prelude = group.prelude; places = places; end = end }
+
+-- What reads the items of a text that ends at an offset, in group rules.
+abbrev pub ItemReader : Type 0
+ItemReader = List ConditionText → ℕ → List ℕ → List SheetItemText
+
+-- the items of a statement with these places, after which this offset is, by what reads those of a
+-- block
+abbrev pub part_items : ItemReader → List ConditionText → (part : SheetText) → PlacesText → (end : ℕ)
     → Option GroupText → List SheetItemText
-part_items read conditions part None = record { conditions = conditions; part = part } ∷ []
-part_items read conditions part (Some group) = read (conditions ++ group.condition ∷ []) group.text
+part_items read conditions part places end None =
+    record { conditions = conditions; part = part; places = places } ∷ []
+part_items read conditions part places end (Some group) =
+    read (conditions ++ condition_of group places end ∷ []) (places.block + length group.text)
+    group.text
+
+-- the items of a statement of a text that ends at this offset
+abbrev pub placed_items : ItemReader → Bool → List ConditionText → (end : ℕ) → PlacedStatement
+    → List SheetItemText
+placed_items read in_block conditions end placed =
+    part_items read conditions placed.part (places_in end in_block placed)
+    (end - length placed.after) (group_of placed.part.statement)
 
 -- the items of statements, one after another
-abbrev pub all_items :
-    (List ConditionText → List ℕ → List SheetItemText) → List ConditionText → List SheetText
+abbrev pub all_items : ItemReader → Bool → List ConditionText → (end : ℕ) → List PlacedStatement
     → List SheetItemText
-all_items read conditions [] = []
-all_items read conditions (part ∷ more) =
-    part_items read conditions part (group_of part.statement) ++ all_items read conditions more
+all_items read in_block conditions end [] = []
+all_items read in_block conditions end (placed ∷ more) =
+    placed_items read in_block conditions end placed
+    ++ all_items read in_block conditions end more
 
 -- the statements, as items of their own
-abbrev pub each_alone : List ConditionText → List SheetText → List SheetItemText
-each_alone conditions [] = []
-each_alone conditions (part ∷ more) =
-    record { conditions = conditions; part = part } ∷ each_alone conditions more
+abbrev pub each_alone : Bool → List ConditionText → (end : ℕ) → List PlacedStatement
+    → List SheetItemText
+each_alone in_block conditions end [] = []
+each_alone in_block conditions end (placed ∷ more) =
+    record {
+      conditions = conditions;
+      part = placed.part;
+      places = places_in end in_block placed;
+    } ∷ each_alone in_block conditions end more
 
--- The items of a text that is in these group rules, where `n` further ones may be nested.
-unfoldable pub items_in : ℕ → Bool → List ConditionText → List ℕ → List SheetItemText
-items_in zero in_block conditions text = each_alone conditions (statements in_block text)
-items_in (suc n) in_block conditions text =
-    all_items (items_in n true) conditions (statements in_block text)
+-- The items of a text that ends at this offset, in these group rules, where `n` further ones may be
+-- nested.
+unfoldable pub items_in : ℕ → Bool → List ConditionText → (end : ℕ) → List ℕ → List SheetItemText
+items_in zero in_block conditions end text =
+    each_alone in_block conditions end (placed_statements in_block text)
+items_in (suc n) in_block conditions end text =
+    all_items (items_in n true) in_block conditions end (placed_statements in_block text)
 
 -- the items of a sheet
 abbrev pub sheet_items : List ℕ → List SheetItemText
-sheet_items text = items_in deepest_group false [] text
+sheet_items text = items_in deepest_group false [] (length text) text

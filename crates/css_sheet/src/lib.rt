@@ -3,8 +3,11 @@
 //! rules that it is in. Whether the condition of a group rule holds is for the caller to decide.
 #![tactic(auto)]
 
+mod alike;
 mod groups;
 mod reader;
+mod selectors;
 mod state;
 
-pub use state::{Level, SheetReader};
+pub use selectors::{RuleSelector, read_listed, read_selectors};
+pub use state::{Level, Places, SheetReader};

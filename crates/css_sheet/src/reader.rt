@@ -1,15 +1,19 @@
 //! The reader of sheets.
-ghost use Rattle.std.specs.Prelude.{◌≡◌, ◌≤◌, ◌<◌, ◌++◌, ◌∷◌, [], None, not, map, IfOk, OnOk};
+ghost use Rattle.std.specs.Prelude.{◌≡◌, ◌≤◌, ◌<◌, ◌++◌, ◌∷◌, [], None, not, map, IfOk, OnOk, length};
 ghost use Rattle.std.specs.Prelude.{vec_len};
 ghost use Rattle.css_syntax.specs.Statements.{next_statement};
 ghost use Rattle.css_sheet.specs.SheetItems.{sheet_items};
 ghost use Rattle.css_sheet.specs.ReaderViews.{level_of, levels_of, left_of, is_inside, to_come};
 ghost use Rattle.css_sheet.specs.ReaderViews.{conditions_of, condition_at, GivesItem, Steps};
+ghost use Rattle.css_sheet.specs.ReaderViews.{end_of, places_now};
+ghost use Rattle.css_sheet.specs.Places.{prelude_in, block_length, places_by, places_of};
+ghost use Rattle.css_syntax.specs.Views.{statement_of};
 
 use crate::groups::group_of;
-use crate::state::{Level, SheetReader};
-use css_syntax::SheetPart;
-use css_syntax::statements::read_next;
+use crate::state::{Level, Places, SheetReader};
+use css_syntax::places::at_rule_prelude;
+use css_syntax::statements::{FoundPart, read_next};
+use css_syntax::{SheetPart, Statement};
 use std::alloc::{AllocError, Global};
 
 /// How many group rules may be open at once.
@@ -26,6 +30,32 @@ enum Step<'a> {
     Ended,
 }
 
+/// Returns what is left from the prelude of a statement on.
+fn prelude_from<'a>(found: &FoundPart<'a>) -> &'a str
+    ensures read { result.now
+        ≡ prelude_in (statement_of found.now.part.statement) found.now.from.now }
+    ensures within { length result.now ≤ length found.now.from.now }
+{
+    match found.part.statement {
+        Statement::AtRule(_) => at_rule_prelude(found.from),
+        _ => found.from,
+    }
+}
+
+/// Returns how many bytes the contents of the block of a statement have, if it has one.
+fn block_len(statement: &Statement<'_>) -> usize
+    ensures { result ≡ block_length (statement_of statement.now) }
+{
+    match statement {
+        Statement::RuleSet(rule) => rule.block.text.len(),
+        Statement::AtRule(rule) => match &rule.block {
+            Some(block) => block.text.len(),
+            None => 0,
+        },
+        Statement::Skipped(_) => 0,
+    }
+}
+
 impl<'a> SheetReader<'a> {
     /// Returns a reader at the start of a sheet. Allocates nothing.
     pub fn new(alloc: Global, text: &'a str) -> SheetReader<'a>
@@ -34,6 +64,13 @@ impl<'a> SheetReader<'a> {
         SheetReader {
             levels: Vec::new(alloc),
             rest: text,
+            end: text.len(),
+            places: Places {
+                start: 0,
+                prelude: 0,
+                block: 0,
+                block_end: 0,
+            },
         }
     }
 
@@ -44,6 +81,31 @@ impl<'a> SheetReader<'a> {
         &self.levels
     }
 
+    /// Returns where the item is that was read last.
+    pub fn places(&self) -> Places
+        ensures { places_of result ≡ places_now self.now }
+    {
+        self.places
+    }
+
+    /// Where a statement of the innermost text is.
+    fn find(&self, found: &FoundPart<'a>) -> Places
+        requires from { length found.now.from.now ≤ end_of self.now }
+        requires inside { length found.now.inside.now ≤ end_of self.now }
+        requires block { block_length (statement_of found.now.part.statement)
+            ≤ length found.now.inside.now }
+        ensures { places_of result ≡ places_by (end_of self.now) (statement_of found.now.part.statement)
+            found.now.from.now found.now.inside.now }
+    {
+        let block = self.end - found.inside.len();
+        Places {
+            start: self.end - found.from.len(),
+            prelude: self.end - prelude_from(found).len(),
+            block,
+            block_end: block + block_len(&found.part.statement),
+        }
+    }
+
     /// Leaves the innermost group rule, at its end.
     fn leave(&mut self) -> Step<'a>
         requires { next_statement (is_inside self.old) (left_of self.old) ≡ None }
@@ -52,6 +114,7 @@ impl<'a> SheetReader<'a> {
         match self.levels.pop() {
             Some(level) => {
                 self.rest = level.after;
+                self.end = level.after_end;
                 Step::Moved
             }
             None => Step::Ended,
@@ -65,18 +128,23 @@ impl<'a> SheetReader<'a> {
         let Some(found) = read_next(self.rest, !self.levels.is_empty()) else {
             return Ok(self.leave());
         };
+        let places = self.find(&found);
         match group_of(&found.part.statement) {
             Some(group) if self.levels.len() < DEEPEST => {
                 self.levels.push(Level {
                     name: group.name,
                     prelude: group.prelude,
                     after: found.rest,
+                    after_end: self.end,
+                    places,
                 })?;
                 self.rest = group.text;
+                self.end = places.block + group.text.len();
                 Ok(Step::Moved)
             }
             _ => {
                 self.rest = found.rest;
+                self.places = places;
                 Ok(Step::Found(found.part))
             }
         }

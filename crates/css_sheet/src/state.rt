@@ -1,5 +1,5 @@
 //! The state of a reader of sheets.
-ghost use Rattle.std.specs.Prelude.{◌≤◌, vec_len};
+ghost use Rattle.std.specs.Prelude.{◌≤◌, ◌<◌, ◌^◌, length, vec_len};
 
 /// A group rule that is open.
 #[derive(Clone, Copy, Debug, PartialEq)]
@@ -10,6 +10,28 @@ pub struct Level<'a> {
     pub prelude: &'a str,
     /// The text after it.
     pub after: &'a str,
+    /// The offset in the sheet at which the text after it ends.
+    pub after_end: usize,
+    /// Where it is in the sheet.
+    pub places: Places,
+    ghost within: { length after.now ≤ after_end },
+    ghost few: { after_end < 2 ^ 63 },
+}
+
+/// Where an item or a group rule is: offsets in the sheet, in bytes.
+#[derive(Clone, Copy, Debug, PartialEq)]
+pub struct Places {
+    /// The first byte.
+    pub start: usize,
+    /// The first byte of the prelude.
+    pub prelude: usize,
+    /// The first byte of the contents of the block, if the item has one.
+    pub block: usize,
+    /// The byte after these contents.
+    pub block_end: usize,
+    ghost start_short: { start < 2 ^ 63 },
+    ghost prelude_short: { prelude < 2 ^ 63 },
+    ghost block_short: { block_end < 2 ^ 63 },
 }
 
 /// Reads the statements of a sheet, and those of the blocks of its group rules, in source order.
@@ -21,5 +43,11 @@ pub struct SheetReader<'a> {
     pub(crate) levels: Vec<Level<'a>>,
     /// What is left of the innermost.
     pub(crate) rest: &'a str,
+    /// The offset in the sheet at which it ends.
+    pub(crate) end: usize,
+    /// Where the item is that was read last.
+    pub(crate) places: Places,
+    ghost within: { length rest.now ≤ end },
+    ghost short: { end < 2 ^ 63 },
     ghost few: { vec_len levels ≤ 64 },
 }

@@ -8,3 +8,6 @@ pub mod ListSteps
 pub mod AllCutUp
 pub mod Vectors
 pub mod RunSteps
+pub mod Decoding
+pub mod PlacedSteps
+pub mod PlaceBounds

@@ -1,6 +1,6 @@
 -- Words and gaps that are skipped in runs of bytes.
 -- Serves `tokens::{skip_word, skip_gap, skip_token}`.
-use Rattle.std.proofs.Common.{◌≡◌, ℕ, ◌<◌, Bool, true, false, List, [], ◌∷◌, length, Some, None, arith, refl, ◌∙◌, ◌==◌, ◌&&◌, ◌||◌, not, eqb-true, if◌then◌else◌, ap}
+use Rattle.std.proofs.Common.{◌≡◌, ℕ, ◌<◌, Bool, true, false, List, [], ◌∷◌, length, Some, None, arith, refl, ◌∙◌, ◌==◌, ◌&&◌, ◌||◌, not, eqb-true, ap}
 use Rattle.simplecss_text.specs.Reading.{each}
 use Rattle.simplecss_text.specs.Bytes.{past, past_one, starts_by}
 use Rattle.simplecss_text.specs.Characters.{is_space}

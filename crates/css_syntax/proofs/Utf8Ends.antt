@@ -1,7 +1,7 @@
 -- What is left after each reader is an end of the text, and UTF-8 if the text is: so all slices of
 -- a text are texts.
 -- Serves `texts::read_text_value`.
-use Rattle.std.proofs.Common.{◌≡◌, ℕ, zero, suc, ◌<◌, ◌==◌, ◌||◌, ◌&&◌, Bool, true, false, List, [], ◌∷◌, ◌++◌, drop, Option, Some, None, arith, refl, sym, subst, if◌then◌else◌, eqb-true, IsUtf8, not}
+use Rattle.std.proofs.Common.{◌≡◌, ℕ, zero, suc, ◌<◌, ◌==◌, ◌||◌, ◌&&◌, Bool, true, false, List, [], ◌∷◌, ◌++◌, drop, Option, Some, None, arith, refl, sym, subst, ap, ◌∙◌, if◌then◌else◌, eqb-true, IsUtf8, not}
 use Rattle.std.proofs.lemmas.Bool.Decides.{nat_tests}
 use Rattle.simplecss_text.specs.AsciiBytes.{open_parenthesis, newline, carriage_return, number_sign, at_sign, slash, close_parenthesis, backslash}
 use Rattle.simplecss_text.specs.Reading.{each, before, Ends}
@@ -403,3 +403,53 @@ gap_part-well (b ∷ text) = by (is_space b) refl
 
 pub gap-well : (text : List ℕ) → EndsWell text (past_gap text)
 gap-well text = each-well gap_part gap_part-well text
+
+-- ---- escaped digits
+
+hex-ascii : (b : ℕ) → is_hex_digit b ≡ true → b < 128
+hex-ascii b e = grind (arith, nat_tests)
+
+hex-well : (n : ℕ) (text : List ℕ) → EndsWell text (past_hex n text)
+hex-well zero text = well-same text
+hex-well (suc n) [] = well-same []
+hex-well (suc n) (b ∷ text) = by (hex-well n text) (is_hex_digit b) refl
+  where
+    by : EndsWell text (past_hex n text) → (t : Bool) → is_hex_digit b ≡ t
+        → EndsWell (b ∷ text) (past_hex (suc n) (b ∷ text))
+    by more true e =
+        rw e (well-then (b ∷ text) text (past_hex n text) (well-tail b text (hex-ascii b e)) more)
+    by more false e = rw e (well-same (b ∷ text))
+
+unspaced : (b : ℕ) (text : List ℕ) → (b == carriage_return) ≡ false
+    → past_one_space (b ∷ text) ≡ (if is_space b then text else b ∷ text)
+unspaced b text e =
+    ap (λ (s : Bool). if s then past_byte newline text else (if is_space b then text else b ∷ text))
+    e
+
+one_space-well : (text : List ℕ) → EndsWell text (past_one_space text)
+one_space-well [] = well-same []
+one_space-well (b ∷ text) = by (b == carriage_return) (is_space b) refl refl
+  where
+    by : (s t : Bool) → (b == carriage_return) ≡ s → is_space b ≡ t
+        → EndsWell (b ∷ text) (past_one_space (b ∷ text))
+    by true t e f =
+        let low : b < 128 = omega (arith, eqb-true b carriage_return e) in
+        rw e (well-then (b ∷ text) text (past_byte newline text) (well-tail b text low)
+        (well-past_byte newline text (omega arith)))
+    by false true e f =
+        subst (EndsWell (b ∷ text))
+        (sym (unspaced b text e ∙ ap (λ (s : Bool). if s then text else b ∷ text) f))
+        (well-tail b text (space-ascii b f))
+    by false false e f =
+        subst (EndsWell (b ∷ text))
+        (sym (unspaced b text e ∙ ap (λ (s : Bool). if s then text else b ∷ text) f))
+        (well-same (b ∷ text))
+
+pub digits-well : (text : List ℕ) → starts_by is_hex_digit text ≡ true
+    → EndsWell text (past_escape text)
+unfolding past_escape
+digits-well [] e = absurd (cc)
+digits-well (b ∷ text) e =
+    rw e (well-then (b ∷ text) text (past_one_space (past_hex 5 text))
+    (well-tail b text (hex-ascii b e)) (well-then text (past_hex 5 text)
+    (past_one_space (past_hex 5 text)) (hex-well 5 text) (one_space-well (past_hex 5 text))))

@@ -3,7 +3,10 @@ pub mod Tokens
 pub mod ComponentValues
 pub mod Parts
 pub mod Statements
+pub mod Contents
 pub mod DeclarationLists
+pub mod Escapes
+pub mod Placed
 pub mod Views
 pub mod ListReaders
 pub mod internal

@@ -1,6 +1,6 @@
 //! The declarations of a block or of a style attribute, each on its own (CSS Syntax 3, sections
 //! 5.4.5 and 5.4.6).
-ghost use Rattle.std.specs.Prelude.{◌≡◌, codes, option_map, true, false};
+ghost use Rattle.std.specs.Prelude.{◌≡◌, codes, option_map, true, false, IfSome};
 ghost use Rattle.std.specs.Str.{str_eq_ignore_ascii_case};
 ghost use Rattle.css_syntax.specs.DeclarationLists.{value, important_word, importance};
 ghost use Rattle.css_syntax.specs.DeclarationLists.{past_broken as past_broken_of};
@@ -16,6 +16,7 @@ ghost use Rattle.css_syntax.specs.DeclarationLists.{separator_part as separator_
 ghost use Rattle.css_syntax.specs.DeclarationLists.{past_separators as past_separators_of};
 ghost use Rattle.css_syntax.specs.DeclarationLists.{next_item};
 ghost use Rattle.css_syntax.specs.DeclarationLists.{declaration_ends as declaration_ends_of};
+ghost use Rattle.css_syntax.specs.Contents.{item_contents};
 ghost use Rattle.css_syntax.specs.Views.{parts_of, item_of, list_part_of};
 
 use crate::parts::{Parts, Stops, ends_at, read_parts};
@@ -65,11 +66,24 @@ struct FoundItem<'a> {
     rest: &'a str,
 }
 
+/// An item, and what is left from the contents of its block on, if it is an at-rule with one.
+#[derive(Clone, Copy)]
+struct OpenedItem<'a> {
+    found: FoundItem<'a>,
+    inside: &'a str,
+}
+
 /// A part of a list and the rest after it.
 #[derive(Clone, Copy)]
-struct FoundPart<'a> {
-    part: ListPart<'a>,
-    rest: &'a str,
+pub struct FoundPart<'a> {
+    /// The part.
+    pub part: ListPart<'a>,
+    /// What is left from the part on.
+    pub from: &'a str,
+    /// What is left from the contents of the block of an at-rule on, if it has one.
+    pub inside: &'a str,
+    /// The rest.
+    pub rest: &'a str,
 }
 
 /// Whether a declaration is important, and the rest.
@@ -259,17 +273,25 @@ fn read_declaration(text: &str, in_block: bool) -> FoundItem<'_>
 
 /// Reads an item, from its start on.
 #[tactic(auto, unfolding(crate::specs::DeclarationLists::item))]
-fn read_item(text: &str, in_block: bool) -> FoundItem<'_>
-    ensures { item_read in_block text.now ≡ (item_of result.item, result.rest.now) }
+fn read_item(text: &str, in_block: bool) -> OpenedItem<'_>
+    ensures read { item_read in_block text.now
+        ≡ (item_of result.found.item, result.found.rest.now) }
+    ensures inside { result.inside.now ≡ item_contents in_block text.now }
 {
     if begins_at_rule(text.as_bytes()) {
-        let found = read_at_rule(text, in_block);
-        FoundItem {
-            item: Item::AtRule(found.at_rule),
-            rest: found.rest,
+        let read = read_at_rule(text, in_block);
+        OpenedItem {
+            found: FoundItem {
+                item: Item::AtRule(read.at_rule),
+                rest: read.rest,
+            },
+            inside: read.inside,
         }
     } else {
-        read_declaration(text, in_block)
+        OpenedItem {
+            found: read_declaration(text, in_block),
+            inside: text,
+        }
     }
 }
 
@@ -309,23 +331,28 @@ fn past_separators(text: &str) -> &str
     &text[text.len() - rest.len()..]
 }
 
-/// Reads the next item, after what is before it.
+/// Reads the next item, after what is before it. In a block, its closing brace ends the items.
 #[tactic(auto, unfolding(crate::specs::DeclarationLists::next_item))]
-fn read_part(text: &str, in_block: bool) -> Option<FoundPart<'_>>
-    ensures { next_item in_block text.now
+pub fn read_part(text: &str, in_block: bool) -> Option<FoundPart<'_>>
+    ensures read { next_item in_block text.now
         ≡ option_map (λ found. (list_part_of found.part, found.rest.now)) result }
+    ensures from { IfSome result (λ found. found.from.now ≡ past_separators_of text.now) }
+    ensures inside { IfSome result (λ found.
+        found.inside.now ≡ item_contents in_block (past_separators_of text.now)) }
 {
-    let start = past_separators(text);
-    if ends_block(start.as_bytes(), in_block) {
+    let from = past_separators(text);
+    if ends_block(from.as_bytes(), in_block) {
         return None;
     }
-    let found = read_item(start, in_block);
+    let read = read_item(from, in_block);
     Some(FoundPart {
         part: ListPart {
-            text: front(start, found.rest),
-            item: found.item,
+            text: front(from, read.found.rest),
+            item: read.found.item,
         },
-        rest: found.rest,
+        from,
+        inside: read.inside,
+        rest: read.found.rest,
     })
 }
 

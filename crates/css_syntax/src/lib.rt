@@ -9,13 +9,16 @@
 
 pub mod component_values;
 pub mod declarations;
+pub mod escapes;
 pub mod laws;
 pub mod parts;
+pub mod places;
 pub mod quality;
 pub mod statements;
 pub mod texts;
 pub mod tokens;
 
 pub use declarations::{Declaration, Declarations, Item, ListPart};
+pub use escapes::decode;
 pub use quality::{Fault, Quality};
 pub use statements::{AtRule, Block, Prelude, RuleSet, SheetPart, Statement, Statements};

@@ -1,6 +1,6 @@
 //! The statements of a sheet, or of the block of an at-rule (CSS Syntax 3, sections 5.4.1 to
 //! 5.4.3).
-ghost use Rattle.std.specs.Prelude.{◌≡◌, option_map, true, false};
+ghost use Rattle.std.specs.Prelude.{◌≡◌, option_map, true, false, IfSome};
 ghost use Rattle.simplecss_text.specs.Reading.{before};
 ghost use Rattle.css_syntax.specs.Parts.{Stated};
 ghost use Rattle.css_syntax.specs.Statements.{begins_name_byte as begins_name_byte_of};
@@ -14,6 +14,9 @@ ghost use Rattle.css_syntax.specs.Statements.{begins_cdc as begins_cdc_of};
 ghost use Rattle.css_syntax.specs.Statements.{between_part as between_part_of};
 ghost use Rattle.css_syntax.specs.Statements.{past_between as past_between_of};
 ghost use Rattle.css_syntax.specs.Statements.{ends_block as ends_block_of, next_statement};
+ghost use Rattle.css_syntax.specs.Tokens.{past_gap as past_gap_of};
+ghost use Rattle.css_syntax.specs.Contents.{contents_after, at_rule_contents};
+ghost use Rattle.css_syntax.specs.Contents.{statement_contents};
 ghost use Rattle.css_syntax.specs.Views.{parts_of, block_of, at_rule_of, statement_of};
 ghost use Rattle.css_syntax.specs.Views.{sheet_part_of};
 
@@ -85,6 +88,8 @@ pub struct SheetPart<'a> {
 #[derive(Clone, Copy)]
 struct FoundBlock<'a> {
     block: Block<'a>,
+    /// What is left from the contents on.
+    inside: &'a str,
     rest: &'a str,
 }
 
@@ -93,6 +98,8 @@ struct FoundBlock<'a> {
 pub struct FoundAtRule<'a> {
     /// The at-rule.
     pub at_rule: AtRule<'a>,
+    /// What is left from the contents of its block on, if it has one.
+    pub inside: &'a str,
     /// The rest.
     pub rest: &'a str,
 }
@@ -101,6 +108,7 @@ pub struct FoundAtRule<'a> {
 #[derive(Clone, Copy)]
 struct FoundStatement<'a> {
     statement: Statement<'a>,
+    inside: &'a str,
     rest: &'a str,
 }
 
@@ -109,6 +117,10 @@ struct FoundStatement<'a> {
 pub struct FoundPart<'a> {
     /// The part.
     pub part: SheetPart<'a>,
+    /// What is left from the part on.
+    pub from: &'a str,
+    /// What is left from the contents of its block on, if it has one.
+    pub inside: &'a str,
     /// The rest.
     pub rest: &'a str,
 }
@@ -160,7 +172,8 @@ fn prelude_from<'a>(parts: &Parts<'a>) -> Prelude<'a>
 /// Reads a block after its opening brace.
 #[tactic(auto, unfolding(crate::specs::Statements::block))]
 fn read_block(text: &str) -> FoundBlock<'_>
-    ensures { block_read text.now ≡ (block_of result.block, result.rest.now) }
+    ensures read { block_read text.now ≡ (block_of result.block, result.rest.now) }
+    ensures inside { result.inside.now ≡ past_gap_of text.now }
 {
     let stops = Stops {
         semicolon: false,
@@ -169,20 +182,23 @@ fn read_block(text: &str) -> FoundBlock<'_>
         comma: false,
         in_value: false,
     };
-    let inside = read_parts(stops, past_gap(text));
+    let inside = past_gap(text);
+    let contents = read_parts(stops, inside);
     FoundBlock {
         block: Block {
-            text: inside.text,
-            closed: readers::starts(inside.rest, b'}'),
+            text: contents.text,
+            closed: readers::starts(contents.rest, b'}'),
         },
-        rest: past_byte(inside.rest, b'}'),
+        inside,
+        rest: past_byte(contents.rest, b'}'),
     }
 }
 
 /// Ends an at-rule by what follows its prelude.
 fn end_at_rule<'a>(name: &'a str, parts: Parts<'a>) -> FoundAtRule<'a>
-    ensures { at_rule_ended name.now (parts_of parts.entry) parts.entry.rest.now
+    ensures read { at_rule_ended name.now (parts_of parts.entry) parts.entry.rest.now
         ≡ (at_rule_of result.at_rule, result.rest.now) }
+    ensures inside { result.inside.now ≡ contents_after parts.entry.rest.now }
 {
     let prelude = prelude_from(&parts);
     if readers::starts(parts.rest, b'{') {
@@ -193,6 +209,7 @@ fn end_at_rule<'a>(name: &'a str, parts: Parts<'a>) -> FoundAtRule<'a>
                 prelude,
                 block: Some(found.block),
             },
+            inside: found.inside,
             rest: found.rest,
         }
     } else {
@@ -202,6 +219,7 @@ fn end_at_rule<'a>(name: &'a str, parts: Parts<'a>) -> FoundAtRule<'a>
                 prelude,
                 block: None,
             },
+            inside: parts.rest,
             rest: past_byte(parts.rest, b';'),
         }
     }
@@ -210,7 +228,8 @@ fn end_at_rule<'a>(name: &'a str, parts: Parts<'a>) -> FoundAtRule<'a>
 /// Reads an at-rule, from its `@` on. Within a block, the closing brace of the block ends it, too.
 #[tactic(auto, using(crate::proofs::PartTexts::word_ends), unfolding(crate::specs::Statements::at_rule))]
 pub fn read_at_rule(text: &str, in_block: bool) -> FoundAtRule<'_>
-    ensures { at_rule_read in_block text.now ≡ (at_rule_of result.at_rule, result.rest.now) }
+    ensures read { at_rule_read in_block text.now ≡ (at_rule_of result.at_rule, result.rest.now) }
+    ensures inside { result.inside.now ≡ at_rule_contents in_block text.now }
 {
     let start = past_byte(text, b'@');
     let after = past_word(start);
@@ -227,8 +246,9 @@ pub fn read_at_rule(text: &str, in_block: bool) -> FoundAtRule<'_>
 
 /// Ends a rule set by what follows its prelude.
 fn end_rule_set(parts: Parts<'_>) -> FoundStatement<'_>
-    ensures { rule_set_ended (parts_of parts.entry) parts.entry.rest.now
+    ensures read { rule_set_ended (parts_of parts.entry) parts.entry.rest.now
         ≡ (statement_of result.statement, result.rest.now) }
+    ensures inside { result.inside.now ≡ contents_after parts.entry.rest.now }
 {
     if readers::starts(parts.rest, b'{') {
         let found = read_block(past_byte(parts.rest, b'{'));
@@ -237,11 +257,13 @@ fn end_rule_set(parts: Parts<'_>) -> FoundStatement<'_>
                 prelude: prelude_from(&parts),
                 block: found.block,
             }),
+            inside: found.inside,
             rest: found.rest,
         }
     } else {
         FoundStatement {
             statement: Statement::Skipped(Fault::NoBlock),
+            inside: parts.rest,
             rest: parts.rest,
         }
     }
@@ -250,12 +272,15 @@ fn end_rule_set(parts: Parts<'_>) -> FoundStatement<'_>
 /// Reads a statement, from its start on.
 #[tactic(auto, unfolding(crate::specs::Statements::statement))]
 fn read_statement(text: &str, in_block: bool) -> FoundStatement<'_>
-    ensures { statement_read in_block text.now ≡ (statement_of result.statement, result.rest.now) }
+    ensures read { statement_read in_block text.now
+        ≡ (statement_of result.statement, result.rest.now) }
+    ensures inside { result.inside.now ≡ statement_contents in_block text.now }
 {
     if begins_at_rule(text.as_bytes()) {
         let found = read_at_rule(text, in_block);
         return FoundStatement {
             statement: Statement::AtRule(found.at_rule),
+            inside: found.inside,
             rest: found.rest,
         };
     }
@@ -324,19 +349,24 @@ pub fn ends_block(bytes: &[u8], in_block: bool) -> bool
 /// Reads the next statement, after what is before it.
 #[tactic(auto, unfolding(crate::specs::Statements::next_statement))]
 pub fn read_next(text: &str, in_block: bool) -> Option<FoundPart<'_>>
-    ensures { next_statement in_block text.now
+    ensures read { next_statement in_block text.now
         ≡ option_map (λ found. (sheet_part_of found.part, found.rest.now)) result }
+    ensures from { IfSome result (λ found. found.from.now ≡ past_between_of in_block text.now) }
+    ensures inside { IfSome result (λ found.
+        found.inside.now ≡ statement_contents in_block (past_between_of in_block text.now)) }
 {
-    let start = past_between(text, in_block);
-    if ends_block(start.as_bytes(), in_block) {
+    let from = past_between(text, in_block);
+    if ends_block(from.as_bytes(), in_block) {
         return None;
     }
-    let found = read_statement(start, in_block);
+    let found = read_statement(from, in_block);
     Some(FoundPart {
         part: SheetPart {
-            text: front(start, found.rest),
+            text: front(from, found.rest),
             statement: found.statement,
         },
+        from,
+        inside: found.inside,
         rest: found.rest,
     })
 }

@@ -87,7 +87,7 @@ fn is_space(byte: u8) -> bool
 }
 
 /// Whether the byte is a line feed, a carriage return or a form feed.
-fn is_newline(byte: u8) -> bool
+pub(crate) fn is_newline(byte: u8) -> bool
     ensures { result ≡ is_newline_byte byte }
 {
     matches!(byte, b'\n' | b'\r' | b'\x0C')
@@ -130,7 +130,7 @@ fn skip_one_space(bytes: &[u8]) -> &[u8]
 }
 
 /// Whether the byte is a hexadecimal digit.
-fn is_hex_digit(byte: u8) -> bool
+pub(crate) fn is_hex_digit(byte: u8) -> bool
     ensures { result ≡ is_hex byte }
 {
     byte.is_ascii_hexdigit()
@@ -154,7 +154,7 @@ fn skip_hex(bytes: &[u8], n: usize) -> &[u8]
 
 /// Skips what a backslash escapes.
 #[tactic(auto, unfolding(crate::specs::Tokens::past_escape))]
-fn skip_escape(bytes: &[u8]) -> &[u8]
+pub(crate) fn skip_escape(bytes: &[u8]) -> &[u8]
     ensures { result.now ≡ past_escape bytes.now }
 {
     match bytes {
@@ -365,7 +365,7 @@ fn hex_value(byte: u8) -> u32
 }
 
 /// Returns the number of the hexadecimal digits at the start, at most six.
-fn hex_number(bytes: &[u8]) -> u32
+pub(crate) fn hex_number(bytes: &[u8]) -> u32
     ensures { result ≡ hex_number_of 6 0 bytes.now }
 {
     let mut rest = bytes;

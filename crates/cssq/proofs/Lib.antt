@@ -10,3 +10,4 @@ pub mod Indexed
 pub mod Among
 pub mod ListedIndices
 pub mod Walking
+pub mod DecimalDigits

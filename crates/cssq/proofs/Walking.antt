@@ -3,6 +3,9 @@
 use Rattle.std.proofs.Common.{◌≡◌, ℕ, ◌+◌, ◌<◌, ◌≤◌, List, [], Option, None, Some, IfSome, Bool, true, false, length, refl, sym, ap, ◌∙◌, subst, arith, eqb, MatchOption}
 use Rattle.std.specs.Option.{option_map, option_eq}
 use Rattle.std.proofs.lemmas.Bool.{false≢true, eqb-true}
+use Rattle.simplecss.specs.Components.{Component}
+use Rattle.simplecss.specs.Matching.{AreMatches}
+use Rattle.simplecss.proofs.Adding.{contains_none}
 use Rattle.simplecss.specs.OpenPaths.{Path, IsOpenTo, AreOpened, left}
 use Rattle.simplecss.proofs.OpenPathLemmas.{path_left}
 use Rattle.cssq_page.specs.ParentsAndSiblings.{depths_of, parent_index}
@@ -66,3 +69,15 @@ pub node_is : (rows : List Row) (index : ℕ) (found : Option Spot) (node : Spot
     → node ≡ spot rows index
 node_is rows index None node is h = absurd (cc)
 node_is rows index (Some n) node is h = let same : n ≡ node = cc in sym same ∙ h.1
+
+-- without selectors none matches
+pub none_match : (selectors : List (List Component)) (element : Spot) (indices : List ℕ)
+    → length selectors ≡ 0 → indices ≡ [] → AreMatches page_tree element selectors indices
+none_match selectors element indices none empty =
+    subst (AreMatches page_tree element selectors) (sym empty) (record {
+      ascending = λ k lt. absurd (omega (arith, lt));
+      exactly = λ index. (
+        λ c. absurd (contains_none index c),
+        λ h. let lt = h.0 in absurd (omega (arith, lt, none)),
+      );
+    })

@@ -4,6 +4,7 @@
 
 pub mod cascade;
 pub mod command;
+mod digits;
 pub mod laws;
 pub mod runs;
 mod walk;

@@ -1,7 +1,7 @@
 //! What the program's commands do, over any writer.
 
 ghost use Rattle.std.specs.Prelude.{◌≡◌, ◌+◌, ◌^◌, ◌<◌, ◌++◌, Some, All, OnOk, OnErr, IfErr, IfOk, Ok};
-ghost use Rattle.std.specs.Prelude.{ℕ, List, [], ◌∷◌, length, map, string_bytes, decimal};
+ghost use Rattle.std.specs.Prelude.{ℕ, List, [], ◌∷◌, length, map, string_bytes};
 ghost use Rattle.std.specs.List.{flat_map};
 ghost use Rattle.std.specs.Option.{option_map};
 ghost use Rattle.std.specs.Fmt.{WritesStyledOnOk};
@@ -21,6 +21,7 @@ ghost use Rattle.simplecss.specs.ThisEdition.{this_edition};
 ghost use Rattle.simplecss.specs.RuleViews.{rules_of, rules_in};
 
 use crate::cascade::winning_among;
+use crate::digits::push_number;
 use crate::walk::Walk;
 use cssq_page::tree::{Node, Page, TreeFault};
 use log::Log;
@@ -208,15 +209,6 @@ pub fn run_sheet<R: Log, W: Write>(
         Ok(()) => write_sheet(alloc, &sheet, out),
         Err(_) => Err(RunFault::Memory),
     }
-}
-
-/// Adds the digits of a number.
-#[inline(always)]
-fn push_number(out: &mut String, number: usize) -> Result<(), AllocError>
-    ensures { OnOk result (string_bytes out.new ≡ string_bytes out.old ++ decimal number) }
-{
-    write!(out, "{number}")?;
-    Ok(())
 }
 
 /// Adds the line of an element: its number, and the numbers of the rules with these indices.

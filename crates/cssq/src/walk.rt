@@ -72,7 +72,8 @@ impl<'a> Walk<'a> {
         Ok(())
     }
 
-    /// Finds the indices of the rules that match the element, as `RuleIndex::matching` does.
+    /// Finds the indices of the rules that match the element, as `RuleIndex::matching` does. Without
+    /// rules it does not move.
     pub(crate) fn matching(
         &mut self,
         index: &RuleIndex<'a>,
@@ -90,6 +91,10 @@ impl<'a> Walk<'a> {
         ensures walk { OnOk result (IsWalkOf page.now self.new) }
         ensures index { OnOk result (self.new.path.selectors ≡ self.old.path.selectors) }
     {
+        if rules.is_empty() {
+            indices.clear();
+            return Ok(());
+        }
         self.move_to(index, page, element)?;
         let node = page.node(element).unwrap();
         if self.place == page.parent(element) {

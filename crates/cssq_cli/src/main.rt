@@ -19,7 +19,7 @@ use output::Output;
 use simplecss::{Reading, SheetError, StyleSheet};
 use std::process::ExitCode;
 use std::{env, mem};
-use trees::{has_crlf, reason_of};
+use trees::{fault_of_line, has_crlf};
 use warnings::{SheetWarnings, warn_of_selector};
 
 /// Returns the words of the command line, the program's name the first of them.
@@ -160,8 +160,8 @@ fn warn_of_tree(rt: &HostRuntime, name: &str, text: &str, outcome: &Result<(), R
         let _ = eprintln!(rt; "{name}: lines end in CR LF; the CR belongs to the last field");
     }
     if let Err(RunFault::Tree(fault)) = outcome {
-        let reason = reason_of(rt.alloc(), text, *fault);
-        let _ = eprintln!(rt; "{name}:{}: {reason}", fault.line());
+        let found = fault_of_line(rt.alloc(), text, *fault);
+        let _ = eprintln!(rt; "{name}:{}: {found}", fault.line());
     }
 }
 

@@ -6,7 +6,7 @@ use std::fmt;
 
 /// What is wrong with a line of a tree, with the field.
 #[derive(Clone, Copy, Debug, PartialEq)]
-pub enum Reason<'t> {
+pub enum LineFault<'t> {
     /// The line is empty.
     EmptyLine,
     /// A byte order mark is before the depth.
@@ -33,64 +33,64 @@ pub enum Reason<'t> {
     Memory,
 }
 
-/// Prints the reason without the name of the tree and the line.
-impl fmt::Display for Reason<'_> {
+/// Prints the fault without the name of the tree and the line.
+impl fmt::Display for LineFault<'_> {
     fn fmt<W: fmt::Write>(&self, f: &mut fmt::Formatter<W>) -> fmt::Result {
         match *self {
-            Reason::EmptyLine => f.write_str("the line is empty"),
-            Reason::ByteOrderMark => f.write_str("a byte order mark is before the depth"),
-            Reason::NoNumber(field) => {
+            LineFault::EmptyLine => f.write_str("the line is empty"),
+            LineFault::ByteOrderMark => f.write_str("a byte order mark is before the depth"),
+            LineFault::NoNumber(field) => {
                 write!(
                     f,
                     "the depth '{field}' is no number (a TAB belongs after it)"
                 )
             }
-            Reason::LeadingZero(field) => write!(f, "the depth '{field}' begins with a zero"),
-            Reason::FirstDepth(field) => {
+            LineFault::LeadingZero(field) => write!(f, "the depth '{field}' begins with a zero"),
+            LineFault::FirstDepth(field) => {
                 write!(
                     f,
                     "the depth '{field}' is not 0, as that of the first line is"
                 )
             }
-            Reason::TooDeep(field, above) => {
+            LineFault::TooDeep(field, above) => {
                 write!(
                     f,
                     "the depth '{field}' is more than one deeper than '{above}'"
                 )
             }
-            Reason::NoName(field) => {
+            LineFault::NoName(field) => {
                 write!(
                     f,
                     "no name follows the depth '{field}' (a TAB belongs between them)"
                 )
             }
-            Reason::EmptyName => f.write_str("the name is empty"),
-            Reason::EmptyField => f.write_str(
+            LineFault::EmptyName => f.write_str("the name is empty"),
+            LineFault::EmptyField => f.write_str(
                 "an attribute is empty (two TABs, or one at the end)",
             ),
-            Reason::NoEquals(field) => write!(f, "the attribute '{field}' has no '='"),
-            Reason::RepeatedKey(key) => write!(f, "the key '{key}' comes a second time"),
-            Reason::Memory => f.write_str("an allocation failed"),
+            LineFault::NoEquals(field) => write!(f, "the attribute '{field}' has no '='"),
+            LineFault::RepeatedKey(key) => write!(f, "the key '{key}' comes a second time"),
+            LineFault::Memory => f.write_str("an allocation failed"),
         }
     }
 }
 
-/// Returns the reason of a fault of the tree's text, for the line that the fault names.
-pub fn reason_of(alloc: Global, text: &str, fault: TreeFault) -> Reason<'_> {
+/// Returns what is wrong with the line that a fault of the tree's text names.
+pub fn fault_of_line(alloc: Global, text: &str, fault: TreeFault) -> LineFault<'_> {
     let number = fault.line();
     let line = line_at(text, number);
     match fault {
-        TreeFault::BadDepth(_) => reason_of_depth(text, number, line),
+        TreeFault::BadDepth(_) => fault_of_depth(text, number, line),
         TreeFault::EmptyName(_) => match line.split_once('\t') {
-            Some(_) => Reason::EmptyName,
-            None => Reason::NoName(shown(line)),
+            Some(_) => LineFault::EmptyName,
+            None => LineFault::NoName(shown(line)),
         },
-        TreeFault::NoEquals(_) => reason_of_field(line),
+        TreeFault::NoEquals(_) => fault_of_field(line),
         TreeFault::RepeatedKey(_) => match repeated_key(alloc, line) {
-            Ok(key) => Reason::RepeatedKey(key),
-            Err(_) => Reason::Memory,
+            Ok(key) => LineFault::RepeatedKey(key),
+            Err(_) => LineFault::Memory,
         },
-        TreeFault::Memory(_) => Reason::Memory,
+        TreeFault::Memory(_) => LineFault::Memory,
     }
 }
 
@@ -118,29 +118,29 @@ fn shown(field: &str) -> &str {
 }
 
 /// Returns what is wrong with the depth of a line, which has a number.
-fn reason_of_depth<'t>(text: &'t str, number: usize, line: &'t str) -> Reason<'t> {
+fn fault_of_depth<'t>(text: &'t str, number: usize, line: &'t str) -> LineFault<'t> {
     let field = shown(depth_of(line));
     if shown(line).is_empty() {
-        Reason::EmptyLine
+        LineFault::EmptyLine
     } else if field.starts_with('\u{feff}') {
-        Reason::ByteOrderMark
+        LineFault::ByteOrderMark
     } else if field.is_empty() || !field.bytes().all(|byte| byte.is_ascii_digit()) {
-        Reason::NoNumber(field)
+        LineFault::NoNumber(field)
     } else if field.starts_with('0') && field != "0" {
-        Reason::LeadingZero(field)
+        LineFault::LeadingZero(field)
     } else if number <= 1 {
-        Reason::FirstDepth(field)
+        LineFault::FirstDepth(field)
     } else {
-        Reason::TooDeep(field, depth_of(line_at(text, number.saturating_sub(1))))
+        LineFault::TooDeep(field, depth_of(line_at(text, number.saturating_sub(1))))
     }
 }
 
 /// Returns what is wrong with the first attribute of a line that has no `=`.
-fn reason_of_field(line: &str) -> Reason<'_> {
+fn fault_of_field(line: &str) -> LineFault<'_> {
     let field = line.split('\t').skip(2).find(|field| !field.contains('='));
     match shown(field.unwrap_or("")) {
-        "" => Reason::EmptyField,
-        field => Reason::NoEquals(field),
+        "" => LineFault::EmptyField,
+        field => LineFault::NoEquals(field),
     }
 }
 

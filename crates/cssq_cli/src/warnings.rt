@@ -1,7 +1,8 @@
 //! Warnings on standard error: a line each, with the name of the text, the row and the column.
-use simplecss::stream::Stream;
-use simplecss::{Kept, Refusal, Report, Selector, Skipped, TextPos, Why, refused_pos};
-use simplecss_faults::{FaultLines, Surprise, open_parenthesis};
+use simplecss::{
+    HintKind, Kept, Place, Refusal, Report, Selector, Skipped, SkippedLines, Why, open_parenthesis,
+    refused_pos,
+};
 use std::alloc::AllocError;
 use std::io;
 use std::io::{BufWriter, Stderr, Write};
@@ -11,7 +12,7 @@ use std::io::{BufWriter, Stderr, Write};
 #[derive(Debug, Drop)]
 pub struct SheetWarnings<'n, 'a, W: Write> {
     /// Writes the lines.
-    lines: FaultLines<'n, 'a, W>,
+    lines: SkippedLines<'n, 'a, W>,
 }
 
 impl<'n, 'a> SheetWarnings<'n, 'a, BufWriter<Stderr>> {
@@ -19,7 +20,7 @@ impl<'n, 'a> SheetWarnings<'n, 'a, BufWriter<Stderr>> {
     pub fn new(rt: &HostRuntime, names: &'n [&'n str]) -> io::Result<Self> {
         let out = BufWriter::new(rt.alloc(), rt.stderr())?;
         Ok(SheetWarnings {
-            lines: FaultLines::new(out, names),
+            lines: SkippedLines::new(out, names),
         })
     }
 }
@@ -44,7 +45,7 @@ impl<'n, 'a, W: Write> Report<'a> for SheetWarnings<'n, 'a, W> {
     fn begin(&mut self, text: &'a str) {
         self.lines.begin(text);
         if text.starts_with('\u{feff}') {
-            self.lines.write_line(text, &Surprise::ByteOrderMark);
+            self.lines.write_line(text, &HintKind::ByteOrderMark);
         }
     }
 
@@ -52,29 +53,12 @@ impl<'n, 'a, W: Write> Report<'a> for SheetWarnings<'n, 'a, W> {
     fn declared(&mut self, from: &'a str, value: &'a str) {
         if let Some(stated) = open_parenthesis(from, value) {
             self.lines
-                .write_line(stated, &Surprise::OpenParenthesis(value));
+                .write_line(stated, &HintKind::OpenParenthesis(value));
         }
     }
 
     fn report(&mut self, skipped: Skipped<'a>) -> Result<(), AllocError> {
         self.lines.report(skipped)
-    }
-}
-
-/// Returns the first line of a text, without white space around it.
-fn first_line(text: &str) -> &str {
-    let text = text.trim();
-    match text.split_once(['\n', '\r']) {
-        Some((line, _)) => line.trim_end(),
-        None => text,
-    }
-}
-
-/// Returns the position in a text at which the rest of it begins.
-fn position_of(text: &str, rest: &str) -> TextPos {
-    match text.get(..text.len().saturating_sub(rest.len())) {
-        Some(front) => Stream::new(front).gen_text_pos_from(front.len()),
-        None => TextPos::new(1, 1),
     }
 }
 
@@ -84,19 +68,18 @@ fn write_refusal(rt: &HostRuntime, name: &str, text: &str, read: &str, skipped: 
     let why = skipped.why;
     let pos = match why {
         Why::Selector(Refusal::Faulty { error, .. }) if error.pos().is_none() => {
-            position_of(text, skipped.from)
+            Place::START.find(text, skipped.from).pos
         }
         _ => refused_pos("", read, why),
     };
-    let end = skipped.from.len().saturating_sub(skipped.after.len());
-    let quote = first_line(skipped.from.get(..end).unwrap_or(""));
+    let quote = skipped.quote();
     let _ = eprintln!(rt; "{name}:{pos}: '{quote}': {why}");
 }
 
 /// Writes the warnings of a selector: why it is refused, or what follows it and is not read.
 pub fn warn_of_selector(rt: &HostRuntime, name: &str, text: &str) {
     if text.starts_with('\u{feff}') {
-        let _ = eprintln!(rt; "{name}:1:1: {}", Surprise::ByteOrderMark);
+        let _ = eprintln!(rt; "{name}:1:1: {}", HintKind::ByteOrderMark);
     }
     let mut kept = Kept {
         skips: Vec::new(rt.alloc()),
@@ -109,7 +92,11 @@ pub fn warn_of_selector(rt: &HostRuntime, name: &str, text: &str) {
     }
     let rest = text.get(len..).unwrap_or("");
     if selector.is_some() && !rest.is_empty() {
-        let quote = first_line(rest);
-        let _ = eprintln!(rt; "{name}: '{quote}' was not read");
+        let unread = Skipped {
+            from: rest,
+            after: "",
+            why: Why::AfterSelector,
+        };
+        let _ = eprintln!(rt; "{name}: '{}' was not read", unread.quote());
     }
 }

@@ -10,3 +10,4 @@ pub mod Attributes
 pub mod PageLines
 pub mod AboveLines
 pub mod Marking
+pub mod FirstBytes

@@ -1,8 +1,11 @@
 -- A text cut at its first newline or TAB.
 -- Serves `tree::{cut_line, cut_field}` (lines and fields of a text).
-use Rattle.std.proofs.Common.{◌≡◌, ℕ, ◌+◌, ◌<◌, ◌≤◌, Bool, false, List, [], ◌∷◌, length, take, drop, get_or, refl, sym, ap, ◌∙◌, arith, eqb-true, ◌==◌, ⊎_elim}
+use Rattle.std.proofs.Common.{◌≡◌, ℕ, ◌+◌, ◌<◌, ◌≤◌, Bool, false, List, [], ◌∷◌, length, take, drop, get_or, refl, sym, ap, ◌∙◌, subst, lit<, arith, eqb-true, ◌==◌, ⊎_elim, Option, None, Some}
 use Rattle.std.specs.Prelude.{not}
+use Rattle.std.specs.Borrow.{Bor}
 use Rattle.std.specs.Str.{IsUtf8, IsCharBoundary}
+use Rattle.std.proofs.lemmas.Str.Pattern.{IsSplitOnceResult, split_once_first}
+use Rattle.simplecss_text.specs.AsciiBytes.{newline}
 use Rattle.std.specs.List.{slice_split, slice_range, before_first, after_first, position_or_len}
 use Rattle.std.proofs.lemmas.List.{length-take, length-drop, take_all, drop_all}
 use Rattle.std.proofs.lemmas.Bool.{cases_lt}
@@ -84,6 +87,26 @@ pub lines_whole : (text : List ℕ) → 0 < length text → position_or_len is_n
     → lines_of text ≡ text ∷ []
 lines_whole text some none =
     ap without_empty_last (split_whole is_newline text none) ∙ whole_kept text some
+
+-- a text that is split at its first newline
+abbrev IsLineCut : List ℕ → Bor (List ℕ) × Bor (List ℕ) → Type 0
+IsLineCut text parts = (parts.0.now ≡ before_first is_newline text)
+    × (parts.1.now ≡ after_first is_newline text)
+    × (position_or_len is_newline text < length text)
+
+pub some_split : (text : List ℕ) (r : Option (Bor (List ℕ) × Bor (List ℕ)))
+    → IsSplitOnceResult newline text r → (parts : Bor (List ℕ) × Bor (List ℕ))
+    → r ≡ Some parts → IsLineCut text parts
+some_split text None h parts is = absurd (cc)
+some_split text (Some found) h parts is =
+    let cut = split_once_first newline text (Some found) h (lit< tt) in
+    let same : found ≡ parts = cc in
+    subst (IsLineCut text) same (cut.1, cut.2, cut.0)
+
+pub none_split : (text : List ℕ) (r : Option (Bor (List ℕ) × Bor (List ℕ)))
+    → IsSplitOnceResult newline text r → r ≡ None → position_or_len is_newline text ≡ length text
+none_split text None h is = split_once_first newline text None h (lit< tt)
+none_split text (Some found) h is = absurd (cc)
 
 -- the first field and the text of the others
 module _ (text field others : List ℕ) (cut : (field ≡ before_first is_tab text)

@@ -88,12 +88,42 @@ struct Line<'t> {
 /// How many attribute fields are compared in pairs.
 const FEW: usize = 16;
 
-/// How many bytes precede the first such byte. All of them do where there is none.
+/// How many bytes are looked at one by one, before a text is searched several bytes at a time.
+const NEAR: usize = 16;
+
+/// How many bytes precede the first such byte, one by one. All of them do where there is none.
 #[inline(always)]
-fn count_before(bytes: &[u8], byte: u8) -> usize
+fn count_near(bytes: &[u8], byte: u8) -> usize
     ensures { result ≡ position_or_len (λ b. b == byte) bytes.now }
 {
     bytes.iter().take_while(|b| **b != byte).count()
+}
+
+/// Does what [`count_near`] does with a text, several bytes at a time.
+fn count_far(text: &str, byte: u8) -> usize
+    requires { byte < 128 }
+    ensures { result ≡ position_or_len (λ b. b == byte) text.now }
+{
+    text.find(char::from(byte)).unwrap_or(text.len())
+}
+
+/// How many bytes of a text precede the first such byte. All of them do where there is none. Most
+/// fields are short: a loop finds their ends sooner than a search of several bytes at a time.
+#[inline(always)]
+fn count_before(text: &str, byte: u8) -> usize
+    requires { byte < 128 }
+    ensures { result ≡ position_or_len (λ b. b == byte) text.now }
+{
+    let bytes = text.as_bytes();
+    if bytes.len() <= NEAR {
+        return count_near(bytes, byte);
+    }
+    let near = count_near(&bytes[..NEAR], byte);
+    if near < NEAR {
+        near
+    } else {
+        count_far(text, byte)
+    }
 }
 
 /// How many bytes of a text precede the first such byte. All of them do where there is none.
@@ -105,7 +135,7 @@ fn len_before(text: &str, byte: u8) -> usize
     ensures boundary { IsCharBoundary text.now result }
     ensures after { result < length text.now → IsCharBoundary text.now (result + 1) }
 {
-    count_before(text.as_bytes(), byte)
+    count_before(text, byte)
 }
 
 /// Returns the first line of a text that is not empty, and the text after it.
@@ -115,11 +145,9 @@ fn cut_line(text: &str) -> (&str, &str)
     ensures lines { lines_of text.now ≡ result.0.now ∷ lines_of result.1.now }
     ensures shorter { length result.1.now < length text.now }
 {
-    let len = len_before(text, b'\n');
-    if len < text.len() {
-        (&text[..len], &text[len + 1..])
-    } else {
-        (text, "")
+    match text.split_once('\n') {
+        Some(parts) => parts,
+        None => (text, ""),
     }
 }
 

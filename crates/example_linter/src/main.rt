@@ -3,36 +3,39 @@
 //! the row and the column; and after them, with `--hints`, for what is kept and hardly meant.
 #![tactic(auto)]
 
-use simplecss_faults::{find_faults, find_hints};
+use simplecss::{Place, find_hints, find_skipped};
 use std::process::ExitCode;
 use std::{env, fs, io};
 
 /// How the program is called.
 const USAGE: &str = "usage: example_linter [--hints] FILE..";
 
-/// Reports the faults of a file's text, and the hints if they are wanted. Returns whether there are
-/// faults.
+/// Reports what is skipped of a file's text, and the hints if they are wanted. Returns whether
+/// something is skipped.
 fn lint(rt: &HostRuntime, file: &str, text: &str, wants_hints: bool) -> io::Result<bool> {
-    let faults = find_faults(rt.alloc(), text)?;
-    for fault in &faults {
-        println!(rt; "{file}:{fault}")?;
+    let skipped = find_skipped(rt.alloc(), text)?;
+    let mut place = Place::START;
+    for part in &skipped {
+        place = place.find(text, part.from);
+        println!(rt; "{file}:{}: {part}", place.pos)?;
     }
     if wants_hints {
         for hint in &find_hints(rt.alloc(), text)? {
             println!(rt; "{file}:{hint}")?;
         }
     }
-    Ok(!faults.is_empty())
+    Ok(!skipped.is_empty())
 }
 
-/// Reports on each file. Returns the status: 2 if a file cannot be read, else 1 if one has a fault.
+/// Reports on each file. Returns the status: 2 if a file cannot be read, else 1 if something is
+/// skipped.
 fn lint_all(rt: &HostRuntime, files: &[String], wants_hints: bool) -> io::Result<u8> {
     let mut status = 0;
     for file in files {
         match fs::read_to_string(rt, file.as_str()) {
             Ok(text) => {
-                let is_faulty = lint(rt, file.as_str(), text.as_str(), wants_hints)?;
-                status = status.max(u8::from(is_faulty));
+                let skips = lint(rt, file.as_str(), text.as_str(), wants_hints)?;
+                status = status.max(u8::from(skips));
             }
             Err(error) => {
                 eprintln!(rt; "example_linter: cannot read {file}: {error}")?;

@@ -6,6 +6,11 @@ use Rattle.std.proofs.Common.{Bor, Option, Some, None, Ok, Err, subst}
 use Rattle.selectors3.specs.Reads.{step_of, Finds}
 use Rattle.selectors3.specs.Readings.{Reading, got, refused, Step, item, none, stop, with_first, go_on, items_up_to, found_before}
 
+found_listed : {A : Type 0} (xs : List A) (x : A) (r : Reading (List A))
+    → found_before (xs ++ (x ∷ [])) r ≡ found_before xs (with_first x r)
+found_listed [] x r = refl
+found_listed (y ∷ xs) x r = ap (with_first y) (found_listed xs x r)
+
 module _ {T A : Type 0} (view : T → A) where
   found_after : (xs : List T) (x : T) (r : Reading (List A))
       → found_before (map view (xs ++ (x ∷ []))) r ≡ found_before (map view xs) (with_first (view x) r)
@@ -31,6 +36,35 @@ stepped read (suc k) rest s some e =
     ap (λ t. go_on rest t (items_up_to k read)) (sym e)
     ∙ ap (λ m. go_on rest s (items_up_to m read)) (sym (one_less k))
 
+-- the loop keeps the items as the definitions see them
+module _ {A : Type 0} (read : List ℕ → Step A) (xs : List A) (n : ℕ) (rest : List ℕ) where
+  pub listed_item : (x : A) (after : List ℕ) (all : Reading (List A)) → 0 < n
+      → item x after ≡ read rest → found_before xs (items_up_to n read rest) ≡ all
+      → found_before (xs ++ (x ∷ [])) (items_up_to (n - 1) read after) ≡ all
+  listed_item x after all some e so_far =
+      found_listed xs x (items_up_to (n - 1) read after)
+      ∙ ap (found_before xs) (sym (stepped read n rest (item x after) some e)) ∙ so_far
+
+  pub listed_none : (all : Reading (List A)) → 0 < n → none ≡ read rest
+      → found_before xs (items_up_to n read rest) ≡ all → got xs rest ≡ all
+  listed_none all some e so_far =
+      sym (found_end xs rest) ∙ ap (found_before xs) (sym (stepped read n rest none some e))
+      ∙ so_far
+
+  pub listed_over : (all : Reading (List A)) → n ≡ 0
+      → found_before xs (items_up_to n read rest) ≡ all → got xs rest ≡ all
+  listed_over all e so_far =
+      sym (found_end xs rest) ∙ ap (λ m. found_before xs (items_up_to m read rest)) (sym e)
+      ∙ so_far
+
+  pub listed_stop : (reason : Reason) (s : List ℕ) (all : Reading (List A)) → 0 < n
+      → stop reason s ≡ read rest → found_before xs (items_up_to n read rest) ≡ all
+      → refused reason s ≡ all
+  listed_stop reason s all some e so_far =
+      sym (found_refused xs reason s)
+      ∙ ap (found_before xs) (sym (stepped read n rest (stop reason s) some e)) ∙ so_far
+
+-- the loop keeps values that `view` shows
 module _ {T A : Type 0} (view : T → A) (read : List ℕ → Step A) where
   pub loop_item : (xs : List T) (x : T) (n : ℕ) (rest after : List ℕ) (all : Reading (List A))
       → 0 < n → item (view x) after ≡ read rest
@@ -44,22 +78,17 @@ module _ {T A : Type 0} (view : T → A) (read : List ℕ → Step A) where
   pub loop_none : (xs : List T) (n : ℕ) (rest : List ℕ) (all : Reading (List A)) → 0 < n
       → none ≡ read rest → found_before (map view xs) (items_up_to n read rest) ≡ all
       → got (map view xs) rest ≡ all
-  loop_none xs n rest all some e so_far =
-      sym (found_end (map view xs) rest)
-      ∙ ap (found_before (map view xs)) (sym (stepped read n rest none some e)) ∙ so_far
+  loop_none xs n rest all some e so_far = listed_none read (map view xs) n rest all some e so_far
 
   pub loop_over : (xs : List T) (n : ℕ) (rest : List ℕ) (all : Reading (List A)) → n ≡ 0
       → found_before (map view xs) (items_up_to n read rest) ≡ all → got (map view xs) rest ≡ all
-  loop_over xs n rest all e so_far =
-      sym (found_end (map view xs) rest)
-      ∙ ap (λ m. found_before (map view xs) (items_up_to m read rest)) (sym e) ∙ so_far
+  loop_over xs n rest all e so_far = listed_over read (map view xs) n rest all e so_far
 
   pub loop_stop : (xs : List T) (n : ℕ) (rest : List ℕ) (reason : Reason) (s : List ℕ)
       (all : Reading (List A)) → 0 < n → stop reason s ≡ read rest
       → found_before (map view xs) (items_up_to n read rest) ≡ all → refused reason s ≡ all
   loop_stop xs n rest reason s all some e so_far =
-      sym (found_refused (map view xs) reason s)
-      ∙ ap (found_before (map view xs)) (sym (stepped read n rest (stop reason s) some e)) ∙ so_far
+      listed_stop read (map view xs) n rest reason s all some e so_far
 
 -- ---- what a call found
 

@@ -61,20 +61,25 @@ name text =
 abbrev pub is_plain : ℕ → ℕ → Bool
 is_plain quote b = not (b == quote || (b == backslash || is_newline b))
 
--- the quote after the bytes of a string
-abbrev pub closed_string : ℕ → List ℕ → List ℕ → Reading (List ℕ)
-closed_string quote value [] = refused NotClosed []
-closed_string quote value (b ∷ rest) =
+-- the quote after the bytes of a string, which `opened` begins with
+abbrev pub closed_string : List ℕ → ℕ → List ℕ → List ℕ → Reading (List ℕ)
+closed_string opened quote value [] = refused NotClosed opened
+closed_string opened quote value (b ∷ rest) =
     if b == quote then got value rest else refused BrokenString (b ∷ rest)
 
--- a string, from after its quote
-unfoldable pub string : ℕ → Reader (List ℕ)
-string quote text =
-    closed_string quote (run (is_plain quote) text) (past (is_plain quote) text)
+-- a string, from after its quote; `opened` is the text from the quote on
+unfoldable pub string : List ℕ → ℕ → Reader (List ℕ)
+string opened quote text =
+    closed_string opened quote (run (is_plain quote) text) (past (is_plain quote) text)
 
--- the byte, which is required
-abbrev pub closing : ℕ → Reader (Unit {0})
-closing byte text = if starts byte text then got tt (past_one text) else refused NotClosed text
+-- something else than what would close `opened`: at the end of the text that is not closed
+abbrev pub unclosed : {A : Type 0} → List ℕ → Reader A
+unclosed opened [] = refused NotClosed opened
+unclosed opened (b ∷ text) = refused Unexpected (b ∷ text)
+
+-- the byte that closes what `opened` begins with
+abbrev pub closing : List ℕ → ℕ → Reader (Unit {0})
+closing opened byte text = if starts byte text then got tt (past_one text) else unclosed opened text
 
 -- ---- attributes
 
@@ -93,10 +98,10 @@ compared_by text (Some comparison) =
     if starts equals_sign (past_one text) then got (Some comparison) (past_one (past_one text))
     else refused NoOperator text
 
--- an operator, or the end of the attribute selector
-unfoldable pub comparison : Reader (Option Comparison)
-comparison [] = refused NotClosed []
-comparison (b ∷ text) =
+-- an operator, or the end of the attribute selector, which `opened` begins with
+unfoldable pub comparison : List ℕ → Reader (Option Comparison)
+comparison opened [] = refused NotClosed opened
+comparison opened (b ∷ text) =
     if b == close_bracket then got None (b ∷ text)
     else (if b == equals_sign then got (Some equals) text
     else compared_by (b ∷ text) (two_bytes b))
@@ -104,7 +109,7 @@ comparison (b ∷ text) =
 -- a string or a name
 unfoldable pub value : Reader (List ℕ)
 value [] = refused NoValue []
-value (b ∷ text) = if is_quote b then string b text else name (b ∷ text)
+value (b ∷ text) = if is_quote b then string (b ∷ text) b text else name (b ∷ text)
 
 abbrev pub flag_named : List ℕ → List ℕ → Reader Bool
 flag_named start word rest =
@@ -113,33 +118,35 @@ flag_named start word rest =
     else refused UnknownFlag start)
 
 -- whether there is the flag `i`
-unfoldable pub flag : Reader Bool
-flag text =
-    if starts close_bracket text then got false text else follow (name text) (flag_named text)
+unfoldable pub flag : List ℕ → Reader Bool
+flag opened [] = refused NotClosed opened
+flag opened (b ∷ text) =
+    if b == close_bracket then got false (b ∷ text)
+    else follow (name (b ∷ text)) (flag_named (b ∷ text))
 
 -- what follows the operator
-unfoldable pub compared : List ℕ → Comparison → Reader Simple
-compared n c = do
+unfoldable pub compared : List ℕ → List ℕ → Comparison → Reader Simple
+compared opened n c = do
   gap
   v ← value
   gap
-  ignores ← flag
+  ignores ← flag opened
   gap
-  closing close_bracket
+  closing opened close_bracket
   give (attribute n c v ignores)
 
-abbrev pub by_comparison : List ℕ → Option Comparison → Reader Simple
-by_comparison n None = closing close_bracket >> give (has_attribute n)
-by_comparison n (Some c) = compared n c
+abbrev pub by_comparison : List ℕ → List ℕ → Option Comparison → Reader Simple
+by_comparison opened n None = closing opened close_bracket >> give (has_attribute n)
+by_comparison opened n (Some c) = compared opened n c
 
--- an attribute selector, from after its bracket
-unfoldable pub attribute_selector : Reader Simple
-attribute_selector = do
+-- an attribute selector, from after its bracket; `opened` is the text from the bracket on
+unfoldable pub attribute_selector : List ℕ → Reader Simple
+attribute_selector opened = do
   gap
   n ← name
   gap
-  c ← comparison
-  by_comparison n c
+  c ← comparison opened
+  by_comparison opened n c
 
 -- ---- An+B
 
@@ -258,22 +265,22 @@ plain_pseudo n None = state n
 plain_pseudo n (Some s) = structure s
 
 abbrev pub functional : List ℕ → Option Numbering → Reader Simple
-functional start None = λ text. refused UnknownFunction start
-functional start (Some kind) = do
+functional opened None = λ text. refused UnknownFunction opened
+functional opened (Some kind) = do
   gap
   p ← progression
   gap
-  closing close_parenthesis
+  closing opened close_parenthesis
   give (structure (numbered_by kind p))
 
 abbrev pub pseudo_by : List ℕ → List ℕ → Reader Simple
-pseudo_by start n text =
-    if starts open_parenthesis text then functional start (numbering n) (past_one text)
+pseudo_by opened n text =
+    if starts open_parenthesis text then functional opened (numbering n) (past_one text)
     else got (plain_pseudo n (plain_structure n)) text
 
--- a pseudo-class without a list, from after its colon
-unfoldable pub pseudo_class : Reader Simple
-pseudo_class text = follow (name text) (pseudo_by text)
+-- a pseudo-class without a list, from after its colon; `opened` is the text from the colon on
+unfoldable pub pseudo_class : List ℕ → Reader Simple
+pseudo_class opened text = follow (name text) (pseudo_by opened)
 
 -- ---- compound selectors
 
@@ -293,9 +300,9 @@ next_simple [] = none
 next_simple (b ∷ text) =
     if b == full_stop then as_item class (name text)
     else (if b == number_sign then as_item id (name text)
-    else (if b == open_bracket then as_item (λ s. s) (attribute_selector text)
-    else (if b == colon && not (starts colon text) then as_item (λ s. s) (pseudo_class text)
-    else none)))
+    else (if b == open_bracket then as_item (λ s. s) (attribute_selector (b ∷ text) text)
+    else (if b == colon && not (starts colon text)
+    then as_item (λ s. s) (pseudo_class (b ∷ text) text) else none)))
 
 -- there is one
 abbrev pub some_of : {A : Type 0} → List ℕ → Reading (List A) → Reading (List A)
@@ -332,14 +339,14 @@ listed Where compounds = where_any compounds
 abbrev pub one_more : {A : Type 0} → A → Reader (List A) → Reader (List A)
 one_more x next text = with_first x (next text)
 
--- the list of a pseudo-class, from after its parenthesis
-unfoldable pub compound_list : Reader (List (List Simple))
-compound_list = do
+-- the list of a pseudo-class, from after its parenthesis; `opened` is the text from its colon on
+unfoldable pub compound_list : List ℕ → Reader (List (List Simple))
+compound_list opened = do
   gap
   c ← compound
   compounds ← one_more c (items next_compound)
   gap
-  closing close_parenthesis
+  closing opened close_parenthesis
   give compounds
 
 -- the kind of list that begins at a colon, and the rest after its parenthesis
@@ -360,7 +367,7 @@ simple_item (stop reason rest) = stop reason rest
 
 abbrev pub condition_by : List ℕ → Option (ListKind × List ℕ) → Step Condition
 condition_by text None = simple_item (next_simple text)
-condition_by text (Some start) = as_item (listed start.0) (compound_list start.1)
+condition_by text (Some start) = as_item (listed start.0) (compound_list text start.1)
 
 -- the next condition of a compound selector
 unfoldable pub next_condition : List ℕ → Step Condition
@@ -440,11 +447,31 @@ parts = do
   first ← conditions
   one_more (joined_by Descendant first) (items next_part)
 
--- a text that is a selector
-unfoldable pub selector : Reader Selector
-selector = do
+-- a selector and the gap after it
+unfoldable pub listed_selector : Reader Selector
+listed_selector = do
   all ← parts
   element ← pseudo_element
   gap
-  at_end
   give (selector_with all element)
+
+-- a text that is a selector
+unfoldable pub selector : Reader Selector
+selector = do
+  s ← listed_selector
+  at_end
+  give s
+
+-- a comma and a further selector, if there is a comma
+unfoldable pub next_selector : List ℕ → Step Selector
+next_selector text =
+    if starts comma text then as_item (λ s. s) (listed_selector (past_one text)) else none
+
+-- a text that is a list of selectors with commas between them (section 5): if one of them is
+-- refused, the list is
+unfoldable pub selector_list : Reader (List Selector)
+selector_list = do
+  first ← listed_selector
+  all ← one_more first (items next_selector)
+  at_end
+  give all

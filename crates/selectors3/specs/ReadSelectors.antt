@@ -1,5 +1,5 @@
 -- What reading a selector returned.
-use Rattle.std.specs.Prelude.{◌≡◌, ◌≢◌, [], Result, Ok, Err}
+use Rattle.std.specs.Prelude.{◌≡◌, ◌≢◌, List, [], Result, Ok, Err, Vec}
 use Rattle.selectors3.specs.declared.refusal.Refusal.{Refusal}
 use Rattle.selectors3.specs.declared.refusal.Reason.TheVariants.{Memory}
 use Rattle.selectors3.specs.Components.{Selector}
@@ -9,3 +9,8 @@ use Rattle.selectors3.specs.Readings.{Reading, got, refused}
 abbrev pub Parses : Result Selector Refusal → Reading Selector → Type 0
 Parses (Ok s) reading = got s [] ≡ reading
 Parses (Err e) reading = e.reason ≢ Memory → refused e.reason e.rest.now ≡ reading
+
+-- the same of a list of selectors
+abbrev pub ParsesList : {Z : Type 0} → Result (Vec Selector Z) Refusal → Reading (List Selector) → Type 0
+ParsesList (Ok v) reading = got v.items [] ≡ reading
+ParsesList (Err e) reading = e.reason ≢ Memory → refused e.reason e.rest.now ≡ reading

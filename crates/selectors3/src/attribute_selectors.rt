@@ -25,13 +25,17 @@ fn two_bytes(byte: u8) -> Option<Comparison>
     }
 }
 
-/// Reads an operator, if the attribute selector does not end here.
+/// Reads an operator, if the attribute selector, which `opened` begins with, does not end here.
 #[tactic(auto, unfolding(crate::specs::Grammar::comparison))]
-fn read_comparison<'a>(text: &'a str) -> Result<(Option<Comparison>, &'a str), Refusal<'a>>
-    ensures { reading_of (λ o. option_map comparison_of o) result ≡ comparison_of_text text.now }
+fn read_comparison<'a>(
+    opened: &'a str,
+    text: &'a str,
+) -> Result<(Option<Comparison>, &'a str), Refusal<'a>>
+    ensures { reading_of (λ o. option_map comparison_of o) result
+        ≡ comparison_of_text opened.now text.now }
 {
     if text.is_empty() {
-        return Err(Refusal::new(Reason::NotClosed, text));
+        return Err(Refusal::new(Reason::NotClosed, opened));
     }
     let Some((byte, rest)) = split_ascii(text) else {
         return Err(Refusal::new(Reason::NoOperator, text));
@@ -57,16 +61,19 @@ fn read_value<'a>(text: &'a str) -> Result<(&'a str, &'a str), Refusal<'a>>
         return Err(Refusal::new(Reason::NoValue, text));
     }
     match split_ascii(text) {
-        Some((quote @ (b'\'' | b'"'), rest)) => read_string(quote, rest),
+        Some((quote @ (b'\'' | b'"'), rest)) => read_string(text, quote, rest),
         _ => read_name(text),
     }
 }
 
 /// Reads a flag, if there is one, and returns whether case is ignored.
 #[tactic(auto, unfolding(crate::specs::Grammar::flag))]
-fn read_flag<'a>(text: &'a str) -> Result<(bool, &'a str), Refusal<'a>>
-    ensures { reading_of (λ f. f) result ≡ flag_of text.now }
+fn read_flag<'a>(opened: &'a str, text: &'a str) -> Result<(bool, &'a str), Refusal<'a>>
+    ensures { reading_of (λ f. f) result ≡ flag_of opened.now text.now }
 {
+    if text.is_empty() {
+        return Err(Refusal::new(Reason::NotClosed, opened));
+    }
     if readers::starts(text, b']') {
         return Ok((false, text));
     }
@@ -83,18 +90,20 @@ fn read_flag<'a>(text: &'a str) -> Result<(bool, &'a str), Refusal<'a>>
 /// Reads what follows an operator.
 #[tactic(auto, unfolding(crate::specs::Grammar::compared))]
 fn read_compared<'a>(
+    opened: &'a str,
     name: &'a str,
     comparison: Comparison,
     text: &'a str,
 ) -> Result<(Simple<'a>, &'a str), Refusal<'a>>
-    ensures { reading_of simple_of result ≡ compared name.now (comparison_of comparison) text.now }
+    ensures { reading_of simple_of result
+        ≡ compared opened.now name.now (comparison_of comparison) text.now }
 {
     let (_, rest) = read_gap(text)?;
     let (value, rest) = read_value(rest)?;
     let (_, rest) = read_gap(rest)?;
-    let (ignores_case, rest) = read_flag(rest)?;
+    let (ignores_case, rest) = read_flag(opened, rest)?;
     let (_, rest) = read_gap(rest)?;
-    let (_, rest) = read_closing(b']', rest)?;
+    let (_, rest) = read_closing(opened, b']', rest)?;
     let test = AttributeTest {
         name,
         comparison,
@@ -104,20 +113,23 @@ fn read_compared<'a>(
     Ok((Simple::Attribute(test), rest))
 }
 
-/// Reads an attribute selector, from after its bracket.
+/// Reads an attribute selector, from after its bracket. `opened` is the text from the bracket on.
 #[tactic(auto, unfolding(crate::specs::Grammar::attribute_selector))]
-pub(crate) fn read_attribute<'a>(text: &'a str) -> Result<(Simple<'a>, &'a str), Refusal<'a>>
-    ensures { reading_of simple_of result ≡ attribute_selector text.now }
+pub(crate) fn read_attribute<'a>(
+    opened: &'a str,
+    text: &'a str,
+) -> Result<(Simple<'a>, &'a str), Refusal<'a>>
+    ensures { reading_of simple_of result ≡ attribute_selector opened.now text.now }
 {
     let (_, rest) = read_gap(text)?;
     let (name, rest) = read_name(rest)?;
     let (_, rest) = read_gap(rest)?;
-    let (comparison, rest) = read_comparison(rest)?;
+    let (comparison, rest) = read_comparison(opened, rest)?;
     match comparison {
         None => {
-            let (_, rest) = read_closing(b']', rest)?;
+            let (_, rest) = read_closing(opened, b']', rest)?;
             Ok((Simple::HasAttribute(name), rest))
         }
-        Some(comparison) => read_compared(name, comparison, rest),
+        Some(comparison) => read_compared(opened, name, comparison, rest),
     }
 }

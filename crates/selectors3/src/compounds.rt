@@ -47,8 +47,10 @@ fn next_simple<'a>(text: &'a str) -> Result<Option<(Simple<'a>, &'a str)>, Refus
             let (name, rest) = read_name(rest)?;
             Ok(Some((Simple::Id(name), rest)))
         }
-        Some((b'[', rest)) => Ok(Some(read_attribute(rest)?)),
-        Some((b':', rest)) if !readers::starts(rest, b':') => Ok(Some(read_pseudo_class(rest)?)),
+        Some((b'[', rest)) => Ok(Some(read_attribute(text, rest)?)),
+        Some((b':', rest)) if !readers::starts(rest, b':') => {
+            Ok(Some(read_pseudo_class(text, rest)?))
+        }
         _ => Ok(None),
     }
 }
@@ -138,16 +140,21 @@ fn read_compounds<'a>(
     Ok((compounds, rest))
 }
 
-/// Reads the list of a pseudo-class, from after its parenthesis.
+/// Reads the list of a pseudo-class, from after its parenthesis. `opened` is the text from its colon
+/// on.
 #[tactic(auto, unfolding(crate::specs::Grammar::compound_list))]
-fn read_list<'a>(alloc: Global, text: &'a str) -> Result<(Vec<Compound<'a>>, &'a str), Refusal<'a>>
-    ensures { Reads (λ v. map compound_of v.items) result (compound_list text.now) }
+fn read_list<'a>(
+    alloc: Global,
+    opened: &'a str,
+    text: &'a str,
+) -> Result<(Vec<Compound<'a>>, &'a str), Refusal<'a>>
+    ensures { Reads (λ v. map compound_of v.items) result (compound_list opened.now text.now) }
 {
     let (_, rest) = read_gap(text)?;
     let (first, rest) = read_compound(alloc, rest)?;
     let (compounds, rest) = read_compounds(alloc, first, rest)?;
     let (_, rest) = read_gap(rest)?;
-    let (_, rest) = read_closing(b')', rest)?;
+    let (_, rest) = read_closing(opened, b')', rest)?;
     Ok((compounds, rest))
 }
 
@@ -187,7 +194,7 @@ fn next_condition<'a>(
     ensures { Finds condition_of result (next_condition_of text.now) }
 {
     if let Some((kind, rest)) = take_list_start(text) {
-        let (compounds, rest) = read_list(alloc, rest)?;
+        let (compounds, rest) = read_list(alloc, text, rest)?;
         return Ok(Some((listed(kind, compounds), rest)));
     }
     match next_simple(text)? {

@@ -1,7 +1,8 @@
 //! Selectors of level 3 with their meaning on elements, and of level 4 the flag `i`, `:is()`, `:where()`
 //! and `:not()` with lists of compound selectors.
 //!
-//! `Selector3::parse` reads a text as `specs/Grammar` says, or reports why and where it is refused. A
+//! `Selector3::parse` and `parse_list` read a text as `specs/Grammar` says, or report why and where it is
+//! refused. A
 //! selector can also be made of its components. It has a specificity, and `matches` is true exactly if
 //! there is a placement: an element for each compound selector, related as the combinators say. An
 //! element is any type with the trait `Element3`.
@@ -15,11 +16,14 @@ mod attributes;
 mod components;
 mod compounds;
 mod element;
+mod key;
+mod key_laws;
 mod matching;
 mod meeting;
 mod numbers;
 mod progression;
 mod pseudo_classes;
+mod read;
 mod reading;
 mod refusal;
 mod selector;
@@ -31,6 +35,7 @@ pub use components::{
     AttributeTest, Comparison, Compound, Condition, Part, Progression, Signed, Simple, Structure,
 };
 pub use element::Element3;
+pub use key::Key;
 pub use refusal::{Reason, Refusal};
 pub use selector::Selector3;
 pub use sibling_matching::Combinator;

@@ -80,33 +80,36 @@ pub(crate) fn list_kind(name: &str) -> Option<ListKind>
     }
 }
 
-/// Reads the argument of a functional pseudo-class. `start` is the text from its name on.
+/// Reads the argument of a functional pseudo-class. `opened` is the text from its colon on.
 fn read_functional<'a>(
-    start: &'a str,
+    opened: &'a str,
     numbering: Option<Numbering>,
     text: &'a str,
 ) -> Result<(Simple<'a>, &'a str), Refusal<'a>>
-    ensures { reading_of simple_of result ≡ functional start.now numbering text.now }
+    ensures { reading_of simple_of result ≡ functional opened.now numbering text.now }
 {
     let Some(numbering) = numbering else {
-        return Err(Refusal::new(Reason::UnknownFunction, start));
+        return Err(Refusal::new(Reason::UnknownFunction, opened));
     };
     let (_, rest) = read_gap(text)?;
     let (progression, rest) = read_progression(rest)?;
     let (_, rest) = read_gap(rest)?;
-    let (_, rest) = read_closing(b')', rest)?;
+    let (_, rest) = read_closing(opened, b')', rest)?;
     let structure = numbered_by(numbering, progression);
     Ok((Simple::Structure(structure), rest))
 }
 
-/// Reads a pseudo-class without a list, from after its colon.
+/// Reads a pseudo-class without a list, from after its colon. `opened` is the text from the colon on.
 #[tactic(auto, unfolding(crate::specs::Grammar::pseudo_class))]
-pub(crate) fn read_pseudo_class<'a>(text: &'a str) -> Result<(Simple<'a>, &'a str), Refusal<'a>>
-    ensures { reading_of simple_of result ≡ pseudo_class text.now }
+pub(crate) fn read_pseudo_class<'a>(
+    opened: &'a str,
+    text: &'a str,
+) -> Result<(Simple<'a>, &'a str), Refusal<'a>>
+    ensures { reading_of simple_of result ≡ pseudo_class opened.now text.now }
 {
     let (name, rest) = read_name(text)?;
     if let Some((b'(', after)) = split_ascii(rest) {
-        return read_functional(text, numbering(name), after);
+        return read_functional(opened, numbering(name), after);
     }
     match structure_named(name) {
         Some(structure) => Ok((Simple::Structure(structure), rest)),

@@ -7,9 +7,12 @@ ghost use Rattle.simplecss_text.specs.Bytes.{starts_by, past_one};
 ghost use Rattle.selectors3.specs.Readings.{items, found_before};
 ghost use Rattle.selectors3.specs.Reads.{reading_of, Reads, Finds};
 ghost use Rattle.selectors3.specs.Views.{part_of};
+ghost use Rattle.selectors3.specs.Grammar.{listed_selector, next_selector as next_selector_of};
+ghost use Rattle.selectors3.specs.ReadViews.{read_of};
 
 use crate::components::Part;
 use crate::compounds::read_conditions;
+use crate::read::Read;
 use crate::refusal::{Reason, Refusal};
 use crate::texts::split_ascii;
 use crate::words::{read_gap, read_name};
@@ -136,21 +139,95 @@ fn read_pseudo_element<'a>(text: &'a str) -> Result<(Option<&'a str>, &'a str), 
     Ok((Some(name), rest))
 }
 
+/// Reads a selector and the gap after it.
+#[tactic(auto, unfolding(crate::specs::Grammar::listed_selector))]
+fn read_selector<'a>(alloc: Global, text: &'a str) -> Result<(Read<'a>, &'a str), Refusal<'a>>
+    ensures { Reads read_of result (listed_selector text.now) }
+{
+    let (parts, rest) = read_parts(alloc, text)?;
+    let (pseudo_element, rest) = read_pseudo_element(rest)?;
+    let (_, rest) = read_gap(rest)?;
+    let read = Read {
+        parts,
+        pseudo_element,
+    };
+    Ok((read, rest))
+}
+
+/// Returns the selector that was read.
+fn selector_of<'a>(read: Read<'a>) -> Selector3<'a>
+    ensures { result ≡ read_of read.entry }
+{
+    Selector3::new(read.parts, read.pseudo_element)
+}
+
+/// Reads a comma and a further selector, if there is a comma.
+#[tactic(auto, unfolding(crate::specs::Grammar::next_selector))]
+fn next_selector<'a>(
+    alloc: Global,
+    text: &'a str,
+) -> Result<Option<(Read<'a>, &'a str)>, Refusal<'a>>
+    ensures { Finds read_of result (next_selector_of text.now) }
+{
+    let Some((b',', rest)) = split_ascii(text) else {
+        return Ok(None);
+    };
+    Ok(Some(read_selector(alloc, rest)?))
+}
+
+/// Reads the selectors after the first of a list.
+fn read_others<'a>(
+    alloc: Global,
+    first: Read<'a>,
+    text: &'a str,
+) -> Result<(Vec<Selector3<'a>>, &'a str), Refusal<'a>>
+    ensures { Reads (λ v. v.items) result
+        (found_before (read_of first.entry ∷ []) (items next_selector_of text.now)) }
+{
+    let mut selectors = Vec::new(alloc);
+    selectors.push(selector_of(first))?;
+    let mut rest = text;
+    let mut left = text.len();
+    'selectors: while left > 0 {
+        match next_selector(alloc, rest)? {
+            Some((read, after)) => {
+                selectors.push(selector_of(read))?;
+                rest = after;
+            }
+            None => return Ok((selectors, rest)),
+        }
+        left -= 1;
+    }
+    Ok((selectors, rest))
+}
+
 impl<'a> Selector3<'a> {
-    ghost use Rattle.selectors3.specs.Grammar.{selector};
-    ghost use Rattle.selectors3.specs.ReadSelectors.{Parses};
+    ghost use Rattle.selectors3.specs.Grammar.{selector, selector_list};
+    ghost use Rattle.selectors3.specs.ReadSelectors.{Parses, ParsesList};
 
     /// Reads a text that is a selector.
     #[tactic(auto, unfolding(crate::specs::Grammar::selector))]
     pub fn parse(alloc: Global, text: &'a str) -> Result<Selector3<'a>, Refusal<'a>>
         ensures { Parses result (selector text.now) }
     {
-        let (parts, rest) = read_parts(alloc, text)?;
-        let (pseudo_element, rest) = read_pseudo_element(rest)?;
-        let (_, rest) = read_gap(rest)?;
+        let (read, rest) = read_selector(alloc, text)?;
         if !rest.is_empty() {
             return Err(Refusal::new(Reason::Unexpected, rest));
         }
-        Ok(Selector3::new(parts, pseudo_element))
+        Ok(selector_of(read))
+    }
+
+    /// Reads a text that is a list of selectors with commas between them. A list of which one selector
+    /// is refused is refused.
+    #[tactic(auto, unfolding(crate::specs::Grammar::selector_list))]
+    pub fn parse_list(alloc: Global, text: &'a str) -> Result<Vec<Selector3<'a>>, Refusal<'a>>
+        ensures { ParsesList result (selector_list text.now) }
+    {
+        let (first, rest) = read_selector(alloc, text)?;
+        match read_others(alloc, first, rest) {
+            Ok((selectors, rest)) if rest.is_empty() => Ok(selectors),
+            Ok((_, rest)) => Err(Refusal::new(Reason::Unexpected, rest)),
+            Err(refusal) => Err(refusal),
+        }
     }
 }

@@ -55,27 +55,36 @@ pub(crate) fn read_name<'a>(text: &'a str) -> Result<(&'a str, &'a str), Refusal
     Ok((name, rest))
 }
 
-/// Reads a string, from after its quote.
+/// Reads a string, from after its quote. `opened` is the text from the quote on.
 #[tactic(auto, unfolding(crate::specs::Grammar::string))]
-pub(crate) fn read_string<'a>(quote: u8, text: &'a str) -> Result<(&'a str, &'a str), Refusal<'a>>
+pub(crate) fn read_string<'a>(
+    opened: &'a str,
+    quote: u8,
+    text: &'a str,
+) -> Result<(&'a str, &'a str), Refusal<'a>>
     requires { quote < 128 }
-    ensures { reading_of (λ n. n.now) result ≡ string_of quote text.now }
+    ensures { reading_of (λ n. n.now) result ≡ string_of opened.now quote text.now }
 {
     let (value, rest) = split_plain(quote, text);
     match split_ascii(rest) {
         Some((byte, after)) if byte == quote => Ok((value, after)),
-        _ if rest.is_empty() => Err(Refusal::new(Reason::NotClosed, rest)),
+        _ if rest.is_empty() => Err(Refusal::new(Reason::NotClosed, opened)),
         _ => Err(Refusal::new(Reason::BrokenString, rest)),
     }
 }
 
-/// Consumes the byte, which is required.
-pub(crate) fn read_closing<'a>(byte: u8, text: &'a str) -> Result<((), &'a str), Refusal<'a>>
+/// Consumes the byte that closes what `opened` begins with.
+pub(crate) fn read_closing<'a>(
+    opened: &'a str,
+    byte: u8,
+    text: &'a str,
+) -> Result<((), &'a str), Refusal<'a>>
     requires { byte < 128 }
-    ensures { reading_of (λ u. u) result ≡ closing_of byte text.now }
+    ensures { reading_of (λ u. u) result ≡ closing_of opened.now byte text.now }
 {
     match split_ascii(text) {
         Some((first, rest)) if first == byte => Ok(((), rest)),
-        _ => Err(Refusal::new(Reason::NotClosed, text)),
+        _ if text.is_empty() => Err(Refusal::new(Reason::NotClosed, opened)),
+        _ => Err(Refusal::new(Reason::Unexpected, text)),
     }
 }

@@ -1,7 +1,7 @@
 -- The indices of the selectors whose key an element reports.
 -- Serves `RuleIndex::matching_counted` (only rules whose key the element reports are tested).
 use Rattle.std.proofs.Common.{◌≡◌, ℕ, ◌<◌, ◌≤◌, ◌↔◌, ◌⊎◌, inl, inr, List, [], ◌∷◌, Bool, true, false, cond, Option, None, Some, IsTrue, length, get_or, refl, sym, ap, ◌∙◌, subst, arith}
-use Rattle.std.specs.Prelude.{◌&&◌}
+use Rattle.std.specs.Prelude.{◌&&◌, OnOk, Result, Ok, Err}
 use Rattle.std.specs.List.{All, filter, Contains, sum_by, range_with_len}
 use Rattle.std.specs.List.Sorted.{IsStrictlyIncreasing}
 use Rattle.std.proofs.lemmas.List.{length-map, get_or_past}
@@ -119,42 +119,6 @@ module _ (is_wanted : Wanted → Bool) (lasts : LastByWanted) (links : List Link
   led_within old indices sorted within leads same index c = elim ((added old indices leads index).0
       ((same index).0 c)) [ inl x ↦ within index x | inr y ↦ (led_to index y).0 ]
 
--- the starts, and what is before them in their chains, are all selectors whose key is reported
-pub are_keyed : (reported : Near) (selectors : List (List Component))
-    (starts sorted all final : List ℕ) → AreStarts (reports_wanted reported) selectors starts
-    → ((index : ℕ) → Contains sorted index ↔ Contains starts index)
-    → Adds sorted all (After selectors sorted) → IsStrictlyIncreasing final
-    → ((index : ℕ) → Contains final index ↔ Contains all index) → AreKeyed reported selectors final
-are_keyed reported selectors starts sorted all final are same after up same_again = record {
-  ascending = up;
-  exactly = λ index. (
-    λ c. there index ((added sorted all after index).0 ((same_again index).0 c)),
-    λ h. (same_again index).1
-        ((added sorted all after index).1 (back index (are.reached index h.0 h.1))),
-  );
-}
-  where
-    there : (index : ℕ) → Contains sorted index ⊎ After selectors sorted index
-        → (index < length selectors) × IsTrue (reports_wanted reported (key_at selectors index))
-    there index (inl c) = are.within index ((same index).0 c)
-    there index (inr h) =
-        let last = are.within h.0 ((same h.0).0 h.1) in (
-          omega (arith, h.2, last.0),
-          subst (λ key. IsTrue (reports_wanted reported key)) (sym h.3) last.1,
-        )
-
-    order : (index last : ℕ) → index ≤ last → (last ≡ index) ⊎ (index < last)
-    order index last le = grind arith
-
-    back : (index : ℕ)
-        → (last : ℕ) × Contains starts last × (index ≤ last)
-        × (key_at selectors index ≡ key_at selectors last)
-        → Contains sorted index ⊎ After selectors sorted index
-    back index h = elim (order index h.0 h.2) [
-      | inl e ↦ inl (subst (λ p. Contains sorted p) e ((same h.0).1 h.1))
-      | inr l ↦ inr (h.0, (same h.0).1 h.1, l, h.3)
-    ]
-
 filter_contains : (p : ℕ → Bool) (xs : List ℕ) (x : ℕ)
     → Contains (filter p xs) x ↔ (Contains xs x × IsTrue (p x))
 filter_contains p [] x = (λ c. absurd (contains_none x c), λ h. absurd (contains_none x h.0))
@@ -188,6 +152,76 @@ both_true : (a b : Bool) → IsTrue (a && b) ↔ (IsTrue a × IsTrue b)
 both_true true b = (λ h. (refl, h), λ h. h.1)
 both_true false b = (λ h. absurd (false≢true h), λ h. h.0)
 
+-- of the starts, and of what is before them in their chains, those are kept that the test keeps: they
+-- are all selectors whose key is reported and which it keeps
+pub are_kept : (reported : Near) (keeps : List Component → Bool)
+    (selectors : List (List Component)) (starts sorted all kept final : List ℕ)
+    → AreStarts (reports_wanted reported) selectors starts
+    → ((index : ℕ) → Contains sorted index ↔ Contains starts index)
+    → Adds sorted all (After selectors (λ index. keeps (selector_at selectors index)) sorted)
+    → kept ≡ filter (λ index. keeps (selector_at selectors index)) all
+    → IsStrictlyIncreasing final → ((index : ℕ) → Contains final index ↔ Contains kept index)
+    → AreKept reported keeps selectors final
+are_kept reported keeps selectors starts sorted all kept final are same after is up same_again =
+    record {
+      ascending = up;
+      exactly = λ index. (
+        λ c. let h = (filter_contains test all index).0
+            (subst (λ xs. Contains xs index) is ((same_again index).0 c)) in
+            let k = there index ((added sorted all after index).0 h.0) in
+            (k.0, (both index).1 (k.1, h.1)),
+        λ h. let x = (both index).0 h.1 in
+            (same_again index).1 (subst (λ xs. Contains xs index) (sym is)
+            ((filter_contains test all index).1 (
+              (added sorted all after index).1
+                  (back index x.1 (are.reached index h.0 x.0)),
+              x.1,
+            ))),
+      );
+    }
+  where
+    test : ℕ → Bool
+    test index = keeps (selector_at selectors index)
+
+    both : (index : ℕ)
+        → IsTrue (reports_wanted reported (key_at selectors index) && test index)
+        ↔ (IsTrue (reports_wanted reported (key_at selectors index)) × IsTrue (test index))
+    both index = both_true (reports_wanted reported (key_at selectors index)) (test index)
+
+    there : (index : ℕ) → Contains sorted index ⊎ After selectors test sorted index
+        → (index < length selectors) × IsTrue (reports_wanted reported (key_at selectors index))
+    there index (inl c) = are.within index ((same index).0 c)
+    there index (inr h) =
+        let last = are.within h.0 ((same h.0).0 h.1) in (
+          omega (arith, h.2, last.0),
+          subst (λ key. IsTrue (reports_wanted reported key)) (sym h.3) last.1,
+        )
+
+    order : (index last : ℕ) → index ≤ last → (last ≡ index) ⊎ (index < last)
+    order index last le = grind arith
+
+    back : (index : ℕ) → IsTrue (test index)
+        → (last : ℕ) × Contains starts last × (index ≤ last)
+        × (key_at selectors index ≡ key_at selectors last)
+        → Contains sorted index ⊎ After selectors test sorted index
+    back index passes h = elim (order index h.0 h.2) [
+      | inl e ↦ inl (subst (λ p. Contains sorted p) e ((same h.0).1 h.1))
+      | inr l ↦ inr (h.0, (same h.0).1 h.1, l, h.3, passes)
+    ]
+
+-- a test that keeps all keeps the selectors whose key is reported
+pub all_kept : (reported : Near) (selectors : List (List Component)) (indices : List ℕ)
+    → AreKept reported (λ selector. true) selectors indices → AreKeyed reported selectors indices
+all_kept reported selectors indices are = record {
+  ascending = are.ascending;
+  exactly = λ index. (
+    λ c. let h = (are.exactly index).0 c in
+        (h.0, ((both_true (reports_wanted reported (key_at selectors index)) true).0 h.1).0),
+    λ h. (are.exactly index).1
+        (h.0, (both_true (reports_wanted reported (key_at selectors index)) true).1 (h.1, refl)),
+  );
+}
+
 -- of the selectors whose key is reported those are kept that the test keeps
 pub kept_only : (reported : Near) (keeps : List Component → Bool)
     (selectors : List (List Component)) (keyed final : List ℕ) → AreKeyed reported selectors keyed
@@ -207,6 +241,11 @@ kept_only reported keeps selectors keyed final are e =
             λ h. let x = both.0 h.1 in kept.1 ((are.exactly index).1 (h.0, x.0), x.1),
           );
     })
+
+-- what holds anyway holds on success
+pub known_on_ok : {T E P : Type 0} (r : Result T E) → P → OnOk r P
+known_on_ok (Ok x) p = p
+known_on_ok (Err e) p = tt
 
 -- of those that are kept those are matches that have a placement, if the test keeps each of them
 pub kept_matches : {Node : Type 0} (tree : Tree Node) (n : Node) (reported : Near)

@@ -26,3 +26,4 @@ pub mod Reports
 pub mod NeededNumbers
 pub mod Counting
 pub mod OpenPathLemmas
+pub mod PlaceLemmas

@@ -8,25 +8,24 @@ use Rattle.std.specs.Option.{unwrap_or}
 use Rattle.std.proofs.lemmas.List.Folds.{drop_split}
 use Rattle.std.proofs.Math.Seq.{drop-append_seam, take-append_seam}
 use Rattle.std.proofs.lemmas.Bool.{false≢true}
-use Rattle.std.proofs.lemmas.List.{take-append-drop, take_more, take_all, reverse-append, length-reverse, length-map, get_or_past, get_or-reverse, drop_all}
-use Rattle.std.proofs.lemmas.List.Elements.{All-push, Contains-append_left, Contains-append_right, Contains-append_cases, Contains-get_or}
+use Rattle.std.proofs.lemmas.List.{take-append-drop, take_more, reverse-append, length-reverse, length-map, get_or_past, get_or-reverse, drop_all}
+use Rattle.std.proofs.lemmas.List.Elements.{All-push, Contains-append_left, Contains-append_right, Contains-append_cases}
 use Rattle.simplecss_text.specs.Components.{Component}
 use Rattle.simplecss_selector.specs.Trees.{Tree, SiblingsShareParent}
 use Rattle.simplecss_selector.specs.AncestorKeys.{ancestor_keys, SomeAncestorHas}
 use Rattle.simplecss_selector.specs.Keys.{Key, Reported, HasKey, ReportsKeys, reports_key}
 use Rattle.simplecss_selector.specs.Keys.Key.{by_nothing}
 use Rattle.simplecss_selector.specs.Placements.{HasPlacement, IsAncestor}
-use Rattle.simplecss_selector.specs.Wanted.{Wanted, Near, IsReportedFor, IsNear}
+use Rattle.simplecss_selector.specs.Wanted.{Wanted, IsReportedFor}
 use Rattle.simplecss_selector.specs.Wanted.Wanted.{of_parent}
 use Rattle.simplecss_selector.proofs.Ancestors.{no_ancestor, ancestor_split}
 use Rattle.simplecss_selector.proofs.AncestorKeyLemmas.{keys_needed}
 use Rattle.simplecss.specs.internal.Chains.{selectors_of, IsLastBefore, AreChained}
-use Rattle.simplecss.specs.internal.LastByKey.{last_for, KeyLeads, IdLeads, AttributeLeads}
-use Rattle.simplecss.specs.internal.LastByWanted.{last_wanted, NeighbourLeads}
+use Rattle.simplecss.specs.internal.LastByKey.{last_for, KeyLeads}
+use Rattle.simplecss.specs.internal.LastByWanted.{NeighbourLeads}
 use Rattle.simplecss.specs.internal.NeededKeys.{keys_of, AreNumbered, AreNumbersOf, AreNeeded}
 use Rattle.simplecss.specs.OpenPaths.{same_key, needed_keys, numbered, IsLast, AreReported, AreParentStarts, AreOpened, top_starts, listed_after, starts_after, all_but_first, is_number, are_open}
-use Rattle.simplecss.specs.Recents.{Leads, adds_wanted}
-use Rattle.simplecss.specs.SelectorIndices.{selector_at, key_at, Adds}
+use Rattle.simplecss.specs.SelectorIndices.{selector_at, Adds}
 use Rattle.simplecss.specs.declared.index.last_by_key.LastByKey.{LastByKey}
 use Rattle.simplecss.specs.declared.index.last_by_wanted.LastByWanted.{LastByWanted}
 use Rattle.simplecss.specs.declared.index.link.Link.{Link}

@@ -1,7 +1,7 @@
 -- What reading texts into a sheet gives, from the rules that it has then; and the same of one text.
 -- Serves `StyleSheet::{read, parse, parse_more}` and the other calls that read.
-use Rattle.std.proofs.Common.{◌≡◌, ◌<◌, ◌∷◌, [], ◌++◌, ◌+◌, ◌∙◌, ℕ, suc, List, Bool, true, false, cond, ◌&&◌, arith, refl, ap, sym, subst, append-nil, append_assoc, flat_map, IsUtf8}
-use Rattle.std.specs.Prelude.{◌≤◌, Result, Ok, Err, OnOk, IfErr}
+use Rattle.std.proofs.Common.{◌≡◌, ◌<◌, ◌∷◌, [], ◌++◌, ◌∙◌, ℕ, suc, List, Bool, true, false, cond, ◌&&◌, arith, refl, ap, sym, subst, append-nil, append_assoc, flat_map, IsUtf8}
+use Rattle.std.specs.Prelude.{◌≤◌, Result, Ok, Err, IfErr}
 use Rattle.std.specs.Result.{IsErr}
 use Rattle.std.specs.List.{All, filter, AllPass}
 use Rattle.std.proofs.lemmas.List.Elements.{filter-append, All-append}
@@ -11,9 +11,8 @@ use Rattle.simplecss_text.specs.Characters.{Edition}
 use Rattle.simplecss_text.specs.Statements.{StyleRule, has_declaration, kept, is_open_comment}
 use Rattle.simplecss_text.specs.Sheets.{is_smaller, ordered, sheet}
 use Rattle.simplecss_text.specs.Skipped.{Skip}
-use Rattle.simplecss_text.specs.PrintingLaws.{IsNarrow, SelectorsReadBack, PrintsBack, has_wide_space}
+use Rattle.simplecss_text.specs.PrintingLaws.{IsNarrow, SelectorsReadBack, PrintsBack}
 use Rattle.simplecss_text.proofs.order.OrderLemmas.{smaller_order}
-use Rattle.simplecss_text.proofs.order.ListFacts.{filter_and}
 use Rattle.simplecss_text.proofs.order.RankLemmas.{ordered_filter, ordered_front}
 use Rattle.simplecss_text.proofs.round_trip.KeptSelectors.{more-reads_back}
 use Rattle.simplecss_text.proofs.round_trip.SheetsAgain.{sheet-prints_back}

@@ -1,7 +1,6 @@
 -- One text more: whether all texts are open comments, and how many declarations their rules hold.
 -- Serves `reading::read_all` (the limit over several texts).
-use Rattle.std.proofs.Common.{◌≡◌, ◌+◌, ◌<◌, ◌∷◌, [], ◌++◌, ◌∙◌, ℕ, List, Bool, true, false, ◌&&◌, take, arith, refl, ap, sym}
-use Rattle.std.specs.Prelude.{◌≤◌}
+use Rattle.std.proofs.Common.{◌≡◌, ◌+◌, ◌<◌, ◌∷◌, [], ◌++◌, ◌∙◌, ℕ, List, Bool, true, false, ◌&&◌, take, arith, refl, ap}
 use Rattle.std.proofs.lemmas.List.Sums.{sum_by-take-le, sum_by_push}
 use Rattle.std.proofs.lemmas.List.Folds.{list_all-append}
 use Rattle.simplecss_text.specs.Characters.{Edition}

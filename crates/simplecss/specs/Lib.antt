@@ -1,4 +1,5 @@
 pub mod RuleViews
+pub mod Places
 pub mod RuleIndices
 pub mod DeclarationCounts
 pub mod Readings
@@ -53,6 +54,7 @@ pub use Rattle.simplecss_text.specs.Ranks
 pub use Rattle.simplecss_text.specs.Reading
 pub use Rattle.simplecss_text.specs.ByteTests
 pub use Rattle.simplecss_text.specs.SkipViews
+pub use Rattle.simplecss_text.specs.Quotes
 pub use Rattle.simplecss_text.specs.Selectors
 pub use Rattle.simplecss_text.specs.Sheets
 pub use Rattle.simplecss_text.specs.SkipOffsets

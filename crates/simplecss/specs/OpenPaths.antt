@@ -6,11 +6,10 @@ use Rattle.simplecss_text.specs.Components.{Component}
 use Rattle.simplecss_selector.specs.AncestorKeys.{ancestor_keys}
 use Rattle.simplecss_selector.specs.Keys.{Key, Reported, reports_key}
 use Rattle.simplecss_selector.specs.Keys.Key.{by_id, by_class, by_name, by_attribute, by_nothing}
-use Rattle.simplecss_selector.specs.Placements.{IsAncestor}
 use Rattle.simplecss_selector.specs.Trees.{Tree}
 use Rattle.simplecss_selector.specs.Wanted.{Near, Wanted, reports_wanted, wanted_of}
 use Rattle.simplecss_selector.specs.Wanted.Wanted.{of_parent}
-use Rattle.simplecss.specs.SelectorIndices.{selector_at, key_at, AreTheIndices}
+use Rattle.simplecss.specs.SelectorIndices.{key_at}
 
 -- whether two keys are equal
 abbrev pub same_key : Key → Key → Bool
@@ -120,6 +119,11 @@ is_number keys key number = nat_lt number (length keys) && same_key (numbered ke
 abbrev pub are_open : List Key → List ℕ → List Component → Bool
 are_open keys listed selector =
     list_all (λ key. list_any (is_number keys key) listed) (ancestor_keys selector)
+
+-- whether a path keeps the selector: open elements report those keys; without a path it is kept
+abbrev pub is_kept : List (List Component) → Option Path → List Component → Bool
+is_kept selectors None selector = true
+is_kept selectors (Some path) selector = are_open (needed_keys selectors) path.listed selector
 
 -- whether the selector is tested: its key is reported, and open elements report those of ancestors
 abbrev pub is_tested_open : Near → Path → List Component → Bool

@@ -14,12 +14,17 @@
 #![tactic(auto)]
 
 mod has_selector;
+mod hints;
 mod index;
 pub mod laws;
+mod place;
 mod sheet;
+mod skipped_lines;
 
 pub use has_selector::HasSelector;
+pub use hints::{Hint, HintKind, find_hints, open_parenthesis};
 pub use index::{OpenPath, Recent, RuleIndex};
+pub use place::Place;
 pub use sheet::{Reading, Rule, SheetError, Statement, StatementReader, StyleSheet, find_skipped};
 pub use simplecss_declaration::{Declaration, DeclarationTokenizer};
 pub use simplecss_selector::{
@@ -28,3 +33,4 @@ pub use simplecss_selector::{
 };
 pub use simplecss_text::report::{Kept, Refusal, Report, Silent, Skipped, Why};
 pub use simplecss_text::{Error, TextPos, stream};
+pub use skipped_lines::SkippedLines;

@@ -1,6 +1,6 @@
 -- JSON texts that are written piece by piece.
 -- Serves `json::{push_string, push_declarations, push_selector, push_rule, rule_lines,
--- selector_lines, push_fault}` and `pages::push_winners`.
+-- selector_lines, push_skipped}` and `pages::push_winners`.
 use Rattle.std.proofs.Common.{◌≡◌, ℕ, ◌+◌, ◌<◌, ◌≤◌, true, false, List, [], ◌∷◌, ◌++◌, length, take, drop, get_or, map, refl, sym, ap, ◌∙◌, append_assoc, append-nil, arith}
 use Rattle.std.specs.Prelude.{if◌then◌else◌, codes, decimal, Result, Ok, Err, OnOk}
 use Rattle.std.specs.Result.{is_ok}
@@ -17,9 +17,8 @@ use Rattle.simplecss.specs.Printing.{selector_text}
 use Rattle.simplecss.specs.Specificity.{specificity}
 use Rattle.simplecss_c.specs.Json.{is_escaped, escape, within_string, string, array, member, members, object}
 use Rattle.simplecss.specs.Statements.{StyleRule}
-use Rattle.simplecss_faults.specs.FaultViews.{FaultView}
-use Rattle.simplecss_faults.specs.Quotes.{quote, reason_words}
-use Rattle.simplecss_c.specs.JsonLines.{line, selector_members, declaration_array, rule_line, position_members, fault_line}
+use Rattle.simplecss.specs.declared.TextPos.{TextPos}
+use Rattle.simplecss_c.specs.JsonLines.{line, selector_members, declaration_array, rule_line, position_members}
 
 -- ---- strings
 
@@ -211,23 +210,25 @@ rule_written rule out brace selector key all first second third fourth =
     (member (codes "specificity") (array (map decimal (specificity rule.components))))
     (declaration_array rule.declarations)
 
--- ---- skipped text
+-- ---- what is skipped
 
-fault_joined : (out a b d e : List ℕ)
+skipped_joined : (out a b d e : List ℕ)
     → ((((out ++ codes "{") ++ members (a ∷ b ∷ d ∷ [])) ++ codes ",\"text\":") ++ e) ++ codes "}\n"
     ≡ out ++ line (object (a ∷ b ∷ d ∷ member (codes "text") e ∷ []))
-fault_joined out a b d e = simp append_assoc
+skipped_joined out a b d e = simp append_assoc
 
--- the line of skipped text, a piece after another
-pub fault_written : (fault : FaultView) (out brace position key all : List ℕ)
+-- the line of a part that is skipped, a piece after another
+pub skipped_written : (pos : TextPos) (reason quoted out brace position key all : List ℕ)
     → brace ≡ out ++ codes "{"
-    → position ≡ brace ++ members (position_members fault.pos (reason_words fault.reason))
+    → position ≡ brace ++ members (position_members pos reason)
     → key ≡ position ++ codes ",\"text\":"
-    → all ≡ key ++ string (quote fault) → all ++ codes "}\n" ≡ out ++ fault_line fault
-fault_written fault out brace position key all first second third fourth =
-    ap (λ t. t ++ codes "}\n") (fourth ∙ ap (λ t. t ++ string (quote fault)) (third
+    → all ≡ key ++ string quoted → all ++ codes "}\n"
+    ≡ out
+    ++ line (object (position_members pos reason ++ member (codes "text") (string quoted) ∷ []))
+skipped_written pos reason quoted out brace position key all first second third fourth =
+    ap (λ t. t ++ codes "}\n") (fourth ∙ ap (λ t. t ++ string quoted) (third
     ∙ ap (λ t. t ++ codes ",\"text\":") (second
-    ∙ ap (λ t. t ++ members (position_members fault.pos (reason_words fault.reason))) first)))
-    ∙ fault_joined out (member (codes "row") (decimal fault.pos.row))
-    (member (codes "column") (decimal fault.pos.col))
-    (member (codes "reason") (string (reason_words fault.reason))) (string (quote fault))
+    ∙ ap (λ t. t ++ members (position_members pos reason)) first)))
+    ∙ skipped_joined out (member (codes "row") (decimal pos.row))
+    (member (codes "column") (decimal pos.col))
+    (member (codes "reason") (string reason)) (string quoted)

@@ -7,9 +7,10 @@ use lib.Utf8.{encode}
 use Rattle.simplecss.specs.Components.Combinator.{none}
 use Rattle.simplecss.specs.Components.Operator.{equals}
 use Rattle.simplecss.specs.Components.Subselector.{attribute}
-use Rattle.simplecss_faults.specs.declared.fault.Reason.TheVariants.{AtRule}
+use Rattle.simplecss.specs.Positions.{position}
+use Rattle.simplecss.specs.Skipped.{at_rule}
 use Rattle.simplecss_c.specs.Json.{string}
-use Rattle.simplecss_c.specs.JsonLines.{declaration_object, declaration_array, rule_line, fault_line}
+use Rattle.simplecss_c.specs.JsonLines.{declaration_object, declaration_array, rule_line, skipped_line}
 
 -- quotation marks, backslashes and control characters are escaped, and nothing else
 pub escapes :
@@ -47,13 +48,13 @@ unfolding digits
 rule = refl
 
 -- an at-rule is quoted up to its block
-pub at_rule :
-    fault_line (record {
-      pos = record { row = 2; col = 12 };
-      text = codes "@media print { a {} }";
-      reason = AtRule;
+pub media_rule :
+    skipped_line (codes "a{b:c} @media print { a {} } d{}") (record {
+      from = codes "@media print { a {} } d{}";
+      after = codes " d{}";
+      why = at_rule (Some (codes "media"));
     })
     ≡ codes
-    "{\"row\":2,\"column\":12,\"reason\":\"at-rule not supported\",\"text\":\"@media print\"}\n"
-unfolding digits chars trim_start trim_end encode
-at_rule = refl
+    "{\"row\":1,\"column\":8,\"reason\":\"at-rule not supported\",\"text\":\"@media print\"}\n"
+unfolding position digits chars trim_start trim_end encode
+media_rule = refl

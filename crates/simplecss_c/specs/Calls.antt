@@ -9,7 +9,6 @@ use Rattle.simplecss.specs.SelectorLists.{list_of, list_read}
 use Rattle.simplecss.specs.Sheets.{sheet}
 use Rattle.simplecss.specs.DeclarationCounts.{kept_in_all}
 use Rattle.simplecss.specs.Skipped.{skipped}
-use Rattle.simplecss_faults.specs.FaultViews.{fault_in}
 use Rattle.simplecss_tree.specs.Rows.{Row}
 use Rattle.cssq.specs.SelectorRuns.{selector_in, selector_line}
 use Rattle.cssq.specs.SheetRuns.{sheet_output}
@@ -21,7 +20,7 @@ use Rattle.simplecss_c.specs.declared.answer.Failure.TheVariants.{Refused, Tree,
 use Rattle.simplecss_c.specs.declared.pages.LineContent.TheVariants.{Selected}
 use Rattle.simplecss_c.specs.Texts.{texts_in}
 use Rattle.simplecss_c.specs.Elements.{tree_of}
-use Rattle.simplecss_c.specs.JsonLines.{rule_lines, fault_lines, selector_lines, read_line}
+use Rattle.simplecss_c.specs.JsonLines.{rule_lines, skipped_lines, selector_lines, read_line}
 use Rattle.simplecss_c.specs.AnswerLines.{AreLinesOf, AreMatchLines, AreWinnerLines, AreWinnersLines}
 
 -- A failure has its own reason. Any call may be out of memory.
@@ -111,10 +110,10 @@ IsPrinted rules bytes = bytes ≡ sheet_output rules
 abbrev pub IsRuleLines : List StyleRule → List ℕ → Type 0
 IsRuleLines rules bytes = bytes ≡ rule_lines rules
 
--- a line in JSON for each piece of the text that is skipped
+-- a line in JSON for each part of the text that is skipped
 abbrev pub IsSkippedCall : List ℕ → Result (List ℕ) Failure → Type 0
 IsSkippedCall text (Ok bytes) =
-    IsUtf8 text × (bytes ≡ fault_lines (map (fault_in text) (skipped this_edition text)))
+    IsUtf8 text × (bytes ≡ skipped_lines text (skipped this_edition text))
 IsSkippedCall text (Err failure) = FailsFor ⊥ (λ fault. ⊥) (¬ (IsUtf8 text)) failure
 
 -- a line in JSON for each selector of the list, or why there is none

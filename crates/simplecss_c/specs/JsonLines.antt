@@ -8,10 +8,11 @@ use Rattle.simplecss.specs.Printing.{selector_text}
 use Rattle.simplecss.specs.Specificity.{specificity}
 use Rattle.simplecss.specs.Statements.{StyleRule}
 use Rattle.simplecss.specs.SelectorLists.{ListFault}
-use Rattle.simplecss.specs.Words.{why_text}
+use Rattle.simplecss.specs.Words.{why_text, why_words}
+use Rattle.simplecss.specs.Errors.{position_of}
+use Rattle.simplecss.specs.Quotes.{quote}
+use Rattle.simplecss.specs.Skipped.{Skip}
 use Rattle.simplecss.specs.declared.TextPos.{TextPos}
-use Rattle.simplecss_faults.specs.FaultViews.{FaultView}
-use Rattle.simplecss_faults.specs.Quotes.{quote, reason_words}
 use Rattle.simplecss_c.specs.Json.{string, boolean, array, member, object}
 
 -- a value, and a newline
@@ -76,12 +77,13 @@ abbrev pub read_line : Result (List (List Component)) ListFault → List ℕ
 read_line (Ok selectors) = []
 read_line (Err fault) = refusal_line fault
 
--- the line of skipped text: where it begins, why it is skipped, and what is quoted of it
-abbrev pub fault_line : FaultView → List ℕ
-fault_line fault =
-    line (object (position_members fault.pos (reason_words fault.reason)
-    ++ member (codes "text") (string (quote fault)) ∷ []))
+-- the line of a part of a text that is skipped: where it begins, why it is skipped, and what is
+-- quoted of it
+abbrev pub skipped_line : (text : List ℕ) → Skip → List ℕ
+skipped_line text skip =
+    line (object (position_members (position_of text skip.from) (why_words skip.why)
+    ++ member (codes "text") (string (quote skip)) ∷ []))
 
--- the lines of all that is skipped, in order
-abbrev pub fault_lines : List FaultView → List ℕ
-fault_lines faults = flat_map fault_line faults
+-- the lines of all that is skipped of a text, in order
+abbrev pub skipped_lines : (text : List ℕ) → List Skip → List ℕ
+skipped_lines text skips = flat_map (skipped_line text) skips

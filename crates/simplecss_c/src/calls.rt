@@ -13,14 +13,15 @@ ghost use Rattle.simplecss_c.specs.Calls.{IsRuleLines, IsSkippedCall, IsListCall
 
 use crate::answer::Failure;
 use crate::elements::{TreeElement, read_tree};
+use crate::items::item_lines;
 use crate::lists::selectors_of;
 use crate::pages::{LineContent, lines, winner_lines, winners_lines};
 use crate::texts::{text_of, texts_of};
+use crate::today::sheet_lines;
 use crate::{json, lists};
 use cssq::runs::{selector_line, sheet_text};
 use log::sink::Discard;
-use simplecss::{Reading, Selector, Silent, StyleSheet};
-use simplecss_faults::find_faults;
+use simplecss::{Reading, Selector, Silent, StyleSheet, find_skipped};
 use simplecss_tree::Tree;
 use std::alloc::Global;
 
@@ -74,8 +75,9 @@ pub fn rules(alloc: Global, buffer: &[u8], ends: &[usize], limit: usize) -> Resu
 pub fn skipped(alloc: Global, text: &[u8]) -> Result<String, Failure>
     ensures { IsSkippedCall text.now (outcome_of result) }
 {
-    let faults = find_faults(alloc, text_of(text)?)?;
-    Ok(json::fault_lines(alloc, &faults)?)
+    let text = text_of(text)?;
+    let skipped = find_skipped(alloc, text)?;
+    Ok(json::skipped_lines(alloc, text, &skipped)?)
 }
 
 /// The lines of a list of selectors, in JSON.
@@ -153,6 +155,41 @@ pub fn matches(
     let tree = read_tree(alloc, tree.elements, tree.strings, tree.ends)?;
     let sheet = read_sheet(alloc, &texts, limit)?;
     match_lines(alloc, &sheet, &tree)
+}
+
+/// The lines of the items of a style sheet by the grammar of today, in JSON.
+pub fn read(alloc: Global, text: &[u8]) -> Result<String, Failure> {
+    Ok(sheet_lines(alloc, text_of(text)?)?)
+}
+
+/// The lines of the items of a style attribute by the grammar of today, in JSON.
+pub fn declarations(alloc: Global, text: &[u8]) -> Result<String, Failure> {
+    Ok(item_lines(alloc, text_of(text)?)?)
+}
+
+/// The selectors of texts, or the refusal.
+fn read_selectors<'a>(alloc: Global, texts: &[&'a str]) -> Result<Vec<Selector<'a>>, Failure> {
+    let mut selectors = Vec::new(alloc);
+    for text in texts {
+        let Some(selector) = Selector::parse(&Discard, alloc, text)? else {
+            return Err(Failure::Refused);
+        };
+        selectors.push(selector)?;
+    }
+    Ok(selectors)
+}
+
+/// The numbers of the selectors that match each element of a tree.
+pub fn match_selectors(
+    alloc: Global,
+    buffer: &[u8],
+    ends: &[usize],
+    tree: Passed<'_>,
+) -> Result<String, Failure> {
+    let texts = texts_of(alloc, buffer, ends)?;
+    let selectors = read_selectors(alloc, &texts)?;
+    let tree = read_tree(alloc, tree.elements, tree.strings, tree.ends)?;
+    lines(alloc, LineContent::Numbers, &selectors, &tree)
 }
 
 /// What wins for a name on each element of a tree, by the sheet of the texts.

@@ -119,6 +119,30 @@ pub extern "C" fn simplecss_skipped(
     hand_over(calls::skipped(alloc, text), out, len)
 }
 
+/// Writes a line of JSON for each item of a style sheet by the grammar of today, with offsets into
+/// the text.
+#[unsafe(no_mangle)]
+pub extern "C" fn simplecss_read(
+    alloc: Global,
+    text: &[u8],
+    out: &mut [u8],
+    len: &mut usize,
+) -> u32 {
+    hand_over(calls::read(alloc, text), out, len)
+}
+
+/// Writes a line of JSON for each item of a style attribute by the grammar of today, with offsets
+/// into the text.
+#[unsafe(no_mangle)]
+pub extern "C" fn simplecss_declarations(
+    alloc: Global,
+    text: &[u8],
+    out: &mut [u8],
+    len: &mut usize,
+) -> u32 {
+    hand_over(calls::declarations(alloc, text), out, len)
+}
+
 /// Writes a line for each element of a tree: its number, a colon, the number of each rule that
 /// matches it after a space, and a newline. Numbers begin at 1.
 #[unsafe(no_mangle)]
@@ -145,6 +169,31 @@ pub extern "C" fn simplecss_match(
         ends: string_ends,
     };
     let outcome = calls::matches(alloc, texts, ends, limit, tree);
+    set_fault(&outcome, fault);
+    hand_over(outcome, out, len)
+}
+
+/// Writes a line for each element of a tree: its number, a colon, the number of each of the
+/// selectors that matches it after a space, and a newline. Each text is a selector. Numbers begin
+/// at 1.
+#[unsafe(no_mangle)]
+pub extern "C" fn simplecss_match_selectors(
+    alloc: Global,
+    texts: &[u8],
+    ends: &[usize],
+    elements: &[TreeElement],
+    strings: &[u8],
+    string_ends: &[usize],
+    out: &mut [u8],
+    len: &mut usize,
+    fault: &mut TreeFault,
+) -> u32 {
+    let tree = Passed {
+        elements,
+        strings,
+        ends: string_ends,
+    };
+    let outcome = calls::match_selectors(alloc, texts, ends, tree);
     set_fault(&outcome, fault);
     hand_over(outcome, out, len)
 }

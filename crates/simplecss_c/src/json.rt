@@ -1,18 +1,21 @@
 //! Answers in JSON (RFC 8259), a value a line.
 
-ghost use Rattle.std.specs.Prelude.{◌≡◌, ◌<◌, ◌++◌, OnOk, IfOk, string_bytes, map};
+ghost use Rattle.std.specs.Prelude.{◌≡◌, ◌<◌, ◌++◌, ℕ, List, OnOk, IfOk, string_bytes, map};
 ghost use Rattle.std.specs.Char.{digit_char};
 ghost use Rattle.simplecss.specs.DeclarationViews.{declaration_of, declarations_of};
 ghost use Rattle.simplecss.specs.RuleViews.{rule_of, rules_of};
-ghost use Rattle.simplecss_faults.specs.FaultViews.{fault_of};
+ghost use Rattle.simplecss.specs.Errors.{position_of};
+ghost use Rattle.simplecss.specs.Skipped.{skipped};
+ghost use Rattle.simplecss.specs.SkipOffsets.{IsWithin};
+ghost use Rattle.simplecss.specs.SkipViews.{skip_of};
+ghost use Rattle.simplecss.specs.ThisEdition.{this_edition};
 ghost use Rattle.simplecss_c.specs.Json.{is_escaped, escape, string, members};
 ghost use Rattle.simplecss_c.specs.JsonLines.{declaration_object, declaration_array};
 ghost use Rattle.simplecss_c.specs.JsonLines.{selector_members, rule_line, rule_lines};
 ghost use Rattle.simplecss_c.specs.JsonLines.{selector_line, selector_lines, position_members};
-ghost use Rattle.simplecss_c.specs.JsonLines.{position_line, fault_line, fault_lines};
+ghost use Rattle.simplecss_c.specs.JsonLines.{position_line, skipped_line, skipped_lines};
 
-use simplecss::{Declaration, Rule, Selector, TextPos};
-use simplecss_faults::SheetFault;
+use simplecss::{Declaration, Place, Rule, Selector, Skipped, TextPos};
 use std::alloc::{AllocError, Global};
 use std::fmt::Write as _;
 
@@ -167,25 +170,30 @@ fn push_position(out: &mut String, pos: TextPos, reason: &str) -> Result<(), All
     push_string(out, reason)
 }
 
-/// Appends the line of skipped text.
-fn push_fault(out: &mut String, fault: &SheetFault<'_>) -> Result<(), AllocError>
-    ensures { OnOk result
-        (string_bytes out.new ≡ string_bytes out.old ++ fault_line (fault_of fault.now)) }
+/// Appends the line of a part that is skipped, which begins at this position.
+fn push_skipped(out: &mut String, pos: TextPos, part: &Skipped<'_>) -> Result<(), AllocError>
+    ensures { (text : List ℕ) → IsWithin text (skip_of part.now)
+        → pos ≡ position_of text part.now.from.now → OnOk result
+        (string_bytes out.new ≡ string_bytes out.old ++ skipped_line text (skip_of part.now)) }
 {
     out.push('{')?;
-    push_position(out, fault.pos, fault.reason.words())?;
+    push_position(out, pos, part.why.words())?;
     out.push_str(",\"text\":")?;
-    push_string(out, fault.quote())?;
+    push_string(out, part.quote())?;
     out.push_str("}\n")
 }
 
-/// The lines of what was skipped.
-pub fn fault_lines(alloc: Global, faults: &[SheetFault<'_>]) -> Result<String, AllocError>
-    ensures { IfOk result (λ text. string_bytes text ≡ fault_lines (map fault_of faults.now)) }
+/// The lines of what is skipped of a text.
+pub fn skipped_lines(alloc: Global, text: &str, parts: &[Skipped<'_>]) -> Result<String, AllocError>
+    requires { map skip_of parts.now ≡ skipped this_edition text.now }
+    ensures { IfOk result
+        (λ out. string_bytes out ≡ skipped_lines text.now (map skip_of parts.now)) }
 {
     let mut out = String::new(alloc);
-    for fault in faults {
-        push_fault(&mut out, fault)?;
+    let mut place = Place::START;
+    for part in parts {
+        place = place.find(text, part.from);
+        push_skipped(&mut out, place.pos, part)?;
     }
     Ok(out)
 }

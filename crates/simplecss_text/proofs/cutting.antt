@@ -10,3 +10,4 @@ pub mod StatementEnds
 pub mod StatementCuts
 pub mod CuttingLaws
 pub mod SkipEnds
+pub mod RestBoundaries

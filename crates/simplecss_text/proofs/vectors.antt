@@ -1,4 +1,5 @@
 -- Worked texts, computed with the definitions. Nothing cites them.
+pub mod OnLiterals
 pub mod ReadingVectors
 pub mod TokenVectors
 pub mod SelectorVectors

@@ -39,7 +39,7 @@ pub enum Why<'a> {
     AtRule(Option<&'a str>),
 }
 
-/// Something that reading a style sheet skips.
+/// Something that reading a style sheet skips (CSS 2.1 section 4.2).
 #[derive(Clone, Copy, Debug, PartialEq)]
 pub struct Skipped<'a> {
     /// The text from the start of what is skipped.

@@ -37,7 +37,7 @@ fn space_count(bytes: &[u8]) -> usize
 
 /// Returns the number of space bytes at the start of the text.
 #[inline(always)]
-pub fn spaces_len(text: &str) -> usize
+pub(crate) fn spaces_len(text: &str) -> usize
     ensures len { result ≡ prefix_len is_space_byte text.now }
     ensures boundary { IsCharBoundary text.now result }
 {
@@ -63,7 +63,7 @@ pub fn opens_comment(text: &str) -> bool
 
 /// Returns the offset after the first `*/`, if there is one.
 #[inline(never)]
-pub fn close_len(text: &str) -> Option<usize>
+pub(crate) fn close_len(text: &str) -> Option<usize>
     ensures found { MatchOption result (after_close text.now ≡ None)
         (λ n. after_close text.now ≡ Some (drop n text.now)) }
     ensures boundary { IfSome result (λ n. IsCharBoundary text.now n) }
@@ -105,7 +105,7 @@ fn quote_offset(bytes: &[u8], quote: u8) -> Option<usize>
 
 /// Returns the number of bytes before the closing quote of a string, after its opening one, if it
 /// is closed.
-pub fn string_len(text: &str, quote: u8) -> Option<usize>
+pub(crate) fn string_len(text: &str, quote: u8) -> Option<usize>
     requires { quote < 128 }
     ensures found { MatchOption result (from_quote quote quote text.now ≡ None)
         (λ n. from_quote quote quote text.now ≡ Some (drop n text.now)) }

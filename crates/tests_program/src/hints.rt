@@ -1,7 +1,7 @@
 //! Hints on what a sheet's text keeps.
 
 use crate::printed::prints_alike;
-use simplecss_faults::{find_hints, open_parenthesis};
+use simplecss::{find_hints, open_parenthesis};
 use std::alloc::{AllocError, Global};
 use std::fmt::Write as _;
 use std::test::Fail;
@@ -81,7 +81,7 @@ fn prints_alike_under_all_options(rt: HostRuntime) -> Result<(), Fail> {
     let words = "'10px': the value is cut here";
     for hint in &find_hints(rt.alloc(), "a { width:10px\\9; b:c }")? {
         assert!(rt; prints_alike(rt.alloc(), hint, "1:11: '10px': the value is cut here")?);
-        assert!(rt; prints_alike(rt.alloc(), &hint.surprise, words)?);
+        assert!(rt; prints_alike(rt.alloc(), &hint.kind, words)?);
     }
     Ok(())
 }

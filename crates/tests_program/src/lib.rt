@@ -15,8 +15,6 @@ mod counting;
 #[cfg(test)]
 mod failing_writers;
 #[cfg(test)]
-mod faults;
-#[cfg(test)]
 mod hints;
 #[cfg(test)]
 mod page;
@@ -27,6 +25,8 @@ mod runs;
 #[cfg(test)]
 mod same;
 #[cfg(test)]
-mod taken;
+mod skipped;
 #[cfg(test)]
-mod warnings;
+mod skipped_lines;
+#[cfg(test)]
+mod taken;

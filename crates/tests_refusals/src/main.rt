@@ -14,8 +14,8 @@ use log::Log;
 use log::sink::{Discard, Memory};
 use simplecss::{
     Reading, Recent, RuleIndex, Selector, SheetError, StatementReader, StyleSheet, Warnings,
+    find_skipped,
 };
-use simplecss_faults::find_faults;
 use simplecss_tree::{Tree, TreeError};
 use std::alloc::{AllocError, Global};
 use std::process::ExitCode;
@@ -363,11 +363,11 @@ fn show<R: Log>(rt: &HostRuntime, made: &Made<'_>, log: &R, words: &[&str]) -> i
             end(rt, made);
             show_number(rt, sum)
         }
-        ["faults", text] => {
+        ["skipped", text] => {
             begin(rt);
-            let faults = find_faults(rt.alloc(), text).map(|faults| faults.len());
+            let parts = find_skipped(rt.alloc(), text).map(|parts| parts.len());
             end(rt, made);
-            show_number(rt, faults)
+            show_number(rt, parts)
         }
         [call @ ("index" | "winners"), text, tree] => show_found(rt, made, call, text, tree),
         ["recent", text] => show_recent(rt, made, text),

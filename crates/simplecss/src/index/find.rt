@@ -1,5 +1,5 @@
 //! The indices of the rules whose key an element or one of its neighbours reports.
-ghost use Rattle.std.specs.Prelude.{◌≡◌, ◌<◌, ◌↔◌, ℕ, OnOk, Contains, Option, Some, length, filter};
+ghost use Rattle.std.specs.Prelude.{◌≡◌, ◌<◌, ◌↔◌, ℕ, OnOk, Contains, IsTrue, Option, Some, length, filter};
 ghost use Rattle.std.specs.List.Sorted.{IsStrictlyIncreasing};
 ghost use Rattle.std.specs.Option.{option_map};
 ghost use Rattle.simplecss_selector.specs.KeyViews.{key_value};
@@ -11,7 +11,7 @@ ghost use Rattle.simplecss_selector.specs.Wanted.{Near, IsNear, IsReportedFor};
 ghost use Rattle.simplecss.specs.internal.LastByWanted.{NeighbourLeads};
 ghost use Rattle.simplecss.specs.Recents.{Leads, adds_wanted, names_wanted, AreStarts};
 ghost use Rattle.simplecss.specs.Matching.{AreKeyed, AreKept, AreCandidates, is_covered};
-ghost use Rattle.simplecss.specs.OpenPaths.{needed_keys, are_open, IsOpenTo};
+ghost use Rattle.simplecss.specs.OpenPaths.{needed_keys, are_open, is_kept, IsOpenTo};
 ghost use Rattle.simplecss.specs.SelectorIndices.{key_at, selector_at, Adds};
 
 use super::last_by_key::LastByKey;
@@ -205,35 +205,60 @@ fn push_named(
     push_classes(&lasts.own, class, indices)
 }
 
-/// Adds the earlier indices with the key of this one.
+/// Adds the earlier indices with the key of this one, and with a path those of them alone that it
+/// keeps.
 fn push_earlier(
     rule_index: &RuleIndex<'_>,
+    path: Option<&OpenPath<'_>>,
     index: usize,
     indices: &mut Vec<usize>,
 ) -> Result<(), AllocError>
     requires { index < length rule_index.now }
     ensures { OnOk result (Adds indices.old.items indices.new.items
-        (λ other. (other < index) × (key_at rule_index.now other ≡ key_at rule_index.now index))) }
+        (λ other. (other < index) × (key_at rule_index.now other ≡ key_at rule_index.now index)
+        × IsTrue (is_kept rule_index.now (option_map (λ p. p.now) path.entry)
+        (selector_at rule_index.now other)))) }
 {
     let mut known = rule_index.earlier(index);
     'back: while let Some(other) = known {
-        indices.push(other)?;
+        if rule_index.is_kept(other, path) {
+            indices.push(other)?;
+        }
         known = rule_index.earlier(other);
     }
     Ok(())
 }
 
-/// Adds the earlier indices with the key of one that is there.
-fn push_all_earlier(rule_index: &RuleIndex<'_>, indices: &mut Vec<usize>) -> Result<(), AllocError>
+/// Adds the earlier indices with the key of one that is there, and with a path those of them alone
+/// that it keeps.
+fn push_all_earlier(
+    rule_index: &RuleIndex<'_>,
+    path: Option<&OpenPath<'_>>,
+    indices: &mut Vec<usize>,
+) -> Result<(), AllocError>
     requires { (index : ℕ) → Contains indices.old.items index → index < length rule_index.now }
     ensures { OnOk result (Adds indices.old.items indices.new.items
         (λ other. (index : ℕ) × Contains indices.old.items index × (other < index)
-        × (key_at rule_index.now other ≡ key_at rule_index.now index))) }
+        × (key_at rule_index.now other ≡ key_at rule_index.now index)
+        × IsTrue (is_kept rule_index.now (option_map (λ p. p.now) path.entry)
+        (selector_at rule_index.now other)))) }
 {
     'starts: for i in 0..indices.len() {
-        push_earlier(rule_index, indices[i], indices)?;
+        push_earlier(rule_index, path, indices[i], indices)?;
     }
     Ok(())
+}
+
+/// Keeps the indices of the rules whose ancestors' keys open elements report, or without a path all.
+#[inline(always)]
+fn keep_open(rule_index: &RuleIndex<'_>, path: Option<&OpenPath<'_>>, indices: &mut Vec<usize>)
+    ensures { indices.new.items ≡ filter (λ index. is_kept rule_index.now
+        (option_map (λ p. p.now) path.entry) (selector_at rule_index.now index))
+        indices.old.items }
+{
+    if path.is_some() {
+        indices.retain(|index| rule_index.is_kept(*index, path));
+    }
 }
 
 /// Leaves the last indices of the keys that the element, its parent or its previous sibling reports
@@ -252,11 +277,12 @@ fn find_beside<E: Keyed>(
 }
 
 /// Adds the indices of the rules whose key an element with this name and this class value reports
-/// to those of the last indices that are there, and puts all in order. A word that the class value
-/// repeats costs one look-up and one index more, and that index is dropped before the chains are
-/// followed.
+/// to those of the last indices that are there, leaves out those that a path does not keep, and puts
+/// all in order. A word that the class value repeats costs one look-up and one index more, and that
+/// index is dropped before the chains are followed.
 fn find_named(
     rule_index: &RuleIndex<'_>,
+    path: Option<&OpenPath<'_>>,
     name: &str,
     class: Option<&str>,
     indices: &mut Vec<usize>,
@@ -265,16 +291,18 @@ fn find_named(
     ensures { OnOk result ((near : Near) → near.own.name ≡ name.now
         → near.own.class ≡ option_map (λ value. value.now) class.entry
         → AreStarts (adds_wanted near) rule_index.now indices.old.items
-        → AreKeyed near rule_index.now indices.new.items) }
+        → AreKept near (is_kept rule_index.now (option_map (λ p. p.now) path.entry))
+        rule_index.now indices.new.items) }
 {
     push_named(&rule_index.lasts, name, class, indices)?;
     sort_once(indices);
-    push_all_earlier(rule_index, indices)?;
+    push_all_earlier(rule_index, path, indices)?;
+    keep_open(rule_index, path, indices);
     sort_once(indices);
     Ok(())
 }
 
-/// Does what [`find_named`] does. Where no index is there, the result is taken from an earlier
+/// Does what [`find_named`] does without a path. Where no index is there, the result is taken from an earlier
 /// search by the same name and class value, or kept for later ones.
 #[inline(always)]
 fn find_again(
@@ -294,13 +322,13 @@ fn find_again(
     ensures recent { recent.new ≡ recent.old }
 {
     if !indices.is_empty() {
-        return find_named(rule_index, name, class, indices);
+        return find_named(rule_index, None, name, class, indices);
     }
     if let Some(known) = recent.get(name, class) {
         indices.extend_from_slice(known)?;
         return Ok(());
     }
-    find_named(rule_index, name, class, indices)?;
+    find_named(rule_index, None, name, class, indices)?;
     recent.keep(name, class, indices)
 }
 
@@ -334,15 +362,6 @@ fn keep_covered(rule_index: &RuleIndex<'_>, above: u64, indices: &mut Vec<usize>
         (λ index. is_covered above (selector_at rule_index.now index)) indices.old.items }
 {
     indices.retain(|index| rule_index.is_covered(*index, above));
-}
-
-/// Keeps the indices of the rules whose ancestors' keys open elements report.
-#[inline(always)]
-fn keep_open(rule_index: &RuleIndex<'_>, path: &OpenPath<'_>, indices: &mut Vec<usize>)
-    ensures { indices.new.items ≡ filter (λ index. are_open (needed_keys rule_index.now)
-        path.now.listed (selector_at rule_index.now index)) indices.old.items }
-{
-    indices.retain(|index| rule_index.is_open(*index, path));
 }
 
 /// Leaves the indices of the rules that are to be tested, in order: those whose key is reported,
@@ -405,10 +424,9 @@ pub(crate) fn candidates_open<E: Keyed>(
     find_beside_open(rule_index, element, path, indices)?;
     find_named(
         rule_index,
+        Some(path),
         element.local_name(),
         element.class_value(),
         indices,
-    )?;
-    keep_open(rule_index, path, indices);
-    Ok(())
+    )
 }

@@ -2,11 +2,12 @@
 ghost use Rattle.std.specs.Prelude.{◌≡◌, ℕ, ◌+◌, ◌<◌, ◌≤◌, ◌∷◌, ◌++◌, [], IfOk, OnOk};
 ghost use Rattle.std.specs.Prelude.{◌↔◌, All, Contains, IsTrue, OnErr, length, map};
 ghost use Rattle.std.specs.List.{sum_by};
+ghost use Rattle.std.specs.Option.{option_map};
 ghost use Rattle.simplecss_selector.specs.KeyBits.{CoversAncestors};
 ghost use Rattle.simplecss_selector.specs.Wanted.{Near, IsNear};
 ghost use Rattle.simplecss.specs.internal.Chains.{selectors_of, IsLastBefore, AreChained};
 ghost use Rattle.simplecss.specs.internal.NeededKeys.{AreNeeded};
-ghost use Rattle.simplecss.specs.OpenPaths.{needed_keys, are_open, open_for, IsOpenTo};
+ghost use Rattle.simplecss.specs.OpenPaths.{needed_keys, are_open, is_kept, open_for, IsOpenTo};
 ghost use Rattle.simplecss.specs.SelectorIndices.{key_at, selector_at};
 ghost use Rattle.simplecss.specs.Matching.{AreMatches, most_tests, is_covered, tested_for};
 
@@ -153,6 +154,19 @@ impl<'a> RuleIndex<'a> {
     {
         match self.links.get(index) {
             Some(link) => are_open(&link.needed, path),
+            None => true,
+        }
+    }
+
+    /// Whether a path, if there is one, keeps the rule at this index: open elements report each key
+    /// that it needs of an element's ancestors.
+    #[inline(always)]
+    pub(crate) fn is_kept(&self, index: usize, path: Option<&OpenPath<'_>>) -> bool
+        ensures { result ≡ is_kept self.now (option_map (λ p. p.now) path.entry)
+            (selector_at self.now index) }
+    {
+        match path {
+            Some(open) => self.is_open(index, open),
             None => true,
         }
     }

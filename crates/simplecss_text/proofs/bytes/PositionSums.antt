@@ -1,6 +1,5 @@
 -- The position of an offset, from that of an earlier one.
--- Serves `find_faults` of simplecss_faults (positions that are counted from one offset to the
--- next).
+-- Serves the positions of simplecss that are counted from one offset to the next.
 use Rattle.std.proofs.Common.{◌≡◌, ℕ, ◌+◌, ◌-◌, ◌<◌, List, [], ◌∷◌, ◌++◌, Bool, true, false, cond, not, ◌==◌, length, take, drop, reverse, min, refl, sym, ap, ◌∙◌, subst, arith, take-add, inl, inr, ◌⊎◌, IsUtf8, eqb, eqb-true, eq-eqb}
 use Rattle.std.specs.Prelude.{chars, count_by}
 use Rattle.std.specs.List.{after_last, prefix_len, suffix_len}

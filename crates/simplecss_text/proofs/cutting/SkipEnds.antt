@@ -1,5 +1,5 @@
 -- What is skipped begins and ends in the text.
--- Serves `find_faults` of simplecss_faults (the positions of faults).
+-- Serves the positions of what is skipped, which simplecss counts.
 use Rattle.std.proofs.Common.{◌≡◌, ℕ, zero, suc, List, [], ◌∷◌, ◌++◌, Bool, true, false, if◌then◌else◌, ◌==◌, ◌||◌, ◌<◌, not, length, get_or, Option, Some, None, Ok, Err, refl, sym, subst, append_assoc, arith, inl, inr}
 use Rattle.std.specs.List.{flat_map}
 use Rattle.std.specs.Option.{option_map}

@@ -7,7 +7,6 @@ use Rattle.std.specs.Option.{option_map}
 use Rattle.std.specs.List.{flat_map}
 use Rattle.simplecss_text.specs.AsciiBytes.{at_sign, comma}
 use Rattle.simplecss_text.specs.Reading.{each}
-use Rattle.std.proofs.lemmas.Grind.{flat_map-append}
 use Rattle.simplecss_text.specs.Bytes.{past_one, past_byte, starts}
 use Rattle.simplecss_text.specs.Names.{name}
 use Rattle.simplecss_text.specs.Characters.{Edition}

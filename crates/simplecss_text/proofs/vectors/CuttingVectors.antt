@@ -3,24 +3,13 @@
 use Rattle.std.proofs.Common.{ap, drop, sym, take, ◌++◌, ◌∙◌, Some, false, arith, suc, zero}
 use Rattle.std.specs.List.{Contains}
 use Rattle.std.specs.Prelude.{◌≡◌, refl, ℕ, List, [], ◌∷◌, codes}
-use Rattle.std.specs.Str.{trim_start, trim_end, chars}
-use lib.Utf8.{encode}
-use Rattle.simplecss_text.specs.Reading.{each}
 use Rattle.simplecss_text.specs.Characters.{Edition, first_edition, second_edition}
-use Rattle.simplecss_text.specs.Comments.{comment, blank, gap}
-use Rattle.simplecss_text.specs.Names.{past_name_chars, name}
-use Rattle.simplecss_text.specs.Strings.{string_or_name}
 use Rattle.simplecss_text.specs.Components.Combinator.{none}
-use Rattle.simplecss_text.specs.Pieces.{attribute_operator, attribute_after, lang_after, pseudo_class_after, named_token, next_kind, solid, piece, ending}
-use Rattle.simplecss_text.specs.TokenSequences.{sequence_from}
-use Rattle.simplecss_text.specs.Selectors.{reads}
-use Rattle.simplecss_text.specs.Terms.{word, past_number, term}
-use Rattle.simplecss_text.specs.Declarations.{value, importance, trailing, stated_name, declaration, declarations}
-use Rattle.simplecss_text.specs.Blocks.{block, block_end}
-use Rattle.simplecss_text.specs.Statements.{part, parts, next_block, rule_set, at_rule_rest, statement, statements, StyleRule, kept}
+use Rattle.simplecss_text.specs.Statements.{StyleRule, kept}
 use Rattle.simplecss_text.specs.Sheets.{sheet}
-use Rattle.simplecss_text.specs.Cutting.{rests_after, statement_ends, KeepsAcross, StatementEndsAt}
+use Rattle.simplecss_text.specs.Cutting.{statement_ends, KeepsAcross, StatementEndsAt}
 use Rattle.simplecss_text.specs.Printing.{sheet_text}
+use Rattle.simplecss_text.proofs.vectors.OnLiterals.{simplecss_on_literals}
 
 -- a block of only a blank consumes a further brace, so its statement ends after the second one
 abbrev pub further_brace : List ℕ
@@ -31,11 +20,7 @@ pub ends_of_statements : (edition : Edition) →
     (statement_ends edition further_brace ≡ 6 ∷ 16 ∷ [])
     × (statement_ends edition (codes "@m x; a{b:c} /**/ @--x{y:z} /* w") ≡ 5 ∷ 12 ∷ 20 ∷ 27 ∷ [])
     × (statement_ends edition (codes " /**/ ") ≡ [])
-unfolding rests_after each comment blank gap past_name_chars name string_or_name attribute_operator
-    attribute_after lang_after pseudo_class_after named_token next_kind solid piece ending
-    sequence_from chars encode trim_start trim_end reads part parts next_block rule_set at_rule_rest
-    statement statements block block_end word past_number term value importance trailing stated_name
-    declaration declarations
+unfolding simplecss_on_literals
 ends_of_statements first_edition = (refl, refl, refl)
 ends_of_statements second_edition = (refl, refl, refl)
 
@@ -54,11 +39,7 @@ pub cut_at_statement : (edition : Edition) →
     × (take 6 further_brace ≡ codes "a { }}")
     × (kept edition (take 6 further_brace) ≡ [])
     × (kept edition (drop 6 further_brace) ≡ rule_b ∷ [])
-unfolding rests_after each comment blank gap past_name_chars name string_or_name attribute_operator
-    attribute_after lang_after pseudo_class_after named_token next_kind solid piece ending
-    sequence_from chars encode trim_start trim_end reads part parts next_block rule_set at_rule_rest
-    statement statements block block_end word past_number term value importance trailing stated_name
-    declaration declarations
+unfolding simplecss_on_literals
 cut_at_statement first_edition = (refl, refl, refl, refl)
 cut_at_statement second_edition = (refl, refl, refl, refl)
 
@@ -78,11 +59,7 @@ pub cut_elsewhere : (edition : Edition) →
     × (kept edition (drop 5 further_brace) ≡ [])
     × (sheet edition (take 5 further_brace ∷ drop 5 further_brace ∷ []) ≡ [])
     × (sheet_text (sheet edition (further_brace ∷ [])) ≡ codes "b { c:d; }")
-unfolding rests_after each comment blank gap past_name_chars name string_or_name attribute_operator
-    attribute_after lang_after pseudo_class_after named_token next_kind solid piece ending
-    sequence_from chars encode trim_start trim_end reads part parts next_block rule_set at_rule_rest
-    statement statements block block_end word past_number term value importance trailing stated_name
-    declaration declarations
+unfolding simplecss_on_literals
 cut_elsewhere first_edition = (refl, refl, refl, refl, refl)
 cut_elsewhere second_edition = (refl, refl, refl, refl, refl)
 

@@ -1,16 +1,11 @@
 -- Worked declarations, computed.
 -- Computes `declaration` and `declarations` of `specs/Declarations`, and so the terms of values.
 use Rattle.std.specs.Prelude.{◌≡◌, refl, [], ◌∷◌, codes, true, false}
-use Rattle.std.specs.Str.{trim_start, trim_end, chars}
-use lib.Utf8.{encode}
 use Rattle.simplecss_text.specs.AsciiBytes.{colon}
-use Rattle.simplecss_text.specs.Reading.{each, fails, no_name, no_comment, no_value, wrong_byte, ended, got}
-use Rattle.simplecss_text.specs.Comments.{comment, blank, gap}
-use Rattle.simplecss_text.specs.Names.{past_name_chars, name}
-use Rattle.simplecss_text.specs.Strings.{string_or_name}
+use Rattle.simplecss_text.specs.Reading.{fails, no_name, no_comment, no_value, wrong_byte, ended, got}
 use Rattle.simplecss_text.specs.Characters.{Edition, first_edition, second_edition}
-use Rattle.simplecss_text.specs.Terms.{word, past_number, term}
-use Rattle.simplecss_text.specs.Declarations.{value, importance, trailing, stated_name, declaration, declarations}
+use Rattle.simplecss_text.specs.Declarations.{declaration, declarations}
+use Rattle.simplecss_text.proofs.vectors.OnLiterals.{simplecss_on_literals}
 
 -- texts without a declaration at the front
 pub no_declaration : (edition : Edition) →
@@ -21,8 +16,7 @@ pub no_declaration : (edition : Edition) →
     × (declarations edition (codes "(color:red)") ≡ [])
     × (declarations edition (codes "[color:red]") ≡ [])
     × (declarations edition (codes "color:") ≡ [])
-unfolding each comment blank gap past_name_chars name string_or_name word past_number term value
-    importance trailing stated_name declaration declarations chars encode trim_start trim_end
+unfolding simplecss_on_literals
 no_declaration first_edition = (refl, refl, refl, refl, refl, refl, refl)
 no_declaration second_edition = (refl, refl, refl, refl, refl, refl, refl)
 
@@ -46,8 +40,7 @@ pub one_declaration : (edition : Edition) →
     ≡ record { name = (codes "color"); value = (codes "red"); important = false } ∷ [])
     × (declarations edition (codes "\ncolor\n:\nred\n;\n")
     ≡ record { name = (codes "color"); value = (codes "red"); important = false } ∷ [])
-unfolding each comment blank gap past_name_chars name string_or_name word past_number term value
-    importance trailing stated_name declaration declarations chars encode trim_start trim_end
+unfolding simplecss_on_literals
 one_declaration first_edition = (refl, refl, refl, refl, refl, refl, refl, refl, refl)
 one_declaration second_edition = (refl, refl, refl, refl, refl, refl, refl, refl, refl)
 
@@ -61,8 +54,7 @@ pub two_declarations : (edition : Edition) →
       value = (codes "url(\"img.png\")");
       important = false;
     } ∷ record { name = (codes "color"); value = (codes "red"); important = true } ∷ [])
-unfolding each comment blank gap past_name_chars name string_or_name word past_number term value
-    importance trailing stated_name declaration declarations chars encode trim_start trim_end
+unfolding simplecss_on_literals
 two_declarations first_edition = (refl, refl)
 two_declarations second_edition = (refl, refl)
 
@@ -88,8 +80,7 @@ pub important_declarations : (edition : Edition) →
     } ∷ record { name = (codes "foo"); value = (codes "x"); important = false } ∷ [])
     × (declarations edition (codes "a:b !IMPORTANT")
     ≡ record { name = (codes "a"); value = (codes "b"); important = false } ∷ [])
-unfolding each comment blank gap past_name_chars name string_or_name word past_number term value
-    importance trailing stated_name declaration declarations chars encode trim_start trim_end
+unfolding simplecss_on_literals
 important_declarations first_edition = (refl, refl, refl, refl, refl, refl, refl)
 important_declarations second_edition = (refl, refl, refl, refl, refl, refl, refl)
 
@@ -130,8 +121,7 @@ pub values : (edition : Edition) →
       value = (codes "'Noto Serif','DejaVu Serif',serif");
       important = false;
     } ∷ [])
-unfolding each comment blank gap past_name_chars name string_or_name word past_number term value
-    importance trailing stated_name declaration declarations chars encode trim_start trim_end
+unfolding simplecss_on_literals
 values first_edition = (refl, refl, refl, refl, refl, refl, refl, refl, refl, refl, refl, refl)
 values second_edition = (refl, refl, refl, refl, refl, refl, refl, refl, refl, refl, refl, refl)
 
@@ -145,16 +135,14 @@ pub terms_in_values : (edition : Edition) →
     × (declarations edition (codes "*zoom:1;")
     ≡ record { name = (codes "zoom"); value = (codes "1"); important = false } ∷ [])
     × (declarations edition (97 ∷ 58 ∷ 227 ∷ 128 ∷ 128 ∷ []) ≡ [])
-unfolding each comment blank gap past_name_chars name string_or_name word past_number term value
-    importance trailing stated_name declaration declarations chars encode trim_start trim_end
+unfolding simplecss_on_literals
 terms_in_values first_edition = (refl, refl, refl, refl, refl)
 terms_in_values second_edition = (refl, refl, refl, refl, refl)
 
 -- a slash is a term only in the second edition
 pub slashes : (edition : Edition) →
     (declarations edition (codes "a:b/* x") ≡ [])
-unfolding each comment blank gap past_name_chars name string_or_name word past_number term value
-    importance trailing stated_name declaration declarations chars encode trim_start trim_end
+unfolding simplecss_on_literals
 slashes first_edition = refl
 slashes second_edition = refl
 
@@ -164,8 +152,7 @@ pub slashes-editions :
     ≡ record { name = (codes "font"); value = (codes "12px/1.5 serif"); important = false } ∷ [])
     × (declarations first_edition (codes "font:12px/1.5 serif")
     ≡ record { name = (codes "font"); value = (codes "12px"); important = false } ∷ [])
-unfolding each comment blank gap past_name_chars name string_or_name word past_number term value
-    importance trailing stated_name declaration declarations chars encode trim_start trim_end
+unfolding simplecss_on_literals
 slashes-editions = (refl, refl)
 
 -- the first fault of a declaration, and what is left after it
@@ -177,8 +164,7 @@ pub first_faults : (edition : Edition) →
     × (declaration edition (codes "a: ;x") ≡ fails (no_value (codes ";x")) (codes "x"))
     × (declaration edition (codes "a:;/*") ≡ fails (no_comment (codes "/*")) [])
     × (declaration edition (codes "a:b; /* open") ≡ fails (no_comment (codes "/* open")) [])
-unfolding each comment blank gap past_name_chars name string_or_name word past_number term value
-    importance trailing stated_name declaration declarations chars encode trim_start trim_end
+unfolding simplecss_on_literals
 first_faults first_edition = (refl, refl, refl, refl, refl, refl, refl)
 first_faults second_edition = (refl, refl, refl, refl, refl, refl, refl)
 
@@ -192,8 +178,7 @@ pub broken_off : (edition : Edition) →
     ≡ record { name = codes "a"; value = codes "b"; important = false } ∷ [])
     × (declarations edition (codes "a:b /* x") ≡ [])
     × (declarations edition (codes "**a:b") ≡ [])
-unfolding each comment blank gap past_name_chars name string_or_name word past_number term value
-    importance trailing stated_name declaration declarations chars encode trim_start trim_end
+unfolding simplecss_on_literals
 broken_off first_edition = (refl, refl, refl, refl, refl)
 broken_off second_edition = (refl, refl, refl, refl, refl)
 
@@ -209,8 +194,7 @@ pub more_terms : (edition : Edition) →
     ≡ record { name = codes "a"; value = codes "#-"; important = false } ∷ [])
     × (declarations edition (codes "a:'\\\\'b'")
     ≡ record { name = codes "a"; value = codes "'\\\\'b'"; important = false } ∷ [])
-unfolding each comment blank gap past_name_chars name string_or_name word past_number term value
-    importance trailing stated_name declaration declarations chars encode trim_start trim_end
+unfolding simplecss_on_literals
 more_terms first_edition = (refl, refl, refl, refl, refl)
 more_terms second_edition = (refl, refl, refl, refl, refl)
 
@@ -218,8 +202,7 @@ more_terms second_edition = (refl, refl, refl, refl, refl)
 pub slash_terms : (edition : Edition) →
     (declarations edition (codes "a:/**/b")
     ≡ record { name = codes "a"; value = codes "b"; important = false } ∷ [])
-unfolding each comment blank gap past_name_chars name string_or_name word past_number term value
-    importance trailing stated_name declaration declarations chars encode trim_start trim_end
+unfolding simplecss_on_literals
 slash_terms first_edition = refl
 slash_terms second_edition = refl
 
@@ -232,8 +215,7 @@ pub slash_terms-editions :
     × (declarations second_edition (codes "a:b//**/c")
     ≡ record { name = codes "a"; value = codes "b//**/c"; important = false } ∷ [])
     × (declarations second_edition (97 ∷ 58 ∷ 194 ∷ 160 ∷ []) ≡ [])
-unfolding each comment blank gap past_name_chars name string_or_name word past_number term value
-    importance trailing stated_name declaration declarations chars encode trim_start trim_end
+unfolding simplecss_on_literals
 slash_terms-editions = (refl, refl, refl, refl)
 
 -- what is left after a declaration
@@ -256,8 +238,7 @@ pub declaration_ends : (edition : Edition) →
     ≡ got (record { name = codes "a"; value = codes "f(b)c"; important = false }) [])
     × (declaration edition (codes "a:b (c);d:e")
     ≡ got (record { name = codes "a"; value = codes "b"; important = false }) (codes "(c);d:e"))
-unfolding each comment blank gap past_name_chars name string_or_name word past_number term value
-    importance trailing stated_name declaration declarations chars encode trim_start trim_end
+unfolding simplecss_on_literals
 declaration_ends first_edition = (refl, refl, refl, refl, refl, refl, refl, refl, refl)
 declaration_ends second_edition = (refl, refl, refl, refl, refl, refl, refl, refl, refl)
 
@@ -267,8 +248,7 @@ pub declaration_ends-editions :
     ≡ got (record { name = codes "a"; value = codes "b/c"; important = false }) (codes "d:e"))
     × (declaration first_edition (codes "a:b/c;d:e")
     ≡ got (record { name = codes "a"; value = codes "b"; important = false }) (codes "/c;d:e"))
-unfolding each comment blank gap past_name_chars name string_or_name word past_number term value
-    importance trailing stated_name declaration declarations chars encode trim_start trim_end
+unfolding simplecss_on_literals
 declaration_ends-editions = (refl, refl)
 
 -- faults of blanks, names, colons and empty values, and what is left after them
@@ -290,8 +270,7 @@ pub more_faults : (edition : Edition) →
     × (declaration edition (codes "a:'x;b:c") ≡ fails (no_value (codes "'x;b:c")) [])
     × (declaration edition (codes "a:f(x;b:c") ≡ fails (no_value (codes "f(x;b:c")) [])
     × (declaration edition (codes "a:(b)") ≡ fails (no_value (codes "(b)")) (codes "(b)"))
-unfolding each comment blank gap past_name_chars name string_or_name word past_number term value
-    importance trailing stated_name declaration declarations chars encode trim_start trim_end
+unfolding simplecss_on_literals
 more_faults first_edition =
     (refl, refl, refl, refl, refl, refl, refl, refl, refl, refl, refl, refl, refl, refl, refl, refl)
 more_faults second_edition =
@@ -302,6 +281,5 @@ pub more_faults-editions :
     (declaration second_edition (codes "a:/b")
     ≡ got (record { name = codes "a"; value = codes "/b"; important = false }) [])
     × (declaration first_edition (codes "a:/b") ≡ fails (no_value (codes "/b")) (codes "/b"))
-unfolding each comment blank gap past_name_chars name string_or_name word past_number term value
-    importance trailing stated_name declaration declarations chars encode trim_start trim_end
+unfolding simplecss_on_literals
 more_faults-editions = (refl, refl)

@@ -1,27 +1,20 @@
 -- A worked text that is cut into pieces, and one that cannot be without something skipped.
 -- Examples of `IsCutUp` and `IsAccountedFor` of `specs/NothingLost`.
 use Rattle.std.proofs.Common.{◌++◌, ◌⊎◌, inl, inr, ap, sym, ◌∙◌, refl, ◌≡◌, ℕ, List, [], ◌∷◌, codes, false, true, Some, None}
-use Rattle.std.specs.Str.{trim_start, trim_end, chars}
-use lib.Utf8.{encode}
 use Rattle.simplecss_text.specs.AsciiBytes.{close_brace, open_brace, slash}
-use Rattle.simplecss_text.specs.Reading.{each, fails, no_name}
+use Rattle.simplecss_text.specs.Reading.{fails, no_name}
 use Rattle.simplecss_text.specs.Bytes.{starts}
 use Rattle.simplecss_text.specs.Characters.{Edition, first_edition, second_edition, is_space}
-use Rattle.simplecss_text.specs.Comments.{comment, blank, gap}
 use Rattle.simplecss_text.specs.Blanks.{IsBlank}
 use Rattle.simplecss_text.specs.Blanks.IsBlank.{empty, space_then, comment_then}
-use Rattle.simplecss_text.specs.Names.{past_name_chars, name}
-use Rattle.simplecss_text.specs.Strings.{string_or_name}
 use Rattle.simplecss_text.specs.Components.{Component}
 use Rattle.simplecss_text.specs.Components.Combinator.{none}
-use Rattle.simplecss_text.specs.Pieces.{attribute_operator, attribute_after, lang_after, pseudo_class_after, named_token, next_kind, solid, piece, ending}
-use Rattle.simplecss_text.specs.TokenSequences.{sequence_from}
 use Rattle.simplecss_text.specs.Selectors.{reads}
-use Rattle.simplecss_text.specs.Terms.{word, past_number, term}
-use Rattle.simplecss_text.specs.Declarations.{StyleDeclaration, value, importance, trailing, stated_name, declaration}
+use Rattle.simplecss_text.specs.Declarations.{StyleDeclaration, declaration}
 use Rattle.simplecss_text.specs.Statements.{StyleRule}
 use Rattle.simplecss_text.specs.Skipped.{Skip, broken_declaration, open_value}
 use Rattle.simplecss_text.specs.NothingLost.{IsAccountedFor, IsCutUp, is_mark, blank_then, cut_ends, declaration_then, mark_then, open_declaration_then, selector_then, skip_then, statement_then, statements_end}
+use Rattle.simplecss_text.proofs.vectors.OnLiterals.{simplecss_on_literals}
 
 -- the selector `a`
 abbrev just_a : List Component
@@ -39,10 +32,7 @@ b_is_c = record { name = codes "b"; value = codes "c"; important = false }
 pub account_of_text : (edition : Edition) → IsAccountedFor edition (codes "a{b:c;d}")
     ((record { components = just_a; declarations = b_is_c ∷ [] } ∷ []) ∷ [])
     (record { from = codes "d}"; after = codes "}"; why = broken_declaration } ∷ [])
-unfolding each comment blank gap past_name_chars name string_or_name attribute_operator
-    attribute_after lang_after pseudo_class_after named_token next_kind solid piece ending
-    sequence_from chars encode trim_start trim_end reads word past_number term value importance
-    trailing stated_name declaration
+unfolding simplecss_on_literals
 account_of_text first_edition =
     statement_then (codes "a{b:c;d}") [] (just_a ∷ []) (b_is_c ∷ []) _ [] []
     (selector_then (codes "a") (codes "{b:c;d}") just_a [] (b_is_c ∷ []) _ refl
@@ -62,10 +52,7 @@ account_of_text second_edition =
 pub account_of_open_value : (edition : Edition) → IsAccountedFor edition (codes "a{b:c 'd}")
     ((record { components = just_a; declarations = b_is_c ∷ [] } ∷ []) ∷ [])
     (record { from = codes "'d}"; after = []; why = open_value } ∷ [])
-unfolding each comment blank gap past_name_chars name string_or_name attribute_operator
-    attribute_after lang_after pseudo_class_after named_token next_kind solid piece ending
-    sequence_from chars encode trim_start trim_end reads word past_number term value importance
-    trailing stated_name declaration
+unfolding simplecss_on_literals
 account_of_open_value first_edition =
     statement_then (codes "a{b:c 'd}") [] (just_a ∷ []) (b_is_c ∷ []) _ [] []
     (selector_then (codes "a") (codes "{b:c 'd}") just_a [] (b_is_c ∷ []) _ refl
@@ -84,10 +71,7 @@ account_of_open_value second_edition =
 -- a less-than sign alone is neither a selector nor a declaration
 less_is_not_read : (edition : Edition) → ((reads edition (codes "<")).0 ≡ None)
     × (declaration edition (codes "<") ≡ fails (no_name (codes "<")) (codes "<"))
-unfolding each comment blank gap past_name_chars name string_or_name attribute_operator
-    attribute_after lang_after pseudo_class_after named_token next_kind solid piece ending
-    sequence_from chars encode trim_start trim_end reads word past_number term value importance
-    trailing stated_name declaration
+unfolding simplecss_on_literals
 less_is_not_read first_edition = (refl, refl)
 less_is_not_read second_edition = (refl, refl)
 

@@ -2,20 +2,18 @@
 -- Computes `name`, `string_or_name`, `comment`, `blank`, `gap`, `term`, `block_end`, `position` and
 -- `error_text`.
 use Rattle.std.specs.Prelude.{◌≡◌, refl, [], ◌∷◌, ◌++◌, codes, true, false, encode_utf8_all}
-use Rattle.std.specs.Str.{chars}
-use lib.Utf8.{encode}
 use Rattle.simplecss_text.specs.declared.error.Error.TheVariants.{UnexpectedEndOfStream, InvalidIdent, InvalidComment, InvalidByte, InvalidValue, SelectorMissing, UnexpectedSelector, UnexpectedCombinator, InvalidAttributeSelector, InvalidLanguagePseudoClass}
 use Rattle.simplecss_text.specs.AsciiBytes.{close_bracket, colon, equals_sign, open_parenthesis, space}
-use Rattle.simplecss_text.specs.Reading.{each, got, fails, no_name, no_comment, ended, wrong_byte}
+use Rattle.simplecss_text.specs.Reading.{got, fails, no_name, no_comment, ended, wrong_byte}
 use Rattle.simplecss_text.specs.Positions.{position}
 use Rattle.simplecss_text.specs.Errors.{error_of, error_text, position_text}
 use Rattle.simplecss_text.specs.Comments.{comment, blank, gap}
-use Rattle.simplecss_text.specs.Names.{past_name_chars, name}
+use Rattle.simplecss_text.specs.Names.{name}
 use Rattle.simplecss_text.specs.Strings.{string_or_name}
 use Rattle.simplecss_text.specs.Characters.{Edition, first_edition, second_edition}
-use Rattle.simplecss_text.specs.Terms.{word, past_number, term}
+use Rattle.simplecss_text.specs.Terms.{term}
 use Rattle.simplecss_text.specs.Blocks.{block_end}
-use Rattle.std.specs.Fmt.{digits}
+use Rattle.simplecss_text.proofs.vectors.OnLiterals.{simplecss_on_literals}
 
 -- comments, closed and open
 pub comments :
@@ -25,8 +23,7 @@ pub comments :
     × (comment (codes "/ b") ≡ fails (no_comment (codes "/ b")) (codes " b"))
     × (comment (codes "ab") ≡ fails (no_comment (codes "ab")) (codes "ab"))
     × (comment [] ≡ fails (no_comment []) [])
-unfolding each comment blank gap past_name_chars name string_or_name word past_number term position
-    block_end chars encode
+unfolding simplecss_on_literals
 comments = (refl, refl, refl, refl, refl, refl)
 
 -- blanks
@@ -34,8 +31,7 @@ pub blanks :
     (blank (codes "/**/ /* */a") ≡ got tt (codes "a"))
     × (blank (codes "a") ≡ got tt (codes "a"))
     × (blank (codes " /*/") ≡ fails (no_comment (codes "/*/")) [])
-unfolding each comment blank gap past_name_chars name string_or_name word past_number term position
-    block_end chars encode
+unfolding simplecss_on_literals
 blanks = (refl, refl, refl)
 
 -- blanks, and whether a space byte is in them
@@ -46,8 +42,7 @@ pub gaps :
     × (gap (11 ∷ 97 ∷ []) ≡ got false (11 ∷ 97 ∷ []))
     × (gap (codes " /* x") ≡ fails (no_comment (codes "/* x")) [])
     × (gap (codes "/ ") ≡ got false (codes "/ "))
-unfolding each comment blank gap past_name_chars name string_or_name word past_number term position
-    block_end chars encode
+unfolding simplecss_on_literals
 gaps = (refl, refl, refl, refl, refl, refl)
 
 -- names
@@ -60,8 +55,7 @@ pub names : (edition : Edition) →
     × (name edition (codes "1a") ≡ fails (no_name (codes "1a")) (codes "1a"))
     × (name edition (97 ∷ 227 ∷ 128 ∷ 128 ∷ 98 ∷ 32 ∷ 99 ∷ [])
     ≡ got (97 ∷ 227 ∷ 128 ∷ 128 ∷ 98 ∷ []) (codes " c"))
-unfolding each comment blank gap past_name_chars name string_or_name word past_number term position
-    block_end chars encode
+unfolding simplecss_on_literals
 names first_edition = (refl, refl, refl, refl, refl, refl, refl)
 names second_edition = (refl, refl, refl, refl, refl, refl, refl)
 
@@ -70,8 +64,7 @@ pub names-editions :
     (name second_edition (encode_utf8_all (codes "aé")) ≡ got (encode_utf8_all (codes "aé")) [])
     × (name first_edition (encode_utf8_all (codes "aé"))
     ≡ got (codes "a") (encode_utf8_all (codes "é")))
-unfolding each comment blank gap past_name_chars name string_or_name word past_number term position
-    block_end chars encode
+unfolding simplecss_on_literals
 names-editions = (refl, refl)
 
 -- strings and what may be in their place
@@ -81,8 +74,7 @@ pub strings : (edition : Edition) →
     × (string_or_name edition (codes "'a\\'") ≡ fails ended [])
     × (string_or_name edition (codes "ab]") ≡ got (codes "ab") (codes "]"))
     × (string_or_name edition [] ≡ fails ended [])
-unfolding each comment blank gap past_name_chars name string_or_name word past_number term position
-    block_end chars encode
+unfolding simplecss_on_literals
 strings first_edition = (refl, refl, refl, refl, refl)
 strings second_edition = (refl, refl, refl, refl, refl)
 
@@ -97,8 +89,7 @@ pub terms : (edition : Edition) →
     × (term edition (codes "\"a") ≡ fails ended [])
     × (term edition (codes "/* */") ≡ fails (no_name (codes "/* */")) (codes "/* */"))
     × (term edition (codes ",a") ≡ got tt (codes "a"))
-unfolding each comment blank gap past_name_chars name string_or_name word past_number term position
-    block_end chars encode
+unfolding simplecss_on_literals
 terms first_edition = (refl, refl, refl, refl, refl, refl, refl, refl, refl)
 terms second_edition = (refl, refl, refl, refl, refl, refl, refl, refl, refl)
 
@@ -106,8 +97,7 @@ terms second_edition = (refl, refl, refl, refl, refl, refl, refl, refl, refl)
 pub terms-editions :
     (term second_edition (codes "/1") ≡ got tt (codes "1"))
     × (term first_edition (codes "/1") ≡ fails (no_name (codes "/1")) (codes "/1"))
-unfolding each comment blank gap past_name_chars name string_or_name word past_number term position
-    block_end chars encode
+unfolding simplecss_on_literals
 terms-editions = (refl, refl)
 
 -- where a block ends
@@ -116,8 +106,7 @@ pub block_ends :
     × (block_end (codes "a}b") ≡ 1)
     × (block_end (codes "{ab") ≡ 3)
     × (block_end [] ≡ 0)
-unfolding each comment blank gap past_name_chars name string_or_name word past_number term position
-    block_end chars encode
+unfolding simplecss_on_literals
 block_ends = (refl, refl, refl, refl)
 
 -- the errors that report faults
@@ -131,8 +120,7 @@ pub errors :
     × (error_text (InvalidByte close_bracket 195 (record { row = 1; col = 7 }))
     ≡ codes "expected ']' not '" ++ (encode_utf8_all (codes "Ã")) ++ codes "' at "
     ++ position_text (record { row = 1; col = 7 }))
-unfolding each comment blank gap past_name_chars name string_or_name word past_number term position
-    block_end chars encode
+unfolding simplecss_on_literals
 errors = (refl, refl, refl, refl, refl)
 
 -- the shortest comment, and what is shorter
@@ -144,8 +132,7 @@ pub shortest_comments :
     × (comment (codes "/**") ≡ fails (no_comment (codes "/**")) [])
     × (comment (codes "/") ≡ fails (no_comment (codes "/")) [])
     × (comment (codes "//**/") ≡ fails (no_comment (codes "//**/")) (codes "/**/"))
-unfolding each comment blank gap past_name_chars name string_or_name word past_number term position
-    block_end chars encode
+unfolding simplecss_on_literals
 shortest_comments = (refl, refl, refl, refl, refl, refl, refl)
 
 -- blanks up to the end of the text, or up to a comment that is not closed
@@ -156,8 +143,7 @@ pub gaps_at_the_end :
     × (blank (codes "/ a") ≡ got tt (codes "/ a"))
     × (gap (codes "/* */ ") ≡ got true [])
     × (gap (codes "/* *//*") ≡ fails (no_comment (codes "/*")) [])
-unfolding each comment blank gap past_name_chars name string_or_name word past_number term position
-    block_end chars encode
+unfolding simplecss_on_literals
 gaps_at_the_end = (refl, refl, refl, refl, refl, refl)
 
 -- names with hyphens
@@ -172,16 +158,14 @@ pub hyphens : (edition : Edition) →
     × (name edition (codes "_") ≡ got (codes "_") [])
     × (name edition (97 ∷ 90 ∷ 57 ∷ 11 ∷ []) ≡ got (codes "aZ9") (11 ∷ []))
     × (name edition (codes "\\a") ≡ fails (no_name (codes "\\a")) (codes "\\a"))
-unfolding each comment blank gap past_name_chars name string_or_name word past_number term position
-    block_end chars encode
+unfolding simplecss_on_literals
 hyphens first_edition = (refl, refl, refl, refl, refl, refl, refl, refl, refl, refl)
 hyphens second_edition = (refl, refl, refl, refl, refl, refl, refl, refl, refl, refl)
 
 -- names of wide characters, in both editions
 pub wide_names : (edition : Edition) →
     (name edition (227 ∷ 128 ∷ 128 ∷ []) ≡ got (227 ∷ 128 ∷ 128 ∷ []) [])
-unfolding each comment blank gap past_name_chars name string_or_name word past_number term position
-    block_end chars encode
+unfolding simplecss_on_literals
 wide_names first_edition = refl
 wide_names second_edition = refl
 
@@ -197,8 +181,7 @@ pub wide_names-editions :
     ≡ got (encode_utf8_all (codes "aî")) (encode_utf8_all (codes "é")))
     × (name first_edition (encode_utf8_all (codes "í"))
     ≡ fails (no_name (encode_utf8_all (codes "í"))) (encode_utf8_all (codes "í")))
-unfolding each comment blank gap past_name_chars name string_or_name word past_number term position
-    block_end chars encode
+unfolding simplecss_on_literals
 wide_names-editions = (refl, refl, refl, refl, refl, refl, refl)
 
 -- strings and the quotes and backslashes in them
@@ -213,8 +196,7 @@ pub quotes : (edition : Edition) →
     × (string_or_name edition (codes "-") ≡ got (codes "-") [])
     × (string_or_name edition (codes "-]") ≡ fails (no_name (codes "-]")) (codes "]"))
     × (string_or_name edition (codes "]") ≡ fails (no_name (codes "]")) (codes "]"))
-unfolding each comment blank gap past_name_chars name string_or_name word past_number term position
-    block_end chars encode
+unfolding simplecss_on_literals
 quotes first_edition = (refl, refl, refl, refl, refl, refl, refl, refl, refl, refl)
 quotes second_edition = (refl, refl, refl, refl, refl, refl, refl, refl, refl, refl)
 
@@ -238,8 +220,7 @@ pub numbers : (edition : Edition) →
     × (term edition (codes "#a-g ") ≡ got tt (codes " "))
     × (term edition (codes "#--f") ≡ got tt (codes "-f"))
     × (term edition (codes "#-1g") ≡ got tt (codes "g"))
-unfolding each comment blank gap past_name_chars name string_or_name word past_number term position
-    block_end chars encode
+unfolding simplecss_on_literals
 numbers first_edition = (
   refl,
   refl,
@@ -293,8 +274,7 @@ pub other_terms : (edition : Edition) →
     × (term edition (codes "!") ≡ fails (no_name (codes "!")) (codes "!"))
     × (term edition [] ≡ fails ended [])
     × (term edition (codes "/*") ≡ fails (no_name (codes "/*")) (codes "/*"))
-unfolding each comment blank gap past_name_chars name string_or_name word past_number term position
-    block_end chars encode
+unfolding simplecss_on_literals
 other_terms first_edition = (refl, refl, refl, refl, refl, refl, refl, refl, refl, refl)
 other_terms second_edition = (refl, refl, refl, refl, refl, refl, refl, refl, refl, refl)
 
@@ -305,8 +285,7 @@ pub other_terms-editions :
     × (term second_edition (codes "//*") ≡ got tt (codes "/*"))
     × (term first_edition (encode_utf8_all (codes "é"))
     ≡ fails (no_name (encode_utf8_all (codes "é"))) (encode_utf8_all (codes "é")))
-unfolding each comment blank gap past_name_chars name string_or_name word past_number term position
-    block_end chars encode
+unfolding simplecss_on_literals
 other_terms-editions = (refl, refl, refl, refl)
 
 -- quotes and comments do not hide the end of a block
@@ -316,8 +295,7 @@ pub unread_braces :
     × (block_end (codes "{}{}}") ≡ 4)
     × (block_end (codes "}") ≡ 0)
     × (block_end (codes "{{}") ≡ 3)
-unfolding each comment blank gap past_name_chars name string_or_name word past_number term position
-    block_end chars encode
+unfolding simplecss_on_literals
 unread_braces = (refl, refl, refl, refl, refl)
 
 -- rows and columns count newlines and characters
@@ -329,8 +307,7 @@ pub positions :
     × (position (codes "\n\nab") 4 ≡ record { row = 3; col = 3 })
     × (position (encode_utf8_all (codes "éa\né")) 3 ≡ record { row = 1; col = 3 })
     × (position (encode_utf8_all (codes "éa\né")) 6 ≡ record { row = 2; col = 2 })
-unfolding each comment blank gap past_name_chars name string_or_name word past_number term position
-    block_end chars encode
+unfolding simplecss_on_literals
 positions = (refl, refl, refl, refl, refl, refl, refl)
 
 -- the printed errors
@@ -355,6 +332,6 @@ pub printed_errors :
     × (error_text InvalidLanguagePseudoClass ≡ (codes "invalid language pseudo-class"))
     × (error_text (InvalidIdent (record { row = 4294967295; col = 4294967295 }))
     ≡ (codes "invalid ident at 4294967295:4294967295"))
-unfolding digits encode
+unfolding simplecss_on_literals
 printed_errors =
     (refl, refl, refl, refl, refl, refl, refl, refl, refl, refl, refl, refl, refl, refl)

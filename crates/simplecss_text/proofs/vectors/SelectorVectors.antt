@@ -5,22 +5,15 @@
 use Rattle.std.specs.Prelude.{◌≡◌, refl, [], ◌∷◌, codes, Some, None, true, false, replicate, encode_utf8_all}
 use Rattle.std.specs.List.{flat_map}
 use Rattle.std.specs.Option.{option_map}
-use Rattle.std.specs.Str.{trim_start, trim_end, chars}
-use lib.Utf8.{encode}
-use Rattle.simplecss_text.specs.Reading.{each}
-use Rattle.simplecss_text.specs.Comments.{comment, blank, gap}
-use Rattle.simplecss_text.specs.Names.{past_name_chars, name}
-use Rattle.simplecss_text.specs.Strings.{string_or_name}
 use Rattle.simplecss_text.specs.Characters.{Edition, first_edition, second_edition}
 use Rattle.simplecss_text.specs.Components.Operator.{has_word}
 use Rattle.simplecss_text.specs.Components.KnownPseudoClass.{first_child}
 use Rattle.simplecss_text.specs.Components.Subselector.{attribute, pseudo_class}
 use Rattle.simplecss_text.specs.Components.Combinator.{none, child}
-use Rattle.simplecss_text.specs.Pieces.{attribute_operator, attribute_after, lang_after, pseudo_class_after, named_token, next_kind, solid, piece, ending}
-use Rattle.simplecss_text.specs.TokenSequences.{sequence_from}
 use Rattle.simplecss_text.specs.Selectors.{reads}
 use Rattle.simplecss_text.specs.Specificity.{specificity}
 use Rattle.simplecss_text.specs.Printing.{selector_text, is_clean}
+use Rattle.simplecss_text.proofs.vectors.OnLiterals.{simplecss_on_literals}
 
 -- the components of a text
 pub components : (edition : Edition) →
@@ -38,9 +31,7 @@ pub components : (edition : Edition) →
       } ∷ []),
       codes ", c",
     )
-unfolding each comment blank gap past_name_chars name string_or_name attribute_operator
-    attribute_after lang_after pseudo_class_after named_token next_kind solid piece ending
-    sequence_from chars encode trim_start trim_end reads
+unfolding simplecss_on_literals
 components first_edition = refl
 components second_edition = refl
 
@@ -84,9 +75,7 @@ pub printed : (edition : Edition) →
     × (option_map selector_text (reads edition (codes "[x=\"a\\'b\"]")).0
     ≡ Some (codes "*[x='a\\'b']"))
     × ((reads edition (codes "[x=\"a\\'b\"]")).1 ≡ [])
-unfolding each comment blank gap past_name_chars name string_or_name attribute_operator
-    attribute_after lang_after pseudo_class_after named_token next_kind solid piece ending
-    sequence_from chars encode trim_start trim_end reads
+unfolding simplecss_on_literals
 printed first_edition = (
   refl,
   refl,
@@ -167,9 +156,7 @@ pub printed-editions :
     × ((reads second_edition (encode_utf8_all (codes "é"))).1 ≡ [])
     × (option_map selector_text (reads first_edition (encode_utf8_all (codes "é"))).0 ≡ None)
     × ((reads first_edition (encode_utf8_all (codes "é"))).1 ≡ (encode_utf8_all (codes "é")))
-unfolding each comment blank gap past_name_chars name string_or_name attribute_operator
-    attribute_after lang_after pseudo_class_after named_token next_kind solid piece ending
-    sequence_from chars encode trim_start trim_end reads
+unfolding simplecss_on_literals
 printed-editions = (refl, refl, refl, refl)
 
 -- ids, other subselectors and type names are counted, up to 255
@@ -181,9 +168,7 @@ pub specificities : (edition : Edition) →
     × (option_map specificity (reads edition (codes "*")).0 ≡ Some (0 ∷ 0 ∷ 0 ∷ []))
     × (option_map specificity (reads edition (codes "a, b")).0 ≡ Some (0 ∷ 0 ∷ 1 ∷ []))
     × (option_map specificity (reads edition (codes "a > .b")).0 ≡ Some (0 ∷ 1 ∷ 1 ∷ []))
-unfolding each comment blank gap past_name_chars name string_or_name attribute_operator
-    attribute_after lang_after pseudo_class_after named_token next_kind solid piece ending
-    sequence_from chars encode trim_start trim_end reads
+unfolding simplecss_on_literals
 specificities first_edition = (refl, refl, refl, refl, refl, refl)
 specificities second_edition = (refl, refl, refl, refl, refl, refl)
 
@@ -193,9 +178,7 @@ pub clean : (edition : Edition) →
     × (option_map is_clean (reads edition (codes "[x=\"a\\'b\"]")).0 ≡ Some true)
     × (option_map is_clean (reads edition (codes "[x=\"a'b\"]")).0 ≡ Some false)
     × (option_map is_clean (reads edition (codes "a")).0 ≡ Some true)
-unfolding each comment blank gap past_name_chars name string_or_name attribute_operator
-    attribute_after lang_after pseudo_class_after named_token next_kind solid piece ending
-    sequence_from chars encode trim_start trim_end reads
+unfolding simplecss_on_literals
 clean first_edition = (refl, refl, refl, refl)
 clean second_edition = (refl, refl, refl, refl)
 
@@ -217,9 +200,7 @@ pub other_spellings : (edition : Edition) →
     × ((reads edition (codes ".b:lang( en )")).1 ≡ [])
     × (option_map selector_text (reads edition (codes ".-")).0 ≡ Some (codes "*[class~='-']"))
     × ((reads edition (codes ".-")).1 ≡ [])
-unfolding each comment blank gap past_name_chars name string_or_name attribute_operator
-    attribute_after lang_after pseudo_class_after named_token next_kind solid piece ending
-    sequence_from chars encode trim_start trim_end reads
+unfolding simplecss_on_literals
 other_spellings first_edition =
     (refl, refl, refl, refl, refl, refl, refl, refl, refl, refl, refl, refl, refl, refl)
 other_spellings second_edition =
@@ -244,9 +225,7 @@ pub printed_again : (edition : Edition) →
     × (option_map selector_text (reads edition (codes "*[x='a\\'b']")).0
     ≡ Some (codes "*[x='a\\'b']"))
     × ((reads edition (codes "*[x='a\\'b']")).1 ≡ [])
-unfolding each comment blank gap past_name_chars name string_or_name attribute_operator
-    attribute_after lang_after pseudo_class_after named_token next_kind solid piece ending
-    sequence_from chars encode trim_start trim_end reads
+unfolding simplecss_on_literals
 printed_again first_edition =
     (refl, refl, refl, refl, refl, refl, refl, refl, refl, refl, refl, refl)
 printed_again second_edition =
@@ -258,9 +237,7 @@ pub bare_apostrophes : (edition : Edition) →
     × ((reads edition (codes "[x=\"a'b\"]")).1 ≡ [])
     × (option_map selector_text (reads edition (codes "*[x='a'b']")).0 ≡ None)
     × ((reads edition (codes "*[x='a'b']")).1 ≡ (codes "b']"))
-unfolding each comment blank gap past_name_chars name string_or_name attribute_operator
-    attribute_after lang_after pseudo_class_after named_token next_kind solid piece ending
-    sequence_from chars encode trim_start trim_end reads
+unfolding simplecss_on_literals
 bare_apostrophes first_edition = (refl, refl, refl, refl)
 bare_apostrophes second_edition = (refl, refl, refl, refl)
 
@@ -276,9 +253,7 @@ pub all_subselectors : (edition : Edition) →
     × (option_map selector_text (reads edition (codes "*:lang(en) + b>c")).0
     ≡ Some (codes "*:lang(en) + b > c"))
     × ((reads edition (codes "*:lang(en) + b>c")).1 ≡ [])
-unfolding each comment blank gap past_name_chars name string_or_name attribute_operator
-    attribute_after lang_after pseudo_class_after named_token next_kind solid piece ending
-    sequence_from chars encode trim_start trim_end reads
+unfolding simplecss_on_literals
 all_subselectors first_edition = (refl, refl, refl, refl, refl, refl)
 all_subselectors second_edition = (refl, refl, refl, refl, refl, refl)
 
@@ -309,9 +284,7 @@ pub refusals : (edition : Edition) →
     × ((reads edition (codes "b:-")).1 ≡ [])
     × (option_map selector_text (reads edition (codes "a,:b")).0 ≡ Some (codes "a"))
     × ((reads edition (codes "a,:b")).1 ≡ (codes ",:b"))
-unfolding each comment blank gap past_name_chars name string_or_name attribute_operator
-    attribute_after lang_after pseudo_class_after named_token next_kind solid piece ending
-    sequence_from chars encode trim_start trim_end reads
+unfolding simplecss_on_literals
 refusals first_edition = (
   refl,
   refl,
@@ -372,9 +345,7 @@ pub wide_type_names : (edition : Edition) →
     × ((reads edition (encode_utf8_all (codes "î"))).1 ≡ [])
     × (option_map selector_text (reads edition (194 ∷ 159 ∷ [])).0 ≡ None)
     × ((reads edition (194 ∷ 159 ∷ [])).1 ≡ (194 ∷ 159 ∷ []))
-unfolding each comment blank gap past_name_chars name string_or_name attribute_operator
-    attribute_after lang_after pseudo_class_after named_token next_kind solid piece ending
-    sequence_from chars encode trim_start trim_end reads
+unfolding simplecss_on_literals
 wide_type_names first_edition = (refl, refl, refl, refl)
 wide_type_names second_edition = (refl, refl, refl, refl)
 
@@ -382,9 +353,7 @@ wide_type_names second_edition = (refl, refl, refl, refl)
 pub wide_type_names-editions :
     (option_map selector_text (reads second_edition (194 ∷ 160 ∷ [])).0 ≡ Some (194 ∷ 160 ∷ []))
     × ((reads second_edition (194 ∷ 160 ∷ [])).1 ≡ [])
-unfolding each comment blank gap past_name_chars name string_or_name attribute_operator
-    attribute_after lang_after pseudo_class_after named_token next_kind solid piece ending
-    sequence_from chars encode trim_start trim_end reads
+unfolding simplecss_on_literals
 wide_type_names-editions = (refl, refl)
 
 -- comments between the pieces, and a slash after them
@@ -402,9 +371,7 @@ pub gaps_of_comments : (edition : Edition) →
     × ((reads edition (97 ∷ 12 ∷ [])).1 ≡ [])
     × (option_map selector_text (reads edition (codes "a/ b")).0 ≡ Some (codes "a"))
     × ((reads edition (codes "a/ b")).1 ≡ (codes "/ b"))
-unfolding each comment blank gap past_name_chars name string_or_name attribute_operator
-    attribute_after lang_after pseudo_class_after named_token next_kind solid piece ending
-    sequence_from chars encode trim_start trim_end reads
+unfolding simplecss_on_literals
 gaps_of_comments first_edition =
     (refl, refl, refl, refl, refl, refl, refl, refl, refl, refl, refl, refl)
 gaps_of_comments second_edition =
@@ -421,8 +388,6 @@ pub counts : (edition : Edition) →
     × (option_map specificity (reads edition (codes "[id~=a][class=id]:link")).0
     ≡ Some (1 ∷ 2 ∷ 0 ∷ []))
     × (option_map specificity (reads edition (codes "*:lang(en) > *")).0 ≡ Some (0 ∷ 1 ∷ 0 ∷ []))
-unfolding each comment blank gap past_name_chars name string_or_name attribute_operator
-    attribute_after lang_after pseudo_class_after named_token next_kind solid piece ending
-    sequence_from chars encode trim_start trim_end reads
+unfolding simplecss_on_literals
 counts first_edition = (refl, refl, refl, refl, refl, refl, refl, refl)
 counts second_edition = (refl, refl, refl, refl, refl, refl, refl, refl)

@@ -1,26 +1,16 @@
 -- Worked sheets, computed: what the sheet of some texts prints.
 -- Computes `sheet` and `ordered` of `specs/Sheets`, and `sheet_text` of `specs/Printing`.
 use Rattle.std.specs.Prelude.{◌≡◌, refl, List, [], ◌∷◌, ◌++◌, codes, encode_utf8_all, Some, None, false, filter}
-use Rattle.std.specs.Str.{trim_start, trim_end, chars}
-use lib.Utf8.{encode}
-use Rattle.simplecss_text.specs.Reading.{each}
-use Rattle.simplecss_text.specs.Comments.{comment, blank, gap}
-use Rattle.simplecss_text.specs.Names.{past_name_chars, name}
-use Rattle.simplecss_text.specs.Strings.{string_or_name}
 use Rattle.simplecss_text.specs.Characters.{Edition, first_edition, second_edition}
-use Rattle.simplecss_text.specs.Pieces.{attribute_operator, attribute_after, lang_after, pseudo_class_after, named_token, next_kind, solid, piece, ending}
-use Rattle.simplecss_text.specs.TokenSequences.{sequence_from}
-use Rattle.simplecss_text.specs.Selectors.{reads}
-use Rattle.simplecss_text.specs.Terms.{word, past_number, term}
-use Rattle.simplecss_text.specs.Declarations.{value, importance, trailing, stated_name, declaration, declarations, StyleDeclaration}
-use Rattle.simplecss_text.specs.Blocks.{block, block_end}
-use Rattle.simplecss_text.specs.Statements.{part, parts, next_block, rule_set, at_rule_rest, statement, statements, has_declaration, kept}
+use Rattle.simplecss_text.specs.Declarations.{StyleDeclaration}
+use Rattle.simplecss_text.specs.Statements.{has_declaration, kept}
 use Rattle.simplecss_text.specs.Sheets.{sheet, ordered}
 use Rattle.simplecss_text.specs.Printing.{sheet_text}
 use Rattle.simplecss_text.specs.Components.{Component}
 use Rattle.simplecss_text.specs.Components.Operator.{equals}
 use Rattle.simplecss_text.specs.Components.Subselector.{attribute}
 use Rattle.simplecss_text.specs.Components.Combinator.{none}
+use Rattle.simplecss_text.proofs.vectors.OnLiterals.{simplecss_on_literals}
 
 -- the parts of a rule set, refused ones among them
 pub rule_sets : (edition : Edition) →
@@ -34,11 +24,7 @@ pub rule_sets : (edition : Edition) →
     ≡ (codes "a { color:red; }"))
     × (sheet_text (sheet edition ((codes "a /, b { color:red }") ∷ []))
     ≡ (codes "b { color:red; }"))
-unfolding each comment blank gap past_name_chars name string_or_name attribute_operator
-    attribute_after lang_after pseudo_class_after named_token next_kind solid piece ending
-    sequence_from chars encode trim_start trim_end reads part parts next_block rule_set at_rule_rest
-    statement statements block block_end word past_number term value importance trailing stated_name
-    declaration declarations
+unfolding simplecss_on_literals
 rule_sets first_edition = (refl, refl, refl, refl, refl)
 rule_sets second_edition = (refl, refl, refl, refl, refl)
 
@@ -48,11 +34,7 @@ pub braces : (edition : Edition) →
     ≡ (codes "b { color:red; }"))
     × (sheet_text (sheet edition ((codes "a { } } b { color:red }") ∷ [])) ≡ [])
     × (sheet_text (sheet edition ((codes "a {}} b { color:red }") ∷ [])) ≡ [])
-unfolding each comment blank gap past_name_chars name string_or_name attribute_operator
-    attribute_after lang_after pseudo_class_after named_token next_kind solid piece ending
-    sequence_from chars encode trim_start trim_end reads part parts next_block rule_set at_rule_rest
-    statement statements block block_end word past_number term value importance trailing stated_name
-    declaration declarations
+unfolding simplecss_on_literals
 braces first_edition = (refl, refl, refl)
 braces second_edition = (refl, refl, refl)
 
@@ -66,11 +48,7 @@ pub broken_declarations : (edition : Edition) →
     × (sheet_text (sheet edition ((codes "a { color:red") ∷ [])) ≡ (codes "a { color:red; }"))
     × (sheet_text (sheet edition ((codes "p { color; color:green }") ∷ [])) ≡ [])
     × (sheet_text (sheet edition ((codes "p { color{;color:maroon} color:green; }") ∷ [])) ≡ [])
-unfolding each comment blank gap past_name_chars name string_or_name attribute_operator
-    attribute_after lang_after pseudo_class_after named_token next_kind solid piece ending
-    sequence_from chars encode trim_start trim_end reads part parts next_block rule_set at_rule_rest
-    statement statements block block_end word past_number term value importance trailing stated_name
-    declaration declarations
+unfolding simplecss_on_literals
 broken_declarations first_edition = (refl, refl, refl, refl, refl, refl)
 broken_declarations second_edition = (refl, refl, refl, refl, refl, refl)
 
@@ -82,11 +60,7 @@ pub broken_declarations-editions :
     × (sheet_text
     (sheet first_edition ((codes "p { font:12px/1.5 serif; color:red } q { color:blue }") ∷ []))
     ≡ (codes "p { font:12px; }\nq { color:blue; }"))
-unfolding each comment blank gap past_name_chars name string_or_name attribute_operator
-    attribute_after lang_after pseudo_class_after named_token next_kind solid piece ending
-    sequence_from chars encode trim_start trim_end reads part parts next_block rule_set at_rule_rest
-    statement statements block block_end word past_number term value importance trailing stated_name
-    declaration declarations
+unfolding simplecss_on_literals
 broken_declarations-editions = (refl, refl)
 
 -- at-rules are skipped
@@ -96,11 +70,7 @@ pub at_rules : (edition : Edition) →
     ((codes "@media screen { p:before { content: 'Hello'; } } a { color:red }") ∷ []))
     ≡ (codes "a { color:red; }"))
     × (sheet_text (sheet edition ((codes "<!-- a { b:c } --> d { e:f }") ∷ [])) ≡ [])
-unfolding each comment blank gap past_name_chars name string_or_name attribute_operator
-    attribute_after lang_after pseudo_class_after named_token next_kind solid piece ending
-    sequence_from chars encode trim_start trim_end reads part parts next_block rule_set at_rule_rest
-    statement statements block block_end word past_number term value importance trailing stated_name
-    declaration declarations
+unfolding simplecss_on_literals
 at_rules first_edition = (refl, refl, refl)
 at_rules second_edition = (refl, refl, refl)
 
@@ -114,11 +84,7 @@ pub sheets_of_texts : (edition : Edition) →
     ∷ [])) ≡ (codes "p { c:d; }\n*[id='x'] { a:b; }"))
     × (sheet_text (sheet edition ((codes "a > b { c:d } b { e:f }") ∷ []))
     ≡ (codes "b { e:f; }\na > b { c:d; }"))
-unfolding each comment blank gap past_name_chars name string_or_name attribute_operator
-    attribute_after lang_after pseudo_class_after named_token next_kind solid piece ending
-    sequence_from chars encode trim_start trim_end reads part parts next_block rule_set at_rule_rest
-    statement statements block block_end word past_number term value importance trailing stated_name
-    declaration declarations
+unfolding simplecss_on_literals
 sheets_of_texts first_edition = (refl, refl, refl, refl, refl)
 sheets_of_texts second_edition = (refl, refl, refl, refl, refl)
 
@@ -131,11 +97,7 @@ pub no_rules : (edition : Edition) →
     × (sheet_text (sheet edition ((codes "> {}") ∷ [])) ≡ [])
     × (sheet_text (sheet edition ((codes "@import 'subs.css';") ∷ [])) ≡ [])
     × (sheet_text (sheet edition ((codes ":le {}") ∷ [])) ≡ [])
-unfolding each comment blank gap past_name_chars name string_or_name attribute_operator
-    attribute_after lang_after pseudo_class_after named_token next_kind solid piece ending
-    sequence_from chars encode trim_start trim_end reads part parts next_block rule_set at_rule_rest
-    statement statements block block_end word past_number term value importance trailing stated_name
-    declaration declarations
+unfolding simplecss_on_literals
 no_rules first_edition = (refl, refl, refl, refl, refl, refl, refl)
 no_rules second_edition = (refl, refl, refl, refl, refl, refl, refl)
 
@@ -156,11 +118,7 @@ pub commas_and_comments : (edition : Edition) →
     × (sheet_text (sheet edition
     ((codes "h1 { color: green }\nh2 & h3 { color: red }\nh4 { color: black }\n") ∷ []))
     ≡ (codes "h1 { color:green; }\nh4 { color:black; }"))
-unfolding each comment blank gap past_name_chars name string_or_name attribute_operator
-    attribute_after lang_after pseudo_class_after named_token next_kind solid piece ending
-    sequence_from chars encode trim_start trim_end reads part parts next_block rule_set at_rule_rest
-    statement statements block block_end word past_number term value importance trailing stated_name
-    declaration declarations
+unfolding simplecss_on_literals
 commas_and_comments first_edition = (refl, refl, refl, refl, refl, refl, refl, refl, refl, refl)
 commas_and_comments second_edition = (refl, refl, refl, refl, refl, refl, refl, refl, refl, refl)
 
@@ -172,11 +130,7 @@ pub cut_blocks : (edition : Edition) →
     ≡ (codes "p { color:green; }"))
     × (sheet_text (sheet edition ((codes "p { color:green; color:; color:red; }") ∷ []))
     ≡ (codes "p { color:green; }"))
-unfolding each comment blank gap past_name_chars name string_or_name attribute_operator
-    attribute_after lang_after pseudo_class_after named_token next_kind solid piece ending
-    sequence_from chars encode trim_start trim_end reads part parts next_block rule_set at_rule_rest
-    statement statements block block_end word past_number term value importance trailing stated_name
-    declaration declarations
+unfolding simplecss_on_literals
 cut_blocks first_edition = (refl, refl, refl)
 cut_blocks second_edition = (refl, refl, refl)
 
@@ -193,11 +147,7 @@ pub beginnings : (edition : Edition) →
     × (sheet_text (sheet edition ((codes "a { b:\"c\"") ∷ [])) ≡ (codes "a { b:\"c\"; }"))
     × (sheet_text (sheet edition ((codes "a { b:\"c\" ") ∷ [])) ≡ (codes "a { b:\"c\"; }"))
     × (sheet_text (sheet edition ((codes "a { b:\"c\" }") ∷ [])) ≡ (codes "a { b:\"c\"; }"))
-unfolding each comment blank gap past_name_chars name string_or_name attribute_operator
-    attribute_after lang_after pseudo_class_after named_token next_kind solid piece ending
-    sequence_from chars encode trim_start trim_end reads part parts next_block rule_set at_rule_rest
-    statement statements block block_end word past_number term value importance trailing stated_name
-    declaration declarations
+unfolding simplecss_on_literals
 beginnings first_edition = (refl, refl, refl, refl, refl, refl, refl, refl, refl, refl, refl)
 beginnings second_edition = (refl, refl, refl, refl, refl, refl, refl, refl, refl, refl, refl)
 
@@ -209,11 +159,7 @@ pub cut_texts : (edition : Edition) →
     × (sheet_text (sheet edition ((codes "a { }") ∷ (codes "} b { c:d }") ∷ [])) ≡ [])
     × (sheet_text (sheet edition ((codes "x { y:z }") ∷ (codes "a, b { c:d }") ∷ []))
     ≡ (codes "x { y:z; }\na { c:d; }\nb { c:d; }"))
-unfolding each comment blank gap past_name_chars name string_or_name attribute_operator
-    attribute_after lang_after pseudo_class_after named_token next_kind solid piece ending
-    sequence_from chars encode trim_start trim_end reads part parts next_block rule_set at_rule_rest
-    statement statements block block_end word past_number term value importance trailing stated_name
-    declaration declarations
+unfolding simplecss_on_literals
 cut_texts first_edition = (refl, refl, refl, refl)
 cut_texts second_edition = (refl, refl, refl, refl)
 
@@ -226,11 +172,7 @@ pub printed_sheets : (edition : Edition) →
     × (sheet_text (sheet edition ((97 ∷ 32 ∷ 123 ∷ 32 ∷ 98 ∷ 58 ∷ 227 ∷ 128 ∷ 128 ∷ 40 ∷ 120 ∷ 41
     ∷ 32 ∷ 125 ∷ []) ∷ [])) ≡ (codes "a { b:(x); }"))
     × (sheet_text (sheet edition ((codes "a { b:(x); }") ∷ [])) ≡ [])
-unfolding each comment blank gap past_name_chars name string_or_name attribute_operator
-    attribute_after lang_after pseudo_class_after named_token next_kind solid piece ending
-    sequence_from chars encode trim_start trim_end reads part parts next_block rule_set at_rule_rest
-    statement statements block block_end word past_number term value importance trailing stated_name
-    declaration declarations
+unfolding simplecss_on_literals
 printed_sheets first_edition = (refl, refl, refl, refl)
 printed_sheets second_edition = (refl, refl, refl, refl)
 
@@ -242,11 +184,7 @@ pub wide_names :
     ≡ (encode_utf8_all (codes "é { a:b; }")))
     × (sheet_text (sheet first_edition ((encode_utf8_all (codes "xí{a:b}")) ∷ [])) ≡ [])
     × (sheet_text (sheet first_edition ((encode_utf8_all (codes "é { a:b }")) ∷ [])) ≡ [])
-unfolding each comment blank gap past_name_chars name string_or_name attribute_operator
-    attribute_after lang_after pseudo_class_after named_token next_kind solid piece ending
-    sequence_from chars encode trim_start trim_end reads part parts next_block rule_set at_rule_rest
-    statement statements block block_end word past_number term value importance trailing stated_name
-    declaration declarations
+unfolding simplecss_on_literals
 wide_names = (refl, refl, refl, refl)
 
 -- where reading continues after a part that is refused
@@ -268,11 +206,7 @@ pub parts_after_refusals : (edition : Edition) →
     × (sheet_text (sheet edition ((codes "@m}x{y:z}c{d:e}") ∷ [])) ≡ (codes "c { d:e; }"))
     × (sheet_text (sheet edition ((97 ∷ 13 ∷ 98 ∷ 123 ∷ 99 ∷ 58 ∷ 100 ∷ 125 ∷ []) ∷ []))
     ≡ (codes "a b { c:d; }"))
-unfolding each comment blank gap past_name_chars name string_or_name attribute_operator
-    attribute_after lang_after pseudo_class_after named_token next_kind solid piece ending
-    sequence_from chars encode trim_start trim_end reads part parts next_block rule_set at_rule_rest
-    statement statements block block_end word past_number term value importance trailing stated_name
-    declaration declarations
+unfolding simplecss_on_literals
 parts_after_refusals first_edition =
     (refl, refl, refl, refl, refl, refl, refl, refl, refl, refl, refl, refl, refl, refl, refl, refl)
 parts_after_refusals second_edition =
@@ -290,11 +224,7 @@ pub blocks_after_faults : (edition : Edition) →
     × (sheet_text (sheet edition ((codes "a{b:c;}}d{e:f}") ∷ [])) ≡ (codes "a { b:c; }"))
     × (sheet_text (sheet edition ((codes "a{b/*}*/}c{d:e}") ∷ [])) ≡ (codes "c { d:e; }"))
     × (sheet_text (sheet edition ((codes "a{/*}*/b}c{d:e}") ∷ [])) ≡ (codes "c { d:e; }"))
-unfolding each comment blank gap past_name_chars name string_or_name attribute_operator
-    attribute_after lang_after pseudo_class_after named_token next_kind solid piece ending
-    sequence_from chars encode trim_start trim_end reads part parts next_block rule_set at_rule_rest
-    statement statements block block_end word past_number term value importance trailing stated_name
-    declaration declarations
+unfolding simplecss_on_literals
 blocks_after_faults first_edition = (refl, refl, refl, refl, refl, refl, refl, refl, refl, refl)
 blocks_after_faults second_edition = (refl, refl, refl, refl, refl, refl, refl, refl, refl, refl)
 
@@ -303,11 +233,7 @@ pub blocks_after_faults-editions :
     (sheet_text (sheet second_edition ((codes "a{b:/c{}}d{e:f}") ∷ []))
     ≡ (codes "a { b:/c; }\nd { e:f; }"))
     × (sheet_text (sheet first_edition ((codes "a{b:/c{}}d{e:f}") ∷ [])) ≡ (codes "d { e:f; }"))
-unfolding each comment blank gap past_name_chars name string_or_name attribute_operator
-    attribute_after lang_after pseudo_class_after named_token next_kind solid piece ending
-    sequence_from chars encode trim_start trim_end reads part parts next_block rule_set at_rule_rest
-    statement statements block block_end word past_number term value importance trailing stated_name
-    declaration declarations
+unfolding simplecss_on_literals
 blocks_after_faults-editions = (refl, refl)
 
 -- rules of equal specificity and declarations of a rule keep their order
@@ -321,11 +247,7 @@ pub order_in_rules : (edition : Edition) →
     × (sheet_text (sheet edition ((codes ".a{b:c}#a{b:c}a{b:c}*{b:c}[id]{b:d}a b{b:c}") ∷ []))
     ≡ (codes
     "* { b:c; }\na { b:c; }\na b { b:c; }\n*[class~='a'] { b:c; }\n*[id='a'] { b:c; }\n*[id] { b:d; }"))
-unfolding each comment blank gap past_name_chars name string_or_name attribute_operator
-    attribute_after lang_after pseudo_class_after named_token next_kind solid piece ending
-    sequence_from chars encode trim_start trim_end reads part parts next_block rule_set at_rule_rest
-    statement statements block block_end word past_number term value importance trailing stated_name
-    declaration declarations
+unfolding simplecss_on_literals
 order_in_rules first_edition = (refl, refl, refl, refl)
 order_in_rules second_edition = (refl, refl, refl, refl)
 
@@ -361,10 +283,6 @@ pub edited_sheets : (edition : Edition) →
       components = id_of_b;
       declarations = one_declaration;
     } ∷ []) ≡ (codes "a {  }\n*[id='b'] { x:y; }"))
-unfolding each comment blank gap past_name_chars name string_or_name attribute_operator
-    attribute_after lang_after pseudo_class_after named_token next_kind solid piece ending
-    sequence_from chars encode trim_start trim_end reads part parts next_block rule_set at_rule_rest
-    statement statements block block_end word past_number term value importance trailing stated_name
-    declaration declarations
+unfolding simplecss_on_literals
 edited_sheets first_edition = (refl, refl, refl)
 edited_sheets second_edition = (refl, refl, refl)

@@ -2,22 +2,12 @@
 -- Computes `block`, `part`, `rule_set` and `statement` of `specs/{Blocks, Statements}`, and
 -- `ordered_by` of `specs/Ranks`.
 use Rattle.std.specs.Prelude.{ℕ, ◌≡◌, refl, [], ◌∷◌, codes, true, false, nat_lt, map}
-use Rattle.std.specs.Str.{trim_start, trim_end, chars}
-use lib.Utf8.{encode}
-use Rattle.simplecss_text.specs.Reading.{each}
-use Rattle.simplecss_text.specs.Comments.{comment, blank, gap}
-use Rattle.simplecss_text.specs.Names.{past_name_chars, name}
-use Rattle.simplecss_text.specs.Strings.{string_or_name}
 use Rattle.simplecss_text.specs.Characters.{Edition, first_edition, second_edition}
-use Rattle.simplecss_text.specs.Pieces.{attribute_operator, attribute_after, lang_after, pseudo_class_after, named_token, next_kind, solid, piece, ending}
-use Rattle.simplecss_text.specs.TokenSequences.{sequence_from}
-use Rattle.simplecss_text.specs.Selectors.{reads}
-use Rattle.simplecss_text.specs.Terms.{word, past_number, term}
-use Rattle.simplecss_text.specs.Declarations.{value, importance, trailing, stated_name, declaration, declarations}
-use Rattle.simplecss_text.specs.Blocks.{block, block_end}
-use Rattle.simplecss_text.specs.Statements.{part, parts, next_block, rule_set, at_rule_rest, statement, statements, is_open_comment}
+use Rattle.simplecss_text.specs.Blocks.{block}
+use Rattle.simplecss_text.specs.Statements.{part, parts, rule_set, statement, is_open_comment}
 use Rattle.simplecss_text.specs.Ranks.{ordered_by}
 use Rattle.simplecss_text.specs.Printing.{selector_text}
+use Rattle.simplecss_text.proofs.vectors.OnLiterals.{simplecss_on_literals}
 
 -- the declarations of a block after its brace, and what is left after it
 pub blocks : (edition : Edition) →
@@ -32,11 +22,7 @@ pub blocks : (edition : Edition) →
     ≡ (record { name = (codes "a"); value = (codes "b"); important = false } ∷ [], (codes "d")))
     × (block edition (codes "a:b")
     ≡ (record { name = (codes "a"); value = (codes "b"); important = false } ∷ [], []))
-unfolding each comment blank gap past_name_chars name string_or_name attribute_operator
-    attribute_after lang_after pseudo_class_after named_token next_kind solid piece ending
-    sequence_from chars encode trim_start trim_end reads part parts next_block rule_set at_rule_rest
-    statement statements block block_end word past_number term value importance trailing stated_name
-    declaration declarations
+unfolding simplecss_on_literals
 blocks first_edition = (refl, refl, refl, refl, refl)
 blocks second_edition = (refl, refl, refl, refl, refl)
 
@@ -48,11 +34,7 @@ pub statement_ends : (edition : Edition) →
     × ((statement edition (codes "@m")).1 ≡ [])
     × ((statement edition (codes "a{b:c}d")).1 ≡ (codes "d"))
     × ((statement edition (codes ",a, b")).1 ≡ [])
-unfolding each comment blank gap past_name_chars name string_or_name attribute_operator
-    attribute_after lang_after pseudo_class_after named_token next_kind solid piece ending
-    sequence_from chars encode trim_start trim_end reads part parts next_block rule_set at_rule_rest
-    statement statements block block_end word past_number term value importance trailing stated_name
-    declaration declarations
+unfolding simplecss_on_literals
 statement_ends first_edition = (refl, refl, refl, refl, refl, refl)
 statement_ends second_edition = (refl, refl, refl, refl, refl, refl)
 
@@ -62,11 +44,7 @@ pub part_ends : (edition : Edition) →
     × ((part edition (codes "a {")).1 ≡ (codes "{"))
     × ((part edition (codes ":x  {")).1 ≡ (codes "{"))
     × ((part edition (codes "a/**/,")).1 ≡ (codes ","))
-unfolding each comment blank gap past_name_chars name string_or_name attribute_operator
-    attribute_after lang_after pseudo_class_after named_token next_kind solid piece ending
-    sequence_from chars encode trim_start trim_end reads part parts next_block rule_set at_rule_rest
-    statement statements block block_end word past_number term value importance trailing stated_name
-    declaration declarations
+unfolding simplecss_on_literals
 part_ends first_edition = (refl, refl, refl, refl)
 part_ends second_edition = (refl, refl, refl, refl)
 
@@ -75,11 +53,7 @@ pub parts_of_sets : (edition : Edition) →
     (map selector_text (parts edition (codes "a, b > c {")).0 ≡ (codes "a") ∷ (codes "b > c") ∷ [])
     × (map selector_text (parts edition (codes "a, :x, b")).0 ≡ (codes "a") ∷ (codes "b") ∷ [])
     × (map selector_text (parts edition (codes ":x")).0 ≡ [])
-unfolding each comment blank gap past_name_chars name string_or_name attribute_operator
-    attribute_after lang_after pseudo_class_after named_token next_kind solid piece ending
-    sequence_from chars encode trim_start trim_end reads part parts next_block rule_set at_rule_rest
-    statement statements block block_end word past_number term value importance trailing stated_name
-    declaration declarations
+unfolding simplecss_on_literals
 parts_of_sets first_edition = (refl, refl, refl)
 parts_of_sets second_edition = (refl, refl, refl)
 
@@ -90,11 +64,7 @@ pub open_comments :
     × (is_open_comment (codes "a") ≡ false)
     × (is_open_comment [] ≡ false)
     × (is_open_comment (codes "/**/") ≡ false)
-unfolding each comment blank gap past_name_chars name string_or_name attribute_operator
-    attribute_after lang_after pseudo_class_after named_token next_kind solid piece ending
-    sequence_from chars encode trim_start trim_end reads part parts next_block rule_set at_rule_rest
-    statement statements block block_end word past_number term value importance trailing stated_name
-    declaration declarations
+unfolding simplecss_on_literals
 open_comments = (refl, refl, refl, refl, refl)
 
 -- each element at its rank
@@ -103,11 +73,7 @@ pub ranks :
     × (ordered_by nat_lt [] ≡ [])
     × (ordered_by (λ (x y : ℕ × ℕ). nat_lt x.0 y.0) ((2, 7) ∷ (1, 8) ∷ (2, 6) ∷ (1, 9) ∷ [])
     ≡ (1, 8) ∷ (1, 9) ∷ (2, 7) ∷ (2, 6) ∷ [])
-unfolding each comment blank gap past_name_chars name string_or_name attribute_operator
-    attribute_after lang_after pseudo_class_after named_token next_kind solid piece ending
-    sequence_from chars encode trim_start trim_end reads part parts next_block rule_set at_rule_rest
-    statement statements block block_end word past_number term value importance trailing stated_name
-    declaration declarations
+unfolding simplecss_on_literals
 ranks = (refl, refl, refl)
 
 -- where a block ends: one further brace is consumed after a broken declaration
@@ -134,11 +100,7 @@ pub block_ends : (edition : Edition) →
     ≡ (record { name = codes "a"; value = codes "b"; important = false } ∷ [], []))
     × (block edition (codes "a:b!important;}c")
     ≡ (record { name = codes "a"; value = codes "b"; important = true } ∷ [], (codes "c")))
-unfolding each comment blank gap past_name_chars name string_or_name attribute_operator
-    attribute_after lang_after pseudo_class_after named_token next_kind solid piece ending
-    sequence_from chars encode trim_start trim_end reads part parts next_block rule_set at_rule_rest
-    statement statements block block_end word past_number term value importance trailing stated_name
-    declaration declarations
+unfolding simplecss_on_literals
 block_ends first_edition = (
   refl,
   refl,
@@ -190,11 +152,7 @@ pub parts_and_blanks : (edition : Edition) →
     × ((part edition (codes ":x")).1 ≡ [])
     × ((part edition (codes "a,b")).1 ≡ (codes ",b"))
     × ((part edition (codes "-\t\n,")).1 ≡ (codes ","))
-unfolding each comment blank gap past_name_chars name string_or_name attribute_operator
-    attribute_after lang_after pseudo_class_after named_token next_kind solid piece ending
-    sequence_from chars encode trim_start trim_end reads part parts next_block rule_set at_rule_rest
-    statement statements block block_end word past_number term value importance trailing stated_name
-    declaration declarations
+unfolding simplecss_on_literals
 parts_and_blanks first_edition = (refl, refl, refl, refl, refl, refl, refl, refl, refl, refl)
 parts_and_blanks second_edition = (refl, refl, refl, refl, refl, refl, refl, refl, refl, refl)
 
@@ -220,11 +178,7 @@ pub rule_sets : (edition : Edition) →
     ≡ (codes "b") ∷ [])
     × (map (λ rule. selector_text rule.components) (rule_set edition (codes "a, b,c")).0
     ≡ (codes "a") ∷ (codes "b") ∷ (codes "c") ∷ [])
-unfolding each comment blank gap past_name_chars name string_or_name attribute_operator
-    attribute_after lang_after pseudo_class_after named_token next_kind solid piece ending
-    sequence_from chars encode trim_start trim_end reads part parts next_block rule_set at_rule_rest
-    statement statements block block_end word past_number term value importance trailing stated_name
-    declaration declarations
+unfolding simplecss_on_literals
 rule_sets first_edition = (refl, refl, refl, refl, refl, refl, refl, refl, refl, refl, refl)
 rule_sets second_edition = (refl, refl, refl, refl, refl, refl, refl, refl, refl, refl, refl)
 
@@ -241,11 +195,7 @@ pub rule_set_ends : (edition : Edition) →
     × ((statement edition (codes "{}a")).1 ≡ (codes "a"))
     × ((statement edition (codes ":x/**/{b:c}d")).1 ≡ (codes "d"))
     × ((statement edition (codes "a;b{c:d}e")).1 ≡ (codes "e"))
-unfolding each comment blank gap past_name_chars name string_or_name attribute_operator
-    attribute_after lang_after pseudo_class_after named_token next_kind solid piece ending
-    sequence_from chars encode trim_start trim_end reads part parts next_block rule_set at_rule_rest
-    statement statements block block_end word past_number term value importance trailing stated_name
-    declaration declarations
+unfolding simplecss_on_literals
 rule_set_ends first_edition = (refl, refl, refl, refl, refl, refl, refl, refl, refl, refl, refl)
 rule_set_ends second_edition = (refl, refl, refl, refl, refl, refl, refl, refl, refl, refl, refl)
 
@@ -265,11 +215,7 @@ pub at_rule_ends : (edition : Edition) →
     × ((statement edition (codes "@m';'a")).1 ≡ (codes "'a"))
     × ((statement edition (codes "@m/*;*/a")).1 ≡ (codes "*/a"))
     × ((statement edition (codes "@m}a;b")).1 ≡ (codes "b"))
-unfolding each comment blank gap past_name_chars name string_or_name attribute_operator
-    attribute_after lang_after pseudo_class_after named_token next_kind solid piece ending
-    sequence_from chars encode trim_start trim_end reads part parts next_block rule_set at_rule_rest
-    statement statements block block_end word past_number term value importance trailing stated_name
-    declaration declarations
+unfolding simplecss_on_literals
 at_rule_ends first_edition =
     (refl, refl, refl, refl, refl, refl, refl, refl, refl, refl, refl, refl, refl, refl)
 at_rule_ends second_edition =

@@ -1,21 +1,15 @@
 -- Worked sequences of tokens, computed.
 -- Computes `tokens_of` and `sequence_of` of `specs/TokenSequences`.
 use Rattle.std.specs.Prelude.{◌≡◌, refl, [], ◌∷◌, codes, Ok, Err, encode_utf8_all}
-use Rattle.std.specs.Str.{trim_start, trim_end, chars}
-use lib.Utf8.{encode}
 use Rattle.simplecss_text.specs.declared.error.Error.TheVariants.{InvalidIdent, InvalidComment, InvalidByte, SelectorMissing, UnexpectedSelector, UnexpectedCombinator, InvalidAttributeSelector, InvalidLanguagePseudoClass, UnexpectedEndOfStream}
 use Rattle.simplecss_text.specs.AsciiBytes.{close_bracket, equals_sign, open_parenthesis, space}
-use Rattle.simplecss_text.specs.Reading.{each, ended, wrong_byte, no_name, no_comment, no_selector, unexpected_selector, unexpected_combinator, no_attribute_form, no_language}
-use Rattle.simplecss_text.specs.Positions.{position}
-use Rattle.simplecss_text.specs.Comments.{comment, blank, gap}
-use Rattle.simplecss_text.specs.Names.{past_name_chars, name}
-use Rattle.simplecss_text.specs.Strings.{string_or_name}
+use Rattle.simplecss_text.specs.Reading.{ended, wrong_byte, no_name, no_comment, no_selector, unexpected_selector, unexpected_combinator, no_attribute_form, no_language}
 use Rattle.simplecss_text.specs.Characters.{Edition, first_edition, second_edition}
 use Rattle.simplecss_text.specs.Components.Operator.{exists, equals, has_word, begins_with}
-use Rattle.simplecss_text.specs.Pieces.{attribute_operator, attribute_after, lang_after, pseudo_class_after, named_token, next_kind, solid, piece, ending}
 use Rattle.simplecss_text.specs.Tokens.Token.{universal_selector, type_selector, id_selector, class_selector, attribute_selector, named_pseudo_class, lang_pseudo_class, descendant_combinator, child_combinator, adjacent_combinator}
-use Rattle.simplecss_text.specs.TokenSequences.{sequence_from, tokens_of, sequence_of}
+use Rattle.simplecss_text.specs.TokenSequences.{tokens_of, sequence_of}
 use Rattle.simplecss_text.specs.TokenSequences.TokenSequence.{item, sequence_end}
+use Rattle.simplecss_text.proofs.vectors.OnLiterals.{simplecss_on_literals}
 
 -- one simple piece, up to a stop
 pub simple_pieces : (edition : Edition) →
@@ -36,9 +30,7 @@ pub simple_pieces : (edition : Edition) →
     ≡ Ok (named_pseudo_class (codes "first-child")) ∷ [])
     × (tokens_of edition (codes ":lang(en)") ≡ Ok (lang_pseudo_class (codes "en")) ∷ [])
     × (tokens_of edition (codes "-") ≡ Ok (type_selector (codes "-")) ∷ [])
-unfolding each comment blank gap past_name_chars name string_or_name attribute_operator
-    attribute_after lang_after pseudo_class_after named_token next_kind solid piece ending
-    sequence_from position chars encode trim_start trim_end
+unfolding simplecss_on_literals
 simple_pieces first_edition =
     (refl, refl, refl, refl, refl, refl, refl, refl, refl, refl, refl, refl, refl, refl, refl, refl)
 simple_pieces second_edition =
@@ -61,9 +53,7 @@ pub attributes : (edition : Edition) →
     ≡ Ok (attribute_selector (codes "id") (equals (codes "te\\'st"))) ∷ [])
     × (tokens_of edition (codes "[id=\"te\\\"st\"]")
     ≡ Ok (attribute_selector (codes "id") (equals (codes "te\\\"st"))) ∷ [])
-unfolding each comment blank gap past_name_chars name string_or_name attribute_operator
-    attribute_after lang_after pseudo_class_after named_token next_kind solid piece ending
-    sequence_from position chars encode trim_start trim_end
+unfolding simplecss_on_literals
 attributes first_edition = (refl, refl, refl, refl, refl, refl, refl, refl)
 attributes second_edition = (refl, refl, refl, refl, refl, refl, refl, refl)
 
@@ -88,9 +78,7 @@ pub compounds : (edition : Edition) →
     ∷ Ok (attribute_selector (codes "color") (equals (codes "red"))) ∷ [])
     × (tokens_of edition (codes "a.external:visited") ≡ Ok (type_selector (codes "a"))
     ∷ Ok (class_selector (codes "external")) ∷ Ok (named_pseudo_class (codes "visited")) ∷ [])
-unfolding each comment blank gap past_name_chars name string_or_name attribute_operator
-    attribute_after lang_after pseudo_class_after named_token next_kind solid piece ending
-    sequence_from position chars encode trim_start trim_end
+unfolding simplecss_on_literals
 compounds first_edition = (refl, refl, refl, refl, refl, refl, refl, refl, refl)
 compounds second_edition = (refl, refl, refl, refl, refl, refl, refl, refl, refl)
 
@@ -130,9 +118,7 @@ pub descendants : (edition : Edition) →
     ∷ Ok descendant_combinator ∷ Ok (named_pseudo_class (codes "link")) ∷ [])
     × (tokens_of edition (codes ".warn :first-child") ≡ Ok (class_selector (codes "warn"))
     ∷ Ok descendant_combinator ∷ Ok (named_pseudo_class (codes "first-child")) ∷ [])
-unfolding each comment blank gap past_name_chars name string_or_name attribute_operator
-    attribute_after lang_after pseudo_class_after named_token next_kind solid piece ending
-    sequence_from position chars encode trim_start trim_end
+unfolding simplecss_on_literals
 descendants first_edition =
     (refl, refl, refl, refl, refl, refl, refl, refl, refl, refl, refl, refl, refl, refl, refl, refl)
 descendants second_edition =
@@ -159,9 +145,7 @@ pub combinators : (edition : Edition) →
     × (tokens_of edition (codes "div > p:first-child")
     ≡ Ok (type_selector (codes "div")) ∷ Ok child_combinator ∷ Ok (type_selector (codes "p"))
     ∷ Ok (named_pseudo_class (codes "first-child")) ∷ [])
-unfolding each comment blank gap past_name_chars name string_or_name attribute_operator
-    attribute_after lang_after pseudo_class_after named_token next_kind solid piece ending
-    sequence_from position chars encode trim_start trim_end
+unfolding simplecss_on_literals
 combinators first_edition = (refl, refl, refl, refl, refl, refl, refl, refl, refl)
 combinators second_edition = (refl, refl, refl, refl, refl, refl, refl, refl, refl)
 
@@ -181,9 +165,7 @@ pub misplaced : (edition : Edition) →
     × (tokens_of edition (codes "*a") ≡ Ok universal_selector ∷ Err UnexpectedSelector ∷ [])
     × (tokens_of edition (codes "a*")
     ≡ Ok (type_selector (codes "a")) ∷ Err UnexpectedSelector ∷ [])
-unfolding each comment blank gap past_name_chars name string_or_name attribute_operator
-    attribute_after lang_after pseudo_class_after named_token next_kind solid piece ending
-    sequence_from position chars encode trim_start trim_end
+unfolding simplecss_on_literals
 misplaced first_edition = (refl, refl, refl, refl, refl, refl, refl, refl, refl)
 misplaced second_edition = (refl, refl, refl, refl, refl, refl, refl, refl, refl)
 
@@ -196,9 +178,7 @@ pub faults_in_pieces : (edition : Edition) →
     × (tokens_of edition (codes ":lang()") ≡ Err InvalidLanguagePseudoClass ∷ [])
     × (tokens_of edition (codes ":lang( )") ≡ Err InvalidLanguagePseudoClass ∷ [])
     × (tokens_of edition (codes "[olor:red") ≡ Err InvalidAttributeSelector ∷ [])
-unfolding each comment blank gap past_name_chars name string_or_name attribute_operator
-    attribute_after lang_after pseudo_class_after named_token next_kind solid piece ending
-    sequence_from position chars encode trim_start trim_end
+unfolding simplecss_on_literals
 faults_in_pieces first_edition = (refl, refl, refl, refl, refl)
 faults_in_pieces second_edition = (refl, refl, refl, refl, refl)
 
@@ -214,9 +194,7 @@ pub second_faults : (edition : Edition) →
     ≡ Err (InvalidComment (record { row = 1; col = 1 })) ∷ Err SelectorMissing ∷ [])
     × (tokens_of edition (codes "a /* x")
     ≡ Ok (type_selector (codes "a")) ∷ Err (InvalidComment (record { row = 1; col = 3 })) ∷ [])
-unfolding each comment blank gap past_name_chars name string_or_name attribute_operator
-    attribute_after lang_after pseudo_class_after named_token next_kind solid piece ending
-    sequence_from position chars encode trim_start trim_end
+unfolding simplecss_on_literals
 second_faults first_edition = (refl, refl, refl, refl, refl)
 second_faults second_edition = (refl, refl, refl, refl, refl)
 
@@ -238,9 +216,7 @@ pub gaps : (edition : Edition) →
     × (tokens_of edition (codes "/**/") ≡ Err SelectorMissing ∷ [])
     × (tokens_of edition (codes "a/* */b")
     ≡ Ok (type_selector (codes "a")) ∷ Err UnexpectedSelector ∷ [])
-unfolding each comment blank gap past_name_chars name string_or_name attribute_operator
-    attribute_after lang_after pseudo_class_after named_token next_kind solid piece ending
-    sequence_from position chars encode trim_start trim_end
+unfolding simplecss_on_literals
 gaps first_edition = (refl, refl, refl, refl, refl, refl, refl, refl, refl, refl)
 gaps second_edition = (refl, refl, refl, refl, refl, refl, refl, refl, refl, refl)
 
@@ -253,9 +229,7 @@ pub positions : (edition : Edition) →
     ≡ Err (InvalidByte close_bracket 195 (record { row = 1; col = 7 })) ∷ [])
     × (tokens_of edition (codes "*[x='a'b']")
     ≡ Ok universal_selector ∷ Err (InvalidByte close_bracket 98 (record { row = 1; col = 8 })) ∷ [])
-unfolding each comment blank gap past_name_chars name string_or_name attribute_operator
-    attribute_after lang_after pseudo_class_after named_token next_kind solid piece ending
-    sequence_from position chars encode trim_start trim_end
+unfolding simplecss_on_literals
 positions first_edition = (refl, refl, refl)
 positions second_edition = (refl, refl, refl)
 
@@ -265,9 +239,7 @@ pub wide_characters : (edition : Edition) →
     ≡ Ok (type_selector (encode_utf8_all (codes "î"))) ∷ [])
     × (tokens_of edition (codes "\\26")
     ≡ Err (InvalidIdent (record { row = 1; col = 1 })) ∷ Err SelectorMissing ∷ [])
-unfolding each comment blank gap past_name_chars name string_or_name attribute_operator
-    attribute_after lang_after pseudo_class_after named_token next_kind solid piece ending
-    sequence_from position chars encode trim_start trim_end
+unfolding simplecss_on_literals
 wide_characters first_edition = (refl, refl)
 wide_characters second_edition = (refl, refl)
 
@@ -277,9 +249,7 @@ pub wide_characters-editions :
     ≡ Ok (type_selector (encode_utf8_all (codes "é"))) ∷ [])
     × (tokens_of first_edition (encode_utf8_all (codes "é"))
     ≡ Err (InvalidIdent (record { row = 1; col = 1 })) ∷ Err SelectorMissing ∷ [])
-unfolding each comment blank gap past_name_chars name string_or_name attribute_operator
-    attribute_after lang_after pseudo_class_after named_token next_kind solid piece ending
-    sequence_from position chars encode trim_start trim_end
+unfolding simplecss_on_literals
 wide_characters-editions = (refl, refl)
 
 -- pieces that break off or go wrong after their first byte
@@ -297,9 +267,7 @@ pub unfinished_pieces : (edition : Edition) →
     × (tokens_of edition (codes ":lang en")
     ≡ Err (InvalidByte open_parenthesis space (record { row = 1; col = 6 })) ∷ [])
     × (tokens_of edition (codes ":lang(en") ≡ Err UnexpectedEndOfStream ∷ [])
-unfolding each comment blank gap past_name_chars name string_or_name attribute_operator
-    attribute_after lang_after pseudo_class_after named_token next_kind solid piece ending
-    sequence_from position chars encode trim_start trim_end
+unfolding simplecss_on_literals
 unfinished_pieces first_edition = (refl, refl, refl, refl, refl, refl, refl, refl, refl)
 unfinished_pieces second_edition = (refl, refl, refl, refl, refl, refl, refl, refl, refl)
 
@@ -317,9 +285,7 @@ pub near_misses : (edition : Edition) →
     ≡ Ok (type_selector (codes "a")) ∷ Err (InvalidComment (record { row = 1; col = 2 })) ∷ [])
     × (tokens_of edition (codes "--")
     ≡ Err (InvalidIdent (record { row = 1; col = 1 })) ∷ Err SelectorMissing ∷ [])
-unfolding each comment blank gap past_name_chars name string_or_name attribute_operator
-    attribute_after lang_after pseudo_class_after named_token next_kind solid piece ending
-    sequence_from position chars encode trim_start trim_end
+unfolding simplecss_on_literals
 near_misses first_edition = (refl, refl, refl, refl, refl, refl, refl)
 near_misses second_edition = (refl, refl, refl, refl, refl, refl, refl)
 
@@ -330,9 +296,7 @@ pub white_space : (edition : Edition) →
     × (tokens_of edition (97 ∷ 12 ∷ []) ≡ Ok (type_selector (codes "a")) ∷ [])
     × (tokens_of edition (58 ∷ 108 ∷ 97 ∷ 110 ∷ 103 ∷ 40 ∷ 11 ∷ 41 ∷ [])
     ≡ Err InvalidLanguagePseudoClass ∷ [])
-unfolding each comment blank gap past_name_chars name string_or_name attribute_operator
-    attribute_after lang_after pseudo_class_after named_token next_kind solid piece ending
-    sequence_from position chars encode trim_start trim_end
+unfolding simplecss_on_literals
 white_space first_edition = (refl, refl, refl)
 white_space second_edition = (refl, refl, refl)
 
@@ -344,9 +308,7 @@ pub borders_of_names : (edition : Edition) →
     (encode_utf8_all (codes "î"))) ∷ Err (InvalidIdent (record { row = 1; col = 2 })) ∷ [])
     × (tokens_of edition (194 ∷ 159 ∷ [])
     ≡ Err (InvalidIdent (record { row = 1; col = 1 })) ∷ Err SelectorMissing ∷ [])
-unfolding each comment blank gap past_name_chars name string_or_name attribute_operator
-    attribute_after lang_after pseudo_class_after named_token next_kind solid piece ending
-    sequence_from position chars encode trim_start trim_end
+unfolding simplecss_on_literals
 borders_of_names first_edition = (refl, refl, refl)
 borders_of_names second_edition = (refl, refl, refl)
 
@@ -360,9 +322,7 @@ pub borders_of_names-editions :
     × (tokens_of first_edition (encode_utf8_all (codes "xí"))
     ≡ Ok (type_selector (codes "x")) ∷ Err (InvalidIdent (record { row = 1; col = 2 })) ∷ [])
     × (tokens_of first_edition (encode_utf8_all (codes "[aí]")) ≡ Err InvalidAttributeSelector ∷ [])
-unfolding each comment blank gap past_name_chars name string_or_name attribute_operator
-    attribute_after lang_after pseudo_class_after named_token next_kind solid piece ending
-    sequence_from position chars encode trim_start trim_end
+unfolding simplecss_on_literals
 borders_of_names-editions = (refl, refl, refl, refl, refl)
 
 -- a slash is no piece in the second edition either
@@ -371,9 +331,7 @@ pub slashes : (edition : Edition) →
     × (tokens_of edition (codes "a / b")
     ≡ Ok (type_selector (codes "a")) ∷ Err (InvalidComment (record { row = 1; col = 3 })) ∷ [])
     × (tokens_of edition (codes "/") ≡ Err SelectorMissing ∷ [])
-unfolding each comment blank gap past_name_chars name string_or_name attribute_operator
-    attribute_after lang_after pseudo_class_after named_token next_kind solid piece ending
-    sequence_from position chars encode trim_start trim_end
+unfolding simplecss_on_literals
 slashes first_edition = (refl, refl, refl)
 slashes second_edition = (refl, refl, refl)
 
@@ -408,9 +366,7 @@ pub positions_of_missing_names : (edition : Edition) →
     (codes ".,b") (item (Err (no_name (codes ",b"))) (codes ",b") (sequence_end (codes ",b")))))
     × (sequence_of edition (codes "a/**/<") ≡ item (Ok (type_selector (codes "a"))) (codes "/**/<")
     (item (Err (no_name (codes "<"))) (codes "<") (sequence_end (codes "<"))))
-unfolding each comment blank gap past_name_chars name string_or_name attribute_operator
-    attribute_after lang_after pseudo_class_after named_token next_kind solid piece ending
-    sequence_from position chars encode trim_start trim_end
+unfolding simplecss_on_literals
 positions_of_missing_names first_edition =
     (refl, refl, refl, refl, refl, refl, refl, refl, refl, refl, refl, refl)
 positions_of_missing_names second_edition =
@@ -440,9 +396,7 @@ pub positions_within_attributes : (edition : Edition) →
     × (sequence_of edition (codes ":lang(a,b") ≡ item (Err ended) [] (sequence_end []))
     × (sequence_of edition (codes ":lang(),b")
     ≡ item (Err no_language) (codes ",b") (sequence_end (codes ",b")))
-unfolding each comment blank gap past_name_chars name string_or_name attribute_operator
-    attribute_after lang_after pseudo_class_after named_token next_kind solid piece ending
-    sequence_from position chars encode trim_start trim_end
+unfolding simplecss_on_literals
 positions_within_attributes first_edition =
     (refl, refl, refl, refl, refl, refl, refl, refl, refl, refl, refl, refl, refl, refl)
 positions_within_attributes second_edition =
@@ -488,9 +442,7 @@ pub positions_of_neighbours : (edition : Edition) →
     (item (Err (no_comment (codes "/*b"))) [] (item (Err no_selector) [] (sequence_end [])))))
     × (sequence_of edition (codes "a /*/b") ≡ item (Ok (type_selector (codes "a"))) (codes " /*/b")
     (item (Err (no_comment (codes "/*/b"))) [] (sequence_end [])))
-unfolding each comment blank gap past_name_chars name string_or_name attribute_operator
-    attribute_after lang_after pseudo_class_after named_token next_kind solid piece ending
-    sequence_from position chars encode trim_start trim_end
+unfolding simplecss_on_literals
 positions_of_neighbours first_edition = (
   refl,
   refl,

@@ -7,14 +7,14 @@ use Rattle.css_selectors.proofs.list.is_valid_list.Goals as goal
 pub parts-smaller : goal.parts-smaller
 parts-smaller c =
     took next_selector next_selector-takes c.parts.part.rest.now c.in-Some.next.rest.now
-    (listed_of c.in-Some.next.selector) c.in-Some.ensures
+    (listed_of c.in-Some.next.selector) c.in-Some.ensures.read
 
 pub parts-preserved : goal.parts-preserved
 parts-preserved c =
     let part = c.parts.part in
     let next = c.in-Some.next in
     sym (ap all_valid (more-some part.rest.now next.rest.now (listed_of next.selector)
-    c.in-Some.ensures))
+    c.in-Some.ensures.read))
     ∙ sym (valid-more (listed_of part.selector) (more_selectors part.rest.now)
     (sym c.is_valid.ensures ∙ c.parts-test.true))
     ∙ c.parts.invariant
@@ -22,7 +22,7 @@ parts-preserved c =
 pub returns-in-None : goal.returns-in-None
 returns-in-None c =
     let part = c.parts.part in
-    sym (ap all_valid (more-none part.rest.now c.in-None.ensures))
+    sym (ap all_valid (more-none part.rest.now c.in-None.ensures.read))
     ∙ sym (valid-more (listed_of part.selector) (more_selectors part.rest.now)
     (sym c.is_valid.ensures ∙ c.parts-test.true))
     ∙ c.parts.invariant

@@ -1,14 +1,18 @@
-use Rattle.std.proofs.Common.{arith}
-use Rattle.simplecss_text.specs.AsciiBytes.{newline}
-use Rattle.cssq_page.proofs.LineCuts.{cut_at, line_cut, lines_whole}
+use Rattle.cssq_page.proofs.LineCuts.{some_split, none_split, line_cut, lines_shorter, lines_whole}
 use Rattle.cssq_page.proofs.tree.cut_line.Goals as goal
 
-pub returns-then-len-text-clause-lines : goal.returns-then-len-text-clause-lines
-returns-then-len-text-clause-lines c =
-    line_cut c.args.text.now c.range.result.now c.range_from.result.now (cut_at c.args.text.now
-    newline c.len_before-len.result c.len_before-len.ensures.len c.range.result.now
-    c.range_from.result.now c.range.ensures.value c.range_from.ensures.value c.if-len-text.true)
+pub returns-in-Some-clause-lines : goal.returns-in-Some-clause-lines
+returns-in-Some-clause-lines c =
+    line_cut c.args.text.now c.in-Some.parts.0.now c.in-Some.parts.1.now
+    (some_split c.args.text.now c.split_once.result c.split_once.ensures.cases c.in-Some.parts
+    c.in-Some.is)
 
-pub returns-else-len-text-clause-lines : goal.returns-else-len-text-clause-lines
-returns-else-len-text-clause-lines c = lines_whole c.args.text.now c.requires
-    (omega (arith, c.len_before-len.ensures.len, c.len_before-len.ensures.within))
+pub returns-in-Some-clause-shorter : goal.returns-in-Some-clause-shorter
+returns-in-Some-clause-shorter c =
+    lines_shorter c.args.text.now c.in-Some.parts.0.now c.in-Some.parts.1.now
+    (some_split c.args.text.now c.split_once.result c.split_once.ensures.cases c.in-Some.parts
+    c.in-Some.is)
+
+pub returns-in-None-clause-lines : goal.returns-in-None-clause-lines
+returns-in-None-clause-lines c = lines_whole c.args.text.now c.requires
+    (none_split c.args.text.now c.split_once.result c.split_once.ensures.cases c.in-None.is)

@@ -1,8 +1,6 @@
-use Rattle.std.proofs.Common.{◌≡◌, ◌<◌, ◌∷◌, [], length, map}
+use Rattle.std.proofs.Common.{◌≡◌, ◌∷◌, [], map}
 use denote.Text.{Utf8}
 use denote.Shadow.{shadow}
-use Rattle.std.specs.Option.{option_to_list}
-use Rattle.selectors3.specs.Components.Condition.{simple}
 use Rattle.selectors3.specs.Grammar.{next_compound}
 use Rattle.selectors3.specs.Readings.{items, items_up_to, found_before}
 use Rattle.selectors3.specs.Views.{compound_of}

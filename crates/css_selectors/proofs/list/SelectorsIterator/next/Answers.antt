@@ -10,7 +10,7 @@ returns-in-Some-clause-steps c =
     let begun : old.begun ≡ true = c.if-self.true in
     record {
       items = ap (λ (b : Bool). selectors_from b old.rest.now) begun
-          ∙ more-some old.rest.now found.rest.now (listed_of found.selector) c.in-Some.ensures
+          ∙ more-some old.rest.now found.rest.now (listed_of found.selector) c.in-Some.ensures.read
           ∙ ap (λ (b : Bool). listed_of found.selector ∷ selectors_from b found.rest.now)
           (sym begun);
     }
@@ -23,7 +23,7 @@ returns-in-Some-clause-goes c =
     let step : selectors_to_come old
     ≡ listed_of found.selector ∷ selectors_from old.begun found.rest.now =
     ap (λ (b : Bool). selectors_from b old.rest.now) begun
-    ∙ more-some old.rest.now found.rest.now (listed_of found.selector) c.in-Some.ensures
+    ∙ more-some old.rest.now found.rest.now (listed_of found.selector) c.in-Some.ensures.read
     ∙ ap (λ (b : Bool). listed_of found.selector ∷ selectors_from b found.rest.now) (sym begun) in
     record {
       on = λ _. (tt, tt, omega (arith, ap (λ (l : List ListedText). length l) step));
@@ -37,5 +37,5 @@ returns-in-None-clause-steps c =
     let begun : old.begun ≡ true = c.if-self.true in
     let none : selectors_to_come old ≡ [] =
     ap (λ (b : Bool). selectors_from b old.rest.now) begun
-    ∙ more-none old.rest.now c.in-None.ensures in
+    ∙ more-none old.rest.now c.in-None.ensures.read in
     record { items = (none, none) }

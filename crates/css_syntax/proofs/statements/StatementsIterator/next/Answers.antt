@@ -10,8 +10,8 @@ returns-in-Some-clause-steps c =
     let found = c.in-Some.found in
     record {
       items = statements-some old.in_block old.rest.now found.rest.now (sheet_part_of found.part)
-          c.in-Some.ensures;
-      reads = c.in-Some.ensures;
+          c.in-Some.ensures.read;
+      reads = c.in-Some.ensures.read;
       in_block = refl;
     }
 
@@ -20,7 +20,7 @@ returns-in-Some-clause-goes c =
     let old = c.args.self.now in
     let found = c.in-Some.found in
     let step = statements-some old.in_block old.rest.now found.rest.now
-    (sheet_part_of found.part) c.in-Some.ensures in
+    (sheet_part_of found.part) c.in-Some.ensures.read in
     record {
       on = λ _. (tt, tt, omega (arith, ap (λ (l : List SheetText). length l) step));
       keeps = tt;
@@ -30,5 +30,5 @@ returns-in-Some-clause-goes c =
 pub returns-in-None-clause-steps : goal.returns-in-None-clause-steps
 returns-in-None-clause-steps c =
     let old = c.args.self.now in
-    let none = statements-none old.in_block old.rest.now c.in-None.ensures in
-    record { items = (none, none); reads = (c.in-None.ensures, refl); in_block = refl }
+    let none = statements-none old.in_block old.rest.now c.in-None.ensures.read in
+    record { items = (none, none); reads = (c.in-None.ensures.read, refl); in_block = refl }

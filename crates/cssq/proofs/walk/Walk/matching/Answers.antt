@@ -1,8 +1,9 @@
-use Rattle.std.proofs.Common.{refl, sym, ap, ◌∙◌, subst}
+use Rattle.std.proofs.Common.{length, refl, sym, ap, ◌∙◌, subst}
 use Rattle.std.proofs.lemmas.Result.{on_ok_weaker}
 use Rattle.simplecss.specs.Matching.{AreMatches}
-use Rattle.cssq_page.specs.PageNodes.{page_tree}
-use Rattle.cssq.proofs.Walking.{at_parent, node_is, same_option}
+use Rattle.std.proofs.lemmas.List.{length-map}
+use Rattle.cssq_page.specs.PageNodes.{spot, page_tree}
+use Rattle.cssq.proofs.Walking.{none_match, at_parent, node_is, same_option}
 use Rattle.cssq.proofs.walk.Walk.matching.Goals as goal
 
 pub matching_open-requires : goal.matching_open-requires
@@ -35,3 +36,9 @@ returns-clause-matches c =
     on_ok_weaker c.matching.result
     (subst (λ n. AreMatches page_tree n c.args.index.now c.matching.new.indices.items) node)
     c.matching.ensures.matches
+
+pub returns-then-is_empty-clause-matches : goal.returns-then-is_empty-clause-matches
+returns-then-is_empty-clause-matches c =
+    none_match c.args.index.now (spot c.args.page.now c.args.element) c.clear.new.self.items
+    (ap length c.requires.index ∙ length-map c.args.rules.now (λ rule. rule.selector)
+    ∙ c.if-is_empty.true) c.clear.ensures.items

@@ -1,4 +1,4 @@
-use Rattle.std.proofs.Common.{◌<◌, length, take, refl, sym, ◌∙◌, subst, arith}
+use Rattle.std.proofs.Common.{◌<◌, length, refl, subst, arith}
 use Rattle.std.specs.Prelude.{All, Contains}
 use Rattle.std.proofs.lemmas.List.{take_all}
 use Rattle.simplecss.proofs.OpenPathLemmas.{open_next}

@@ -1,4 +1,4 @@
-use Rattle.std.proofs.Common.{◌≡◌, ◌++◌, ◌<◌, List, ℕ, length, drop, sym, ◌∙◌, ap, subst, refl}
+use Rattle.std.proofs.Common.{◌++◌, ◌<◌, List, ℕ, length, drop, sym, ◌∙◌, ap, subst, refl}
 use Rattle.simplecss_text.specs.Skipped.{add_each, end_skips, statement_skips, skipped}
 use Rattle.simplecss_text.proofs.reading.SkipLemmas.{add_each-append, skipped-some, skipped-none}
 use Rattle.simplecss_text.specs.ThisEdition.{this_edition}

@@ -1,7 +1,7 @@
-use Rattle.std.proofs.Common.{◌≡◌, ◌<◌, ◌++◌, Some, List, ℕ, length, sym, ap, ◌∙◌, subst, arith, get_or}
+use Rattle.std.proofs.Common.{◌≡◌, ◌<◌, ◌++◌, length, sym, ap, ◌∙◌, subst, arith, get_or}
 use Rattle.std.specs.List.{Contains}
 use Rattle.std.proofs.lemmas.List.Elements.{Contains-get_or}
-use Rattle.simplecss.specs.OpenPaths.{needed_keys, IsOpenTo, AreParentStarts, AreReported}
+use Rattle.simplecss.specs.OpenPaths.{needed_keys, IsOpenTo}
 use Rattle.simplecss.specs.internal.NeededKeys.{AreNumbered, keys_of}
 use Rattle.simplecss.proofs.OpenPathLemmas.{opened_more, parent_starts, numbers_reported, found_led}
 use Rattle.simplecss.proofs.index.open_path.OpenPath.enter.Goals as goal

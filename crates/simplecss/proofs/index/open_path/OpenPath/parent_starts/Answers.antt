@@ -1,4 +1,4 @@
-use Rattle.std.proofs.Common.{◌≡◌, ◌<◌, ◌≤◌, ◌-◌, drop, get_or, length, refl, sym, ap, ◌∙◌, subst}
+use Rattle.std.proofs.Common.{◌≡◌, drop, refl, ap, ◌∙◌, subst}
 use Rattle.simplecss.specs.OpenPaths.{top_starts}
 use Rattle.simplecss.proofs.OpenPathLemmas.{last_starts, no_starts, got_starts}
 use Rattle.simplecss.proofs.index.open_path.OpenPath.parent_starts.Goals as goal

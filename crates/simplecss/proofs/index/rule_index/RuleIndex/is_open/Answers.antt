@@ -1,4 +1,4 @@
-use Rattle.std.proofs.Common.{◌≡◌, ◌<◌, ◌≤◌, ◌↔◌, length, get_or, sym, ap, ◌∙◌, subst, arith}
+use Rattle.std.proofs.Common.{◌<◌, ◌≤◌, ◌↔◌, length, get_or, ap, ◌∙◌, subst}
 use Rattle.std.specs.Prelude.{IsTrue, Contains, All}
 use Rattle.simplecss.specs.OpenPaths.{needed_keys}
 use Rattle.simplecss.specs.SelectorIndices.{selector_at}

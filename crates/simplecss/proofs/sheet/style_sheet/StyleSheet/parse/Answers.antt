@@ -1,4 +1,4 @@
-use Rattle.std.proofs.Common.{◌≡◌, [], ◌∷◌, ◌∙◌, false, sym}
+use Rattle.std.proofs.Common.{◌≡◌, [], ◌∙◌, false}
 use Rattle.std.proofs.lemmas.List.Elements.{All-nil, All-cons}
 use Rattle.simplecss_text.specs.Characters.{first_edition}
 use Rattle.simplecss_text.specs.PrintingLaws.{has_wide_space}

@@ -1,12 +1,8 @@
-use Rattle.std.proofs.Common.{◌≡◌, ◌++◌, ◌<◌, ◌∙◌, ℕ, List, ap, sym, map, refl, flat_map, IsUtf8, false}
-use Rattle.std.specs.List.{filter}
-use Rattle.std.proofs.lemmas.List.Elements.{All-map, filter-append}
-use Rattle.simplecss_text.specs.Statements.{has_declaration, kept}
-use Rattle.simplecss_text.specs.Sheets.{ordered}
+use Rattle.std.proofs.Common.{◌≡◌, ◌<◌, ℕ, List, ap, sym, map, refl, IsUtf8}
+use Rattle.std.proofs.lemmas.List.Elements.{All-map}
 use Rattle.simplecss_text.specs.ThisEdition.{this_edition}
 use Rattle.simplecss.specs.RuleViews.{rules_of}
 use Rattle.simplecss.specs.DeclarationCounts.{kept_in_all}
-use Rattle.simplecss.specs.Readings.{read_into}
 use Rattle.simplecss.specs.declared.sheet.sheet_error.SheetError.TheVariants.{TooManyDeclarations, Memory}
 use Rattle.simplecss.proofs.Reports.{passed_on}
 use Rattle.simplecss.proofs.ReadFacts.{into, into_none, reads-ok, reads-err}

@@ -1,2 +1,0 @@
-pub mod FaultViews
-pub mod Quotes
