@@ -115,11 +115,16 @@ function takes(text, isRule) {
     found.replaceSync("x{" + text + "}");
     return found.cssRules[0].style.length > 0;
 }
+function holds(text) {
+    if (text.startsWith("@supports ")) return CSS.supports(text.slice(10));
+    return !text.startsWith("@") && matchMedia(text).matches;
+}
 window.onload = () => {
     const frames = [...document.querySelectorAll("iframe")];
     if (input.kind == "mails")
         for (let i = 0; i < frames.length; i += 2) answer.push([styles(frames[i]), styles(frames[i + 1])]);
     if (input.kind == "trees") for (const text of input.texts) answer.push(tree(text));
+    if (input.kind == "conditions") for (const text of input.texts) answer.push(holds(text));
     if (input.kind == "reports") for (const [text, isRule] of input.texts) answer.push(takes(text, isRule));
     if (input.kind == "printed") for (const [one, other] of input.texts) answer.push([rules(one), rules(other)]);
     if (input.kind == "winners")
@@ -267,16 +272,30 @@ def is_beyond(cause):
     return False
 
 
+def held_conditions(sheets, trees):
+    """Returns the conditions of group rules that hold in the browser, as `media=` is asked for them."""
+    asked = set()
+    for sheet, tree in zip(sheets, trees):
+        sheet.match(tree, media=asked.add)
+    texts = sorted(asked)
+    with tempfile.TemporaryDirectory() as folder:
+        answers = run_browser({"kind": "conditions", "texts": texts}, [], folder)
+    return {text for text, holds in zip(texts, answers) if holds}
+
+
 def compare_winners(names):
     """Compares which declarations win, by their values as the browser prints them."""
     report = Report()
     ours, values = [], []
-    for name in names:
-        tree = simplecss.Tree.from_html(read(name))
-        sheet = simplecss.StyleSheet(*sheets_of(name, tree))
-        ours.append([sheet.style(tree, each) for each in PROPERTIES])
-        rows = zip(PROPERTIES, ours[-1])
-        values.append(sorted({(each, winner.value) for each, winners in rows for winner in winners if winner}))
+    trees = [simplecss.Tree.from_html(read(name)) for name in names]
+    sheets = [simplecss.StyleSheet(*sheets_of(name, tree)) for name, tree in zip(names, trees)]
+    held = held_conditions(sheets, trees)
+    for tree, sheet in zip(trees, sheets):
+        styles = [{each.name: each for each in found} for found in sheet.styles(tree, media=held.__contains__)]
+        ours.append([[found.get(each) for found in styles] for each in PROPERTIES])
+        values.append(sorted({
+            (each, winner.value) for each, winners in zip(PROPERTIES, ours[-1]) for winner in winners if winner
+        }))
     with tempfile.TemporaryDirectory() as folder:
         asked = {"kind": "winners", "properties": PROPERTIES, "values": values}
         answers = run_browser(asked, [os.path.abspath(name) for name in names], folder)
