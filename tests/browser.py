@@ -5,7 +5,7 @@
     tests/browser.py trees [FILE..]      the elements and attributes of `Tree.from_html` with those of the browser
     tests/browser.py winners [FILE..]    which declarations of ten properties win on each element
     tests/browser.py soup [FILE..]       what selectors find, with soupsieve over html5lib (no browser)
-    tests/browser.py reports [FILE..]    whether the browser takes what `lint` reports of sheets: one in a hundred at most
+    tests/browser.py reports [FILE..]    whether the browser takes what `lint` reports: one in a hundred at most
     tests/browser.py printed [FILE..]    the rules of sheets, and of these sheets as the package prints them
 
 Without files, `mails` takes those of `tests/mails`, and the next three take these and pages of Debian packages below
@@ -115,11 +115,16 @@ function takes(text, isRule) {
     found.replaceSync("x{" + text + "}");
     return found.cssRules[0].style.length > 0;
 }
+function holds(text) {
+    if (text.startsWith("@supports ")) return CSS.supports(text.slice(10));
+    return !text.startsWith("@") && matchMedia(text).matches;
+}
 window.onload = () => {
     const frames = [...document.querySelectorAll("iframe")];
     if (input.kind == "mails")
         for (let i = 0; i < frames.length; i += 2) answer.push([styles(frames[i]), styles(frames[i + 1])]);
     if (input.kind == "trees") for (const text of input.texts) answer.push(tree(text));
+    if (input.kind == "conditions") for (const text of input.texts) answer.push(holds(text));
     if (input.kind == "reports") for (const [text, isRule] of input.texts) answer.push(takes(text, isRule));
     if (input.kind == "printed") for (const [one, other] of input.texts) answer.push([rules(one), rules(other)]);
     if (input.kind == "winners")
@@ -267,16 +272,30 @@ def is_beyond(cause):
     return False
 
 
+def held_conditions(sheets, trees):
+    """Returns the conditions of group rules that hold in the browser, as `media=` is asked for them."""
+    asked = set()
+    for sheet, tree in zip(sheets, trees):
+        sheet.match(tree, media=asked.add)
+    texts = sorted(asked)
+    with tempfile.TemporaryDirectory() as folder:
+        answers = run_browser({"kind": "conditions", "texts": texts}, [], folder)
+    return {text for text, holds in zip(texts, answers) if holds}
+
+
 def compare_winners(names):
     """Compares which declarations win, by their values as the browser prints them."""
     report = Report()
     ours, values = [], []
-    for name in names:
-        tree = simplecss.Tree.from_html(read(name))
-        sheet = simplecss.StyleSheet(*sheets_of(name, tree))
-        ours.append([sheet.style(tree, each) for each in PROPERTIES])
-        rows = zip(PROPERTIES, ours[-1])
-        values.append(sorted({(each, winner.value) for each, winners in rows for winner in winners if winner}))
+    trees = [simplecss.Tree.from_html(read(name)) for name in names]
+    sheets = [simplecss.StyleSheet(*sheets_of(name, tree)) for name, tree in zip(names, trees)]
+    held = held_conditions(sheets, trees)
+    for tree, sheet in zip(trees, sheets):
+        styles = [{each.name: each for each in found} for found in sheet.styles(tree, media=held.__contains__)]
+        ours.append([[found.get(each) for found in styles] for each in PROPERTIES])
+        values.append(sorted({
+            (each, winner.value) for each, winners in zip(PROPERTIES, ours[-1]) for winner in winners if winner
+        }))
     with tempfile.TemporaryDirectory() as folder:
         asked = {"kind": "winners", "properties": PROPERTIES, "values": values}
         answers = run_browser(asked, [os.path.abspath(name) for name in names], folder)
@@ -318,7 +337,7 @@ def compare_reports(names):
     """Asks the browser whether it takes what `lint` reports, each text alone."""
     names = names or sheets_in("/usr/share", ("bootstrap", "jquery-ui", "awesome", "sphinx"))
     found = [(name, each) for name in names for each in _lint.findings(name, read(name))]
-    texts = [(each.text, each.reason in ("invalid selector", "stray bracket", "no block") and "{" in each.text) for _, each in found]
+    texts = [(each.text, each.text.endswith("}")) for _, each in found]
     with tempfile.TemporaryDirectory() as folder:
         answers = run_browser({"kind": "reports", "texts": texts}, [], folder)
     taken = [f"{each.row}:{each.column}: {each.message}" for (_, each), answer in zip(found, answers) if answer]
@@ -342,7 +361,8 @@ def compare_printed(names):
     with tempfile.TemporaryDirectory() as folder:
         for name, (before, after) in zip(names, run_browser({"kind": "printed", "texts": texts}, [], folder)):
             found = [f"{a[:120]}, printed {b[:120]}" for a, b in zip(before, after) if a != b]
-            report.add(name, found if len(before) == len(after) else [f"{len(before)} rules, printed {len(after)}", *found])
+            counts = [f"{len(before)} rules, printed {len(after)}"] if len(before) != len(after) else []
+            report.add(name, counts + found)
     return report.end()
 
 

@@ -1,16 +1,20 @@
-"""What the scripts of this folder share: counted expectations, runs in which one request for memory is refused, and real sheets."""
+"""What the scripts of this folder share: counted expectations, runs in which a request for memory is refused, and real
+sheets."""
+from __future__ import annotations
+
 import glob
 import os
 import subprocess
+from typing import Any, List, Sequence, Tuple
 
 
 class Counts:
     """How many expectations held, and how many did not."""
 
-    def __init__(self):
+    def __init__(self) -> None:
         self.passed = self.failed = 0
 
-    def expect(self, holds, what):
+    def expect(self, holds: object, what: object) -> None:
         """Counts an expectation, and prints it if it does not hold."""
         if holds:
             self.passed += 1
@@ -18,15 +22,17 @@ class Counts:
             self.failed += 1
             print("FAILED", what)
 
-    def end(self):
+    def end(self) -> int:
         """Prints the last line, and returns the exit status."""
         print(f"{self.passed} passed, {self.failed} failed")
         return 1 if self.failed else 0
 
 
-def run(program, shim, words, refuse, marked=False, **streams):
-    """Runs a program with the request of this number refused, 0 for none. Returns its status, what it wrote to standard output
-    and to standard error, and a byte for each request that was counted, `x` for the refused one."""
+def run(
+    program: str, shim: str, words: Sequence[str], refuse: int, marked: bool = False, **streams: Any
+) -> Tuple[int, bytes, bytes, bytes]:
+    """Runs a program with the request of this number refused, 0 for none. Returns its status, what it wrote to standard
+    output and to standard error, and a byte for each request that was counted, `x` for the refused one."""
     environment = dict(os.environ)
     reader, writer = os.pipe()
     environment.update(LD_PRELOAD=shim, REFUSE=str(refuse), REFUSE_FD=str(writer), REFUSE_MARKED=str(int(marked)))
@@ -39,8 +45,8 @@ def run(program, shim, words, refuse, marked=False, **streams):
     return child.returncode, out, err or b"", requests
 
 
-def real_sheets(folder):
-    """The style sheets in a folder, each once."""
+def real_sheets(folder: str) -> List[str]:
+    """Returns the style sheets in a folder, each once."""
     found = set()
     for path in sorted(glob.glob(os.path.join(folder, "**", "*.css"), recursive=True)):
         try:

@@ -10,7 +10,6 @@ import re
 import urllib.parse
 from pathlib import Path
 from typing import (
-    Any,
     Dict,
     FrozenSet,
     Iterable,

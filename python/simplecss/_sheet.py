@@ -245,6 +245,7 @@ class StyleSheet:
         if callable(media):
             found = _Selectors(self.rules, reading, media)
         else:
+            library.expect_text(media)
             key = (reading, media)
             if key not in self._selectors:
                 self._selectors[key] = _Selectors(self.rules, reading, media)

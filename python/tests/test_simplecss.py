@@ -177,6 +177,8 @@ class Today(unittest.TestCase):
         asked = []
         self.styles(css, media=asked.append)
         self.assertEqual(asked, ["print", "screen, tv", "all", "not print", "(width > 1px)", "@supports (a: b)"])
+        with self.assertRaises(TypeError):
+            self.styles(css, media=None)
 
     def test_conditions(self):
         sheet = simplecss.StyleSheet("@Media x { @supports y { a { b: c } } d { e: f } @page { g: h } }")
