@@ -4,3 +4,4 @@ pub mod MatchLemmas
 pub mod TextLemmas
 pub mod ItemLemmas
 pub mod GapLemmas
+pub mod EscapeLemmas

@@ -8,7 +8,9 @@ pub mod Views
 pub mod SpecificityViews
 pub mod TriedElements
 pub mod Readings
+pub mod Spellings
 pub mod Reads
 pub mod Grammar
 pub mod ReadViews
 pub mod ReadSelectors
+pub mod RefusalWords
