@@ -5,3 +5,4 @@ pub mod TextLemmas
 pub mod ItemLemmas
 pub mod GapLemmas
 pub mod EscapeLemmas
+mod KeyLemmas

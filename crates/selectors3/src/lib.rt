@@ -8,7 +8,7 @@
 //! `Element3`.
 //!
 //! Namespaces, and lists within the lists of `:not()`, `:is()` and `:where()` are not read. Selectors
-//! are not printed or put into an index yet.
+//! are not printed yet.
 #![tactic(auto)]
 
 mod attribute_selectors;
@@ -17,6 +17,8 @@ mod components;
 mod compounds;
 mod element;
 mod escapes;
+mod key;
+mod key_laws;
 mod languages;
 mod matching;
 mod meeting;
@@ -36,6 +38,7 @@ pub use components::{
     AttributeTest, Comparison, Compound, Condition, Part, Progression, Signed, Simple, Structure,
 };
 pub use element::Element3;
+pub use key::Key;
 pub use refusal::{Reason, Refusal};
 pub use selector::Selector3;
 pub use sibling_matching::Combinator;

@@ -1,0 +1,83 @@
+-- Keys: conditions of which each element that a selector matches satisfies one. By these an index finds
+-- the selectors that can match an element.
+use Rattle.std.specs.Prelude.{ℕ, ◌-◌, Bool, true, List, [], ◌∷◌, map, length, min, nat_lt, if◌then◌else◌}
+use Rattle.std.specs.List.{list_any}
+use Rattle.selectors3.specs.Documents.{Document}
+use Rattle.selectors3.specs.Components.{Simple, Condition, Selector}
+use Rattle.selectors3.specs.Components.Simple.{universal, type_name, id, class, has_attribute, attribute, structure, language, state}
+use Rattle.selectors3.specs.Components.Condition.{simple, negation, any_of, where_any}
+use Rattle.selectors3.specs.Meanings.{holds, conditions_at}
+
+-- an id, a class, a type name, the name of an attribute, or no condition
+pub data Key : Type 0 where
+  by_id : List ℕ → Key
+  by_class : List ℕ → Key
+  by_name : List ℕ → Key
+  by_attribute : List ℕ → Key
+  by_nothing : Key
+
+-- whether a node has the key
+abbrev pub has_key : {Node : Type 0} → Document Node → Node → Key → Bool
+has_key document n (by_id text) = holds document n (id text)
+has_key document n (by_class word) = holds document n (class word)
+has_key document n (by_name name) = holds document n (type_name name)
+has_key document n (by_attribute name) = holds document n (has_attribute name)
+has_key document n by_nothing = true
+
+-- the key that a simple selector requires
+abbrev pub simple_key : Simple → Key
+simple_key universal = by_nothing
+simple_key (type_name name) = by_name name
+simple_key (id text) = by_id text
+simple_key (class word) = by_class word
+simple_key (has_attribute name) = by_attribute name
+simple_key (attribute name comparison text ignores) = by_attribute name
+simple_key (structure s) = by_nothing
+simple_key (language ranges) = by_nothing
+simple_key (state name) = by_nothing
+
+-- how few elements have a key: the greater, the fewer
+abbrev pub rank : Key → ℕ
+rank (by_id text) = 4
+rank (by_class word) = 3
+rank (by_name name) = 2
+rank (by_attribute name) = 1
+rank by_nothing = 0
+
+-- the second key if it has a greater rank
+abbrev pub better_key : Key → Key → Key
+better_key one other = if nat_lt (rank one) (rank other) then other else one
+
+-- the first key of the greatest rank among this one and those of simple selectors
+abbrev pub best_key : Key → List Simple → Key
+best_key best [] = best
+best_key best (s ∷ ss) = best_key (better_key best (simple_key s)) ss
+
+-- the key of a compound selector in a list
+abbrev pub compound_key : List Simple → Key
+compound_key simples = best_key by_nothing simples
+
+-- the keys of a condition, of which a node that satisfies it has one; nothing within `:not()` is a key
+abbrev pub condition_keys : Condition → List Key
+condition_keys (simple s) = simple_key s ∷ []
+condition_keys (negation compounds) = by_nothing ∷ []
+condition_keys (any_of compounds) = map compound_key compounds
+condition_keys (where_any compounds) = map compound_key compounds
+
+-- the least rank of keys
+abbrev pub least_rank : List Key → ℕ
+least_rank [] = 4
+least_rank (key ∷ keys) = min (rank key) (least_rank keys)
+
+-- the second keys if their least rank is greater
+abbrev pub better_keys : List Key → List Key → List Key
+better_keys one other = if nat_lt (least_rank one) (least_rank other) then other else one
+
+-- the first keys of the greatest least rank among these and those of conditions
+abbrev pub best_keys : List Key → List Condition → List Key
+best_keys best [] = best
+best_keys best (c ∷ cs) = best_keys (better_keys best (condition_keys c)) cs
+
+-- the keys of a selector: those of a condition of its last compound selector
+abbrev pub keys_of : Selector → List Key
+keys_of s = best_keys (by_nothing ∷ []) (conditions_at s.parts (length s.parts - 1))

@@ -1,0 +1,175 @@
+//! The keys of a selector: conditions of which each element that it matches satisfies one.
+ghost use Rattle.std.specs.Prelude.{◌≡◌, ◌++◌, ◌∷◌, [], OnOk, MatchOption, List, map};
+ghost use Rattle.selectors3.specs.Keys.{Key as KeyOf, simple_key, best_key, compound_key};
+ghost use Rattle.selectors3.specs.Keys.{condition_keys, least_rank, best_keys, keys_of, rank as rank_of};
+ghost use Rattle.selectors3.specs.Keys.Key.{by_nothing};
+ghost use Rattle.selectors3.specs.KeyViews.{key_of, keys_of_best};
+ghost use Rattle.selectors3.specs.Views.{simple_of, compound_of, condition_of};
+
+use crate::{Compound, Condition, Selector3, Simple};
+use std::alloc::AllocError;
+
+/// A condition that an element satisfies or not. Each element that a selector matches satisfies one of
+/// the selector's keys.
+#[derive(Clone, Copy, Debug)]
+pub enum Key<'s> {
+    /// The attribute `id` is this text.
+    Id(&'s str),
+    /// This is a word of the attribute `class`.
+    Class(&'s str),
+    /// The element's name is this.
+    Name(&'s str),
+    /// There is an attribute of this name.
+    Attribute(&'s str),
+    /// None of these: each element has it.
+    Any,
+}
+
+impl<'s> Key<'s> {
+    /// Returns a number that is the greater, the fewer elements have such a key.
+    fn rank(&self) -> u8
+        ensures { result ≡ rank_of (key_of self.now) }
+    {
+        match self {
+            Key::Id(_) => 4,
+            Key::Class(_) => 3,
+            Key::Name(_) => 2,
+            Key::Attribute(_) => 1,
+            Key::Any => 0,
+        }
+    }
+}
+
+/// Returns the key that a simple selector requires.
+fn key_of_simple<'s>(simple: &'s Simple<'_>) -> Key<'s>
+    ensures { key_of result ≡ simple_key (simple_of simple.now) }
+{
+    match simple {
+        Simple::TypeName(name) => Key::Name(name.as_str()),
+        Simple::Id(id) => Key::Id(id.as_str()),
+        Simple::Class(class) => Key::Class(class.as_str()),
+        Simple::HasAttribute(name) => Key::Attribute(name.as_str()),
+        Simple::Attribute(test) => Key::Attribute(test.name.as_str()),
+        Simple::Universal | Simple::Structure(_) | Simple::Language(_) | Simple::State(_) =>
+            Key::Any,
+    }
+}
+
+/// Returns the first key of the greatest rank of simple selectors.
+fn key_of_compound<'s>(compound: &'s Compound<'_>) -> Key<'s>
+    ensures { key_of result ≡ compound_key (compound_of compound.now) }
+{
+    let mut best = Key::Any;
+    let mut rest = compound.simples.as_slice();
+    'simples: while let [simple, after @ ..] = rest {
+        let key = key_of_simple(simple);
+        if best.rank() < key.rank() {
+            best = key;
+        }
+        rest = after;
+    }
+    best
+}
+
+/// Returns the least rank of the keys of compound selectors, at most 4.
+fn least_of(compounds: &[Compound<'_>]) -> u8
+    ensures { result ≡ least_rank (map compound_key (map compound_of compounds.now)) }
+{
+    let mut least = 4;
+    let mut rest = compounds;
+    'compounds: while let [compound, after @ ..] = rest {
+        least = least.min(key_of_compound(compound).rank());
+        rest = after;
+    }
+    least
+}
+
+/// Returns the least rank of the keys of a condition.
+fn rank_of_condition(condition: &Condition<'_>) -> u8
+    ensures { result ≡ least_rank (condition_keys (condition_of condition.now)) }
+{
+    match condition {
+        Condition::Simple(simple) => key_of_simple(simple).rank(),
+        Condition::Not(_) => 0,
+        Condition::Is(compounds) | Condition::Where(compounds) => least_of(compounds.as_slice()),
+    }
+}
+
+/// Returns the first condition whose keys have the greatest least rank, unless that is 0.
+fn best_condition<'s, 'a>(conditions: &'s [Condition<'a>]) -> Option<&'s Condition<'a>>
+    ensures { best_keys (by_nothing ∷ []) (map condition_of conditions.now)
+        ≡ keys_of_best result }
+{
+    let mut best = None;
+    let mut greatest = 0;
+    let mut rest = conditions;
+    'conditions: while let [condition, after @ ..] = rest {
+        let rank = rank_of_condition(condition);
+        if greatest < rank {
+            best = Some(condition);
+            greatest = rank;
+        }
+        rest = after;
+    }
+    best
+}
+
+/// Appends the keys of compound selectors.
+fn push_compounds<'s>(
+    compounds: &'s [Compound<'_>],
+    keys: &mut Vec<Key<'s>>,
+) -> Result<(), AllocError>
+    ensures { OnOk result (map key_of keys.new.items ≡ map key_of keys.old.items
+        ++ map compound_key (map compound_of compounds.now)) }
+{
+    for compound in compounds {
+        keys.push(key_of_compound(compound))?;
+    }
+    Ok(())
+}
+
+/// Appends the keys of a condition, if there is one, or the key that each element has.
+fn push_best<'s>(best: Option<&'s Condition<'_>>, keys: &mut Vec<Key<'s>>) -> Result<(), AllocError>
+    ensures { OnOk result (map key_of keys.new.items ≡ map key_of keys.old.items
+        ++ keys_of_best best.entry) }
+{
+    match best {
+        None | Some(Condition::Not(_)) => {
+            keys.push(Key::Any)?;
+            Ok(())
+        }
+        Some(Condition::Simple(simple)) => {
+            keys.push(key_of_simple(simple))?;
+            Ok(())
+        }
+        Some(Condition::Is(compounds) | Condition::Where(compounds)) => {
+            push_compounds(compounds.as_slice(), keys)
+        }
+    }
+}
+
+impl<'a> Selector3<'a> {
+    ghost use Rattle.std.specs.Prelude.{◌≡◌, ◌++◌, ◌-◌, OnOk, length, map};
+    ghost use Rattle.selectors3.specs.Keys.{keys_of};
+    ghost use Rattle.selectors3.specs.KeyViews.{key_of};
+    ghost use Rattle.selectors3.specs.Meanings.{conditions_at};
+    ghost use Rattle.selectors3.specs.Views.{condition_of};
+
+    /// Returns the conditions of the last compound selector.
+    fn last_conditions(&self) -> &[Condition<'a>]
+        ensures { map condition_of result.now
+            ≡ conditions_at self.now.parts (length self.now.parts - 1) }
+    {
+        self.parts[self.parts.len() - 1].conditions.as_slice()
+    }
+
+    /// Appends the selector's keys: each element that it matches has one of them. They are those of one
+    /// condition of the last compound selector, of one that few elements satisfy. Nothing within `:not()`
+    /// is a key.
+    pub fn push_keys<'s>(&'s self, keys: &mut Vec<Key<'s>>) -> Result<(), AllocError>
+        ensures { OnOk result (map key_of keys.new.items
+            ≡ map key_of keys.old.items ++ keys_of self.now) }
+    {
+        push_best(best_condition(self.last_conditions()), keys)
+    }
+}

@@ -1,0 +1,44 @@
+-- Numbers of indices for which a test is true.
+-- Serves `groups` and `numbered_tree` (counts fit their types, and tests that agree count the same).
+use Rattle.std.proofs.Common.{◌≡◌, ℕ, zero, suc, ◌+◌, ◌<◌, ◌≤◌, ◌⊎◌, inl, inr, Bool, true, false, Some, refl, sym, ap, ◌∙◌, arith}
+use Rattle.std.specs.Prelude.{if◌then◌else◌}
+use Rattle.selectors3_tree.specs.Counts.{count_below, last_below}
+
+at_most_one : (b : Bool) → (if b then 1 else 0) ≤ 1
+at_most_one true = omega arith
+at_most_one false = omega arith
+
+pub count_below-at_most : (test : ℕ → Bool) (n : ℕ) → count_below test n ≤ n
+count_below-at_most test zero = omega arith
+count_below-at_most test (suc n) =
+    let h = count_below-at_most test n in let one = at_most_one (test n) in omega (arith, h, one)
+
+pub last_or_before : (i n : ℕ) → i < suc n → (i ≡ n) ⊎ (i < n)
+last_or_before i n lt = grind arith
+
+-- a number that passes the test is not among those below it
+pub count_below-with : (test : ℕ → Bool) (i n : ℕ) → i < n → test i ≡ true
+    → count_below test i + 1 ≤ count_below test n
+count_below-with test i zero lt is = absurd (omega arith)
+count_below-with test i (suc n) lt is = elim (last_or_before i n lt) [
+  | inl same ↦
+      (let c = ap (count_below test) same in
+      let t = ap {B = ℕ} (λ b. if b then 1 else 0) (ap test (sym same) ∙ is) in omega (arith, c, t))
+  | inr less ↦ (let h = count_below-with test i n less is in omega (arith, h))
+]
+
+module _ (one other : ℕ → Bool) where
+  pub count_below-same : (n : ℕ) → ((i : ℕ) → i < n → one i ≡ other i)
+      → count_below one n ≡ count_below other n
+  count_below-same zero same = refl
+  count_below-same (suc n) same =
+      let h = count_below-same n (λ i lt. same i (omega (arith, lt))) in
+      let t = ap {B = ℕ} (λ b. if b then 1 else 0) (same n (omega arith)) in omega (arith, h, t)
+
+  pub last_below-same : (n : ℕ) → ((i : ℕ) → i < n → one i ≡ other i)
+      → last_below one n ≡ last_below other n
+  last_below-same zero same = refl
+  last_below-same (suc n) same =
+      let h = last_below-same n (λ i lt. same i (omega (arith, lt))) in
+      ap (λ r. if one n then Some n else r) h
+      ∙ ap (λ b. if b then Some n else last_below other n) (same n (omega arith))

@@ -1,0 +1,12 @@
+-- Indices below a number for which a test is true.
+use Rattle.std.specs.Prelude.{ℕ, zero, suc, ◌+◌, Bool, Option, None, Some, if◌then◌else◌}
+
+-- how many there are
+abbrev pub count_below : (ℕ → Bool) → ℕ → ℕ
+count_below test zero = 0
+count_below test (suc n) = count_below test n + (if test n then 1 else 0)
+
+-- the last of them
+abbrev pub last_below : (ℕ → Bool) → ℕ → Option ℕ
+last_below test zero = None
+last_below test (suc n) = if test n then Some n else last_below test n

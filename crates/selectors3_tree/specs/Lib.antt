@@ -1,0 +1,5 @@
+pub mod Counts
+pub mod GroupViews
+pub mod Keys
+pub mod Laws
+pub mod Pages
