@@ -7,3 +7,4 @@ pub mod PageCalls
 pub mod ListFacts
 pub mod JsonTexts
 pub mod JsonVectors
+pub mod ItemTexts
