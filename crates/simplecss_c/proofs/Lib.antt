@@ -8,3 +8,4 @@ pub mod ListFacts
 pub mod JsonTexts
 pub mod JsonVectors
 pub mod ItemTexts
+pub mod SelectorTexts

@@ -151,7 +151,7 @@ enum Shown<'s, 'a> {
 }
 
 /// Returns what a statement is in an answer: a rule set with an invalid prelude is skipped.
-fn shown<'s, 'a>(statement: &'s Statement<'a>) -> Shown<'s, 'a>
+fn show<'s, 'a>(statement: &'s Statement<'a>) -> Shown<'s, 'a>
     ensures { shown_text result ≡ shown_of (statement_of statement.now) }
 {
     match statement {
@@ -209,7 +209,7 @@ fn push_part(
           places = places_of places;
         })) }
 {
-    let shown = shown(&part.statement);
+    let shown = show(&part.statement);
     out.push('{')?;
     push_head(
         out,
