@@ -133,7 +133,30 @@ uint32_t simplecss_rules(const uint8_t *texts, size_t texts_len,
 uint32_t simplecss_skipped(const uint8_t *text, size_t text_len,
                            uint8_t *out, size_t out_size, size_t *len);
 
-/* The next four calls match elements. `:first-child` matches an element without a previous sibling, a
+/* Writes a line of JSON for each item of a style sheet by the grammar of today (CSS Syntax Module Level
+ * 3). Ranges are offsets into the text, in bytes: of the first byte, and of the byte after the last.
+ * Of "a, p::before { b: c }" the line is, here on several lines,
+ * {"kind":"rule","start":0,"end":21,"levels":[],"prelude":[0,12],"block":[15,19],"closed":true,
+ *  "selectors":[{"text":[0,1],"is_read":true,"pseudo_element":null},
+ *               {"text":[3,12],"is_read":true,"pseudo_element":[4,12]}],
+ *  "items":[{"kind":"declaration","start":15,"end":19,"name":[15,16],"value":[18,19],
+ *            "important":false,"closed":true}]}
+ * "levels" are the group rules that the item is in, such as @media, from the outermost:
+ * {"name":[1,6],"prelude":[7,12],"start":0,"end":30}. "is_read" says whether the library matches elements
+ * by the selector without its pseudo-element. "closed" is false if the end of the text closes it.
+ * {"kind":"at-rule","start":0,"end":9,"levels":[],"name":[1,7],"prelude":[8,8],"block":null,"closed":true}
+ * {"kind":"skipped","start":0,"end":9,"levels":[],"fault":"invalid selector"}
+ * Other faults are "broken declaration", "bad string", "bad url", "stray bracket", "too deep" and
+ * "no block". A rule with one invalid selector is skipped as a whole. */
+uint32_t simplecss_read(const uint8_t *text, size_t text_len,
+                        uint8_t *out, size_t out_size, size_t *len);
+
+/* Writes a line of JSON for each item of a style attribute, or of the contents of a block, as
+ * "items" of simplecss_read has them. */
+uint32_t simplecss_declarations(const uint8_t *text, size_t text_len,
+                                uint8_t *out, size_t out_size, size_t *len);
+
+/* The next five calls match elements. `:first-child` matches an element without a previous sibling, a
  * first root too. `:lang(x)` tests the attribute `lang` of the element or of its nearest ancestor that
  * has one. `:link`, `:visited`, `:hover`, `:active` and `:focus` test the element's states. Names, keys and
  * values are compared byte by byte. The words of a value, of which `.a` and `[k~=a]` test one, are what
@@ -148,6 +171,16 @@ uint32_t simplecss_match(const uint8_t *texts, size_t texts_len,
                          const uint8_t *strings, size_t strings_len,
                          const size_t *string_ends, size_t string_ends_count,
                          uint8_t *out, size_t out_size, size_t *len, simplecss_tree_fault *fault);
+
+/* Writes the same of selectors, of which each text is one: a line for each element, with the numbers of
+ * the selectors that match it. Refused if a text is no selector that simplecss_selector reads. */
+uint32_t simplecss_match_selectors(const uint8_t *texts, size_t texts_len,
+                                   const size_t *ends, size_t ends_count,
+                                   const simplecss_element *elements, size_t elements_count,
+                                   const uint8_t *strings, size_t strings_len,
+                                   const size_t *string_ends, size_t string_ends_count,
+                                   uint8_t *out, size_t out_size, size_t *len,
+                                   simplecss_tree_fault *fault);
 
 /* Writes the number of each element of a tree that one of the selectors of a list matches, and a
  * newline. */

@@ -74,10 +74,37 @@ SHEET = (*buffer_of((b"ul > li { color: red }", b".new { color: blue !important 
 PAGE = tree_of((0, b"ul"), (1, b"li", b"class", b"new"), (1, b"li", b"title", b"a\tb\n=\x01\0", b"alt", b"a\tb"))
 # Elements in the states link, visited, hover and active, one in all states and other numbers, and one in none.
 STATES = tree_of(((0, 1), b"a"), ((0, 2), b"b"), ((0, 4), b"c"), ((0, 8), b"d"), ((0, 31 + 2**40), b"e"), (0, b"f"))
-WITH_TREE = ("simplecss_match", "simplecss_select", "simplecss_style", "simplecss_styles")
+WITH_TREE = ("simplecss_match", "simplecss_match_selectors", "simplecss_select", "simplecss_style", "simplecss_styles")
 VERSION = "0.1.0"
 RED = b'{"name":"color","value":"red","important":false}'
 BLUE = b'{"name":"color","value":"blue","important":true}'
+TODAY = b"@media x { a, b:not(c), d::before { e: f; g } } h , { } @i;"
+TODAY_LINES = (
+    b'{"kind":"rule","start":11,"end":45,"levels":[{"name":[1,6],"prelude":[7,8],"start":0,"end":47}],'
+    b'"prelude":[11,33],"block":[36,43],"closed":true,'
+    b'"selectors":[{"text":[11,12],"is_read":true,"pseudo_element":null},'
+    b'{"text":[14,22],"is_read":false,"pseudo_element":null},'
+    b'{"text":[24,33],"is_read":true,"pseudo_element":[25,33]}],'
+    b'"items":[{"kind":"declaration","start":36,"end":40,"name":[36,37],"value":[39,40],'
+    b'"important":false,"closed":true},'
+    b'{"kind":"skipped","start":42,"end":43,"fault":"broken declaration"}]}\n'
+    b'{"kind":"skipped","start":48,"end":55,"levels":[],"fault":"invalid selector"}\n'
+    b'{"kind":"at-rule","start":56,"end":59,"levels":[],"name":[57,58],"prelude":[58,58],"block":null,"closed":true}\n'
+)
+# Offsets are in bytes, and the end of the text closes the rule.
+BYTES_LINE = (
+    b'{"kind":"rule","start":0,"end":8,"levels":[],"prelude":[0,2],"block":[3,8],"closed":false,'
+    b'"selectors":[{"text":[0,2],"is_read":true,"pseudo_element":null}],'
+    b'"items":[{"kind":"declaration","start":3,"end":8,"name":[3,5],"value":[6,8],"important":false,"closed":true}]}\n'
+)
+DECLARATIONS = b"a: b !important; c; --x:; @a b { c };d:url(x"
+DECLARATION_LINES = (
+    b'{"kind":"declaration","start":0,"end":15,"name":[0,1],"value":[3,4],"important":true,"closed":true}\n'
+    b'{"kind":"skipped","start":17,"end":18,"fault":"broken declaration"}\n'
+    b'{"kind":"declaration","start":20,"end":24,"name":[20,23],"value":[24,24],"important":false,"closed":true}\n'
+    b'{"kind":"at-rule","start":26,"end":36,"name":[27,28],"prelude":[29,30],"block":[33,34],"closed":true}\n'
+    b'{"kind":"declaration","start":37,"end":44,"name":[37,38],"value":[39,44],"important":false,"closed":false}\n'
+)
 
 # A call, its arguments, and the answer.
 ANSWERS = (
@@ -102,6 +129,11 @@ ANSWERS = (
      b'{"selector":"*[class~=\'new\']","specificity":[0,1,0],"declarations":[' + BLUE + b"]}\n"),
     ("simplecss_skipped", (b"a { b: c }\n @media print { }",),
      b'{"row":2,"column":2,"reason":"at-rule not supported","text":"@media print"}\n'),
+    ("simplecss_read", (TODAY,), TODAY_LINES),
+    ("simplecss_read", ("é{é:é".encode(),), BYTES_LINE),
+    ("simplecss_read", (b" /* */ <!-- ",), b""),
+    ("simplecss_declarations", (DECLARATIONS,), DECLARATION_LINES),
+    ("simplecss_match_selectors", (*buffer_of((b"li", b".new", b"ul")), *PAGE), b"1: 3\n2: 1 2\n3: 1\n"),
     ("simplecss_match", (*SHEET, *PAGE), b"1:\n2: 1 2\n3: 1\n"),
     ("simplecss_select", (b"li", *PAGE), b"2\n3\n"),
     ("simplecss_select", (b"[alt='a\tb'], .new", *PAGE), b"2\n3\n"),
@@ -137,7 +169,7 @@ FAILURES = [
     (name, (text,), status)
     for name in ("simplecss_selector", "simplecss_list")
     for text, status in ((b"", REFUSED), (b"a:none", REFUSED), (BROKEN, NOT_UTF8))
-] + [("simplecss_refusal", (BROKEN,), NOT_UTF8), ("simplecss_skipped", (BROKEN,), NOT_UTF8)]
+] + [(f"simplecss_{name}", (BROKEN,), NOT_UTF8) for name in ("refusal", "skipped", "read", "declarations")]
 # Of two faults of texts the first is reported.
 for _sheet, _status in (((b"ab", sizes([1]), NO_LIMIT), REFUSED), ((b"ab", sizes([2, 1]), NO_LIMIT), REFUSED),
                         ((b"ab", sizes([3]), NO_LIMIT), REFUSED), ((BROKEN, sizes([1]), NO_LIMIT), NOT_UTF8),
@@ -149,7 +181,11 @@ for _sheet, _status in (((b"ab", sizes([1]), NO_LIMIT), REFUSED), ((b"ab", sizes
                  ("simplecss_match", (*_sheet, *PAGE), _status), ("simplecss_styles", (*_sheet, *PAGE), _status),
                  ("simplecss_style", (*_sheet, *PAGE, b"color"), _status)]
 _BROKEN_PAGE = (Elements([0, 0, 0]), BROKEN, sizes([1]))
+FAILURES += [("simplecss_match_selectors", (*_texts, *PAGE), _status) for _texts, _status in (
+    (buffer_of((b"a", b"b:none")), REFUSED), (buffer_of((b"a", b"")), REFUSED), ((b"ab", sizes([1])), REFUSED),
+    ((b"ab", sizes([2, 1])), REFUSED), ((b"ab", sizes([3])), REFUSED), (buffer_of((b"a", BROKEN)), NOT_UTF8))]
 FAILURES += [
+    ("simplecss_match_selectors", (*buffer_of((b"a",)), *_BROKEN_PAGE), NOT_UTF8),
     ("simplecss_select", (b"a,", *PAGE), REFUSED),
     ("simplecss_select", (BROKEN, *PAGE), NOT_UTF8),
     ("simplecss_select", (b"a", *_BROKEN_PAGE), NOT_UTF8),
@@ -179,7 +215,8 @@ def test_failures(check, library):
     for page, fault, element in BAD_PAGES:
         rows += [(name, arguments, TREE_FAULT, (fault, element)) for name, arguments in (
             ("simplecss_match", (*SHEET, *page)), ("simplecss_styles", (*SHEET, *page)),
-            ("simplecss_style", (*SHEET, *page, b"color")), ("simplecss_select", (b"a", *page)))]
+            ("simplecss_style", (*SHEET, *page, b"color")), ("simplecss_select", (b"a", *page)),
+            ("simplecss_match_selectors", (b"a", sizes([1]), *page)))]
     for name, arguments, status, fault in rows:
         for room in (0, 64):
             found = call(library, name, arguments, room)

@@ -14,6 +14,7 @@
 
 static const char sheet[] = "ul > li { color: red }.new { color: blue !important } @media x { } a:b { c: d }";
 static const size_t sheet_ends[] = {22, sizeof(sheet) - 1};
+static const size_t selector_ends[] = {2, 6};
 static const simplecss_element elements[] = {{0, 0, 0}, {1, 1, 0}, {1, 1, 0}};
 static const char strings[] = "ullicl\tssnewlititlea\nb";
 static const size_t string_ends[] = {2, 4, 9, 12, 14, 19, 22};
@@ -38,6 +39,9 @@ int main(int count, char **words) {
     case 8: status = simplecss_style(SHEET, TREE, TEXT("color"), OUT, &fault); break;
     case 9: status = simplecss_styles(SHEET, TREE, OUT, &fault); break;
     case 10: status = simplecss_version(OUT); break;
+    case 11: status = simplecss_read(TEXT("@media x { a, b:not(c), d::before { e: f; g } } h { } @i;"), OUT); break;
+    case 12: status = simplecss_declarations(TEXT("a: b !important; c"), OUT); break;
+    case 13: status = simplecss_match_selectors(TEXT("li.new"), selector_ends, 2, TREE, OUT, &fault); break;
     default: break;
     }
     (void)!write(2, "end", 3);

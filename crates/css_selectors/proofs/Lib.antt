@@ -1,2 +1,3 @@
 pub mod GrammarLemmas
 pub mod ListLemmas
+pub mod PlacedParts

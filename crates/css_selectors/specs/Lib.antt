@@ -1,3 +1,4 @@
 pub mod SelectorGrammar
 pub mod SelectorViews
 pub mod SelectorLists
+pub mod PlacedSelectors

@@ -31,6 +31,7 @@ pub struct Places {
     pub block_end: usize,
     ghost start_short: { start < 2 ^ 63 },
     ghost prelude_short: { prelude < 2 ^ 63 },
+    ghost block_within: { block ≤ block_end },
     ghost block_short: { block_end < 2 ^ 63 },
 }
 

@@ -9,7 +9,7 @@ use Rattle.css_syntax.specs.Placed.{placed_item, next_placed_item, placed_items,
 use Rattle.css_syntax.proofs.ItemLemmas.{next_item-takes, next_statement-takes}
 
 -- what is found is changed, and not what is left
-map-shrinks : {A B : Type 0} (text : List ℕ) (f : A × List ℕ → B × List ℕ)
+pub map-shrinks : {A B : Type 0} (text : List ℕ) (f : A × List ℕ → B × List ℕ)
     → ((x : A × List ℕ) → (f x).1 ≡ x.1) → (o : Option (A × List ℕ)) → Shrinks text o
     → Shrinks text (option_map f o)
 map-shrinks text f same None h = tt

@@ -3,8 +3,8 @@
 use Rattle.std.proofs.Common.{◌≡◌, ℕ, Bool, true, false, List, [], ◌∷◌, ◌++◌, map, refl, sym, ap, ◌∙◌, append_assoc, append-nil}
 use Rattle.std.specs.Prelude.{codes}
 use Rattle.std.specs.List.{flat_map, join_with_byte}
-use Rattle.simplecss.specs.AsciiBytes.{comma, open_brace, close_brace, close_bracket}
-use Rattle.simplecss_c.specs.Json.{array, members, object}
+use Rattle.simplecss.specs.AsciiBytes.{comma, newline, open_brace, close_brace, open_bracket, close_bracket}
+use Rattle.simplecss_c.specs.Json.{array, member, members, object}
 use Rattle.simplecss_c.specs.JsonLines.{line}
 use Rattle.simplecss_c.specs.Ranges.{further, comma_if, head_members}
 
@@ -66,6 +66,36 @@ joined-some begun out all value values wrote =
     ∙ ap (λ t. out ++ t) (append_assoc (comma_if begun) value (further values)
     ∙ joined-one begun value values)
 
+array-joined : (old values : List ℕ)
+    → ((old ++ codes "[") ++ values) ++ codes "]"
+    ≡ old ++ (open_bracket ∷ (values ++ close_bracket ∷ []))
+array-joined old values = simp append_assoc
+
+-- an array, of which nothing is left to be written
+pub array-written : (old brace out : List ℕ) (values : List (List ℕ)) → brace ≡ old ++ codes "["
+    → out ++ [] ≡ brace ++ join_with_byte comma values → out ++ codes "]" ≡ old ++ array values
+array-written old brace out values first all =
+    ap (λ t. t ++ codes "]") (sym (append-nil out) ∙ all
+    ∙ ap (λ t. t ++ join_with_byte comma values) first)
+    ∙ array-joined old (join_with_byte comma values)
+
+-- the same, by the first value
+pub array-of-first : (old brace head out x : List ℕ) (rest : List (List ℕ))
+    → brace ≡ old ++ codes "[" → head ≡ brace ++ x → out ++ [] ≡ head ++ further rest
+    → out ++ codes "]" ≡ old ++ array (x ∷ rest)
+array-of-first old brace head out x rest first second all =
+    array-written old brace out (x ∷ rest) first
+    (all ∙ ap (λ t. t ++ further rest) second ∙ append_assoc brace x (further rest)
+    ∙ ap (λ t. brace ++ t) (sym (join-further x rest)))
+
+-- one value more after a comma
+pub further-some : (out mid all x : List ℕ) (rest : List (List ℕ)) → mid ≡ out ++ codes ","
+    → all ≡ mid ++ x → all ++ further rest ≡ out ++ further (x ∷ rest)
+further-some out mid all x rest first second =
+    ap (λ t. t ++ further rest) (second ∙ ap (λ t. t ++ x) first)
+    ∙ append_assoc (out ++ codes ",") x (further rest)
+    ∙ append_assoc out (codes ",") (x ++ further rest)
+
 -- ---- lines
 
 -- one line more
@@ -73,3 +103,25 @@ pub line-some : {A : Type 0} (f : A → List ℕ) (x : A) (xs : List A) (out all
     → all ≡ out ++ f x → all ++ flat_map f xs ≡ out ++ flat_map f (x ∷ xs)
 line-some f x xs out all wrote =
     ap (λ t. t ++ flat_map f xs) wrote ∙ append_assoc out (f x) (flat_map f xs)
+
+levels-joined : (out a b d levels more : List ℕ)
+    → (((((out ++ codes "{") ++ members (a ∷ b ∷ d ∷ [])) ++ codes ",\"levels\":") ++ levels) ++ more)
+    ++ codes "}\n"
+    ≡ out ++ ((open_brace ∷ ((a ++ (comma ∷ (b ++ (comma ∷ (d ++
+    ((comma ∷ member (codes "levels") levels) ++ more)))))) ++ close_brace ∷ [])) ++ newline ∷ [])
+levels-joined out a b d levels more = simp append_assoc
+
+-- the line of a statement, a piece after another
+pub statement-written : (out brace head key array more : List ℕ) (a b d levels : List ℕ)
+    (rest : List (List ℕ)) → brace ≡ out ++ codes "{"
+    → head ≡ brace ++ members (a ∷ b ∷ d ∷ []) → key ≡ head ++ codes ",\"levels\":"
+    → array ≡ key ++ levels → more ≡ array ++ further rest
+    → more ++ codes "}\n"
+    ≡ out ++ line (object (a ∷ b ∷ d ∷ member (codes "levels") levels ∷ rest))
+statement-written out brace head key array more a b d levels rest first second third fourth fifth =
+    ap (λ t. t ++ codes "}\n") (fifth ∙ ap (λ t. t ++ further rest)
+    (fourth ∙ ap (λ t. t ++ levels) (third ∙ ap (λ t. t ++ codes ",\"levels\":")
+    (second ∙ ap (λ t. t ++ members (a ∷ b ∷ d ∷ [])) first))))
+    ∙ levels-joined out a b d levels (further rest)
+    ∙ ap (λ t. out ++ ((open_brace ∷ ((a ++ (comma ∷ (b ++ (comma ∷ t)))) ++ close_brace ∷ []))
+    ++ newline ∷ [])) (sym (join-further d (member (codes "levels") levels ∷ rest)))

@@ -7,3 +7,5 @@ pub mod PageCalls
 pub mod ListFacts
 pub mod JsonTexts
 pub mod JsonVectors
+pub mod ItemTexts
+pub mod SelectorTexts

@@ -1,5 +1,5 @@
 -- What a call over a tree answers.
--- Serves `calls::{matches, select, style_text}`.
+-- Serves `calls::{matches, select, match_selectors, style_text}`.
 use Rattle.std.proofs.Common.{◌≡◌, ℕ, List, Some, sym, subst}
 use Rattle.std.specs.Prelude.{Result, Ok, Err, MatchResult, string_bytes}
 use Rattle.std.specs.declared.string.String.{String}
@@ -13,8 +13,8 @@ use Rattle.simplecss_tree.specs.Rows.{Row}
 use Rattle.simplecss_c.specs.declared.answer.Failure.{Failure}
 use Rattle.simplecss_c.specs.declared.answer.Failure.TheVariants.{Memory}
 use Rattle.simplecss_c.specs.Outcomes.{outcome_of}
-use Rattle.simplecss_c.specs.declared.pages.LineContent.TheVariants.{Selected}
-use Rattle.simplecss_c.specs.Calls.{HasTexts, IsReadWithin, Passed, passed_tree, IsPageCall, IsSelectCall}
+use Rattle.simplecss_c.specs.declared.pages.LineContent.TheVariants.{Numbers, Selected}
+use Rattle.simplecss_c.specs.Calls.{HasTexts, IsReadWithin, Passed, passed_tree, IsPageCall, IsSelectCall, IsMatchSelectorsCall, AreSelectorsIn, HasNoSelector, HasRefusedText, HasBadEnds, IsBrokenUtf8, FailsFor}
 use Rattle.simplecss_c.specs.AnswerLines.{AreLinesOf}
 
 -- the text that is due, or a refused allocation
@@ -57,3 +57,26 @@ select_due text passed selectors rows utf8 is strings tree matched are (Ok lines
 )
 select_due text passed selectors rows utf8 is strings tree matched are (Err failure) due =
     subst (λ failure. IsSelectCall text passed (Err failure)) (sym due) tt
+
+-- the text that is due for selectors, or a refused allocation
+pub match_due : {Z : Type 0} (buffer ends : List ℕ) (passed : Passed) (texts : List (List ℕ))
+    (rows : List Row) → HasTexts buffer ends texts
+    → (selectors : List (List Component)) → AreSelectorsIn texts selectors
+    → IsUtf8 passed.strings → passed_tree passed ≡ Ok rows
+    → (matched : List (List Component)) → matched ≡ selectors
+    → (r : Result (String Z) Failure)
+    → MatchResult r (λ text. AreLinesOf Numbers matched rows (string_bytes text))
+    (λ failure. failure ≡ Memory)
+    → IsMatchSelectorsCall buffer ends passed (outcome_of r)
+match_due buffer ends passed texts rows has selectors read utf8 tree matched are (Ok lines) due = (
+  texts,
+  selectors,
+  rows,
+  has,
+  read,
+  utf8,
+  tree,
+  subst (λ ss. AreLinesOf Numbers ss rows (string_bytes lines)) are due,
+)
+match_due buffer ends passed texts rows has selectors read utf8 tree matched are (Err failure) due =
+    subst (λ failure. IsMatchSelectorsCall buffer ends passed (Err failure)) (sym due) tt

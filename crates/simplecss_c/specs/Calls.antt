@@ -17,10 +17,12 @@ use Rattle.simplecss_c.specs.declared.elements.ElementFault.{ElementFault}
 use Rattle.simplecss_c.specs.declared.elements.TreeElement.{TreeElement}
 use Rattle.simplecss_c.specs.declared.answer.Failure.{Failure}
 use Rattle.simplecss_c.specs.declared.answer.Failure.TheVariants.{Refused, Tree, Memory, TooManyDeclarations, NotUtf8}
-use Rattle.simplecss_c.specs.declared.pages.LineContent.TheVariants.{Selected}
+use Rattle.simplecss_c.specs.declared.pages.LineContent.TheVariants.{Numbers, Selected}
 use Rattle.simplecss_c.specs.Texts.{texts_in}
 use Rattle.simplecss_c.specs.Elements.{tree_of}
 use Rattle.simplecss_c.specs.JsonLines.{rule_lines, skipped_lines, selector_lines, read_line}
+use Rattle.simplecss_c.specs.ItemLines.{item_lines}
+use Rattle.simplecss_c.specs.SheetLines.{sheet_lines}
 use Rattle.simplecss_c.specs.AnswerLines.{AreLinesOf, AreMatchLines, AreWinnerLines, AreWinnersLines}
 
 -- A failure has its own reason. Any call may be out of memory.
@@ -129,6 +131,16 @@ abbrev pub IsRefusalCall : List ℕ → Result (List ℕ) Failure → Type 0
 IsRefusalCall text (Ok bytes) = IsUtf8 text × (bytes ≡ read_line (list_read this_edition text))
 IsRefusalCall text (Err failure) = FailsFor ⊥ (λ fault. ⊥) (¬ (IsUtf8 text)) failure
 
+-- a line in JSON for each item of the style sheet
+abbrev pub IsReadCall : List ℕ → Result (List ℕ) Failure → Type 0
+IsReadCall text (Ok bytes) = IsUtf8 text × (bytes ≡ sheet_lines text)
+IsReadCall text (Err failure) = FailsFor ⊥ (λ fault. ⊥) (¬ (IsUtf8 text)) failure
+
+-- a line in JSON for each item of the style attribute
+abbrev pub IsDeclarationsCall : List ℕ → Result (List ℕ) Failure → Type 0
+IsDeclarationsCall text (Ok bytes) = IsUtf8 text × (bytes ≡ item_lines text)
+IsDeclarationsCall text (Err failure) = FailsFor ⊥ (λ fault. ⊥) (¬ (IsUtf8 text)) failure
+
 -- A tree as a caller passes it: its elements, a buffer of their strings, and where each ends.
 pub record Passed : Type 0 where
   pub elements : List TreeElement
@@ -153,6 +165,33 @@ IsPageCall IsText buffer ends limit passed (Ok bytes) =
 IsPageCall IsText buffer ends limit passed (Err failure) =
     FailsWithin (HasBadEnds buffer ends) (λ fault. passed_tree passed ≡ Err fault)
     (IsBrokenUtf8 buffer ends ⊎ ¬ (IsUtf8 passed.strings)) (IsBeyond buffer ends limit) failure
+
+-- Of texts, one is no selector, and those before it are.
+abbrev pub HasNoSelector : List (List ℕ) → Type 0
+HasNoSelector [] = ⊥
+HasNoSelector (text ∷ texts) =
+    (selector_in text ≡ None) ⊎ ((selector_in text ≢ None) × HasNoSelector texts)
+
+-- the texts of a buffer are texts, and one of them is no selector
+abbrev pub HasRefusedText : List ℕ → List ℕ → Type 0
+HasRefusedText buffer ends =
+    (texts : List (List ℕ)) × HasTexts buffer ends texts × HasNoSelector texts
+
+-- the selectors of texts, one of each
+abbrev pub AreSelectorsIn : List (List ℕ) → List (List Component) → Type 0
+AreSelectorsIn texts selectors = map selector_in texts ≡ map Some selectors
+
+-- which of the selectors of texts match each element
+abbrev pub IsMatchSelectorsCall : List ℕ → List ℕ → Passed → Result (List ℕ) Failure → Type 0
+IsMatchSelectorsCall buffer ends passed (Ok bytes) =
+    (texts : List (List ℕ)) × (selectors : List (List Component)) × (rows : List Row)
+    × HasTexts buffer ends texts × AreSelectorsIn texts selectors
+    × IsUtf8 passed.strings × (passed_tree passed ≡ Ok rows)
+    × AreLinesOf Numbers selectors rows bytes
+IsMatchSelectorsCall buffer ends passed (Err failure) =
+    FailsFor (HasBadEnds buffer ends ⊎ HasRefusedText buffer ends)
+    (λ fault. passed_tree passed ≡ Err fault)
+    (IsBrokenUtf8 buffer ends ⊎ ¬ (IsUtf8 passed.strings)) failure
 
 -- which rules match each element
 abbrev pub IsMatchCall : List ℕ → List ℕ → (limit : ℕ) → Passed → Result (List ℕ) Failure → Type 0

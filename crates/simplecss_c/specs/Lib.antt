@@ -4,5 +4,9 @@ pub mod Elements
 pub mod Answers
 pub mod Json
 pub mod JsonLines
+pub mod Ranges
+pub mod ItemLines
+pub mod SheetLines
+pub mod Shown
 pub mod AnswerLines
 pub mod Calls

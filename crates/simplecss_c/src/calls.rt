@@ -8,6 +8,8 @@ ghost use Rattle.simplecss_c.specs.Outcomes.{outcome_of};
 ghost use Rattle.simplecss_c.specs.AnswerLines.{AreMatchLines, AreWinnerLines};
 ghost use Rattle.simplecss_c.specs.Calls.{FailsWithin, IsReadWithin};
 ghost use Rattle.simplecss_c.specs.Calls.{IsSelectorCall, IsSheetCall, IsPrinted, IsMatchCall};
+ghost use Rattle.simplecss_c.specs.Calls.{IsReadCall, IsDeclarationsCall, IsMatchSelectorsCall};
+ghost use Rattle.simplecss_c.specs.Calls.{AreSelectorsIn, HasNoSelector, FailsFor};
 ghost use Rattle.simplecss_c.specs.Calls.{IsPageCall, IsSelectCall, IsStyleCall, passed_of};
 ghost use Rattle.simplecss_c.specs.Calls.{IsRuleLines, IsSkippedCall, IsListCall, IsRefusalCall, IsStylesCall};
 
@@ -158,17 +160,26 @@ pub fn matches(
 }
 
 /// The lines of the items of a style sheet by the grammar of today, in JSON.
-pub fn read(alloc: Global, text: &[u8]) -> Result<String, Failure> {
+pub fn read(alloc: Global, text: &[u8]) -> Result<String, Failure>
+    ensures { IsReadCall text.now (outcome_of result) }
+{
     Ok(sheet_lines(alloc, text_of(text)?)?)
 }
 
 /// The lines of the items of a style attribute by the grammar of today, in JSON.
-pub fn declarations(alloc: Global, text: &[u8]) -> Result<String, Failure> {
+pub fn declarations(alloc: Global, text: &[u8]) -> Result<String, Failure>
+    ensures { IsDeclarationsCall text.now (outcome_of result) }
+{
     Ok(item_lines(alloc, text_of(text)?)?)
 }
 
 /// The selectors of texts, or the refusal.
-fn read_selectors<'a>(alloc: Global, texts: &[&'a str]) -> Result<Vec<Selector<'a>>, Failure> {
+fn read_selectors<'a>(alloc: Global, texts: &[&'a str]) -> Result<Vec<Selector<'a>>, Failure>
+    ensures { MatchResult result
+        (λ selectors. AreSelectorsIn (map (λ text. text.now) texts.now) selectors.items)
+        (λ failure. FailsFor (HasNoSelector (map (λ text. text.now) texts.now)) (λ fault. ⊥) ⊥
+        failure) }
+{
     let mut selectors = Vec::new(alloc);
     for text in texts {
         let Some(selector) = Selector::parse(&Discard, alloc, text)? else {
@@ -185,7 +196,9 @@ pub fn match_selectors(
     buffer: &[u8],
     ends: &[usize],
     tree: Passed<'_>,
-) -> Result<String, Failure> {
+) -> Result<String, Failure>
+    ensures { IsMatchSelectorsCall buffer.now ends.now (passed_of tree.entry) (outcome_of result) }
+{
     let texts = texts_of(alloc, buffer, ends)?;
     let selectors = read_selectors(alloc, &texts)?;
     let tree = read_tree(alloc, tree.elements, tree.strings, tree.ends)?;

@@ -10,7 +10,9 @@ ghost use Rattle.simplecss_c.specs.declared.answer.Failure.{Failure as FailureVi
 ghost use Rattle.simplecss_c.specs.Answers.{Answers, IsHandedOver, IsFaultSet};
 ghost use Rattle.simplecss_c.specs.Calls.{IsSelectorCall, IsSheetCall, IsPrinted, IsMatchCall};
 ghost use Rattle.simplecss_c.specs.Calls.{IsListCall, IsRuleLines, IsSkippedCall, IsSelectCall, IsStyleCall};
-ghost use Rattle.simplecss_c.specs.Calls.{IsRefusalCall, IsStylesCall};
+ghost use Rattle.simplecss_c.specs.Calls.{IsRefusalCall, IsStylesCall, IsDeclarationsCall};
+ghost use Rattle.simplecss_c.specs.Calls.{IsReadCall};
+ghost use Rattle.simplecss_c.specs.Calls.{IsMatchSelectorsCall};
 
 use crate::answer::{TreeFault, copy_whole, hand_over, set_fault};
 use crate::calls;
@@ -122,12 +124,10 @@ pub extern "C" fn simplecss_skipped(
 /// Writes a line of JSON for each item of a style sheet by the grammar of today, with offsets into
 /// the text.
 #[unsafe(no_mangle)]
-pub extern "C" fn simplecss_read(
-    alloc: Global,
-    text: &[u8],
-    out: &mut [u8],
-    len: &mut usize,
-) -> u32 {
+pub extern "C" fn simplecss_read(alloc: Global, text: &[u8], out: &mut [u8], len: &mut usize) -> u32
+    ensures { (outcome : Result (List ℕ) FailureView) × IsReadCall text.now outcome
+        × Answers outcome result out.old out.new len.new }
+{
     hand_over(calls::read(alloc, text), out, len)
 }
 
@@ -139,7 +139,10 @@ pub extern "C" fn simplecss_declarations(
     text: &[u8],
     out: &mut [u8],
     len: &mut usize,
-) -> u32 {
+) -> u32
+    ensures { (outcome : Result (List ℕ) FailureView) × IsDeclarationsCall text.now outcome
+        × Answers outcome result out.old out.new len.new }
+{
     hand_over(calls::declarations(alloc, text), out, len)
 }
 
@@ -187,7 +190,12 @@ pub extern "C" fn simplecss_match_selectors(
     out: &mut [u8],
     len: &mut usize,
     fault: &mut TreeFault,
-) -> u32 {
+) -> u32
+    ensures { (outcome : Result (List ℕ) FailureView) × IsMatchSelectorsCall texts.now ends.now
+        (record { elements = elements.now; strings = strings.now; ends = string_ends.now }) outcome
+        × Answers outcome result out.old out.new len.new
+        × IsFaultSet outcome fault.old fault.new }
+{
     let tree = Passed {
         elements,
         strings,

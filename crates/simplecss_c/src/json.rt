@@ -55,7 +55,7 @@ fn push_escape(out: &mut String, byte: u8) -> Result<(), AllocError>
 
 /// Appends a string: the text between quotation marks, with quotation marks, backslashes and control
 /// characters escaped.
-fn push_string(out: &mut String, text: &str) -> Result<(), AllocError>
+pub fn push_string(out: &mut String, text: &str) -> Result<(), AllocError>
     ensures { OnOk result (string_bytes out.new ≡ string_bytes out.old ++ string text.now) }
 {
     out.push('"')?;

@@ -1,25 +1,49 @@
 //! The items of a style sheet by the grammar of today, in JSON.
 
-use crate::items::{push_at_rule, push_items};
-use crate::ranges::{push_fault, push_flag, push_head, push_place, push_place_or_null, push_range};
+ghost use Rattle.std.specs.Prelude.{◌≡◌, ◌<◌, ◌^◌, ◌+◌, ◌++◌, ◌∷◌, [], OnOk, IfOk, codes};
+ghost use Rattle.std.specs.Prelude.{length, map, string_bytes};
+ghost use Rattle.css_syntax.specs.Views.{prelude_of, block_of, statement_of, sheet_part_of};
+ghost use Rattle.css_selectors.specs.SelectorLists.{listed_of};
+ghost use Rattle.css_selectors.specs.SelectorViews.{form_of};
+ghost use Rattle.css_sheet.specs.Places.{places_of};
+ghost use Rattle.css_sheet.specs.ReaderViews.{level_of, condition_at};
+ghost use Rattle.simplecss_c.specs.Json.{member};
+ghost use Rattle.simplecss_c.specs.Ranges.{further};
+ghost use Rattle.simplecss_c.specs.SheetLines.{level_object, level_array, element_value};
+ghost use Rattle.simplecss_c.specs.SheetLines.{selector_object, selector_array, rule_members};
+ghost use Rattle.simplecss_c.specs.SheetLines.{shown_of, shown_kind, shown_members, sheet_line};
+ghost use Rattle.simplecss_c.specs.SheetLines.{sheet_lines as lines_of};
+ghost use Rattle.simplecss_c.specs.Shown.{shown_text};
+
+use crate::items::{offset_of, push_items};
+use crate::ranges::{push_at_rule, push_extent, push_fault, push_flag, push_head, push_range};
 use css_selectors::{FoundSelector, SelectorForm, next_part, prelude_fault, read_part};
-use css_sheet::{Level, Places, SheetReader};
-use css_syntax::{RuleSet, SheetPart, Statement};
-use log::sink::Discard;
-use simplecss::Selector;
+use css_sheet::{Level, Places, SheetReader, read_listed};
+use css_syntax::{AtRule, Fault, RuleSet, SheetPart, Statement};
 use std::alloc::{AllocError, Global};
+use std::fmt::Write as _;
 
 /// Appends a group rule that an item is in.
-fn push_level(out: &mut String, level: &Level<'_>) -> Result<(), AllocError> {
+fn push_level(out: &mut String, level: &Level<'_>) -> Result<(), AllocError>
+    ensures { OnOk result (string_bytes out.new
+        ≡ string_bytes out.old ++ level_object (condition_at (level_of level.now))) }
+{
+    let name = level.places.start + 1;
+    let end = level.after_end - level.after.len();
+    let start = level.places.start;
     out.push_str("{\"name\":")?;
-    push_range(out, level.start + 1, level.name.len())?;
-    push_place(out, "prelude", level.prelude_start, level.prelude.len())?;
-    out.push('}')
+    push_range(out, name, name + level.name.len())?;
+    push_extent(out, "prelude", level.places.prelude, level.prelude.len())?;
+    write!(out, ",\"start\":{start},\"end\":{end}}}")
 }
 
-/// Appends the group rules that an item is in.
-fn push_levels(out: &mut String, levels: &[Level<'_>]) -> Result<(), AllocError> {
-    out.push_str(",\"levels\":[")?;
+/// Appends the group rules that an item is in, as an array.
+fn push_levels(out: &mut String, levels: &[Level<'_>]) -> Result<(), AllocError>
+    ensures { OnOk result (string_bytes out.new
+        ≡ string_bytes out.old
+        ++ level_array (map (λ level. condition_at (level_of level)) levels.now)) }
+{
+    out.push('[')?;
     for (index, level) in levels.iter().enumerate() {
         if index > 0 {
             out.push(',')?;
@@ -29,21 +53,21 @@ fn push_levels(out: &mut String, levels: &[Level<'_>]) -> Result<(), AllocError>
     out.push(']')
 }
 
-/// Whether the library matches the selector, without its pseudo-element.
-fn is_read(alloc: Global, text: &str, form: &SelectorForm<'_>) -> Result<bool, AllocError> {
-    let text = match form {
-        SelectorForm::WithElement(element) if element.front.is_empty() => "*",
-        SelectorForm::WithElement(element) => element.front,
-        _ => text,
-    };
-    Ok(Selector::parse(&Discard, alloc, text)?.is_some())
-}
-
-/// The length of the text before the pseudo-element of a selector, if it has one.
-fn front_len(form: &SelectorForm<'_>) -> Option<usize> {
+/// Appends the range of the pseudo-element at the end of a selector, from its first colon on, or
+/// null.
+fn push_element(
+    out: &mut String,
+    form: &SelectorForm<'_>,
+    start: usize,
+    end: usize,
+) -> Result<(), AllocError>
+    requires { start < 2 ^ 63 }
+    ensures { OnOk result (string_bytes out.new
+        ≡ string_bytes out.old ++ element_value (form_of form.now) start end) }
+{
     match form {
-        SelectorForm::WithElement(element) => Some(element.front.len()),
-        _ => None,
+        SelectorForm::WithElement(element) => push_range(out, start + element.front.len(), end),
+        _ => out.push_str("null"),
     }
 }
 
@@ -53,26 +77,35 @@ fn push_selector(
     alloc: Global,
     found: &FoundSelector<'_>,
     end: usize,
-) -> Result<(), AllocError> {
-    let start = end - found.from.len();
-    let text = found.selector.text;
-    let front = front_len(&found.selector.form);
+) -> Result<(), AllocError>
+    requires { end < 2 ^ 63 }
+    ensures { OnOk result (string_bytes out.new
+        ≡ string_bytes out.old ++ selector_object end (record {
+          listed = listed_of found.now.selector;
+          from = found.now.from.now;
+        })) }
+{
+    let is_read = match read_listed(alloc, &found.selector) {
+        Ok(read) => read.selector.is_some(),
+        Err(error) => return Err(error),
+    };
+    let start = offset_of(end, found.from);
+    let stop = start + found.selector.text.len();
     out.push_str("{\"text\":")?;
-    push_range(out, start, text.len())?;
-    push_flag(out, "is_read", is_read(alloc, text, &found.selector.form)?)?;
-    let len = front.map(|front| text.len() - front);
-    push_place_or_null(out, "pseudo_element", start + front.unwrap_or(0), len)?;
+    push_range(out, start, stop)?;
+    push_flag(out, "is_read", is_read)?;
+    out.push_str(",\"pseudo_element\":")?;
+    push_element(out, &found.selector.form, start, stop)?;
     out.push('}')
 }
 
-/// Appends the selectors of a list whose text ends at this offset.
-fn push_selectors(
-    out: &mut String,
-    alloc: Global,
-    text: &str,
-    end: usize,
-) -> Result<(), AllocError> {
-    out.push_str(",\"selectors\":[")?;
+/// Appends the selectors of a list whose text ends at this offset, as an array.
+fn push_selectors(out: &mut String, alloc: Global, text: &str, end: usize) -> Result<(), AllocError>
+    requires { end < 2 ^ 63 }
+    ensures { OnOk result (string_bytes out.new
+        ≡ string_bytes out.old ++ selector_array end text.now) }
+{
+    out.push('[')?;
     let mut part = read_part(text);
     push_selector(out, alloc, &part, end)?;
     'parts: while let Some(next) = next_part(part.rest) {
@@ -83,66 +116,121 @@ fn push_selectors(
     out.push(']')
 }
 
-/// Appends the members of a rule set after its group rules.
+/// Appends the members of a rule set after its group rules, each after a comma.
 fn push_rule(
     out: &mut String,
     alloc: Global,
     rule: &RuleSet<'_>,
     places: Places,
-) -> Result<(), AllocError> {
+) -> Result<(), AllocError>
+    requires { places.prelude + length rule.now.prelude.text.now < 2 ^ 63 }
+    ensures { OnOk result (string_bytes out.new
+        ≡ string_bytes out.old ++ further (rule_members (places_of places)
+        (prelude_of rule.now.prelude) (block_of rule.now.block))) }
+{
     let prelude = rule.prelude.text;
-    let block = rule.block.text;
-    push_place(out, "prelude", places.prelude, prelude.len())?;
-    push_place(out, "block", places.block, block.len())?;
+    push_extent(out, "prelude", places.prelude, prelude.len())?;
+    out.push_str(",\"block\":")?;
+    push_range(out, places.block, places.block_end)?;
     push_flag(out, "closed", rule.block.closed)?;
+    out.push_str(",\"selectors\":")?;
     push_selectors(out, alloc, prelude, places.prelude + prelude.len())?;
     out.push_str(",\"items\":")?;
-    push_items(out, block, places.block + block.len())
+    push_items(out, rule.block.text, places.block_end)
 }
 
-/// Appends the line of an item of a sheet.
+/// What a statement is in an answer.
+#[derive(Clone, Copy)]
+enum Shown<'s, 'a> {
+    /// A rule set.
+    Rule(&'s RuleSet<'a>),
+    /// An at-rule.
+    AtRule(&'s AtRule<'a>),
+    /// Something that is skipped.
+    Skipped(Fault),
+}
+
+/// Returns what a statement is in an answer: a rule set with an invalid prelude is skipped.
+fn show<'s, 'a>(statement: &'s Statement<'a>) -> Shown<'s, 'a>
+    ensures { shown_text result ≡ shown_of (statement_of statement.now) }
+{
+    match statement {
+        Statement::RuleSet(rule) => match prelude_fault(&rule.prelude) {
+            Some(fault) => Shown::Skipped(fault),
+            None => Shown::Rule(rule),
+        },
+        Statement::AtRule(rule) => Shown::AtRule(rule),
+        Statement::Skipped(fault) => Shown::Skipped(*fault),
+    }
+}
+
+/// Returns the kind of a statement.
+fn kind_of(shown: &Shown<'_, '_>) -> &'static str
+    ensures { result.now ≡ shown_kind (shown_text shown.now) }
+{
+    match shown {
+        Shown::Rule(_) => "rule",
+        Shown::AtRule(_) => "at-rule",
+        Shown::Skipped(_) => "skipped",
+    }
+}
+
+/// Appends the members of a statement after its group rules, each after a comma.
+fn push_members(
+    out: &mut String,
+    alloc: Global,
+    shown: &Shown<'_, '_>,
+    places: Places,
+) -> Result<(), AllocError>
+    ensures { OnOk result (string_bytes out.new
+        ≡ string_bytes out.old ++ further (shown_members (places_of places) (shown_text shown.now))) }
+{
+    match shown {
+        Shown::Rule(rule) => push_rule(out, alloc, rule, places),
+        Shown::AtRule(rule) => {
+            push_at_rule(out, rule, places.start, places.prelude, places.block)
+        }
+        Shown::Skipped(fault) => push_fault(out, *fault),
+    }
+}
+
+/// Appends the line of a statement that is in these group rules.
 fn push_part(
     out: &mut String,
     alloc: Global,
-    reader: &SheetReader<'_>,
+    levels: &[Level<'_>],
+    places: Places,
     part: &SheetPart<'_>,
-) -> Result<(), AllocError> {
-    let places = reader.places();
-    let len = part.text.len();
+) -> Result<(), AllocError>
+    ensures { OnOk result (string_bytes out.new
+        ≡ string_bytes out.old ++ sheet_line (record {
+          conditions = map (λ level. condition_at (level_of level)) levels.now;
+          part = sheet_part_of part.now;
+          places = places_of places;
+        })) }
+{
+    let shown = show(&part.statement);
     out.push('{')?;
-    match &part.statement {
-        Statement::RuleSet(rule) => match prelude_fault(&rule.prelude) {
-            None => {
-                push_head(out, "rule", places.start, len)?;
-                push_levels(out, reader.levels())?;
-                push_rule(out, alloc, rule, places)?;
-            }
-            Some(fault) => {
-                push_head(out, "skipped", places.start, len)?;
-                push_levels(out, reader.levels())?;
-                push_fault(out, fault)?;
-            }
-        },
-        Statement::AtRule(rule) => {
-            push_head(out, "at-rule", places.start, len)?;
-            push_levels(out, reader.levels())?;
-            push_at_rule(out, rule, places.start, places.prelude, places.block)?;
-        }
-        Statement::Skipped(fault) => {
-            push_head(out, "skipped", places.start, len)?;
-            push_levels(out, reader.levels())?;
-            push_fault(out, *fault)?;
-        }
-    }
+    push_head(
+        out,
+        kind_of(&shown),
+        places.start,
+        places.start + part.text.len(),
+    )?;
+    out.push_str(",\"levels\":")?;
+    push_levels(out, levels)?;
+    push_members(out, alloc, &shown, places)?;
     out.push_str("}\n")
 }
 
-/// The lines of the items of a sheet.
-pub fn sheet_lines(alloc: Global, text: &str) -> Result<String, AllocError> {
+/// Returns the lines of the statements of a sheet.
+pub fn sheet_lines(alloc: Global, text: &str) -> Result<String, AllocError>
+    ensures { IfOk result (λ lines. string_bytes lines ≡ lines_of text.now) }
+{
     let mut out = String::new(alloc);
     let mut reader = SheetReader::new(alloc, text);
     'items: while let Some(part) = reader.read_next()? {
-        push_part(&mut out, alloc, &reader, &part)?;
+        push_part(&mut out, alloc, reader.levels(), reader.places(), &part)?;
     }
     Ok(out)
 }
