@@ -13,7 +13,7 @@ pub mod RuleMoves
 pub mod Adding
 pub mod Ascending
 pub mod LastIndices
-pub mod Filtering
+pub mod TextSlots
 pub mod ReadIndices
 pub mod WantedIndices
 pub mod Following

@@ -58,7 +58,7 @@ module _ (has : List ℕ → Bool) where
       ]
 
 -- what a look-up finds was read
-found : (test : Bor (List ℕ) → Bool) (read : List Read) (v : ℕ)
+pub found : (test : Bor (List ℕ) → Bool) (read : List Read) (v : ℕ)
     → lookup test (map deref_pair read) ≡ Some v
     → (e : Read) × Contains read e × (test e.0.now ≡ true) × (e.1.now ≡ v)
 found test [] v is = absurd (cc)
@@ -76,6 +76,23 @@ found test (y ∷ ys) v is = at (test y.0.now) refl is (found test ys v)
         let r = later h in
         (r.0, Contains-append_right (y ∷ []) ys r.0 r.1, r.2, r.3)
 
+-- an entry that was read has the index in the map
+pub got : (m : BTreeMap (Bor (List ℕ)) ℕ) (read : List Read) → map deref_pair read ≡ m.entries
+    → All (λ (e : Bor (List ℕ) × ℕ). get_by (λ k. slice_cmp nat_cmp e.0.now k.now) m ≡ Some e.1)
+    m.entries
+    → (e : Read) → Contains read e → index_for_text m e.0.now.now ≡ Some e.1.now
+got m read whole gets e (k, lt, is) =
+    let entry = deref_pair e in
+    let here = subst
+    (All (λ (e : Bor (List ℕ) × ℕ). get_by (λ k. slice_cmp nat_cmp e.0.now k.now) m ≡ Some e.1))
+    (sym whole) gets in
+    let within : k < length (map deref_pair read) =
+    omega (arith, lt, length-map read deref_pair) in
+    let same : get_or (map deref_pair read) k entry ≡ entry =
+    get_or-map deref_pair read k e entry lt ∙ ap deref_pair is in
+    subst (λ (x : Bor (List ℕ) × ℕ).
+    get_by (λ k. slice_cmp nat_cmp x.0.now k.now) m ≡ Some x.1) same (here k entry within)
+
 -- a text that passes the test has the index in the map
 abbrev pub Leads : BTreeMap (Bor (List ℕ)) ℕ → (List ℕ → Bool) → ℕ → Type 0
 Leads indices has index =
@@ -89,18 +106,8 @@ pub all_read : (has : List ℕ → Bool) (m : BTreeMap (Bor (List ℕ)) ℕ) (re
 all_read has m read a b whole gets = adds_as a b (λ index. (there index, back index))
   where
     there : (index : ℕ) → OfRead has read index → Leads m has index
-    there index (e, (k, lt, is), held, at) =
-        let entry = deref_pair e in
-        let here = subst
-        (All (λ (e : Bor (List ℕ) × ℕ). get_by (λ k. slice_cmp nat_cmp e.0.now k.now) m ≡ Some e.1))
-        (sym whole) gets in
-        let within : k < length (map deref_pair read) =
-        omega (arith, lt, length-map read deref_pair) in
-        let same : get_or (map deref_pair read) k entry ≡ entry =
-        get_or-map deref_pair read k e entry lt ∙ ap deref_pair is in
-        let got = subst (λ (x : Bor (List ℕ) × ℕ).
-        get_by (λ k. slice_cmp nat_cmp x.0.now k.now) m ≡ Some x.1) same (here k entry within) in
-        (e.0.now.now, held, got ∙ ap Some at)
+    there index (e, at, held, is) =
+        (e.0.now.now, held, got m read whole gets e at ∙ ap Some is)
 
     back : (index : ℕ) → Leads m has index → OfRead has read index
     back index (name, held, leads) =

@@ -302,8 +302,8 @@ fn find_named(
     Ok(())
 }
 
-/// Does what [`find_named`] does without a path. Where no index is there, the result is taken from an earlier
-/// search by the same name and class value, or kept for later ones.
+/// Does what [`find_named`] does without a path. Where no index is there, the result is taken from
+/// an earlier search by the same name and class value, or kept for later ones.
 #[inline(always)]
 fn find_again(
     rule_index: &RuleIndex<'_>,

@@ -1,37 +1,99 @@
 //! Rule indices by text.
-ghost use Rattle.std.specs.Prelude.{◌≡◌, ◌<◌, ℕ, List, length, IfOk, OnOk, None, Some, IsTrue};
+ghost use Rattle.std.specs.Prelude.{◌≡◌, ◌<◌, ℕ, List, length, IfOk, OnOk, None, Some};
 ghost use Rattle.std.specs.BTreeMap.{UpdatesBy};
 ghost use Rattle.std.specs.Cmp.Lexicographic.{slice_cmp};
 ghost use Rattle.std.specs.Ordering.{nat_cmp};
-ghost use Rattle.simplecss.specs.internal.TextIndices.{index_for_text, word_of, may_have};
+ghost use Rattle.simplecss.specs.internal.TextIndices.{index_for_text, place_of, slot_of};
+ghost use Rattle.simplecss.specs.internal.TextIndices.{IsJoined, IsPut, AreTold};
+ghost use Rattle.simplecss_selector.specs.KeyBits.{number_from};
 
-use simplecss_selector::Key;
 use std::alloc::{AllocError, Global};
 use std::collections::BTreeMap;
 
-/// The index of a rule for each of some texts: an ordered map, and a filter that rejects most other
-/// texts. Only a text that it lets through costs a look-up.
+/// What a table says of the texts that lead to a slot of it.
+#[derive(Clone, Copy, Debug, Drop)]
+pub(crate) enum Slot<'a> {
+    /// None of them has an index.
+    Empty,
+    /// This one has this index, and no other has one.
+    One(&'a str, usize),
+    /// Several have one.
+    Several,
+}
+
+/// The index of a rule for each of some texts: an ordered map, and a table of what it says of most
+/// texts. Only a text that shares its slot with others costs a look-up in the map.
 #[derive(Drop)]
 pub(crate) struct Texts<'a> {
     /// The index of each text.
     pub(crate) indices: BTreeMap<&'a str, usize>,
-    /// A bit for each of these texts, which others may share.
-    filter: [u64; 64],
-    ghost sized: { length filter ≡ 64 },
-    ghost filtered: { (text : List ℕ) (index : ℕ) → index_for_text indices text ≡ Some index
-        → IsTrue (may_have filter text) },
+    /// What the map says, by the places of the texts; without slots, nothing.
+    slots: Vec<Slot<'a>>,
+    ghost told: { AreTold slots.items (index_for_text indices) },
 }
 
-/// Returns the number of the word that has the bit of a text.
+/// Returns a number for a text.
 #[inline(always)]
-pub(crate) fn word_of(text: &str) -> usize
-    ensures value { result ≡ word_of text.now }
-    ensures within { result < 64 }
+fn number_of(text: &str) -> usize
+    ensures { result ≡ number_from 0 text.now }
 {
-    match text.as_bytes() {
-        [] => 0,
-        [first, ..] => (text.len() + usize::from(*first) * 7) % 64,
+    let mut number = 0usize;
+    for byte in text.as_bytes() {
+        number = number.wrapping_mul(37).wrapping_add(usize::from(*byte));
     }
+    number
+}
+
+/// Returns the place of a text among so many slots.
+#[inline(always)]
+fn place_of(text: &str, count: usize) -> usize
+    requires { 0 < count }
+    ensures value { result ≡ place_of count text.now }
+    ensures within { result < count }
+{
+    (number_of(text).wrapping_mul(0x9E37_79B9_7F4A_7C15) >> 32) % count
+}
+
+/// Returns what becomes of a slot when a text of it gets an index.
+#[inline(always)]
+fn joined<'a>(slot: Slot<'a>, text: &'a str, index: usize) -> Slot<'a>
+    ensures { IsJoined slot.entry text.now index result }
+{
+    match slot {
+        Slot::Empty => Slot::One(text, index),
+        Slot::One(known, _) => {
+            if known == text {
+                Slot::One(text, index)
+            } else {
+                Slot::Several
+            }
+        }
+        Slot::Several => Slot::Several,
+    }
+}
+
+/// Puts the index of a text into its slot.
+fn put<'a>(slots: &mut Vec<Slot<'a>>, text: &'a str, index: usize)
+    requires { 0 < length slots.old.items }
+    ensures { IsPut slots.old.items slots.new.items text.now index }
+{
+    let place = place_of(text, slots.len());
+    let slot = slots[place];
+    slots[place] = joined(slot, text, index);
+}
+
+/// Returns so many slots for the texts of a map, or none if memory for them is refused.
+fn slots_of<'a>(alloc: Global, indices: &BTreeMap<&'a str, usize>, count: usize) -> Vec<Slot<'a>>
+    requires { 0 < count }
+    ensures { AreTold result.items (index_for_text indices.now) }
+{
+    let Ok(mut slots) = Vec::from_elem(alloc, Slot::Empty, count) else {
+        return Vec::new(alloc);
+    };
+    for (text, index) in indices {
+        put(&mut slots, text, *index);
+    }
+    slots
 }
 
 impl<'a> Texts<'a> {
@@ -41,8 +103,20 @@ impl<'a> Texts<'a> {
     {
         Texts {
             indices: BTreeMap::new(alloc),
-            filter: [0; 64],
+            slots: Vec::new(alloc),
         }
+    }
+
+    /// Returns the slot of a text.
+    #[inline(always)]
+    fn slot(&self, text: &str) -> Slot<'a>
+        ensures { result ≡ slot_of self.now.slots.items text.now }
+    {
+        let count = self.slots.len();
+        if count == 0 {
+            return Slot::Several;
+        }
+        self.slots[place_of(text, count)]
     }
 
     /// Returns the index of the text, if it has one.
@@ -50,14 +124,11 @@ impl<'a> Texts<'a> {
     pub(crate) fn get(&self, text: &str) -> Option<usize>
         ensures { result ≡ index_for_text self.now.indices text.now }
     {
-        let word = self.filter[word_of(text)];
-        if word == 0 {
-            return None;
+        match self.slot(text) {
+            Slot::Empty => None,
+            Slot::One(known, index) => { if known == text { Some(index) } else { None } }
+            Slot::Several => self.indices.get(text).copied(),
         }
-        if word | Key::Class(text).bits() != word {
-            return None;
-        }
-        self.indices.get(text).copied()
     }
 
     /// Replaces the index of the text, and returns the one that it had.
@@ -72,7 +143,13 @@ impl<'a> Texts<'a> {
             (Some index)) }
     {
         let known = self.indices.insert(text, index)?;
-        self.filter[word_of(text)] |= Key::Class(text).bits();
+        let count = self.indices.len();
+        if count >= self.slots.len() / 3 {
+            let alloc = *self.slots.allocator();
+            self.slots = slots_of(alloc, &self.indices, count.saturating_mul(8).max(1));
+        } else {
+            put(&mut self.slots, text, index);
+        }
         Ok(known)
     }
 }

@@ -1,4 +1,4 @@
-use Rattle.std.proofs.Common.{length, refl, sym, ap, ◌∙◌, subst}
+use Rattle.std.proofs.Common.{◌≡◌, length, rules, refl, sym, ap, ◌∙◌, subst}
 use Rattle.std.proofs.lemmas.Result.{on_ok_weaker}
 use Rattle.simplecss.specs.Matching.{AreMatches}
 use Rattle.std.proofs.lemmas.List.{length-map}
@@ -39,6 +39,7 @@ returns-clause-matches c =
 
 pub returns-then-is_empty-clause-matches : goal.returns-then-is_empty-clause-matches
 returns-then-is_empty-clause-matches c =
+    let none : length c.args.rules.now ≡ 0 = search rules in
     none_match c.args.index.now (spot c.args.page.now c.args.element) c.clear.new.self.items
-    (ap length c.requires.index ∙ length-map c.args.rules.now (λ rule. rule.selector)
-    ∙ c.if-is_empty.true) c.clear.ensures.items
+    (ap length c.requires.index ∙ length-map c.args.rules.now (λ rule. rule.selector) ∙ none)
+    c.clear.ensures.items

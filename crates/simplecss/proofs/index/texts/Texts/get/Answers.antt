@@ -1,12 +1,14 @@
-use Rattle.std.proofs.Common.{get_or, ap, sym, ◌∙◌}
-use Rattle.simplecss.specs.internal.TextIndices.{index_for_text}
-use Rattle.simplecss.proofs.Filtering.{none_found}
+use Rattle.std.proofs.Common.{cond, None, Some, sym, ap, ◌∙◌}
 use Rattle.simplecss.proofs.index.texts.Texts.get.Goals as goal
 
-pub returns-then-word-eq0 : goal.returns-then-word-eq0
-returns-then-word-eq0 c =
-    let words = c.args.self.now.filter in
-    let text = c.args.text.now in
-    none_found words text (index_for_text c.args.self.now.indices text)
-    (ap (λ i. get_or words i 0) (sym c.word_of.ensures.value) ∙ c.if-word-eq0.true)
-    (λ index. c.args.self.now.filtered text index)
+pub returns-then-eq : goal.returns-then-eq
+returns-then-eq c =
+    let told = (c.args.self.now.told c.args.text.now).1 c.in-One.known c.in-One.index
+    (sym c.slot.ensures ∙ c.in-One.is) in
+    sym (told ∙ ap (λ t. cond t (Some c.in-One.index) None) (sym c.eq.ensures ∙ c.if-eq.true))
+
+pub returns-else-eq : goal.returns-else-eq
+returns-else-eq c =
+    let told = (c.args.self.now.told c.args.text.now).1 c.in-One.known c.in-One.index
+    (sym c.slot.ensures ∙ c.in-One.is) in
+    sym (told ∙ ap (λ t. cond t (Some c.in-One.index) None) (sym c.eq.ensures ∙ c.if-eq.false))

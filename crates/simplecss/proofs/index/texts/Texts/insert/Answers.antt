@@ -1,19 +1,16 @@
-use Rattle.std.proofs.Common.{◌<◌, length, subst, ◌∙◌, arith}
-use Rattle.std.proofs.Math.ListN.{length-set}
-use Rattle.simplecss.specs.internal.TextIndices.{word_of}
-use Rattle.simplecss.proofs.Filtering.{all_kept}
+use Rattle.std.proofs.Common.{arith}
+use Rattle.simplecss.specs.internal.TextIndices.{index_for_text}
+use Rattle.simplecss.proofs.TextSlots.{put_told, changed_here, changed_others}
 use Rattle.simplecss.proofs.index.texts.Texts.insert.Goals as goal
 
-pub invariant_of-self-2 : goal.invariant_of-self-2
-invariant_of-self-2 c =
-    let words = c.args.self.now.filter in
-    let text = c.args.text.now in
-    let within : c.word_of.result < length words = (let size = c.args.self.now.sized in
-    let below = c.word_of.ensures.within in
-    omega (arith, size, below)) in
-    rw c.word_of.ensures.value (record {
-      sized = length-set words (word_of text) _ ∙ c.args.self.now.sized;
-      filtered = all_kept words text c.bits.result c.bits.ensures
-          (subst (λ i. i < length words) c.word_of.ensures.value within) c.args.self.now.indices
-          c.insert.new.self c.args.index c.in_ok-known.ensures.updates c.args.self.now.filtered;
-    })
+pub invariant_of-self-else-count-len : goal.invariant_of-self-else-count-len
+invariant_of-self-else-count-len c = let fewer = c.if-count-len.false in
+    let is = c.len.ensures in record {
+      told = put_told c.args.self.now.slots.items c.put.new.slots.items c.args.text.now c.args.index
+          (index_for_text c.args.self.now.indices) (index_for_text c.insert.new.self) (omega (arith, fewer, is))
+          c.args.self.now.told c.put.ensures
+          (changed_here c.args.self.now.indices c.insert.new.self c.args.index c.args.text.now
+          c.in_ok-known.ensures.updates)
+          (changed_others c.args.self.now.indices c.insert.new.self c.args.index c.args.text.now
+          c.in_ok-known.ensures.updates);
+    }
