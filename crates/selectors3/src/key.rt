@@ -128,10 +128,7 @@ fn push_compounds<'s>(
 }
 
 /// Appends the keys of a condition, if there is one, or the key that each element has.
-fn push_best<'s>(
-    best: Option<&'s Condition<'_>>,
-    keys: &mut Vec<Key<'s>>,
-) -> Result<(), AllocError>
+fn push_best<'s>(best: Option<&'s Condition<'_>>, keys: &mut Vec<Key<'s>>) -> Result<(), AllocError>
     ensures { OnOk result (map key_of keys.new.items ≡ map key_of keys.old.items
         ++ keys_of_best best.entry) }
 {

@@ -5,6 +5,8 @@ use Rattle.selectors3.proofs.KeyLemmas.{least_rank-at_most, min_right}
 use Rattle.selectors3.proofs.key.least_of.Goals as goal
 
 pub compounds-init : goal.compounds-init
-compounds-init c =
-    (min_right 4 (least_rank (map compound_key (map compound_of c.args.compounds.now)))
-    (least_rank-at_most (map compound_key (map compound_of c.args.compounds.now))), omega arith)
+compounds-init c = (
+  min_right 4 (least_rank (map compound_key (map compound_of c.args.compounds.now)))
+      (least_rank-at_most (map compound_key (map compound_of c.args.compounds.now))),
+  omega arith,
+)
