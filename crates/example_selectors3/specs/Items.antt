@@ -31,6 +31,7 @@ items = record {
   is_named = λ n name. bytes_eq name (codes "li");
   attribute = λ n name. if bytes_eq name (codes "class") then class_of n else None;
   is_in_state = λ n name. false;
+  is_in_language = λ n range. false;
   has_content = λ n. true;
 }
 

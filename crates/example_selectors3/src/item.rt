@@ -83,6 +83,10 @@ impl<'t> Element3 for Item<'t> {
         false
     }
 
+    fn is_in_language(&self, _range: &str) -> bool {
+        false
+    }
+
     fn has_content(&self) -> bool {
         true
     }

@@ -2,8 +2,8 @@
 -- Serves the loops of `compounds` and `reading`.
 use Rattle.std.proofs.Common.{◌≡◌, ℕ, zero, suc, ◌-◌, ◌<◌, List, [], ◌∷◌, ◌++◌, map, refl, sym, ap, ◌∙◌, arith}
 use Rattle.selectors3.specs.declared.refusal.Reason.{Reason}
-use Rattle.std.proofs.Common.{Bor, Option, Some, None, Ok, Err, subst}
-use Rattle.selectors3.specs.Reads.{step_of, Finds}
+use Rattle.std.proofs.Common.{Bor, Option, Some, None, Ok, subst}
+use Rattle.selectors3.specs.Reads.{Finds}
 use Rattle.selectors3.specs.Readings.{Reading, got, refused, Step, item, none, stop, with_first, go_on, items_up_to, found_before}
 
 found_listed : {A : Type 0} (xs : List A) (x : A) (r : Reading (List A))
@@ -93,13 +93,6 @@ module _ {T A : Type 0} (view : T → A) (read : List ℕ → Step A) where
 -- ---- what a call found
 
 module _ {T A : Type 0} (view : T → A) (s : Step A) where
-  pub some_at : (f : Option (T × Bor (List ℕ))) (x : T) (rest : Bor (List ℕ)) → f ≡ Some (x, rest)
-      → step_of view (Ok f) ≡ s → item (view x) rest.now ≡ s
-  some_at f x rest e h = subst (λ (o : Option (T × Bor (List ℕ))). step_of view (Ok o) ≡ s) e h
-
-  pub none_at : (f : Option (T × Bor (List ℕ))) → f ≡ None → step_of view (Ok f) ≡ s → none ≡ s
-  none_at f e h = subst (λ (o : Option (T × Bor (List ℕ))). step_of view (Ok o) ≡ s) e h
-
   pub finds_some : (f : Option (T × Bor (List ℕ))) (x : T) (rest : Bor (List ℕ))
       → f ≡ Some (x, rest) → Finds view (Ok f) s → item (view x) rest.now ≡ s
   finds_some f x rest e h = subst (λ (o : Option (T × Bor (List ℕ))). Finds view (Ok o) s) e h

@@ -6,7 +6,7 @@ use Rattle.std.specs.List.{list_all, list_any}
 use Rattle.sibling_matching.specs.Placements.{HasPlacement}
 use Rattle.selectors3.specs.Documents.{Document}
 use Rattle.selectors3.specs.Components.{Comparison, Simple, Condition, Selector}
-use Rattle.selectors3.specs.Components.Simple.{universal, type_name, id, class, has_attribute, attribute, structure, state}
+use Rattle.selectors3.specs.Components.Simple.{universal, type_name, id, class, has_attribute, attribute, structure, language, state}
 use Rattle.selectors3.specs.Components.Condition.{simple, negation, any_of, where_any}
 use Rattle.selectors3.specs.Meanings.{satisfies, holds, hold, holds_any, is_met, are_met, conditions_at, Matches}
 use Rattle.selectors3.specs.Keys.{Key, has_key, simple_key, rank, better_key, best_key, compound_key, condition_keys, least_rank, better_keys, best_keys, keys_of}
@@ -42,6 +42,7 @@ module _ {Node : Type 0} (d : Document Node) (n : Node) where
   simple_has (has_attribute name) h = h
   simple_has (attribute name c text ignores) h = value_there c ignores text (d.attribute n name) h
   simple_has (structure s) h = refl
+  simple_has (language ranges) h = refl
   simple_has (state name) h = refl
 
   chosen : (b : Bool) (one other : Key) → IsTrue (has_key d n one) → IsTrue (has_key d n other)

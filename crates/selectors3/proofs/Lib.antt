@@ -4,4 +4,5 @@ pub mod MatchLemmas
 pub mod TextLemmas
 pub mod ItemLemmas
 pub mod GapLemmas
+pub mod EscapeLemmas
 mod KeyLemmas

@@ -54,6 +54,8 @@ pub data Simple : Type 0 where
   -- `[name=text]`; the last is whether the case of ASCII letters is ignored
   attribute : List ℕ → Comparison → List ℕ → Bool → Simple
   structure : Structure → Simple
+  -- `:lang(..)`, with its language ranges
+  language : List (List ℕ) → Simple
   -- any other pseudo-class, with its name
   state : List ℕ → Simple
 

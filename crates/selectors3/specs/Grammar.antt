@@ -1,28 +1,30 @@
--- The grammar of selectors (Selectors 3, section 10). Names and strings have no escapes.
-use Rattle.std.specs.Prelude.{ℕ, ◌+◌, ◌-◌, ◌*◌, Bool, true, false, not, ◌&&◌, ◌||◌, ◌==◌, min, if◌then◌else◌, List, [], ◌∷◌, take, drop, codes, Option, Some, None, nat_le}
+-- The grammar of selectors (Selectors 3, section 10).
+use Rattle.std.specs.Prelude.{ℕ, ◌+◌, ◌-◌, ◌*◌, Bool, true, false, not, ◌&&◌, ◌||◌, ◌==◌, min, if◌then◌else◌, List, [], ◌∷◌, codes, Option, Some, None, nat_le}
 use Rattle.std.specs.Option.{option_map}
-use Rattle.std.specs.List.{prefix_len}
 use Rattle.std.specs.Str.{str_eq_ignore_ascii_case}
 use Rattle.simplecss_text.specs.AsciiBytes.{asterisk, backslash, close_bracket, close_parenthesis, colon, comma, equals_sign, full_stop, greater_than_sign, hyphen, number_sign, open_bracket, open_parenthesis, plus_sign, tilde, underscore, vertical_bar}
-use Rattle.simplecss_text.specs.Bytes.{past, past_one, starts, starts_by, is_digit}
+use Rattle.simplecss_text.specs.Bytes.{past_one, starts, starts_by, is_digit}
 use Rattle.simplecss_text.specs.Characters.{is_letter}
 use Rattle.simplecss_text.specs.Comments.{gap as gap_before}
 use Rattle.simplecss_text.specs.Reading.{Reading as TextReading, got as text_got, fails as text_fails}
 use Rattle.simplecss_text.specs.Strings.{is_quote}
-use Rattle.css_syntax.specs.Tokens.{is_newline, is_name_byte}
+use Rattle.css_syntax.specs.Tokens.{begins_escape}
 use Rattle.sibling_matching.specs.declared.Combinator.{Combinator}
 use Rattle.sibling_matching.specs.declared.Combinator.TheVariants.{Descendant, Child, Adjacent, Sibling}
 use Rattle.selectors3.specs.declared.components.Numbering.{Numbering}
 use Rattle.selectors3.specs.declared.components.Numbering.TheVariants.{Child as OfChild, LastChild as OfLastChild, OfType, LastOfType as OfLastType}
+use Rattle.selectors3.specs.declared.components.Function.{Function}
+use Rattle.selectors3.specs.declared.components.Function.TheVariants.{Numbered, Language}
 use Rattle.selectors3.specs.declared.components.ListKind.{ListKind}
 use Rattle.selectors3.specs.declared.components.ListKind.TheVariants.{Not, Is, Where}
-use Rattle.selectors3.specs.declared.refusal.Reason.TheVariants.{NoSelector, NoName, NotClosed, BrokenString, Escape, NoOperator, NoValue, UnknownFlag, NoProgression, UnknownFunction, Unexpected}
+use Rattle.selectors3.specs.declared.refusal.Reason.TheVariants.{NoSelector, NoName, NotClosed, BrokenString, NoOperator, NoValue, UnknownFlag, NoProgression, UnknownFunction, Unexpected}
 use Rattle.selectors3.specs.Components.{Comparison, Signed, Progression, Structure, Simple, Condition, Part, Selector}
 use Rattle.selectors3.specs.Components.Comparison.{equals, has_word, has_subtag, starts as starts_with, ends as ends_with, contains}
 use Rattle.selectors3.specs.Components.Structure.{root, empty, first_child, last_child, only_child, first_of_type, last_of_type, only_of_type, nth_child, nth_last_child, nth_of_type, nth_last_of_type}
-use Rattle.selectors3.specs.Components.Simple.{universal, type_name, id, class, has_attribute, attribute, structure, state}
+use Rattle.selectors3.specs.Components.Simple.{universal, type_name, id, class, has_attribute, attribute, structure, language, state}
 use Rattle.selectors3.specs.Components.Condition.{simple, negation, any_of, where_any}
-use Rattle.selectors3.specs.Readings.{Reading, got, refused, Reader, follow, ◌>>=◌, ◌>>◌, give, refuse, Step, item, none, stop, as_item, with_first, items}
+use Rattle.selectors3.specs.Spellings.{spelled}
+use Rattle.selectors3.specs.Readings.{Reading, got, refused, Reader, follow, ◌>>=◌, ◌>>◌, give, Step, item, none, stop, as_item, with_first, items}
 
 -- ---- gaps, names, strings
 
@@ -35,42 +37,37 @@ closed_gap text (text_fails fault rest) = refused NotClosed text
 unfoldable pub gap : Reader Bool
 gap text = closed_gap text (gap_before text)
 
--- the longest run of bytes at the start of which the test is true
-abbrev pub run : (ℕ → Bool) → List ℕ → List ℕ
-run test text = take (prefix_len test text) text
-
 -- an underscore, a letter, or a byte of a character past ASCII
 abbrev pub begins_word : ℕ → Bool
 begins_word b = is_letter b || b == underscore || nat_le 128 b
 
--- such a byte, or two hyphens, or a hyphen and such a byte
-abbrev pub begins_name : List ℕ → Bool
-begins_name [] = false
-begins_name (b ∷ text) =
-    begins_word b || (b == hyphen && starts_by (λ c. begins_word c || c == hyphen) text)
+-- such a byte or an escape
+abbrev pub begins_plain_name : List ℕ → Bool
+begins_plain_name text = starts_by begins_word text || begins_escape text
 
--- a name, which no escape continues
+-- such a byte or an escape, also after a hyphen, or two hyphens
+abbrev pub begins_name : List ℕ → Bool
+begins_name text =
+    begins_plain_name text
+    || (starts hyphen text
+    && (begins_plain_name (past_one text) || starts hyphen (past_one text)))
+
+-- a name
 unfoldable pub name : Reader (List ℕ)
 name text =
-    if begins_name text
-    then (if starts backslash (past is_name_byte text) then refused Escape (past is_name_byte text)
-    else got (run is_name_byte text) (past is_name_byte text))
+    if begins_name text then got (spelled None text).0 (spelled None text).1
     else refused NoName text
-
--- a byte of a string: neither its quote, nor a backslash, nor a newline
-abbrev pub is_plain : ℕ → ℕ → Bool
-is_plain quote b = not (b == quote || (b == backslash || is_newline b))
 
 -- the quote after the bytes of a string, which `opened` begins with
 abbrev pub closed_string : List ℕ → ℕ → List ℕ → List ℕ → Reading (List ℕ)
 closed_string opened quote value [] = refused NotClosed opened
 closed_string opened quote value (b ∷ rest) =
-    if b == quote then got value rest else refused BrokenString (b ∷ rest)
+    if b == quote then got value rest else refused BrokenString opened
 
 -- a string, from after its quote; `opened` is the text from the quote on
 unfoldable pub string : List ℕ → ℕ → Reader (List ℕ)
 string opened quote text =
-    closed_string opened quote (run (is_plain quote) text) (past (is_plain quote) text)
+    closed_string opened quote (spelled (Some quote) text).0 (spelled (Some quote) text).1
 
 -- something else than what would close `opened`: at the end of the text that is not closed
 abbrev pub unclosed : {A : Type 0} → List ℕ → Reader A
@@ -98,12 +95,18 @@ compared_by text (Some comparison) =
     if starts equals_sign (past_one text) then got (Some comparison) (past_one (past_one text))
     else refused NoOperator text
 
+-- a sign that no value begins with, as in `=>` and `==`
+abbrev pub is_sign_byte : ℕ → Bool
+is_sign_byte b = b == equals_sign || b == greater_than_sign || b == 60
+
 -- an operator, or the end of the attribute selector, which `opened` begins with
 unfoldable pub comparison : List ℕ → Reader (Option Comparison)
 comparison opened [] = refused NotClosed opened
 comparison opened (b ∷ text) =
     if b == close_bracket then got None (b ∷ text)
-    else (if b == equals_sign then got (Some equals) text
+    else (if b == equals_sign
+    then (if starts_by is_sign_byte text then refused NoOperator (b ∷ text)
+    else got (Some equals) text)
     else compared_by (b ∷ text) (two_bytes b))
 
 -- a string or a name
@@ -226,6 +229,10 @@ progression text = unsigned text (sign text).0 (sign text).1
 
 -- ---- pseudo-classes
 
+-- this value before those that are read
+abbrev pub one_more : {A : Type 0} → A → Reader (List A) → Reader (List A)
+one_more x next text = with_first x (next text)
+
 abbrev pub is_word : List ℕ → List ℕ → Bool
 is_word word n = str_eq_ignore_ascii_case n word
 
@@ -264,9 +271,34 @@ abbrev pub plain_pseudo : List ℕ → Option Structure → Simple
 plain_pseudo n None = state n
 plain_pseudo n (Some s) = structure s
 
-abbrev pub functional : List ℕ → Option Numbering → Reader Simple
+-- a pseudo-class that takes no list
+abbrev pub function_named : List ℕ → Option Function
+function_named n =
+    if is_word (codes "lang") n then Some Language else option_map Numbered (numbering n)
+
+abbrev pub range_after : Reading Bool → Step (List ℕ)
+range_after (refused reason rest) = stop reason rest
+range_after (got spaced rest) =
+    if starts comma rest then as_item (λ r. r) ((gap >> value) (past_one rest)) else none
+
+-- a comma and a further language range, if there is a comma
+unfoldable pub next_range : List ℕ → Step (List ℕ)
+next_range text = range_after (gap text)
+
+-- the ranges of `:lang()`, names or strings, from after its parenthesis
+unfoldable pub language_ranges : List ℕ → Reader (List (List ℕ))
+language_ranges opened = do
+  gap
+  first ← value
+  ranges ← one_more first (items next_range)
+  gap
+  closing opened close_parenthesis
+  give ranges
+
+abbrev pub functional : List ℕ → Option Function → Reader Simple
 functional opened None = λ text. refused UnknownFunction opened
-functional opened (Some kind) = do
+functional opened (Some Language) = language_ranges opened >>= λ ranges. give (language ranges)
+functional opened (Some (Numbered kind)) = do
   gap
   p ← progression
   gap
@@ -275,7 +307,7 @@ functional opened (Some kind) = do
 
 abbrev pub pseudo_by : List ℕ → List ℕ → Reader Simple
 pseudo_by opened n text =
-    if starts open_parenthesis text then functional opened (numbering n) (past_one text)
+    if starts open_parenthesis text then functional opened (function_named n) (past_one text)
     else got (plain_pseudo n (plain_structure n)) text
 
 -- a pseudo-class without a list, from after its colon; `opened` is the text from the colon on
@@ -336,9 +368,6 @@ listed Not compounds = negation compounds
 listed Is compounds = any_of compounds
 listed Where compounds = where_any compounds
 
-abbrev pub one_more : {A : Type 0} → A → Reader (List A) → Reader (List A)
-one_more x next text = with_first x (next text)
-
 -- the list of a pseudo-class, from after its parenthesis; `opened` is the text from its colon on
 unfoldable pub compound_list : List ℕ → Reader (List (List Simple))
 compound_list opened = do
@@ -349,29 +378,34 @@ compound_list opened = do
   closing opened close_parenthesis
   give compounds
 
--- the kind of list that begins at a colon, and the rest after its parenthesis
-abbrev pub list_after : List ℕ → Option (ListKind × List ℕ)
-list_after text =
-    if starts open_parenthesis (past is_name_byte text)
-    then option_map (λ kind. (kind, past_one (past is_name_byte text)))
-    (list_kind (run is_name_byte text))
-    else None
-
-unfoldable pub list_start : List ℕ → Option (ListKind × List ℕ)
-list_start text = if starts colon text then list_after (past_one text) else None
+-- one colon
+abbrev pub begins_pseudo_class : List ℕ → Bool
+begins_pseudo_class text = starts colon text && not (starts colon (past_one text))
 
 abbrev pub simple_item : Step Simple → Step Condition
 simple_item (item s rest) = item (simple s) rest
 simple_item none = none
 simple_item (stop reason rest) = stop reason rest
 
-abbrev pub condition_by : List ℕ → Option (ListKind × List ℕ) → Step Condition
-condition_by text None = simple_item (next_simple text)
-condition_by text (Some start) = as_item (listed start.0) (compound_list text start.1)
+-- the argument of a functional pseudo-class, from after its parenthesis
+abbrev pub with_argument : List ℕ → Option ListKind → Option Function → Reader Condition
+with_argument opened None kind = functional opened kind >>= λ s. give (simple s)
+with_argument opened (Some kind) other =
+    compound_list opened >>= λ compounds. give (listed kind compounds)
+
+-- after the name of a pseudo-class
+abbrev pub pseudo_condition : List ℕ → List ℕ → Reader Condition
+pseudo_condition opened n text =
+    if starts open_parenthesis text
+    then with_argument opened (list_kind n) (function_named n) (past_one text)
+    else got (simple (plain_pseudo n (plain_structure n))) text
 
 -- the next condition of a compound selector
 unfoldable pub next_condition : List ℕ → Step Condition
-next_condition text = condition_by text (list_start text)
+next_condition text =
+    if begins_pseudo_class text
+    then as_item (λ c. c) (follow (name (past_one text)) (pseudo_condition text))
+    else simple_item (next_simple text)
 
 -- a compound selector may be empty before a pseudo-element
 abbrev pub some_or_element : List ℕ → Reading (List Condition) → Reading (List Condition)
@@ -400,7 +434,7 @@ sign_combinator b =
 abbrev pub begins_compound : ℕ → Bool
 begins_compound b =
     begins_word b || b == hyphen || b == asterisk || b == full_stop || b == number_sign
-    || b == open_bracket || b == colon
+    || b == open_bracket || b == colon || b == backslash
 
 abbrev pub joined_by : Combinator → List Condition → Part
 joined_by combinator conditions = record { combinator = combinator; conditions = conditions }

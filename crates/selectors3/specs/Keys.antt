@@ -4,7 +4,7 @@ use Rattle.std.specs.Prelude.{ℕ, ◌-◌, Bool, true, List, [], ◌∷◌, map
 use Rattle.std.specs.List.{list_any}
 use Rattle.selectors3.specs.Documents.{Document}
 use Rattle.selectors3.specs.Components.{Simple, Condition, Selector}
-use Rattle.selectors3.specs.Components.Simple.{universal, type_name, id, class, has_attribute, attribute, structure, state}
+use Rattle.selectors3.specs.Components.Simple.{universal, type_name, id, class, has_attribute, attribute, structure, language, state}
 use Rattle.selectors3.specs.Components.Condition.{simple, negation, any_of, where_any}
 use Rattle.selectors3.specs.Meanings.{holds, conditions_at}
 
@@ -33,6 +33,7 @@ simple_key (class word) = by_class word
 simple_key (has_attribute name) = by_attribute name
 simple_key (attribute name comparison text ignores) = by_attribute name
 simple_key (structure s) = by_nothing
+simple_key (language ranges) = by_nothing
 simple_key (state name) = by_nothing
 
 -- how few elements have a key: the greater, the fewer

@@ -10,7 +10,9 @@ pub mod ReadSelectors
 pub mod ReadViews
 pub mod Readings
 pub mod Reads
+pub mod RefusalWords
 pub mod Specificities
 pub mod SpecificityViews
+pub mod Spellings
 pub mod TriedElements
 pub mod Views

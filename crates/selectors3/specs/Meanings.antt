@@ -9,7 +9,7 @@ use Rattle.selectors3.specs.Documents.{Document, shape}
 use Rattle.selectors3.specs.Components.{Comparison, Structure, Simple, Condition, Part, Selector}
 use Rattle.selectors3.specs.Components.Comparison.{equals, has_word}
 use Rattle.selectors3.specs.Components.Structure.{root, empty, first_child, last_child, only_child, first_of_type, last_of_type, only_of_type, nth_child, nth_last_child, nth_of_type, nth_last_of_type}
-use Rattle.selectors3.specs.Components.Simple.{universal, type_name, id, class, has_attribute, attribute, structure, state}
+use Rattle.selectors3.specs.Components.Simple.{universal, type_name, id, class, has_attribute, attribute, structure, language, state}
 use Rattle.selectors3.specs.Components.Condition.{simple, negation, any_of, where_any}
 use Rattle.selectors3.specs.AttributeTests.{is_satisfied}
 use Rattle.selectors3.specs.Numbers.{is_numbered}
@@ -44,6 +44,7 @@ holds document n (has_attribute name) = not (is_none (document.attribute n name)
 holds document n (attribute name comparison text ignores) =
     satisfies comparison ignores text (document.attribute n name)
 holds document n (structure s) = is_placed document n s
+holds document n (language ranges) = list_any (document.is_in_language n) ranges
 holds document n (state name) = document.is_in_state n name
 
 -- all of them

@@ -10,11 +10,6 @@ abbrev pub reading_of : {T A : Type 0} → (T → A) → Result (T × Bor (List 
 reading_of view (Ok x) = got (view x.0) x.1.now
 reading_of view (Err e) = refused e.reason e.rest.now
 
-abbrev pub step_of : {T A : Type 0} → (T → A) → Result (Option (T × Bor (List ℕ))) Refusal → Step A
-step_of view (Ok None) = none
-step_of view (Ok (Some x)) = item (view x.0) x.1.now
-step_of view (Err e) = stop e.reason e.rest.now
-
 -- The same of a call that allocates: if memory was wanting, the reading is not known.
 abbrev pub Reads : {T A : Type 0} → (T → A) → Result (T × Bor (List ℕ)) Refusal → Reading A → Type 0
 Reads view (Ok x) reading = got (view x.0) x.1.now ≡ reading

@@ -1,7 +1,7 @@
 -- Specificity (section 9; Selectors 4, section 17, for lists). Each count stops at 4,294,967,295.
 use Rattle.std.specs.Prelude.{ℕ, ◌+◌, Bool, ◌&&◌, ◌||◌, ◌==◌, nat_lt, min, if◌then◌else◌, List, [], ◌∷◌, Option, None, Some}
 use Rattle.selectors3.specs.Components.{Simple, Condition, Part, Selector}
-use Rattle.selectors3.specs.Components.Simple.{universal, type_name, id, class, has_attribute, attribute, structure, state}
+use Rattle.selectors3.specs.Components.Simple.{universal, type_name, id, class, has_attribute, attribute, structure, language, state}
 use Rattle.selectors3.specs.Components.Condition.{simple, negation, any_of, where_any}
 
 -- the numbers of ids, of classes, attributes and pseudo-classes, and of type names and pseudo-elements
@@ -51,6 +51,7 @@ of_simple (class word) = one_class
 of_simple (has_attribute name) = one_class
 of_simple (attribute name comparison text ignores) = one_class
 of_simple (structure s) = one_class
+of_simple (language ranges) = one_class
 of_simple (state name) = one_class
 
 -- what is counted so far, and all of these

@@ -1,5 +1,6 @@
 -- What contracts see of the parts of a selector: their kinds, and the bytes of their names.
 use Rattle.std.specs.Prelude.{List, map}
+use Rattle.std.specs.Cow.{cow_str_bytes}
 use Rattle.selectors3.specs.declared.components.Comparison.{Comparison as ComparisonOf}
 use Rattle.selectors3.specs.declared.components.Comparison.TheVariants.{Equals, HasWord, HasSubtag, Starts, Ends, Contains}
 use Rattle.selectors3.specs.declared.components.Signed.{Signed as SignedOf}
@@ -7,7 +8,7 @@ use Rattle.selectors3.specs.declared.components.Progression.{Progression as Prog
 use Rattle.selectors3.specs.declared.components.Structure.{Structure as StructureOf}
 use Rattle.selectors3.specs.declared.components.Structure.TheVariants.{Root, Empty, FirstChild, LastChild, OnlyChild, FirstOfType, LastOfType, OnlyOfType, NthChild, NthLastChild, NthOfType, NthLastOfType}
 use Rattle.selectors3.specs.declared.components.Simple.{Simple as SimpleOf}
-use Rattle.selectors3.specs.declared.components.Simple.TheVariants.{Universal, TypeName, Id, Class, HasAttribute, Attribute, Structure as StructureIs, State}
+use Rattle.selectors3.specs.declared.components.Simple.TheVariants.{Universal, TypeName, Id, Class, HasAttribute, Attribute, Structure as StructureIs, Language, State}
 use Rattle.selectors3.specs.declared.components.Compound.{Compound}
 use Rattle.selectors3.specs.declared.components.Condition.{Condition as ConditionOf}
 use Rattle.selectors3.specs.declared.components.Condition.TheVariants.{Simple as SimpleIs, Not, Is, Where}
@@ -15,7 +16,7 @@ use Rattle.selectors3.specs.declared.components.Part.{Part as PartOf}
 use Rattle.selectors3.specs.Components.{Comparison, Signed, Progression, Structure, Simple, Condition, Part}
 use Rattle.selectors3.specs.Components.Comparison.{equals, has_word, has_subtag, starts, ends, contains}
 use Rattle.selectors3.specs.Components.Structure.{root, empty, first_child, last_child, only_child, first_of_type, last_of_type, only_of_type, nth_child, nth_last_child, nth_of_type, nth_last_of_type}
-use Rattle.selectors3.specs.Components.Simple.{universal, type_name, id, class, has_attribute, attribute, structure, state}
+use Rattle.selectors3.specs.Components.Simple.{universal, type_name, id, class, has_attribute, attribute, structure, language, state}
 use Rattle.selectors3.specs.Components.Condition.{simple, negation, any_of, where_any}
 
 abbrev pub comparison_of : ComparisonOf → Comparison
@@ -48,15 +49,16 @@ structure_of (NthLastOfType p) = nth_last_of_type (progression_of p)
 
 abbrev pub simple_of : SimpleOf → Simple
 simple_of Universal = universal
-simple_of (TypeName name) = type_name name.now
-simple_of (Id name) = id name.now
-simple_of (Class name) = class name.now
-simple_of (HasAttribute name) = has_attribute name.now
+simple_of (TypeName name) = type_name (cow_str_bytes name)
+simple_of (Id name) = id (cow_str_bytes name)
+simple_of (Class name) = class (cow_str_bytes name)
+simple_of (HasAttribute name) = has_attribute (cow_str_bytes name)
 simple_of (Attribute test) =
-    attribute test.name.now (comparison_of test.comparison) test.text.now
+    attribute (cow_str_bytes test.name) (comparison_of test.comparison) (cow_str_bytes test.text)
     test.ignores_case
 simple_of (StructureIs s) = structure (structure_of s)
-simple_of (State name) = state name.now
+simple_of (Language ranges) = language (map cow_str_bytes ranges.items)
+simple_of (State name) = state (cow_str_bytes name)
 
 abbrev pub compound_of : Compound → List Simple
 compound_of c = map simple_of c.simples.items

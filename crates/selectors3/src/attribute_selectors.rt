@@ -1,8 +1,10 @@
 //! Reads attribute selectors.
 ghost use Rattle.std.specs.Prelude.{◌≡◌, option_map};
-ghost use Rattle.selectors3.specs.Grammar.{two_bytes as two_bytes_of, comparison as comparison_of_text};
+ghost use Rattle.simplecss_text.specs.Bytes.{starts_by};
+ghost use Rattle.selectors3.specs.Grammar.{is_sign_byte, two_bytes as two_bytes_of, comparison as comparison_of_text};
 ghost use Rattle.selectors3.specs.Grammar.{value as value_of, flag as flag_of, compared, attribute_selector};
-ghost use Rattle.selectors3.specs.Reads.{reading_of};
+ghost use Rattle.selectors3.specs.Reads.{reading_of, Reads};
+ghost use Rattle.std.specs.Cow.{cow_str_bytes};
 ghost use Rattle.selectors3.specs.Views.{comparison_of, simple_of};
 
 use crate::components::{AttributeTest, Comparison, Simple};
@@ -10,6 +12,8 @@ use crate::refusal::{Reason, Refusal};
 use crate::texts::split_ascii;
 use crate::words::{read_closing, read_gap, read_name, read_string};
 use simplecss_text::readers;
+use std::alloc::Global;
+use std::borrow::CowStr;
 
 /// Returns the operator of two bytes, by its first.
 fn two_bytes(byte: u8) -> Option<Comparison>
@@ -23,6 +27,13 @@ fn two_bytes(byte: u8) -> Option<Comparison>
         b'*' => Some(Comparison::Contains),
         _ => None,
     }
+}
+
+/// Whether a sign that no value begins with is next.
+fn begins_sign(text: &str) -> bool
+    ensures { result ≡ starts_by is_sign_byte text.now }
+{
+    matches!(text.as_bytes(), [b'=' | b'>' | b'<', ..])
 }
 
 /// Reads an operator, if the attribute selector, which `opened` begins with, does not end here.
@@ -44,7 +55,11 @@ fn read_comparison<'a>(
         return Ok((None, text));
     }
     if byte == b'=' {
-        return Ok((Some(Comparison::Equals), rest));
+        return if begins_sign(rest) {
+            Err(Refusal::new(Reason::NoOperator, text))
+        } else {
+            Ok((Some(Comparison::Equals), rest))
+        };
     }
     match (two_bytes(byte), split_ascii(rest)) {
         (Some(comparison), Some((b'=', after))) => Ok((Some(comparison), after)),
@@ -54,22 +69,29 @@ fn read_comparison<'a>(
 
 /// Reads a string or a name.
 #[tactic(auto, unfolding(crate::specs::Grammar::value))]
-fn read_value<'a>(text: &'a str) -> Result<(&'a str, &'a str), Refusal<'a>>
-    ensures { reading_of (λ n. n.now) result ≡ value_of text.now }
+pub(crate) fn read_value<'a>(
+    alloc: Global,
+    text: &'a str,
+) -> Result<(CowStr<'a>, &'a str), Refusal<'a>>
+    ensures { Reads cow_str_bytes result (value_of text.now) }
 {
     if text.is_empty() {
         return Err(Refusal::new(Reason::NoValue, text));
     }
     match split_ascii(text) {
-        Some((quote @ (b'\'' | b'"'), rest)) => read_string(text, quote, rest),
-        _ => read_name(text),
+        Some((quote @ (b'\'' | b'"'), rest)) => read_string(alloc, text, quote, rest),
+        _ => read_name(alloc, text),
     }
 }
 
 /// Reads a flag, if there is one, and returns whether case is ignored.
 #[tactic(auto, unfolding(crate::specs::Grammar::flag))]
-fn read_flag<'a>(opened: &'a str, text: &'a str) -> Result<(bool, &'a str), Refusal<'a>>
-    ensures { reading_of (λ f. f) result ≡ flag_of opened.now text.now }
+fn read_flag<'a>(
+    alloc: Global,
+    opened: &'a str,
+    text: &'a str,
+) -> Result<(bool, &'a str), Refusal<'a>>
+    ensures { Reads (λ f. f) result (flag_of opened.now text.now) }
 {
     if text.is_empty() {
         return Err(Refusal::new(Reason::NotClosed, opened));
@@ -77,7 +99,8 @@ fn read_flag<'a>(opened: &'a str, text: &'a str) -> Result<(bool, &'a str), Refu
     if readers::starts(text, b']') {
         return Ok((false, text));
     }
-    let (word, rest) = read_name(text)?;
+    let (word, rest) = read_name(alloc, text)?;
+    let word = word.as_str();
     if word.eq_ignore_ascii_case("i") {
         Ok((true, rest))
     } else if word.eq_ignore_ascii_case("s") {
@@ -90,18 +113,19 @@ fn read_flag<'a>(opened: &'a str, text: &'a str) -> Result<(bool, &'a str), Refu
 /// Reads what follows an operator.
 #[tactic(auto, unfolding(crate::specs::Grammar::compared))]
 fn read_compared<'a>(
+    alloc: Global,
     opened: &'a str,
-    name: &'a str,
+    name: CowStr<'a>,
     comparison: Comparison,
     text: &'a str,
 ) -> Result<(Simple<'a>, &'a str), Refusal<'a>>
-    ensures { reading_of simple_of result
-        ≡ compared opened.now name.now (comparison_of comparison) text.now }
+    ensures { Reads simple_of result
+        (compared opened.now (cow_str_bytes name.entry) (comparison_of comparison) text.now) }
 {
     let (_, rest) = read_gap(text)?;
-    let (value, rest) = read_value(rest)?;
+    let (value, rest) = read_value(alloc, rest)?;
     let (_, rest) = read_gap(rest)?;
-    let (ignores_case, rest) = read_flag(opened, rest)?;
+    let (ignores_case, rest) = read_flag(alloc, opened, rest)?;
     let (_, rest) = read_gap(rest)?;
     let (_, rest) = read_closing(opened, b']', rest)?;
     let test = AttributeTest {
@@ -116,13 +140,14 @@ fn read_compared<'a>(
 /// Reads an attribute selector, from after its bracket. `opened` is the text from the bracket on.
 #[tactic(auto, unfolding(crate::specs::Grammar::attribute_selector))]
 pub(crate) fn read_attribute<'a>(
+    alloc: Global,
     opened: &'a str,
     text: &'a str,
 ) -> Result<(Simple<'a>, &'a str), Refusal<'a>>
-    ensures { reading_of simple_of result ≡ attribute_selector opened.now text.now }
+    ensures { Reads simple_of result (attribute_selector opened.now text.now) }
 {
     let (_, rest) = read_gap(text)?;
-    let (name, rest) = read_name(rest)?;
+    let (name, rest) = read_name(alloc, rest)?;
     let (_, rest) = read_gap(rest)?;
     let (comparison, rest) = read_comparison(opened, rest)?;
     match comparison {
@@ -130,6 +155,6 @@ pub(crate) fn read_attribute<'a>(
             let (_, rest) = read_closing(opened, b']', rest)?;
             Ok((Simple::HasAttribute(name), rest))
         }
-        Some(comparison) => read_compared(opened, name, comparison, rest),
+        Some(comparison) => read_compared(alloc, opened, name, comparison, rest),
     }
 }

@@ -10,7 +10,7 @@ ghost use Rattle.selectors3.specs.Views.{comparison_of};
 use crate::Comparison;
 
 /// Whether the byte is white space.
-fn is_space(byte: u8) -> bool
+pub(crate) fn is_space(byte: u8) -> bool
     ensures { result ≡ is_space_byte byte }
 {
     matches!(byte, b' ' | b'\t' | b'\n' | b'\r' | b'\x0C')

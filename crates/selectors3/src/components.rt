@@ -1,5 +1,6 @@
-//! The components of a selector. Names and values are texts without escapes.
+//! The components of a selector. Names and values are without the escapes that spell them.
 use sibling_matching::Combinator;
+use std::borrow::CowStr;
 
 /// How an attribute's value is compared with the text of a selector.
 #[derive(Clone, Copy, Debug, PartialEq)]
@@ -78,6 +79,15 @@ pub(crate) enum Numbering {
     LastOfType,
 }
 
+/// A functional pseudo-class without a list of selectors.
+#[derive(Clone, Copy)]
+pub(crate) enum Function {
+    /// One with `An+B`.
+    Numbered(Numbering),
+    /// `:lang(..)`
+    Language,
+}
+
 /// A pseudo-class with a list of compound selectors.
 #[derive(Clone, Copy)]
 pub(crate) enum ListKind {
@@ -90,37 +100,39 @@ pub(crate) enum ListKind {
 }
 
 /// A condition on an attribute.
-#[derive(Clone, Copy)]
+#[derive(Drop)]
 pub struct AttributeTest<'a> {
     /// The name of the attribute.
-    pub name: &'a str,
+    pub name: CowStr<'a>,
     /// How its value is compared.
     pub comparison: Comparison,
     /// What it is compared with.
-    pub text: &'a str,
+    pub text: CowStr<'a>,
     /// Whether the case of ASCII letters is ignored.
     pub ignores_case: bool,
 }
 
 /// A simple selector that has no other selectors in it.
-#[derive(Clone, Copy)]
+#[derive(Drop)]
 pub enum Simple<'a> {
     /// `*`
     Universal,
     /// A name.
-    TypeName(&'a str),
+    TypeName(CowStr<'a>),
     /// `#id`
-    Id(&'a str),
+    Id(CowStr<'a>),
     /// `.class`
-    Class(&'a str),
+    Class(CowStr<'a>),
     /// `[name]`
-    HasAttribute(&'a str),
+    HasAttribute(CowStr<'a>),
     /// `[name=text]` and the like
     Attribute(AttributeTest<'a>),
     /// A structural pseudo-class.
     Structure(Structure),
+    /// `:lang(..)`, with its language ranges.
+    Language(Vec<CowStr<'a>>),
     /// Any other pseudo-class, by its name.
-    State(&'a str),
+    State(CowStr<'a>),
 }
 
 /// Simple selectors that all must hold.

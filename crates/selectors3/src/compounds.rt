@@ -1,27 +1,30 @@
 //! Reads compound selectors and lists of them.
 ghost use Rattle.std.specs.Prelude.{◌≡◌, ◌∷◌, [], map, option_map, option_to_list};
 ghost use Rattle.selectors3.specs.Grammar.{type_selector, next_simple as next_simple_of, compound as compound_of_text};
-ghost use Rattle.selectors3.specs.Grammar.{next_compound as next_compound_of, compound_list, list_start, listed as listed_as};
+ghost use Rattle.selectors3.specs.Grammar.{next_compound as next_compound_of, compound_list, listed as listed_as};
+ghost use Rattle.selectors3.specs.Grammar.{name as name_of, with_argument, pseudo_condition, begins_pseudo_class as begins_pseudo_class_of};
 ghost use Rattle.selectors3.specs.Grammar.{next_condition as next_condition_of, conditions as conditions_of};
 ghost use Rattle.selectors3.specs.Grammar.{begins_pseudo_element as begins_pseudo_element_of};
 ghost use Rattle.selectors3.specs.Components.Condition.{simple};
-ghost use Rattle.selectors3.specs.Readings.{items, found_before};
-ghost use Rattle.selectors3.specs.Reads.{reading_of, step_of, Reads, Finds};
+ghost use Rattle.selectors3.specs.Readings.{follow, items, found_before};
+ghost use Rattle.selectors3.specs.Reads.{Reads, Finds};
 ghost use Rattle.selectors3.specs.Views.{simple_of, compound_of, condition_of};
 
 use crate::attribute_selectors::read_attribute;
-use crate::components::{Compound, Condition, ListKind, Simple};
-use crate::pseudo_classes::{list_kind, read_pseudo_class};
+use crate::components::{Compound, Condition, Function, ListKind, Simple};
+use crate::pseudo_classes::{
+    function_named, list_kind, plain_pseudo, read_functional, read_pseudo_class,
+};
 use crate::refusal::{Reason, Refusal};
-use crate::texts::{split_ascii, split_name};
+use crate::texts::{past_ascii, split_ascii};
 use crate::words::{begins_name, read_closing, read_gap, read_name};
 use simplecss_text::readers;
 use std::alloc::Global;
 
 /// Reads `*` or a name, if one is next.
 #[tactic(auto, unfolding(crate::specs::Grammar::type_selector))]
-fn read_type<'a>(text: &'a str) -> Result<Option<(Simple<'a>, &'a str)>, Refusal<'a>>
-    ensures { step_of simple_of result ≡ type_selector text.now }
+fn read_type<'a>(alloc: Global, text: &'a str) -> Result<Option<(Simple<'a>, &'a str)>, Refusal<'a>>
+    ensures { Finds simple_of result (type_selector text.now) }
 {
     if let Some((b'*', rest)) = split_ascii(text) {
         return Ok(Some((Simple::Universal, rest)));
@@ -29,27 +32,30 @@ fn read_type<'a>(text: &'a str) -> Result<Option<(Simple<'a>, &'a str)>, Refusal
     if !begins_name(text) {
         return Ok(None);
     }
-    let (name, rest) = read_name(text)?;
+    let (name, rest) = read_name(alloc, text)?;
     Ok(Some((Simple::TypeName(name), rest)))
 }
 
 /// Reads the next simple selector of a compound selector, if there is one.
 #[tactic(auto, unfolding(crate::specs::Grammar::next_simple))]
-fn next_simple<'a>(text: &'a str) -> Result<Option<(Simple<'a>, &'a str)>, Refusal<'a>>
-    ensures { step_of simple_of result ≡ next_simple_of text.now }
+fn next_simple<'a>(
+    alloc: Global,
+    text: &'a str,
+) -> Result<Option<(Simple<'a>, &'a str)>, Refusal<'a>>
+    ensures { Finds simple_of result (next_simple_of text.now) }
 {
     match split_ascii(text) {
         Some((b'.', rest)) => {
-            let (name, rest) = read_name(rest)?;
+            let (name, rest) = read_name(alloc, rest)?;
             Ok(Some((Simple::Class(name), rest)))
         }
         Some((b'#', rest)) => {
-            let (name, rest) = read_name(rest)?;
+            let (name, rest) = read_name(alloc, rest)?;
             Ok(Some((Simple::Id(name), rest)))
         }
-        Some((b'[', rest)) => Ok(Some(read_attribute(text, rest)?)),
+        Some((b'[', rest)) => Ok(Some(read_attribute(alloc, text, rest)?)),
         Some((b':', rest)) if !readers::starts(rest, b':') => {
-            Ok(Some(read_pseudo_class(text, rest)?))
+            Ok(Some(read_pseudo_class(alloc, text, rest)?))
         }
         _ => Ok(None),
     }
@@ -71,7 +77,7 @@ fn read_simples<'a>(
     let mut rest = text;
     let mut left = text.len();
     'simples: while left > 0 {
-        match next_simple(rest)? {
+        match next_simple(alloc, rest)? {
             Some((simple, after)) => {
                 simples.push(simple)?;
                 rest = after;
@@ -88,7 +94,7 @@ fn read_simples<'a>(
 fn read_compound<'a>(alloc: Global, text: &'a str) -> Result<(Compound<'a>, &'a str), Refusal<'a>>
     ensures { Reads compound_of result (compound_of_text text.now) }
 {
-    let (simples, rest) = match read_type(text)? {
+    let (simples, rest) = match read_type(alloc, text)? {
         Some((simple, rest)) => read_simples(alloc, Some(simple), rest)?,
         None => read_simples(alloc, None, text)?,
     };
@@ -158,22 +164,6 @@ fn read_list<'a>(
     Ok((compounds, rest))
 }
 
-/// Returns which pseudo-class with a list is next, if one is, and the rest after its parenthesis.
-#[tactic(auto, unfolding(crate::specs::Grammar::list_start))]
-fn take_list_start<'a>(text: &'a str) -> Option<(ListKind, &'a str)>
-    ensures { option_map (λ it. (it.0, it.1.now)) result ≡ list_start text.now }
-{
-    let Some((b':', rest)) = split_ascii(text) else {
-        return None;
-    };
-    let (name, rest) = split_name(rest);
-    let Some((b'(', rest)) = split_ascii(rest) else {
-        return None;
-    };
-    let kind = list_kind(name)?;
-    Some((kind, rest))
-}
-
 /// Returns the condition of this kind with the list.
 fn listed<'a>(kind: ListKind, compounds: Vec<Compound<'a>>) -> Condition<'a>
     ensures { condition_of result ≡ listed_as kind (map compound_of compounds.entry.items) }
@@ -185,6 +175,56 @@ fn listed<'a>(kind: ListKind, compounds: Vec<Compound<'a>>) -> Condition<'a>
     }
 }
 
+/// Reads the argument of a functional pseudo-class. `opened` is the text from its colon on.
+fn read_argument<'a>(
+    alloc: Global,
+    opened: &'a str,
+    kind: Option<ListKind>,
+    function: Option<Function>,
+    text: &'a str,
+) -> Result<(Condition<'a>, &'a str), Refusal<'a>>
+    ensures { Reads condition_of result (with_argument opened.now kind function text.now) }
+{
+    match kind {
+        Some(kind) => {
+            let (compounds, rest) = read_list(alloc, opened, text)?;
+            Ok((listed(kind, compounds), rest))
+        }
+        None => {
+            let (simple, rest) = read_functional(alloc, opened, function, text)?;
+            Ok((Condition::Simple(simple), rest))
+        }
+    }
+}
+
+/// Whether one colon is next, and not two.
+fn begins_pseudo_class(text: &str) -> bool
+    ensures { result ≡ begins_pseudo_class_of text.now }
+{
+    match split_ascii(text) {
+        Some((b':', rest)) => !readers::starts(rest, b':'),
+        _ => false,
+    }
+}
+
+/// Reads a pseudo-class, from after its colon. `opened` is the text from the colon on.
+fn read_pseudo_condition<'a>(
+    alloc: Global,
+    opened: &'a str,
+    text: &'a str,
+) -> Result<(Condition<'a>, &'a str), Refusal<'a>>
+    ensures { Reads condition_of result (follow (name_of text.now) (pseudo_condition opened.now)) }
+{
+    let (name, rest) = read_name(alloc, text)?;
+    match split_ascii(rest) {
+        Some((b'(', after)) => {
+            let (kind, function) = (list_kind(name.as_str()), function_named(name.as_str()));
+            read_argument(alloc, opened, kind, function, after)
+        }
+        _ => Ok((Condition::Simple(plain_pseudo(name)), rest)),
+    }
+}
+
 /// Reads the next condition of a compound selector, if there is one.
 #[tactic(auto, unfolding(crate::specs::Grammar::next_condition))]
 fn next_condition<'a>(
@@ -193,11 +233,10 @@ fn next_condition<'a>(
 ) -> Result<Option<(Condition<'a>, &'a str)>, Refusal<'a>>
     ensures { Finds condition_of result (next_condition_of text.now) }
 {
-    if let Some((kind, rest)) = take_list_start(text) {
-        let (compounds, rest) = read_list(alloc, text, rest)?;
-        return Ok(Some((listed(kind, compounds), rest)));
+    if begins_pseudo_class(text) {
+        return Ok(Some(read_pseudo_condition(alloc, text, past_ascii(text))?));
     }
-    match next_simple(text)? {
+    match next_simple(alloc, text)? {
         Some((simple, rest)) => Ok(Some((Condition::Simple(simple), rest))),
         None => Ok(None),
     }
@@ -246,7 +285,7 @@ pub(crate) fn read_conditions<'a>(
 ) -> Result<(Vec<Condition<'a>>, &'a str), Refusal<'a>>
     ensures { Reads (λ v. map condition_of v.items) result (conditions_of text.now) }
 {
-    let (conditions, rest) = match read_type(text)? {
+    let (conditions, rest) = match read_type(alloc, text)? {
         Some((simple, rest)) => read_more(alloc, Some(simple), rest)?,
         None => read_more(alloc, None, text)?,
     };

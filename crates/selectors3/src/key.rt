@@ -45,12 +45,13 @@ fn key_of_simple<'s>(simple: &'s Simple<'_>) -> Key<'s>
     ensures { key_of result ≡ simple_key (simple_of simple.now) }
 {
     match simple {
-        Simple::TypeName(name) => Key::Name(name),
-        Simple::Id(id) => Key::Id(id),
-        Simple::Class(class) => Key::Class(class),
-        Simple::HasAttribute(name) => Key::Attribute(name),
-        Simple::Attribute(test) => Key::Attribute(test.name),
-        Simple::Universal | Simple::Structure(_) | Simple::State(_) => Key::Any,
+        Simple::TypeName(name) => Key::Name(name.as_str()),
+        Simple::Id(id) => Key::Id(id.as_str()),
+        Simple::Class(class) => Key::Class(class.as_str()),
+        Simple::HasAttribute(name) => Key::Attribute(name.as_str()),
+        Simple::Attribute(test) => Key::Attribute(test.name.as_str()),
+        Simple::Universal | Simple::Structure(_) | Simple::Language(_) | Simple::State(_) =>
+            Key::Any,
     }
 }
 

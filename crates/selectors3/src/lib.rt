@@ -1,14 +1,14 @@
-//! Selectors of level 3 with their meaning on elements, and of level 4 the flag `i`, `:is()`, `:where()`
-//! and `:not()` with lists of compound selectors.
+//! Selectors of level 3 with their meaning on elements, and of level 4 the flags `i` and `s`, `:is()`,
+//! `:where()` and `:not()` with lists of compound selectors, and `:lang()` with lists of ranges.
 //!
-//! `Selector3::parse` and `parse_list` read a text as `specs/Grammar` says, or report why and where it is
-//! refused. A
-//! selector can also be made of its components. It has a specificity, and `matches` is true exactly if
-//! there is a placement: an element for each compound selector, related as the combinators say. An
-//! element is any type with the trait `Element3`.
+//! `Selector3::parse` and `parse_list` read a text as `specs/Grammar` says, or report why and where it
+//! is refused. Names and strings are what their escapes spell. A selector can also be made of its
+//! components. It has a specificity, and `matches` is true exactly if there is a placement: an element
+//! for each compound selector, related as the combinators say. An element is any type with the trait
+//! `Element3`.
 //!
-//! Escapes, namespaces, `:lang()`, and lists within the lists of `:not()`, `:is()` and `:where()` are
-//! not read. Selectors are not printed or put into an index yet.
+//! Namespaces, and lists within the lists of `:not()`, `:is()` and `:where()` are not read. Selectors
+//! are not printed yet.
 #![tactic(auto)]
 
 mod attribute_selectors;
@@ -16,8 +16,10 @@ mod attributes;
 mod components;
 mod compounds;
 mod element;
+mod escapes;
 mod key;
 mod key_laws;
+mod languages;
 mod matching;
 mod meeting;
 mod numbers;
@@ -26,6 +28,7 @@ mod pseudo_classes;
 mod read;
 mod reading;
 mod refusal;
+mod refusal_words;
 mod selector;
 mod specificity;
 mod texts;

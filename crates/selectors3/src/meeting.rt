@@ -1,5 +1,7 @@
 //! Whether an element satisfies conditions.
 ghost use Rattle.std.specs.Prelude.{◌≡◌, ◌+◌, map, Option, option_map};
+ghost use Rattle.std.specs.List.{list_any};
+ghost use Rattle.std.specs.Cow.{cow_str_bytes};
 ghost use Rattle.selectors3.specs.Meanings.{satisfies, is_placed, holds as holds_on};
 ghost use Rattle.selectors3.specs.Meanings.{hold as hold_on, holds_any as holds_any_on};
 ghost use Rattle.selectors3.specs.Meanings.{is_met as is_met_on, are_met as are_met_on};
@@ -7,6 +9,7 @@ ghost use Rattle.selectors3.specs.Views.{comparison_of, structure_of, simple_of,
 
 use crate::attributes::is_satisfied;
 use crate::{Comparison, Compound, Condition, Element3, Simple, Structure};
+use std::borrow::CowStr;
 
 /// Whether there is a value, and it satisfies the comparison with the text.
 fn has_value(comparison: Comparison, ignores_case: bool, text: &str, value: Option<&str>) -> bool
@@ -39,31 +42,52 @@ fn is_placed_on<E: Element3>(structure: Structure, element: &E) -> bool
     }
 }
 
+/// Whether the element's language is in one of the ranges.
+fn is_in_any<E: Element3>(ranges: &[CowStr<'_>], element: &E) -> bool
+    ensures { result
+        ≡ list_any (E.document.is_in_language (E.node element.now)) (map cow_str_bytes ranges.now) }
+{
+    let mut rest = ranges;
+    'languages: while let [range, after @ ..] = rest {
+        if element.is_in_language(range.as_str()) {
+            return true;
+        }
+        rest = after;
+    }
+    false
+}
+
 /// Whether the element satisfies the simple selector.
 fn holds<E: Element3>(simple: &Simple<'_>, element: &E) -> bool
     ensures { result ≡ holds_on E.document (E.node element.now) (simple_of simple.now) }
 {
     match simple {
         Simple::Universal => true,
-        Simple::TypeName(name) => element.is_named(name),
-        Simple::Id(id) => has_value(Comparison::Equals, false, id, element.attribute("id")),
+        Simple::TypeName(name) => element.is_named(name.as_str()),
+        Simple::Id(id) => has_value(
+            Comparison::Equals,
+            false,
+            id.as_str(),
+            element.attribute("id"),
+        ),
         Simple::Class(class) => {
             has_value(
                 Comparison::HasWord,
                 false,
-                class,
+                class.as_str(),
                 element.attribute("class"),
             )
         }
-        Simple::HasAttribute(name) => element.attribute(name).is_some(),
+        Simple::HasAttribute(name) => element.attribute(name.as_str()).is_some(),
         Simple::Attribute(test) => has_value(
             test.comparison,
             test.ignores_case,
-            test.text,
-            element.attribute(test.name),
+            test.text.as_str(),
+            element.attribute(test.name.as_str()),
         ),
         Simple::Structure(structure) => is_placed_on(*structure, element),
-        Simple::State(name) => element.is_in_state(name),
+        Simple::Language(ranges) => is_in_any(ranges.as_slice(), element),
+        Simple::State(name) => element.is_in_state(name.as_str()),
     }
 }
 

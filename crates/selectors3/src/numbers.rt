@@ -5,13 +5,14 @@ ghost use Rattle.selectors3.specs.Readings.{follow};
 ghost use Rattle.selectors3.specs.Grammar.{name};
 ghost use Rattle.selectors3.specs.Grammar.{with_digit as with_digit_of, digits as digits_of, sign as sign_of, is_sign as is_sign_byte, is_n as is_n_byte};
 ghost use Rattle.selectors3.specs.Grammar.{offset_after, offset_or_none, with_offset, numbered, unsigned, progression, word_progression};
-ghost use Rattle.selectors3.specs.Reads.{reading_of};
+ghost use Rattle.selectors3.specs.Reads.{reading_of, Reads};
 ghost use Rattle.selectors3.specs.Views.{signed_of, progression_of};
 
 use crate::components::{Progression, Signed};
 use crate::refusal::{Reason, Refusal};
 use crate::texts::split_ascii;
 use crate::words::{read_gap, read_name};
+use std::alloc::Global;
 
 /// Returns the number with a digit more, up to the greatest number.
 fn with_digit(so_far: u32, byte: u8) -> u32
@@ -119,10 +120,11 @@ fn read_after_n<'a>(step: Signed, text: &'a str) -> Result<(Progression, &'a str
 }
 
 /// Returns the progression of `odd` or `even`.
-fn read_word<'a>(text: &'a str) -> Result<(Progression, &'a str), Refusal<'a>>
-    ensures { reading_of progression_of result ≡ follow (name text.now) (word_progression text.now) }
+fn read_word<'a>(alloc: Global, text: &'a str) -> Result<(Progression, &'a str), Refusal<'a>>
+    ensures { Reads progression_of result (follow (name text.now) (word_progression text.now)) }
 {
-    let (word, rest) = read_name(text)?;
+    let (word, rest) = read_name(alloc, text)?;
+    let word = word.as_str();
     let step = Signed {
         is_negative: false,
         size: 2,
@@ -171,8 +173,11 @@ fn read_numbered<'a>(
 
 /// Reads `An+B`, `odd` or `even`.
 #[tactic(auto, unfolding(crate::specs::Grammar::progression))]
-pub(crate) fn read_progression<'a>(text: &'a str) -> Result<(Progression, &'a str), Refusal<'a>>
-    ensures { reading_of progression_of result ≡ progression text.now }
+pub(crate) fn read_progression<'a>(
+    alloc: Global,
+    text: &'a str,
+) -> Result<(Progression, &'a str), Refusal<'a>>
+    ensures { Reads progression_of result (progression text.now) }
 {
     let (is_negative, rest) = take_sign(text);
     if begins_digits(rest) {
@@ -186,5 +191,5 @@ pub(crate) fn read_progression<'a>(text: &'a str) -> Result<(Progression, &'a st
         };
         return read_after_n(step, rest);
     }
-    read_word(text)
+    read_word(alloc, text)
 }

@@ -2,14 +2,19 @@
 ghost use Rattle.std.specs.Prelude.{◌≡◌, option_map};
 ghost use Rattle.selectors3.specs.Grammar.{plain_structure, numbering as numbering_of, numbered_by as numbered_by_of};
 ghost use Rattle.selectors3.specs.Grammar.{list_kind as list_kind_of, functional, pseudo_class};
-ghost use Rattle.selectors3.specs.Reads.{reading_of};
+ghost use Rattle.selectors3.specs.Reads.{Reads};
+ghost use Rattle.std.specs.Cow.{cow_str_bytes};
+ghost use Rattle.selectors3.specs.Grammar.{function_named as function_named_of, plain_pseudo as plain_pseudo_of};
 ghost use Rattle.selectors3.specs.Views.{structure_of, progression_of, simple_of};
 
-use crate::components::{ListKind, Numbering, Progression, Simple, Structure};
+use crate::components::{Function, ListKind, Numbering, Progression, Simple, Structure};
+use crate::languages::read_ranges;
 use crate::numbers::read_progression;
 use crate::refusal::{Reason, Refusal};
 use crate::texts::split_ascii;
 use crate::words::{read_closing, read_gap, read_name};
+use std::alloc::Global;
+use std::borrow::CowStr;
 
 /// Returns the structural pseudo-class without an argument of this name, if there is one.
 fn structure_named(name: &str) -> Option<Structure>
@@ -53,6 +58,16 @@ fn numbering(name: &str) -> Option<Numbering>
     }
 }
 
+/// Returns which functional pseudo-class without a list has this name.
+pub(crate) fn function_named(name: &str) -> Option<Function>
+    ensures { result ≡ function_named_of name.now }
+{
+    if name.eq_ignore_ascii_case("lang") {
+        return Some(Function::Language);
+    }
+    Some(Function::Numbered(numbering(name)?))
+}
+
 /// Returns the structural pseudo-class that numbers these siblings.
 fn numbered_by(numbering: Numbering, progression: Progression) -> Structure
     ensures { structure_of result ≡ numbered_by_of numbering (progression_of progression) }
@@ -80,19 +95,36 @@ pub(crate) fn list_kind(name: &str) -> Option<ListKind>
     }
 }
 
+/// Returns the pseudo-class without an argument of this name.
+pub(crate) fn plain_pseudo<'a>(name: CowStr<'a>) -> Simple<'a>
+    ensures { simple_of result
+        ≡ plain_pseudo_of (cow_str_bytes name.entry) (plain_structure (cow_str_bytes name.entry)) }
+{
+    match structure_named(name.as_str()) {
+        Some(structure) => Simple::Structure(structure),
+        None => Simple::State(name),
+    }
+}
+
 /// Reads the argument of a functional pseudo-class. `opened` is the text from its colon on.
-fn read_functional<'a>(
+pub(crate) fn read_functional<'a>(
+    alloc: Global,
     opened: &'a str,
-    numbering: Option<Numbering>,
+    function: Option<Function>,
     text: &'a str,
 ) -> Result<(Simple<'a>, &'a str), Refusal<'a>>
-    ensures { reading_of simple_of result ≡ functional opened.now numbering text.now }
+    ensures { Reads simple_of result (functional opened.now function text.now) }
 {
-    let Some(numbering) = numbering else {
-        return Err(Refusal::new(Reason::UnknownFunction, opened));
+    let numbering = match function {
+        None => return Err(Refusal::new(Reason::UnknownFunction, opened)),
+        Some(Function::Language) => {
+            let (ranges, rest) = read_ranges(alloc, opened, text)?;
+            return Ok((Simple::Language(ranges), rest));
+        }
+        Some(Function::Numbered(numbering)) => numbering,
     };
     let (_, rest) = read_gap(text)?;
-    let (progression, rest) = read_progression(rest)?;
+    let (progression, rest) = read_progression(alloc, rest)?;
     let (_, rest) = read_gap(rest)?;
     let (_, rest) = read_closing(opened, b')', rest)?;
     let structure = numbered_by(numbering, progression);
@@ -102,17 +134,15 @@ fn read_functional<'a>(
 /// Reads a pseudo-class without a list, from after its colon. `opened` is the text from the colon on.
 #[tactic(auto, unfolding(crate::specs::Grammar::pseudo_class))]
 pub(crate) fn read_pseudo_class<'a>(
+    alloc: Global,
     opened: &'a str,
     text: &'a str,
 ) -> Result<(Simple<'a>, &'a str), Refusal<'a>>
-    ensures { reading_of simple_of result ≡ pseudo_class opened.now text.now }
+    ensures { Reads simple_of result (pseudo_class opened.now text.now) }
 {
-    let (name, rest) = read_name(text)?;
-    if let Some((b'(', after)) = split_ascii(rest) {
-        return read_functional(opened, numbering(name), after);
-    }
-    match structure_named(name) {
-        Some(structure) => Ok((Simple::Structure(structure), rest)),
-        None => Ok((Simple::State(name), rest)),
+    let (name, rest) = read_name(alloc, text)?;
+    match split_ascii(rest) {
+        Some((b'(', after)) => read_functional(alloc, opened, function_named(name.as_str()), after),
+        _ => Ok((plain_pseudo(name), rest)),
     }
 }

@@ -5,7 +5,8 @@ ghost use Rattle.selectors3.specs.Grammar.{pseudo_element as pseudo_element_of, 
 ghost use Rattle.selectors3.specs.Grammar.{begins_compound as begins_compound_of, first_sign};
 ghost use Rattle.simplecss_text.specs.Bytes.{starts_by, past_one};
 ghost use Rattle.selectors3.specs.Readings.{items, found_before};
-ghost use Rattle.selectors3.specs.Reads.{reading_of, Reads, Finds};
+ghost use Rattle.selectors3.specs.Reads.{Reads, Finds};
+ghost use Rattle.std.specs.Cow.{cow_str_bytes};
 ghost use Rattle.selectors3.specs.Views.{part_of};
 ghost use Rattle.selectors3.specs.Grammar.{listed_selector, next_selector as next_selector_of};
 ghost use Rattle.selectors3.specs.ReadViews.{read_of};
@@ -18,6 +19,7 @@ use crate::texts::split_ascii;
 use crate::words::{read_gap, read_name};
 use crate::{Combinator, Selector3};
 use std::alloc::Global;
+use std::borrow::CowStr;
 
 /// Returns the combinator of a sign.
 fn sign_combinator(byte: u8) -> Option<Combinator>
@@ -51,7 +53,7 @@ fn begins_compound(text: &str) -> bool
         [byte, ..] => {
             byte.is_ascii_alphabetic()
                 || *byte >= 128
-                || matches!(byte, b'_' | b'-' | b'*' | b'.' | b'#' | b'[' | b':')
+                || matches!(byte, b'_' | b'-' | b'*' | b'.' | b'#' | b'[' | b':' | b'\\')
         }
     }
 }
@@ -126,8 +128,11 @@ fn read_parts<'a>(alloc: Global, text: &'a str) -> Result<(Vec<Part<'a>>, &'a st
 
 /// Reads the pseudo-element, if there is one.
 #[tactic(auto, unfolding(crate::specs::Grammar::pseudo_element))]
-fn read_pseudo_element<'a>(text: &'a str) -> Result<(Option<&'a str>, &'a str), Refusal<'a>>
-    ensures { reading_of (λ name. option_map (λ n. n.now) name) result ≡ pseudo_element_of text.now }
+fn read_pseudo_element<'a>(
+    alloc: Global,
+    text: &'a str,
+) -> Result<(Option<CowStr<'a>>, &'a str), Refusal<'a>>
+    ensures { Reads (λ name. option_map cow_str_bytes name) result (pseudo_element_of text.now) }
 {
     let Some((b':', rest)) = split_ascii(text) else {
         return Ok((None, text));
@@ -135,7 +140,7 @@ fn read_pseudo_element<'a>(text: &'a str) -> Result<(Option<&'a str>, &'a str), 
     let Some((b':', rest)) = split_ascii(rest) else {
         return Ok((None, text));
     };
-    let (name, rest) = read_name(rest)?;
+    let (name, rest) = read_name(alloc, rest)?;
     Ok((Some(name), rest))
 }
 
@@ -145,7 +150,7 @@ fn read_selector<'a>(alloc: Global, text: &'a str) -> Result<(Read<'a>, &'a str)
     ensures { Reads read_of result (listed_selector text.now) }
 {
     let (parts, rest) = read_parts(alloc, text)?;
-    let (pseudo_element, rest) = read_pseudo_element(rest)?;
+    let (pseudo_element, rest) = read_pseudo_element(alloc, rest)?;
     let (_, rest) = read_gap(rest)?;
     let read = Read {
         parts,

@@ -12,12 +12,10 @@ pub enum Reason {
     NoSelector,
     /// There is no name here.
     NoName,
-    /// A bracket, a parenthesis or a string is not closed.
+    /// A bracket, a parenthesis, a string or a comment is not closed. The rest begins with it.
     NotClosed,
-    /// There is a newline or a backslash in the string.
+    /// There is a newline in the string. The rest begins with the string.
     BrokenString,
-    /// There is a backslash in the name: escapes are not read.
-    Escape,
     /// There is no attribute operator here.
     NoOperator,
     /// There is no value here: neither a name nor a string.
@@ -30,6 +28,17 @@ pub enum Reason {
     UnknownFunction,
     /// This does not continue the selector.
     Unexpected,
+}
+
+/// What is quoted of a text that is refused.
+#[derive(Clone, Copy)]
+pub(crate) enum Quoted {
+    /// The line.
+    Line,
+    /// The word at the start.
+    Word,
+    /// The signs at the start.
+    Signs,
 }
 
 /// Why, and where, a text is no selector.

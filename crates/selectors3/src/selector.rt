@@ -1,5 +1,6 @@
 //! Selectors.
 use crate::Part;
+use std::borrow::CowStr;
 use std::marker::Model;
 
 /// A selector: compound selectors joined by combinators, and a pseudo-element at the end if it has one.
@@ -8,11 +9,12 @@ pub struct Selector3<'a> {
     /// The compound selectors, from left to right. There is at least one.
     pub(crate) parts: Vec<Part<'a>>,
     /// The name of the pseudo-element.
-    pub(crate) pseudo_element: Option<&'a str>,
+    pub(crate) pseudo_element: Option<CowStr<'a>>,
 }
 
 impl<'a> Model for Selector3<'a> {
     ghost use Rattle.std.specs.Prelude.{◌<◌, length, map, option_map};
+    ghost use Rattle.std.specs.Cow.{cow_str_bytes};
     ghost use Rattle.selectors3.specs.Components.{Selector};
     ghost use Rattle.selectors3.specs.Views.{part_of};
 
@@ -20,7 +22,7 @@ impl<'a> Model for Selector3<'a> {
 
     ghost view = { λ s. record {
       parts = map part_of s.parts.items;
-      pseudo_element = option_map (λ name. name.now) s.pseudo_element;
+      pseudo_element = option_map cow_str_bytes s.pseudo_element;
     } };
 
     ghost invariant = { λ s. 0 < length s.parts.items };
@@ -28,15 +30,16 @@ impl<'a> Model for Selector3<'a> {
 
 impl<'a> Selector3<'a> {
     ghost use Rattle.std.specs.Prelude.{◌≡◌, ◌<◌, length, map, option_map};
+    ghost use Rattle.std.specs.Cow.{cow_str_bytes};
     ghost use Rattle.selectors3.specs.Views.{part_of};
 
     /// Returns the selector of these compound selectors, of which there is one at least, and of the
     /// pseudo-element at its end, if it has one.
-    pub fn new(parts: Vec<Part<'a>>, pseudo_element: Option<&'a str>) -> Selector3<'a>
+    pub fn new(parts: Vec<Part<'a>>, pseudo_element: Option<CowStr<'a>>) -> Selector3<'a>
         requires { 0 < length parts.items }
         ensures parts { result.parts ≡ map part_of parts.entry.items }
         ensures pseudo_element { result.pseudo_element
-            ≡ option_map (λ name. name.now) pseudo_element.entry }
+            ≡ option_map cow_str_bytes pseudo_element.entry }
     {
         Selector3 {
             parts,
@@ -52,9 +55,12 @@ impl<'a> Selector3<'a> {
     }
 
     /// Returns the name of the pseudo-element at the end, if there is one.
-    pub fn pseudo_element(&self) -> Option<&'a str>
+    pub fn pseudo_element(&self) -> Option<&str>
         ensures { option_map (λ name. name.now) result ≡ self.now.pseudo_element }
     {
-        self.pseudo_element
+        match &self.pseudo_element {
+            Some(name) => Some(name.as_str()),
+            None => None,
+        }
     }
 }

@@ -76,6 +76,7 @@ fn of_simple(simple: &Simple<'_>) -> Specificity
         | Simple::HasAttribute(_)
         | Simple::Attribute(_)
         | Simple::Structure(_)
+        | Simple::Language(_)
         | Simple::State(_) => Specificity {
             classes: 1,
             ..NOTHING
@@ -156,7 +157,7 @@ impl<'a> Selector3<'a> {
     pub fn specificity(&self) -> Specificity
         ensures { counts_of result ≡ specificity_of self.now }
     {
-        let pseudo_element = match self.pseudo_element {
+        let pseudo_element = match &self.pseudo_element {
             Some(_) => Specificity {
                 names: 1,
                 ..NOTHING

@@ -2,12 +2,18 @@
 ghost use Rattle.std.specs.Prelude.{◌≡◌, ◌<◌};
 ghost use Rattle.selectors3.specs.Grammar.{gap, name as name_of, string as string_of, closing as closing_of};
 ghost use Rattle.selectors3.specs.Grammar.{begins_word as begins_word_of, begins_name as begins_name_of};
-ghost use Rattle.selectors3.specs.Reads.{reading_of};
+ghost use Rattle.selectors3.specs.Grammar.{begins_plain_name as begins_plain_name_of};
+ghost use Rattle.selectors3.specs.Reads.{reading_of, Reads};
+ghost use Rattle.std.specs.Cow.{cow_str_bytes};
 
+use crate::escapes::read_spelled;
 use crate::refusal::{Reason, Refusal};
-use crate::texts::{split_ascii, split_name, split_plain};
+use crate::texts::{past_ascii, split_ascii};
+use css_syntax::tokens::begins_escape;
 use simplecss_text::readers;
 use simplecss_text::stream::Stream;
+use std::alloc::Global;
+use std::borrow::CowStr;
 
 /// Skips space bytes and comments, and returns whether there was a space byte outside the comments.
 pub(crate) fn read_gap<'a>(text: &'a str) -> Result<(bool, &'a str), Refusal<'a>>
@@ -27,49 +33,60 @@ fn begins_word(byte: u8) -> bool
     byte.is_ascii_alphabetic() || byte == b'_' || byte >= 128
 }
 
+/// Whether a name without a hyphen at its start begins here.
+fn begins_plain_name(text: &str) -> bool
+    ensures { result ≡ begins_plain_name_of text.now }
+{
+    match text.as_bytes() {
+        [] => false,
+        [byte, ..] => begins_word(*byte) || begins_escape(text.as_bytes()),
+    }
+}
+
 /// Whether a name begins here.
 pub(crate) fn begins_name(text: &str) -> bool
     ensures { result ≡ begins_name_of text.now }
 {
-    match text.as_bytes() {
-        [] => false,
-        [byte] => begins_word(*byte),
-        [byte, next, ..] => {
-            begins_word(*byte) || (*byte == b'-' && (begins_word(*next) || *next == b'-'))
-        }
+    if begins_plain_name(text) {
+        return true;
+    }
+    match split_ascii(text) {
+        Some((b'-', rest)) => begins_plain_name(rest) || readers::starts(rest, b'-'),
+        _ => false,
     }
 }
 
 /// Reads a name.
 #[tactic(auto, unfolding(crate::specs::Grammar::name))]
-pub(crate) fn read_name<'a>(text: &'a str) -> Result<(&'a str, &'a str), Refusal<'a>>
-    ensures { reading_of (λ n. n.now) result ≡ name_of text.now }
+pub(crate) fn read_name<'a>(
+    alloc: Global,
+    text: &'a str,
+) -> Result<(CowStr<'a>, &'a str), Refusal<'a>>
+    ensures { Reads cow_str_bytes result (name_of text.now) }
 {
     if !begins_name(text) {
         return Err(Refusal::new(Reason::NoName, text));
     }
-    let (name, rest) = split_name(text);
-    if readers::starts(rest, b'\\') {
-        return Err(Refusal::new(Reason::Escape, rest));
-    }
+    let (name, rest) = read_spelled(alloc, None, text)?;
     Ok((name, rest))
 }
 
 /// Reads a string, from after its quote. `opened` is the text from the quote on.
 #[tactic(auto, unfolding(crate::specs::Grammar::string))]
 pub(crate) fn read_string<'a>(
+    alloc: Global,
     opened: &'a str,
     quote: u8,
     text: &'a str,
-) -> Result<(&'a str, &'a str), Refusal<'a>>
+) -> Result<(CowStr<'a>, &'a str), Refusal<'a>>
     requires { quote < 128 }
-    ensures { reading_of (λ n. n.now) result ≡ string_of opened.now quote text.now }
+    ensures { Reads cow_str_bytes result (string_of opened.now quote text.now) }
 {
-    let (value, rest) = split_plain(quote, text);
+    let (value, rest) = read_spelled(alloc, Some(quote), text)?;
     match split_ascii(rest) {
         Some((byte, after)) if byte == quote => Ok((value, after)),
         _ if rest.is_empty() => Err(Refusal::new(Reason::NotClosed, opened)),
-        _ => Err(Refusal::new(Reason::BrokenString, rest)),
+        _ => Err(Refusal::new(Reason::BrokenString, opened)),
     }
 }
 

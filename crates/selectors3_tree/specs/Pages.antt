@@ -73,5 +73,6 @@ page_document = record {
   is_named = λ n name. bytes_eq (name_at n.0.rows n.1) name;
   attribute = λ n name. attribute_at n.0.rows n.1 name;
   is_in_state = λ n name. is_in_state (states_at n.0.rows n.1) name;
+  is_in_language = λ n range. false;
   has_content = λ n. has_content n.0 n.1;
 }

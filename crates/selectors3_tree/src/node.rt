@@ -96,6 +96,10 @@ impl<'n, 'p, 't> Element3 for NumberedNode<'n, 'p, 't> {
         is_in(&self.tree.plain(self.index), name)
     }
 
+    fn is_in_language(&self, _range: &str) -> bool {
+        false
+    }
+
     fn has_content(&self) -> bool {
         self.tree.has_content(self.index)
     }

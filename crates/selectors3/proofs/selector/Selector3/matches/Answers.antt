@@ -1,4 +1,5 @@
 use Rattle.std.proofs.Common.{ap, sym, ◌∙◌}
+use Rattle.std.specs.Cow.{cow_str_bytes}
 use Rattle.selectors3.proofs.MatchLemmas.{matched, none_mapped}
 use Rattle.selectors3.proofs.selector.Selector3.matches.Goals as goal
 
@@ -8,5 +9,5 @@ returns g c =
     (g.E.Element3.node c.args.element.now) c.matches.result
     (sym (ap (λ s. s.parts) c.self.view_is))
     (sym (ap (λ s. s.pseudo_element) c.self.view_is)
-    ∙ none_mapped (λ name. name.now) c.self.inside.pseudo_element c.if-is_some.ensures)
+    ∙ none_mapped cow_str_bytes c.self.inside.pseudo_element c.if-is_some.ensures)
     (rw c.as_slice-parts.ensures.value at c.matches.ensures.answer)
