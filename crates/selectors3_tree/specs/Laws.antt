@@ -1,5 +1,5 @@
--- Pages satisfy the laws of `Element3`. They are proved here since the trait requires them: the impl
--- names them, so they belong to what is stated.
+-- Pages satisfy the laws of `Element3`. They are proved here since the trait requires them: the
+-- impl names them, so they belong to what is stated.
 use Rattle.std.proofs.Common.{◌≡◌, ℕ, zero, suc, ◌+◌, Bool, true, false, Option, None, Some, IfSome, MatchOption, refl, ap, sym, ◌∙◌, arith}
 use Rattle.std.specs.Prelude.{◌==◌, if◌then◌else◌}
 use Rattle.std.specs.Option.{option_map}

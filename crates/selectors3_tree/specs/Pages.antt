@@ -5,8 +5,9 @@ use Rattle.std.specs.Option.{option_map}
 use Rattle.std.specs.Str.{str_eq_ignore_ascii_case}
 use Rattle.selectors3.specs.Documents.{Document}
 use Rattle.sibling_matching.specs.ListTrees.{parent_by, steps_from, spot}
+use Rattle.simplecss.specs.Components.KnownPseudoClass.{lang}
 use Rattle.simplecss_tree.specs.Rows.{Row}
-use Rattle.simplecss_tree.specs.TreeNodes.{named_parent, name_at, attribute_at, states_at}
+use Rattle.simplecss_tree.specs.TreeNodes.{named_parent, name_at, attribute_at, states_at, is_in}
 use Rattle.simplecss_tree.specs.declared.tree.States.{States}
 use Rattle.selectors3_tree.specs.Counts.{count_below, last_below}
 
@@ -49,8 +50,8 @@ has_content page i =
     slice_index_or page.texts i false
     || nat_lt 0 (count_below (is_child i page.rows) (length page.rows))
 
--- Whether an element with these states is in the state of a name, whatever its case: one of the five
--- of a tree, or a link, visited or not.
+-- Whether an element with these states is in the state of a name, whatever its case: one of the
+-- five of a tree, or a link, visited or not.
 abbrev pub is_in_state : States → List ℕ → Bool
 is_in_state states name =
     if str_eq_ignore_ascii_case name (codes "link") then states.link
@@ -73,6 +74,6 @@ page_document = record {
   is_named = λ n name. bytes_eq (name_at n.0.rows n.1) name;
   attribute = λ n name. attribute_at n.0.rows n.1 name;
   is_in_state = λ n name. is_in_state (states_at n.0.rows n.1) name;
-  is_in_language = λ n range. false;
+  is_in_language = λ n range. is_in n.0.rows n.1 (lang range);
   has_content = λ n. has_content n.0 n.1;
 }

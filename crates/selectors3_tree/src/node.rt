@@ -39,6 +39,9 @@ impl<'n, 'p, 't> NumberedNode<'n, 'p, 't> {
     }
 }
 
+/// The language is the attribute `lang` of the nearest among the element and its ancestors that has
+/// one. It is in a range if it is the range, or the range and then a hyphen at its start: `*` is in
+/// no way special.
 impl<'n, 'p, 't> Element3 for NumberedNode<'n, 'p, 't> {
     ghost use Rattle.std.specs.Prelude.{ℕ};
     ghost use Rattle.selectors3_tree.specs.Pages.{Page, page_document};
@@ -96,8 +99,9 @@ impl<'n, 'p, 't> Element3 for NumberedNode<'n, 'p, 't> {
         is_in(&self.tree.plain(self.index), name)
     }
 
-    fn is_in_language(&self, _range: &str) -> bool {
-        false
+    fn is_in_language(&self, range: &str) -> bool {
+        let class = PseudoClass::Lang(range);
+        self.tree.plain(self.index).pseudo_class_matches(class)
     }
 
     fn has_content(&self) -> bool {

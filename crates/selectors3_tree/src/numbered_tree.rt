@@ -8,7 +8,8 @@ ghost use Rattle.selectors3_tree.specs.Counts.{count_below, last_below};
 ghost use Rattle.selectors3_tree.specs.Pages.{family, is_sibling, is_alike, count_after};
 ghost use Rattle.selectors3_tree.specs.Pages.{has_content};
 ghost use Rattle.selectors3_tree.specs.Keys.{AreFamilies, AreKinds};
-ghost use Rattle.selectors3_tree.specs.declared.numbered_tree.NumberingError.TheVariants.{TooManyElements, Memory};
+ghost use Rattle.selectors3_tree.specs.declared.numbered_tree.NumberingError.TheVariants.{TooManyElements};
+ghost use Rattle.selectors3_tree.specs.declared.numbered_tree.NumberingError.TheVariants.{Memory};
 
 use crate::NumberedNode;
 use crate::groups::{Groups, Seen};
@@ -70,8 +71,8 @@ impl<'p, 't> Model for NumberedTree<'p, 't> {
         × (length t.texts.items ≡ length t.tree.now) };
 }
 
-/// Returns the number of the family of an element: 0 for those without a parent, or one more than the
-/// index of the parent.
+/// Returns the number of the family of an element: 0 for those without a parent, or one more than
+/// the index of the parent.
 fn family_of(tree: &Tree<'_>, index: usize) -> usize
     requires within { index < length tree.now }
     requires few { length tree.now < 2 ^ 32 }
