@@ -1,5 +1,5 @@
--- Keys: conditions of which each element that a selector matches satisfies one. By these an index finds
--- the selectors that can match an element.
+-- Keys: conditions of which each element that a selector matches satisfies one. By these an index
+-- finds the selectors that can match an element.
 use Rattle.std.specs.Prelude.{ℕ, ◌-◌, Bool, true, List, [], ◌∷◌, map, length, min, nat_lt, if◌then◌else◌}
 use Rattle.std.specs.List.{list_any}
 use Rattle.selectors3.specs.Documents.{Document}
@@ -57,7 +57,8 @@ best_key best (s ∷ ss) = best_key (better_key best (simple_key s)) ss
 abbrev pub compound_key : List Simple → Key
 compound_key simples = best_key by_nothing simples
 
--- the keys of a condition, of which a node that satisfies it has one; nothing within `:not()` is a key
+-- the keys of a condition, of which a node that satisfies it has one; nothing within `:not()` is a
+-- key
 abbrev pub condition_keys : Condition → List Key
 condition_keys (simple s) = simple_key s ∷ []
 condition_keys (negation compounds) = by_nothing ∷ []

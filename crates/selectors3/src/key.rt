@@ -1,7 +1,8 @@
 //! The keys of a selector: conditions of which each element that it matches satisfies one.
 ghost use Rattle.std.specs.Prelude.{◌≡◌, ◌++◌, ◌∷◌, [], OnOk, MatchOption, List, map};
 ghost use Rattle.selectors3.specs.Keys.{Key as KeyOf, simple_key, best_key, compound_key};
-ghost use Rattle.selectors3.specs.Keys.{condition_keys, least_rank, best_keys, keys_of, rank as rank_of};
+ghost use Rattle.selectors3.specs.Keys.{condition_keys, least_rank, best_keys, keys_of};
+ghost use Rattle.selectors3.specs.Keys.{rank as rank_of};
 ghost use Rattle.selectors3.specs.Keys.Key.{by_nothing};
 ghost use Rattle.selectors3.specs.KeyViews.{key_of, keys_of_best};
 ghost use Rattle.selectors3.specs.Views.{simple_of, compound_of, condition_of};
@@ -9,8 +10,8 @@ ghost use Rattle.selectors3.specs.Views.{simple_of, compound_of, condition_of};
 use crate::{Compound, Condition, Selector3, Simple};
 use std::alloc::AllocError;
 
-/// A condition that an element satisfies or not. Each element that a selector matches satisfies one of
-/// the selector's keys.
+/// A condition that an element satisfies or not. Each element that a selector matches satisfies one
+/// of the selector's keys.
 #[derive(Clone, Copy, Debug)]
 pub enum Key<'s> {
     /// The attribute `id` is this text.
@@ -163,9 +164,9 @@ impl<'a> Selector3<'a> {
         self.parts[self.parts.len() - 1].conditions.as_slice()
     }
 
-    /// Appends the selector's keys: each element that it matches has one of them. They are those of one
-    /// condition of the last compound selector, of one that few elements satisfy. Nothing within `:not()`
-    /// is a key.
+    /// Appends the selector's keys: each element that it matches has one of them. They are those of
+    /// one condition of the last compound selector, of one that few elements satisfy. Nothing
+    /// within `:not()` is a key.
     pub fn push_keys<'s>(&'s self, keys: &mut Vec<Key<'s>>) -> Result<(), AllocError>
         ensures { OnOk result (map key_of keys.new.items
             ≡ map key_of keys.old.items ++ keys_of self.now) }

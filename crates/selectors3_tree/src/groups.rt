@@ -1,5 +1,6 @@
 //! Members of groups, and which of its group are before and after each.
-ghost use Rattle.std.specs.Prelude.{◌≡◌, ◌<◌, ◌^◌, [], Some, IfOk, OnOk, length, slice_get, unwrap_or};
+ghost use Rattle.std.specs.Prelude.{◌≡◌, ◌<◌, ◌^◌, [], Some, IfOk, OnOk, length, slice_get};
+ghost use Rattle.std.specs.Prelude.{unwrap_or};
 ghost use Rattle.std.specs.BTreeMap.{get};
 ghost use Rattle.selectors3_tree.specs.Counts.{count_below};
 ghost use Rattle.selectors3_tree.specs.GroupViews.{has_key, seen_below, count_after, nothing_seen};
@@ -96,8 +97,8 @@ impl<K: Ord + Copy + Drop> Groups<K> {
         Ok(Groups { keys, before, all })
     }
 
-    /// Returns the number of members before the one at an index that are of its group, and the last of
-    /// them.
+    /// Returns the number of members before the one at an index that are of its group, and the last
+    /// of them.
     pub(crate) fn before(&self, index: usize) -> Seen
         requires { index < length self.now }
         ensures { (key : K) → slice_get self.now index ≡ Some key

@@ -1,6 +1,6 @@
 //! The elements of a tree whose siblings are counted.
 ghost use Rattle.std.specs.Prelude.{◌≡◌};
-ghost use Rattle.simplecss_tree.specs.declared.tree.States.{States as StatesOf};
+ghost use Rattle.simplecss_tree.specs.TreeNodes.{states_at};
 ghost use Rattle.selectors3_tree.specs.Pages.{is_in_state};
 
 use crate::NumberedTree;
@@ -37,16 +37,11 @@ impl<'n, 'p, 't> NumberedNode<'n, 'p, 't> {
     {
         self.index
     }
-
-    /// Returns the element without the numbers.
-    fn plain(&self) -> Node<'p, 't>
-        ensures rows { result.0 ≡ self.now.0.rows }
-        ensures index { result.1 ≡ self.now.1 }
-    {
-        self.tree.tree.node(self.index).unwrap()
-    }
 }
 
+/// The language is the attribute `lang` of the nearest among the element and its ancestors that has
+/// one. It is in a range if it is the range, or the range and then a hyphen at its start: `*` is in
+/// no way special.
 impl<'n, 'p, 't> Element3 for NumberedNode<'n, 'p, 't> {
     ghost use Rattle.std.specs.Prelude.{ℕ};
     ghost use Rattle.selectors3_tree.specs.Pages.{Page, page_document};
@@ -66,7 +61,7 @@ impl<'n, 'p, 't> Element3 for NumberedNode<'n, 'p, 't> {
 
     fn parent(&self) -> Option<Self> {
         let tree = self.tree;
-        let index = self.plain().parent_element()?.index();
+        let index = self.tree.plain(self.index).parent_element()?.index();
         Some(NumberedNode { tree, index })
     }
 
@@ -93,19 +88,20 @@ impl<'n, 'p, 't> Element3 for NumberedNode<'n, 'p, 't> {
     }
 
     fn is_named(&self, name: &str) -> bool {
-        self.plain().name() == name
+        self.tree.plain(self.index).name() == name
     }
 
     fn attribute(&self, name: &str) -> Option<&str> {
-        self.plain().attribute(name)
+        self.tree.plain(self.index).attribute(name)
     }
 
     fn is_in_state(&self, name: &str) -> bool {
-        is_in(&self.plain(), name)
+        is_in(&self.tree.plain(self.index), name)
     }
 
-    fn is_in_language(&self, _range: &str) -> bool {
-        false
+    fn is_in_language(&self, range: &str) -> bool {
+        let class = PseudoClass::Lang(range);
+        self.tree.plain(self.index).pseudo_class_matches(class)
     }
 
     fn has_content(&self) -> bool {
