@@ -27,6 +27,12 @@ MORE = PIECES + (
     "{", "}", "{}", "{a:b}", "@media x", "@import 'y';", "a", "b ", ",", ".c", "#d", "<!--", "-->", "@f{g{h:i}}", "}", "}",
 )
 
+# The pieces of random declarations with escapes in their names.
+ESCAPES = (
+    "\\", "\\61", "\\61 ", "\\0", "\\000061", "\\0000611", "\\d800 ", "\\10ffff\n", "\\110000\t", "\\ffffff", "\\e9\r\n", "\\\xe9", "\\g",
+    "\\\\", "\\:", "\\;", "a", "F", "0", "-", "_", "\xe9", " ", ":b;", ":b;", ":b;c",
+)
+
 # Texts of declarations, with each declaration that is read: its name, its value, and whether it is important and open.
 DECLARATIONS = (
     ("", []),
@@ -126,6 +132,57 @@ SELECTORS = (
     ("a:b(url(c d))", "bad url"),
 )
 
+# Lists of selectors, and of each part whether the library reads it, as the standard means it, and its pseudo-element.
+READ = (
+    ("a, b > c + d e, *", [("a", True, ""), ("b > c + d e", True, ""), ("*", True, "")]),
+    ("a.b#c[d][e=f][g|='h'][i~=j]:first-child:hover", [("a.b#c[d][e=f][g|='h'][i~=j]:first-child:hover", True, "")]),
+    ("p/**/.k, p /**/ .k", [("p/**/.k", False, ""), ("p /**/ .k", False, "")]),
+    ("/**/ a /**/, b/**/", [("a", True, ""), ("b", True, "")]),
+    ("p::before, :first-line, ::-x-y(z)", [("p::before", True, "before"), (":first-line", True, "first-line"), ("::-x-y(z)", True, "-x-y(z)")]),
+    ("a:not(b)::after, c ::before", [("a:not(b)::after", False, "after"), ("c ::before", False, "")]),
+    ("a::before:hover", [("a::before:hover", False, "")]),
+    (":lang(en), :lang('en'), :lang(en, fr), :lang( en )", [
+        (":lang(en)", True, ""), (":lang('en')", False, ""), (":lang(en, fr)", False, ""), (":lang( en )", False, "")]),
+    ("#id, [id=a], [id], [ids], [idea=x]", [
+        ("#id", True, ""), ("[id=a]", False, ""), ("[id]", False, ""), ("[ids]", True, ""), ("[idea=x]", True, "")]),
+    ("[a~=''], [a~='b c'], [a~='b'], [a='']", [
+        ("[a~='']", False, ""), ("[a~='b c']", False, ""), ("[a~='b']", True, ""), ("[a='']", True, "")]),
+    ("[a='b\\'c'], .\\31, [a='/*'], [a='/b']", [
+        ("[a='b\\'c']", False, ""), (".\\31", False, ""), ("[a='/*']", False, ""), ("[a='/b']", True, "")]),
+    ("a ~ b, c|d, [ e ], [f=g i], [h^=i], j:HOVER, k:nth-child(2)", [
+        ("a ~ b", False, ""), ("c|d", False, ""), ("[ e ]", False, ""), ("[f=g i]", False, ""), ("[h^=i]", False, ""), ("j:HOVER", False, ""),
+        ("k:nth-child(2)", False, "")]),
+    ("a, b:", [("a, b:", False, "")]),
+    ("[a=\"b,c\"], d", [("[a=\"b,c\"]", True, ""), ("d", True, "")]),
+)
+
+# A page on which soupsieve finds elements: by a selector, and by what the library prints of it.
+PAGE = """<html lang="en"><body class="a"><p id="b" class="a b" a="b"><b class="k" a="b c">x</b> <a href="#" a="" title="a-b"><b></b></a></p>
+<div class="b" lang="en-GB" a="b-c"><p class="k a" title=""><i a="c"></i><b class="a" id="k"><p></p></b></p><b a="a"></b><i class="b a"></i></div></body></html>"""
+
+# The pieces of random selectors for that page.
+SELECTOR_PIECES = (
+    "a", "b", "p", "i", "div", "*", " ", " ", ">", " + ", "/**/", " /**/ ", ".a", ".b", ".k", "#b", "#k", "[a]", "[a=b]", "[a='b c']", "[a~=b]",
+    "[a~='c']", "[a|=b]", "[a='']", "[title|='a']", "[a~='']", "[a~='b c']", "[id]", "[id=b]", ":first-child", ":lang(en)", ":lang('en')", "[ a ]",
+    "[a=B i]", ":link", "~", ".\\61 ", ":not(.a)",
+)
+
+FINDS = r"""
+import json, sys
+import bs4, soupsieve
+
+work = json.load(sys.stdin)
+page = bs4.BeautifulSoup(work["page"], "html5lib")
+
+def found(selector):
+    try:
+        return [id(element) for element in soupsieve.select(selector, page)]
+    except soupsieve.SelectorSyntaxError:
+        return None
+
+json.dump([found(text) == found(printed) for text, printed in work["selectors"]], sys.stdout)
+"""
+
 THEIRS = r"""
 import json, sys
 import tinycss2
@@ -205,6 +262,12 @@ def statement(item, wanted):
     block = None if item[2] is None else value(item[2], wanted[2])
     return [name(item[0]) if item[0] else "", value(item[1], wanted[1]), block]
 
+def names(text):
+    return [[one[0]] for one in declarations(text)]
+
+def decoded(item, wanted):
+    return [item[0]]
+
 GROUPS = ("media", "supports", "layer", "container", "document", "-moz-document")
 
 def bare(nodes):
@@ -229,7 +292,9 @@ def rule(item, wanted):
     return [item[0], value(item[1], wanted[1]), value(item[2], wanted[2])]
 
 work = json.load(sys.stdin)
-readers = {"declarations": (declarations, declaration), "statements": (statements, statement), "rules": (rules, rule)}
+readers = {
+    "declarations": (declarations, declaration), "names": (names, decoded), "statements": (statements, statement), "rules": (rules, rule),
+}
 read, one = readers[work["what"]]
 theirs = [read(text) for text in work["texts"]]
 ours = [
@@ -255,6 +320,12 @@ def declarations_of(today, texts):
     """The declarations of each text: name, value and flags."""
     for items in fields_of(today, "declarations", texts):
         yield [item[1:] for item in items if item[0] == "declaration"]
+
+
+def names_of(today, texts):
+    """The declarations of each text: name with its escapes decoded, value and flags."""
+    for items in fields_of(today, "names", texts):
+        yield [item[1:] for item in items]
 
 
 def statement(kind, name, prelude, block):
@@ -293,9 +364,33 @@ def check_tables(today, counts):
         counts.expect(found == [wanted], f"{selectors!r} has {found}, and not {wanted!r}")
 
 
+def selectors_of(today, texts):
+    """The selectors of each text's rule sets: text, what the library reads, pseudo-element, and why its rule set is dropped."""
+    return fields_of(today, "selectors", texts)
+
+
+def check_selectors(today, counts):
+    """Compares what is read of the selectors of the table."""
+    texts = [selectors + "{}" for selectors, _ in READ]
+    for (selectors, wanted), found in zip(READ, selectors_of(today, texts)):
+        found = [(text, bool(read), pseudo_element) for text, read, pseudo_element, _ in found]
+        counts.expect(found == wanted, f"{selectors!r} has {found}, and not {wanted}")
+
+
+def beside_soupsieve(today, counts, count):
+    """Compares what a selector finds with what its printed text finds, where the library reads it."""
+    texts = random_texts(SELECTOR_PIECES, count, 3, ("",))
+    read = [item[:2] for items in selectors_of(today, [text + "{}" for text in texts]) for item in items if item[1] and not item[2]]
+    work = {"page": PAGE, "selectors": sorted(set(read))}
+    reply = subprocess.run(["/usr/bin/python3", "-c", FINDS], input=json.dumps(work), stdout=subprocess.PIPE, text=True, check=True).stdout
+    for (text, printed), equal in zip(work["selectors"], json.loads(reply)):
+        counts.expect(equal, f"{text!r} finds others than {printed!r} in soupsieve")
+    print(f"{len(texts)} random selectors: {len(work['selectors'])} that are read compared")
+
+
 def compared(today, what, texts):
     """What tinycss2 reads of each text, and what the program does, in the same form."""
-    read = {"declarations": declarations_of, "statements": statements_of, "rules": rules_of}[what]
+    read = {"declarations": declarations_of, "names": names_of, "statements": statements_of, "rules": rules_of}[what]
     work = {"what": what, "texts": texts, "found": list(read(today, texts))}
     reply = subprocess.run(["/usr/bin/python3", "-c", THEIRS], input=json.dumps(work), stdout=subprocess.PIPE, text=True, check=True).stdout
     return zip(*json.loads(reply))
@@ -333,10 +428,10 @@ def random_texts(pieces, count, seed, starts):
     return [source.choice(starts) + "".join(source.choice(pieces) for _ in range(source.choice((3, 6, 12, 20)))) for _ in range(count)]
 
 
-def has_tinycss2():
-    """Whether Debian's Python has tinycss2."""
+def has_modules(modules):
+    """Whether Debian's Python has these modules."""
     return os.path.exists("/usr/bin/python3") and not subprocess.run(
-        ["/usr/bin/python3", "-c", "import tinycss2"], stderr=subprocess.DEVNULL, check=False
+        ["/usr/bin/python3", "-c", "import " + modules], stderr=subprocess.DEVNULL, check=False
     ).returncode
 
 
@@ -348,9 +443,15 @@ def main():
     words = parser.parse_args()
     counts = Counts()
     check_tables(words.today, counts)
-    if has_tinycss2():
+    check_selectors(words.today, counts)
+    if has_modules("soupsieve, bs4, html5lib"):
+        beside_soupsieve(words.today, counts, words.count)
+    else:
+        print("left out: random selectors beside soupsieve, since python3-soupsieve or python3-html5lib is missing")
+    if has_modules("tinycss2"):
         lists = random_texts(PIECES, words.count, 1, ("", "a:", "a:", "--x:", "a:b;c:"))
         beside(words.today, counts, "declarations", lists, "random texts")
+        beside(words.today, counts, "names", random_texts(ESCAPES, words.count, 4, ("", "a", "--")), "random texts")
         beside(words.today, counts, "statements", random_texts(MORE, words.count, 2, ("",)), "random texts")
         sheets = real_sheets(words.sheets)
         beside(words.today, counts, "statements", sheets, "real sheets")

@@ -1,18 +1,23 @@
 //! An example: reads texts by the rules of today's style sheets, `today statements`, `today
-//! declarations` or `today rules`. The texts are on standard input, and a NUL byte separates them.
-//! For each text, what it has is printed in fields, of which each ends with the byte 1; a NUL byte
-//! ends the text.
+//! declarations`, `today names`, `today rules` or `today selectors`. The texts are on standard input,
+//! and a NUL byte separates them. For each text, what it has is printed in fields, of which each ends
+//! with the byte 1; a NUL byte ends the text.
 //!
 //! The fields of a statement are its kind, its name, its prelude and its block; those of an item of
 //! a list are its kind, its name, its value and its flags. What is skipped has its fault in place
-//! of a name, and its text. The fields of a rule set, which may be in group rules, are the preludes
-//! of these with a comma after each, why it is dropped, its prelude and its block.
+//! of a name, and its text. With `names` the escapes in the names of declarations are decoded. The
+//! fields of a rule set, which may be in group rules, are the preludes of these with a comma after
+//! each, why it is dropped, its prelude and its block; those of its selectors are the text, what the
+//! library reads of it, the name of the pseudo-element, and why the rule set is dropped.
 #![tactic(auto)]
 
 use css_selectors::prelude_fault;
-use css_sheet::SheetReader;
-use css_syntax::{AtRule, Declaration, Declarations, Fault, Item, RuleSet, Statement, Statements};
+use css_sheet::{RuleSelector, SheetReader, read_selectors};
+use css_syntax::{
+    AtRule, Declaration, Declarations, Fault, Item, RuleSet, Statement, Statements, decode,
+};
 use std::alloc::Global;
+use std::borrow::CowStr;
 use std::io::{BufWriter, Read, Write};
 use std::{env, io};
 
@@ -107,6 +112,23 @@ fn write_declarations<W: Write>(out: &mut W, text: &str) -> io::Result<()> {
     Ok(())
 }
 
+/// Writes the declarations of a list, with the escapes of their names decoded.
+fn write_names<W: Write>(alloc: Global, out: &mut W, text: &str) -> io::Result<()> {
+    for part in Declarations::new(text) {
+        if let Item::Declaration(one) = part.item {
+            match decode(alloc, one.name)? {
+                CowStr::Borrowed(name) => {
+                    write_fields(out, "as written", name, one.value, flags(&one))?;
+                }
+                CowStr::Owned(name) => {
+                    write_fields(out, "decoded", name.as_str(), one.value, flags(&one))?;
+                }
+            }
+        }
+    }
+    Ok(())
+}
+
 /// Writes the field of the preludes of the group rules that are open.
 fn write_levels<W: Write>(out: &mut W, reader: &SheetReader<'_>) -> io::Result<()> {
     for level in reader.levels() {
@@ -142,12 +164,53 @@ fn write_rules<W: Write>(alloc: Global, out: &mut W, text: &str) -> io::Result<(
     Ok(())
 }
 
+/// Writes a selector of a rule set.
+fn write_selector<W: Write>(alloc: Global, out: &mut W, one: &RuleSelector<'_>) -> io::Result<()> {
+    let read = match &one.selector {
+        Some(selector) => format!(in alloc; "{selector}")?,
+        None => String::new(alloc),
+    };
+    let pseudo_element = one.pseudo_element.unwrap_or("");
+    write_fields(out, one.text, read.as_str(), pseudo_element, "")
+}
+
+/// Writes the selectors of a rule set, or why it is dropped.
+fn write_selectors_of<W: Write>(alloc: Global, out: &mut W, rule: &RuleSet<'_>) -> io::Result<()> {
+    match read_selectors(alloc, &rule.prelude) {
+        Ok(Ok(selectors)) => {
+            for one in &selectors {
+                write_selector(alloc, out, one)?;
+            }
+            Ok(())
+        }
+        Ok(Err(fault)) => write_fields(out, rule.prelude.text, "", "", fault_word(fault)),
+        Err(error) => Err(error.into()),
+    }
+}
+
+/// Writes the selectors of a text and of its group rules.
+fn write_selectors<W: Write>(alloc: Global, out: &mut W, text: &str) -> io::Result<()> {
+    let mut reader = SheetReader::new(alloc, text);
+    // Each item has a byte or more.
+    for _ in 0..text.len() {
+        let Some(part) = reader.read_next()? else {
+            break;
+        };
+        if let Statement::RuleSet(rule) = part.statement {
+            write_selectors_of(alloc, out, &rule)?;
+        }
+    }
+    Ok(())
+}
+
 /// What is read of a text.
 #[derive(Clone, Copy)]
 enum Part {
     Statements,
     Declarations,
     Rules,
+    Names,
+    Selectors,
 }
 
 /// The part with this name.
@@ -155,6 +218,8 @@ fn part_of(word: &str) -> Part {
     match word {
         "statements" => Part::Statements,
         "rules" => Part::Rules,
+        "names" => Part::Names,
+        "selectors" => Part::Selectors,
         _ => Part::Declarations,
     }
 }
@@ -165,6 +230,8 @@ fn write_text<W: Write>(alloc: Global, out: &mut W, text: &str, part: Part) -> i
         Part::Statements => write_statements(out, text)?,
         Part::Declarations => write_declarations(out, text)?,
         Part::Rules => write_rules(alloc, out, text)?,
+        Part::Names => write_names(alloc, out, text)?,
+        Part::Selectors => write_selectors(alloc, out, text)?,
     }
     out.write_all(b"\x00")
 }
