@@ -29,8 +29,14 @@ MORE = PIECES + (
 
 # The pieces of random declarations with escapes in their names.
 ESCAPES = (
-    "\\", "\\61", "\\61 ", "\\0", "\\000061", "\\0000611", "\\d800 ", "\\10ffff\n", "\\110000\t", "\\ffffff", "\\e9\r\n", "\\\xe9", "\\g",
+    "\\", "\\61", "\\61 ", "\\0", "\\000061", "\\0000611", "\\10ffff\n", "\\110000\t", "\\ffffff", "\\e9\r\n", "\\\xe9", "\\g",
     "\\\\", "\\:", "\\;", "a", "F", "0", "-", "_", "\xe9", " ", ":b;", ":b;", ":b;c",
+)
+
+# Declarations, and their names with the escapes decoded. (tinycss2 keeps surrogates.)
+NAMES = (
+    ("a\\62 c:d", "abc"), ("\\000061b:c", "ab"), ("\\61\r\nb:c", "ab"), ("\\0:b", "\ufffd"), ("\\d800 a:b", "\ufffda"), ("\\dfff:b", "\ufffd"),
+    ("\\110000:b", "\ufffd"), ("\\10ffff:b", "\U0010ffff"), ("\\\xe9:b", "\xe9"), ("\\\\\\::b", "\\:"), ("col\\6fr:b", "color"),
 )
 
 # Texts of declarations, with each declaration that is read: its name, its value, and whether it is important and open.
@@ -359,6 +365,8 @@ def check_tables(today, counts):
         texts = [text for text, _ in table]
         for (text, wanted), found in zip(table, read(today, texts)):
             counts.expect(found == wanted, f"{text!r} has {found}, and not {wanted}")
+    for (text, wanted), found in zip(NAMES, names_of(today, [text for text, _ in NAMES])):
+        counts.expect([item[0] for item in found] == [wanted], f"{text!r} has {found}, and not {wanted!r}")
     faults = faults_of(today, [selectors + "{}" for selectors, _ in SELECTORS])
     for (selectors, wanted), found in zip(SELECTORS, faults):
         counts.expect(found == [wanted], f"{selectors!r} has {found}, and not {wanted!r}")
@@ -426,20 +434,6 @@ def random_texts(pieces, count, seed, starts):
     """Random texts, the same in each run."""
     source = random.Random(seed)
     return [source.choice(starts) + "".join(source.choice(pieces) for _ in range(source.choice((3, 6, 12, 20)))) for _ in range(count)]
-
-
-def real_sheets(folder):
-    """The style sheets in a folder, each once."""
-    found = set()
-    for path in sorted(glob.glob(os.path.join(folder, "**", "*.css"), recursive=True)):
-        try:
-            with open(path, encoding="utf-8", newline="") as file:
-                text = file.read()
-        except (UnicodeDecodeError, OSError):
-            continue
-        if len(text) < 300_000 and not set(text) & {"\0", "\1"}:
-            found.add(text)
-    return sorted(found)
 
 
 def has_modules(modules):
