@@ -1,5 +1,4 @@
-use Rattle.std.proofs.Common.{◌+◌, length, string_bytes}
-use Rattle.std.specs.Prelude.{min}
+use Rattle.std.proofs.Common.{◌++◌, length, string_bytes, ap, ◌∙◌}
 use Rattle.std.proofs.lemmas.Result.{on_ok_weaker}
 use Rattle.css_sheet.specs.Places.{places_of}
 use Rattle.css_syntax.specs.Views.{prelude_of, block_of}
@@ -25,6 +24,8 @@ returns c =
     (selector_array (prelude_end (places_of places) (prelude_of rule.prelude)) text)
     (item_array places.block_end rule.block.text.now)
     c.in_ok-push_extent.ensures c.in_ok-push_str.ensures.bytes c.in_ok-push_range.ensures
-    c.in_ok-push_flag.ensures c.in_ok-push_str-2.ensures.bytes c.in_ok-push_selectors.ensures
+    c.in_ok-push_flag.ensures c.in_ok-push_str-2.ensures.bytes
+    (c.in_ok-push_selectors.ensures ∙ ap (λ end. string_bytes c.push_str-2.new.self
+    ++ selector_array end text) c.min-prelude_end.ensures)
     c.in_ok-push_str-3.ensures.bytes)
     c.push_items.ensures
