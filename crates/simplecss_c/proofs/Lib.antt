@@ -11,3 +11,4 @@ pub mod ItemTexts
 pub mod SelectorTexts
 pub mod PlacedTexts
 pub mod FurtherMembers
+pub mod SheetTexts
