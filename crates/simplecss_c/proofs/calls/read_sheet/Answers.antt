@@ -1,4 +1,4 @@
-use Rattle.std.proofs.Common.{◌≡◌, ◌<◌, ℕ, List, [], map, arith, ap, Err}
+use Rattle.std.proofs.Common.{◌<◌, ℕ, List, [], map, arith, ap, Err}
 use Rattle.simplecss.specs.DeclarationCounts.{kept_in_all}
 use Rattle.simplecss.specs.RuleViews.{rules_in}
 use Rattle.simplecss.specs.ThisEdition.{this_edition}

@@ -1,4 +1,3 @@
-use Rattle.std.proofs.Common.{◌≡◌}
 use Rattle.simplecss.specs.Selectors.{reads}
 use Rattle.simplecss.specs.SelectorLists.{last_item, list_fault, list_of}
 use Rattle.simplecss.specs.ThisEdition.{this_edition}

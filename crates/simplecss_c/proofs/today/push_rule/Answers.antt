@@ -1,7 +1,7 @@
 use Rattle.std.proofs.Common.{◌++◌, length, string_bytes, ap, ◌∙◌}
 use Rattle.std.proofs.lemmas.Result.{on_ok_weaker}
 use Rattle.css_sheet.specs.Places.{places_of}
-use Rattle.css_syntax.specs.Views.{prelude_of, block_of}
+use Rattle.css_syntax.specs.Views.{prelude_of}
 use Rattle.simplecss_c.specs.Json.{boolean}
 use Rattle.simplecss_c.specs.Ranges.{range, extent}
 use Rattle.simplecss_c.specs.ItemLines.{item_array}

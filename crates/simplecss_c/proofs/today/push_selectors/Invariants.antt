@@ -1,5 +1,4 @@
-use Rattle.std.proofs.Common.{◌≡◌, ◌++◌, ◌∷◌, map, string_bytes, length}
-use Rattle.css_syntax.specs.Tokens.{past_gap}
+use Rattle.std.proofs.Common.{◌≡◌, ◌++◌, map, string_bytes, length}
 use Rattle.css_selectors.specs.SelectorLists.{selector_part}
 use Rattle.css_selectors.specs.PlacedSelectors.{more_placed_selectors}
 use Rattle.simplecss_c.specs.Ranges.{further}
