@@ -12,3 +12,4 @@ pub mod SelectorTexts
 pub mod PlacedTexts
 pub mod FurtherMembers
 pub mod SheetTexts
+pub mod PageLines
