@@ -107,9 +107,9 @@ pub statement-written : (out brace head key array more : List ℕ) (a b d levels
 statement-written out brace head key array more a b d levels rest first second third fourth fifth =
     let start = (out ++ open_brace ∷ []) ++ a in
     let begun : head ≡ start ++ further (b ∷ d ∷ []) =
-        second ∙ ap (λ t. brace ++ t) (join-further a (b ∷ d ∷ []))
-        ∙ sym (append_assoc brace a (further (b ∷ d ∷ [])))
-        ∙ ap (λ t. (t ++ a) ++ further (b ∷ d ∷ [])) first in
+    second ∙ ap (λ t. brace ++ t) (join-further a (b ∷ d ∷ []))
+    ∙ sym (append_assoc brace a (further (b ∷ d ∷ [])))
+    ∙ ap (λ t. (t ++ a) ++ further (b ∷ d ∷ [])) first in
     line-closed out more a (b ∷ d ∷ member (codes "levels") levels ∷ rest)
     (further-more start array more (b ∷ d ∷ member (codes "levels") levels ∷ []) rest
     (member-more (codes "levels") start head key array levels (b ∷ d ∷ []) begun third fourth)

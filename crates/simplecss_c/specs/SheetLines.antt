@@ -60,7 +60,7 @@ selector_array end text = array (map (selector_object end) (placed_selectors tex
 
 -- ---- statements
 
--- the offset at which the prelude of a rule set ends: before the contents of its block begin
+-- the offset at which the prelude of a rule set ends: never after the contents of its block begin
 abbrev pub prelude_end : PlacesText → Stated → ℕ
 prelude_end places prelude = min (places.prelude + length prelude.text) places.block
 
