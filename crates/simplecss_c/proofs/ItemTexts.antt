@@ -1,12 +1,11 @@
 -- Objects, arrays and lines of items that are written piece by piece.
 -- Serves `items::{push_item, push_items, item_lines}` and `today`.
-use Rattle.std.proofs.Common.{◌≡◌, ℕ, Bool, true, false, List, [], ◌∷◌, ◌++◌, map, refl, sym, ap, ◌∙◌, append_assoc, append-nil}
+use Rattle.std.proofs.Common.{◌≡◌, ℕ, Bool, true, false, List, [], ◌∷◌, ◌++◌, refl, sym, ap, ◌∙◌, append_assoc, append-nil}
 use Rattle.std.specs.Prelude.{codes}
 use Rattle.std.specs.List.{flat_map, join_with_byte}
-use Rattle.simplecss.specs.AsciiBytes.{comma, newline, open_brace, close_brace, open_bracket, close_bracket}
-use Rattle.simplecss_c.specs.Json.{array, member, members, object}
-use Rattle.simplecss_c.specs.JsonLines.{line}
-use Rattle.simplecss_c.specs.Ranges.{further, comma_if, head_members}
+use Rattle.simplecss.specs.AsciiBytes.{comma, open_brace, close_brace, open_bracket, close_bracket}
+use Rattle.simplecss_c.specs.Json.{array, members, object}
+use Rattle.simplecss_c.specs.Ranges.{further, comma_if}
 
 -- ---- objects
 

@@ -1,6 +1,6 @@
 -- Why a sheet was not read within a limit.
 -- Serves `calls::read_sheet` and the calls that use it (their failures).
-use Rattle.std.proofs.Common.{◌≡◌, ℕ, ◌<◌, refl, sym, subst}
+use Rattle.std.proofs.Common.{◌≡◌, refl, sym, subst}
 use Rattle.std.specs.Prelude.{Result, Ok, Err, MatchResult}
 use Rattle.std.specs.Result.{IsErrAnd}
 use Rattle.simplecss.specs.declared.SheetError.{SheetError}

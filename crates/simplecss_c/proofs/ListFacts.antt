@@ -1,7 +1,7 @@
 -- What a text that was read as a list of selectors is.
 -- Serves `lists::selectors_of` (the selectors, or that there are none).
 use Rattle.std.proofs.Common.{◌≡◌, List, Option, None, Some, ap}
-use Rattle.std.specs.Prelude.{Result, Ok, Err}
+use Rattle.std.specs.Prelude.{Ok, Err}
 use Rattle.simplecss.specs.Components.{Component}
 use Rattle.simplecss.specs.SelectorLists.{ListFault, list_or}
 

@@ -7,7 +7,6 @@ use Rattle.std.specs.declared.string.String.{String}
 use Rattle.std.specs.Str.{IsUtf8}
 use Rattle.simplecss.specs.Components.{Component}
 use Rattle.simplecss.specs.SelectorLists.{list_of}
-use Rattle.simplecss.specs.Sheets.{sheet}
 use Rattle.simplecss.specs.Statements.{StyleRule}
 use Rattle.simplecss.specs.ThisEdition.{this_edition}
 use Rattle.simplecss_tree.specs.Rows.{Row}
@@ -15,7 +14,7 @@ use Rattle.simplecss_c.specs.declared.answer.Failure.{Failure}
 use Rattle.simplecss_c.specs.declared.answer.Failure.TheVariants.{Refused, Tree, Memory, TooManyDeclarations, NotUtf8}
 use Rattle.simplecss_c.specs.Outcomes.{outcome_of}
 use Rattle.simplecss_c.specs.declared.pages.LineContent.TheVariants.{Numbers, Selected}
-use Rattle.simplecss_c.specs.Calls.{HasTexts, IsReadWithin, Passed, passed_tree, IsPageCall, IsSelectCall, IsMatchSelectorsCall, AreSelectorsIn, HasNoSelector, HasRefusedText, HasBadEnds, IsBrokenUtf8, FailsFor}
+use Rattle.simplecss_c.specs.Calls.{HasTexts, IsReadWithin, Passed, passed_tree, IsPageCall, IsSelectCall, IsMatchSelectorsCall, AreSelectorsIn, HasNoSelector, HasBadEnds, IsBrokenUtf8, FailsFor}
 use Rattle.simplecss_c.specs.AnswerLines.{AreLinesOf}
 
 -- the text that is due, or a refused allocation

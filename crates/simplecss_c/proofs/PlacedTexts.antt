@@ -1,6 +1,6 @@
 -- Items that are read one after another and written as they are read.
 -- Serves `items::{push_item, push_items, item_lines}`.
-use Rattle.std.proofs.Common.{◌≡◌, ℕ, ◌+◌, Bool, true, false, List, [], ◌∷◌, ◌++◌, length, map, Some, None, sym, ap, ◌∙◌, append-nil}
+use Rattle.std.proofs.Common.{◌≡◌, ℕ, ◌+◌, Bool, true, false, List, [], ◌++◌, map, Some, None, sym, ap, ◌∙◌, append-nil}
 use Rattle.std.specs.Prelude.{codes, decimal}
 use Rattle.std.specs.List.{flat_map}
 use Rattle.css_syntax.specs.Contents.{item_contents}

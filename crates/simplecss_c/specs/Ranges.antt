@@ -1,5 +1,5 @@
 -- Members of JSON objects that say where something is: offsets in bytes.
-use Rattle.std.specs.Prelude.{ℕ, ◌+◌, List, [], ◌∷◌, ◌++◌, codes, decimal, length, Bool, true, false, Option, None, Some}
+use Rattle.std.specs.Prelude.{ℕ, ◌+◌, List, [], ◌∷◌, codes, decimal, length, Bool, true, false, Option, None, Some}
 use Rattle.std.specs.List.{flat_map}
 use Rattle.simplecss.specs.AsciiBytes.{comma}
 use Rattle.css_syntax.specs.declared.quality.Fault.{Fault}
