@@ -183,7 +183,8 @@ fn push_members(
     places: Places,
 ) -> Result<(), AllocError>
     ensures { OnOk result (string_bytes out.new
-        ≡ string_bytes out.old ++ further (shown_members (places_of places) (shown_text shown.now))) }
+        ≡ string_bytes out.old
+        ++ further (shown_members (places_of places) (shown_text shown.now))) }
 {
     match shown {
         Shown::Rule(rule) => push_rule(out, alloc, rule, places),

@@ -9,8 +9,8 @@ use Rattle.simplecss_c.proofs.today.push_levels.Goals.{then-index-gt0+in_ok-push
 pub loop-index-preserved : goal.loop-index-preserved
 unfolding encode
 loop-index-preserved c =
-    array_more level_object (λ level. condition_at (level_of level)) c.args.levels.now c.loop-index.index
-    c.index-levels-index.result
+    array_more level_object (λ level. condition_at (level_of level)) c.args.levels.now
+    c.loop-index.index c.index-levels-index.result
     (string_bytes c.push.new.self) (string_bytes c.loop-index.out)
     (string_bytes c.if-index-gt0.out) (string_bytes c.push_level.new.out)
     c.loop-index-test.true c.loop-index.invariant

@@ -5,7 +5,8 @@ use Rattle.simplecss_c.specs.Ranges.{further}
 use Rattle.simplecss_c.specs.SheetLines.{selector_object}
 use Rattle.simplecss_c.proofs.today.push_selectors.Given as goal
 
--- What was written, and what is to be written of the selectors that are left, is all after the first.
+-- What was written, and what is to be written of the selectors that are left, is all after the
+-- first.
 abbrev pub invariant-parts : goal.invariant-parts
 invariant-parts l =
     string_bytes l.out
