@@ -1,8 +1,11 @@
 -- Numbers of indices for which a test is true.
 -- Serves `groups` and `numbered_tree` (counts fit their types, and tests that agree count the same).
-use Rattle.std.proofs.Common.{◌≡◌, ℕ, zero, suc, ◌+◌, ◌<◌, ◌≤◌, ◌⊎◌, inl, inr, Bool, true, false, Some, refl, sym, ap, ◌∙◌, arith}
+use Rattle.std.proofs.Common.{◌≡◌, ℕ, zero, suc, ◌+◌, ◌<◌, ◌≤◌, ◌⊎◌, inl, inr, Bool, true, false, Option, Some, refl, sym, ap, ◌∙◌, arith}
 use Rattle.std.specs.Prelude.{if◌then◌else◌}
 use Rattle.selectors3_tree.specs.Counts.{count_below, last_below}
+
+some_same : {A : Type 0} {x y : A} → Some x ≡ Some y → x ≡ y
+some_same e = cc
 
 at_most_one : (b : Bool) → (if b then 1 else 0) ≤ 1
 at_most_one true = omega arith
@@ -42,3 +45,14 @@ module _ (one other : ℕ → Bool) where
       let h = last_below-same n (λ i lt. same i (omega (arith, lt))) in
       ap (λ r. if one n then Some n else r) h
       ∙ ap (λ b. if b then Some n else last_below other n) (same n (omega arith))
+
+chosen_before : (b : Bool) (n p : ℕ) (r : Option ℕ) → (r ≡ Some p → p < n)
+    → (if b then Some n else r) ≡ Some p → p < suc n
+chosen_before true n p r h is = let e = some_same is in omega (arith, e)
+chosen_before false n p r h is = let e = h is in omega (arith, e)
+
+-- the last of the indices below a number is below it
+pub last_below-before : (test : ℕ → Bool) (n p : ℕ) → last_below test n ≡ Some p → p < n
+last_below-before test zero p is = absurd (cc)
+last_below-before test (suc n) p is =
+    chosen_before (test n) n p (last_below test n) (last_below-before test n p) is

@@ -1,6 +1,6 @@
 -- The elements of a tree as nodes of a document. Siblings are elements with the same parent, in the
 -- order of the list.
-use Rattle.std.specs.Prelude.{ℕ, suc, ◌+◌, ◌-◌, Bool, false, ◌&&◌, ◌||◌, ◌==◌, nat_lt, List, length, Option, None, Some, bytes_eq, codes, slice_index_or}
+use Rattle.std.specs.Prelude.{ℕ, suc, ◌+◌, ◌-◌, Bool, false, ◌&&◌, ◌||◌, ◌==◌, nat_lt, if◌then◌else◌, List, length, Option, None, Some, bytes_eq, codes, slice_index_or}
 use Rattle.std.specs.Option.{option_map}
 use Rattle.std.specs.Str.{str_eq_ignore_ascii_case}
 use Rattle.selectors3.specs.Documents.{Document}
@@ -29,15 +29,15 @@ family rows i = family_under (parent_index rows i)
 
 -- the second element has the parent of the first
 abbrev pub is_sibling : List Row → ℕ → ℕ → Bool
-is_sibling rows i j = family rows j == family rows i
+is_sibling rows i j = family rows i == family rows j
 
 -- and the name of the first
 abbrev pub is_alike : List Row → ℕ → ℕ → Bool
-is_alike rows i j = is_sibling rows i j && bytes_eq (name_at rows j) (name_at rows i)
+is_alike rows i j = is_sibling rows i j && bytes_eq (name_at rows i) (name_at rows j)
 
 -- the second element is a child of the first
 abbrev pub is_child : ℕ → List Row → ℕ → Bool
-is_child i rows j = family rows j == suc i
+is_child i rows j = suc i == family rows j
 
 -- of all that are like an element, those that are neither before it nor it
 abbrev pub count_after : (ℕ → Bool) → ℕ → List Row → ℕ
@@ -49,16 +49,16 @@ has_content page i =
     slice_index_or page.texts i false
     || nat_lt 0 (count_below (is_child i page.rows) (length page.rows))
 
--- Whether the element is in the state of a name: one of the five of a tree, or a link, visited or
--- not.
+-- Whether an element with these states is in the state of a name, whatever its case: one of the five
+-- of a tree, or a link, visited or not.
 abbrev pub is_in_state : States → List ℕ → Bool
 is_in_state states name =
-    (str_eq_ignore_ascii_case name (codes "link") && states.link)
-    || (str_eq_ignore_ascii_case name (codes "visited") && states.visited)
-    || (str_eq_ignore_ascii_case name (codes "hover") && states.hover)
-    || (str_eq_ignore_ascii_case name (codes "active") && states.active)
-    || (str_eq_ignore_ascii_case name (codes "focus") && states.focus)
-    || (str_eq_ignore_ascii_case name (codes "any-link") && (states.link || states.visited))
+    if str_eq_ignore_ascii_case name (codes "link") then states.link
+    else (if str_eq_ignore_ascii_case name (codes "visited") then states.visited
+    else (if str_eq_ignore_ascii_case name (codes "hover") then states.hover
+    else (if str_eq_ignore_ascii_case name (codes "active") then states.active
+    else (if str_eq_ignore_ascii_case name (codes "focus") then states.focus
+    else str_eq_ignore_ascii_case name (codes "any-link") && (states.link || states.visited)))))
 
 -- All pages as one document: a node is a page and an index of an element.
 abbrev pub page_document : Document (Page × ℕ)

@@ -1,6 +1,6 @@
 //! The elements of a tree whose siblings are counted.
 ghost use Rattle.std.specs.Prelude.{◌≡◌};
-ghost use Rattle.simplecss_tree.specs.declared.tree.States.{States as StatesOf};
+ghost use Rattle.simplecss_tree.specs.TreeNodes.{states_at};
 ghost use Rattle.selectors3_tree.specs.Pages.{is_in_state};
 
 use crate::NumberedTree;
@@ -37,14 +37,6 @@ impl<'n, 'p, 't> NumberedNode<'n, 'p, 't> {
     {
         self.index
     }
-
-    /// Returns the element without the numbers.
-    fn plain(&self) -> Node<'p, 't>
-        ensures rows { result.0 ≡ self.now.0.rows }
-        ensures index { result.1 ≡ self.now.1 }
-    {
-        self.tree.tree.node(self.index).unwrap()
-    }
 }
 
 impl<'n, 'p, 't> Element3 for NumberedNode<'n, 'p, 't> {
@@ -66,7 +58,7 @@ impl<'n, 'p, 't> Element3 for NumberedNode<'n, 'p, 't> {
 
     fn parent(&self) -> Option<Self> {
         let tree = self.tree;
-        let index = self.plain().parent_element()?.index();
+        let index = self.tree.plain(self.index).parent_element()?.index();
         Some(NumberedNode { tree, index })
     }
 
@@ -93,15 +85,15 @@ impl<'n, 'p, 't> Element3 for NumberedNode<'n, 'p, 't> {
     }
 
     fn is_named(&self, name: &str) -> bool {
-        self.plain().name() == name
+        self.tree.plain(self.index).name() == name
     }
 
     fn attribute(&self, name: &str) -> Option<&str> {
-        self.plain().attribute(name)
+        self.tree.plain(self.index).attribute(name)
     }
 
     fn is_in_state(&self, name: &str) -> bool {
-        is_in(&self.plain(), name)
+        is_in(&self.tree.plain(self.index), name)
     }
 
     fn is_in_language(&self, _range: &str) -> bool {

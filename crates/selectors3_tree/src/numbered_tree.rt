@@ -1,17 +1,19 @@
 //! Trees whose siblings are counted.
-ghost use Rattle.std.specs.Prelude.{◌≡◌, ◌<◌, ◌≤◌, ◌^◌, ◌+◌, ◌-◌, ◌||◌, ℕ, Some, None, length, slice_get, slice_index_or};
-ghost use Rattle.std.specs.Prelude.{IfOk, OnOk, OnErr, MatchOption, MatchResult, map, option_map, true, false};
+ghost use Rattle.std.specs.Prelude.{◌≡◌, ◌<◌, ◌≤◌, ◌^◌, ℕ, length, slice_index_or};
+ghost use Rattle.std.specs.Prelude.{IfOk, IfErr, MatchOption, slice_set, true, false};
 ghost use Rattle.sibling_matching.specs.ListTrees.{spot};
+ghost use Rattle.simplecss.specs.ListTrees.{spot as plain_spot};
+ghost use Rattle.simplecss_tree.specs.TreeNodes.{name_at};
 ghost use Rattle.selectors3_tree.specs.Counts.{count_below, last_below};
-ghost use Rattle.selectors3_tree.specs.Pages.{Page, family, is_sibling, is_alike, is_child, count_after};
-ghost use Rattle.selectors3_tree.specs.Pages.{has_content, with_text, without_texts};
+ghost use Rattle.selectors3_tree.specs.Pages.{family, is_sibling, is_alike, count_after};
+ghost use Rattle.selectors3_tree.specs.Pages.{has_content};
 ghost use Rattle.selectors3_tree.specs.Keys.{AreFamilies, AreKinds};
-ghost use Rattle.selectors3_tree.specs.declared.numbered_tree.NumberingError.TheVariants.{TooManyElements};
+ghost use Rattle.selectors3_tree.specs.declared.numbered_tree.NumberingError.TheVariants.{TooManyElements, Memory};
 
 use crate::NumberedNode;
 use crate::groups::{Groups, Seen};
 use simplecss::Element;
-use simplecss_tree::Tree;
+use simplecss_tree::{Node, Tree};
 use std::alloc::{AllocError, AllocFailed, Global};
 use std::marker::Model;
 
@@ -93,6 +95,14 @@ fn families_of(alloc: Global, tree: &Tree<'_>) -> Result<Vec<usize>, AllocError>
     Ok(families)
 }
 
+/// Returns the name of an element.
+fn name_of<'t>(tree: &Tree<'t>, index: usize) -> &'t str
+    requires { index < length tree.now }
+    ensures { result.now ≡ name_at tree.now index }
+{
+    tree.node(index).unwrap().name()
+}
+
 /// Returns the number of the family of each element, and its name.
 fn kinds_of<'t>(
     alloc: Global,
@@ -104,7 +114,7 @@ fn kinds_of<'t>(
 {
     let mut kinds = Vec::with_capacity(alloc, families.len())?;
     for index in 0..families.len() {
-        kinds.push((families[index], tree.node(index).unwrap().name()))?;
+        kinds.push((families[index], name_of(tree, index)))?;
     }
     Ok(kinds)
 }
@@ -115,7 +125,7 @@ fn no_texts(alloc: Global, count: usize) -> Result<Vec<bool>, AllocError>
     ensures none { IfOk result (λ texts. (i : ℕ) → slice_index_or texts.items i false ≡ false) }
 {
     let mut texts = Vec::with_capacity(alloc, count)?;
-    for _ in 0..count {
+    for index in 0..count {
         texts.push(false)?;
     }
     Ok(texts)
@@ -173,6 +183,15 @@ impl<'p, 't> NumberedTree<'p, 't> {
 
 /// Answers about its elements.
 impl<'p, 't> NumberedTree<'p, 't> {
+    /// Returns the element of the tree itself.
+    pub(crate) fn plain(&self, index: usize) -> Node<'p, 't>
+        requires { index < length self.now.rows }
+        ensures { result ≡ plain_spot self.now.rows index }
+    {
+        let tree = self.tree;
+        tree.node(index).unwrap()
+    }
+
     /// Returns the number of siblings before an element, and the last of them.
     pub(crate) fn before(&self, index: usize) -> Seen
         requires { index < length self.now.rows }

@@ -1,4 +1,4 @@
-use Rattle.std.proofs.Common.{◌≡◌, ◌+◌, ◌≤◌, ◌<◌, Some, length, refl, ap, sym, ◌∙◌, arith}
+use Rattle.std.proofs.Common.{◌≡◌, ◌+◌, Some, length, refl, ap, ◌∙◌, arith}
 use Rattle.std.proofs.lemmas.Option.{slice_get_read}
 use Rattle.std.proofs.lemmas.List.{length-append}
 use Rattle.std.specs.List.{slice_get}
@@ -21,8 +21,7 @@ loop-i-preserved g c =
     let known = c.seen_of-seen.ensures ∙ c.loop-i.invariant.2 c.index-keys-i.result in
     let at : slice_get c.args.keys.now c.loop-i.i ≡ Some c.index-keys-i.result =
     slice_get_read c.args.keys.now _ c.loop-i.i c.index-keys-i.result refl c.loop-i-test.true
-    c.index-keys-i.is in
-    (
+    c.index-keys-i.is in (
       ap length c.in_ok-push.ensures.items ∙ length-append c.loop-i.before.items _
           ∙ ap (λ n. n + 1) c.loop-i.invariant.0,
       before_more g.K.Ord.cmp c.args.keys.now c.loop-i.before.items c.push.new.self.items c.loop-i.i
