@@ -142,8 +142,7 @@ def lines_of(element: Element, depth: int = 0) -> List[str]:
     name, attributes, children = element
     content = "1" if any(child for child in children if isinstance(child, str)) else "0"
     fields = [str(depth), name, content]
-    for key, value in attributes.items():
-        fields += [key, value]
+    fields += [f"{key}={value}" for key, value in attributes.items()]
     found = ["\1".join(fields)]
     for child in children:
         if not isinstance(child, str):
@@ -170,7 +169,12 @@ def found_of(reply: str) -> Found:
 SOUP = r"""
 import json, signal, sys
 import soupsieve
-from bs4 import BeautifulSoup
+from bs4 import BeautifulSoup, Comment, Tag
+
+class Above(Tag):
+    # The parent of a root: soupsieve would take a document for a further ancestor.
+    def __bool__(self):
+        return False
 
 class Slow(Exception):
     pass
@@ -186,25 +190,33 @@ def build(soup, element):
         tag[key] = value
     for child in element[2]:
         tag.append(child if isinstance(child, str) else build(soup, child))
+    return commented(tag)
+
+def commented(tag):
+    # soupsieve does not find the child B by `An+B` if B is the number of nodes.
+    for _ in range(8):
+        tag.append(Comment(""))
     return tag
 
 def select(root, numbers, text):
-    # Some texts take it very long.
+    # Some texts take it very long, and numbers of escapes above 10FFFF raise another error.
     signal.setitimer(signal.ITIMER_REAL, 0.5)
     try:
         selector = soupsieve.compile(text)
         return [numbers[id(tag)] for tag in [root, *root.find_all(True)] if selector.match(tag)]
     except (soupsieve.SelectorSyntaxError, NotImplementedError):
         return None
-    except Slow:
-        return "slow"
+    except (Slow, ValueError):
+        return "no answer"
     finally:
         signal.setitimer(signal.ITIMER_REAL, 0)
 
 answers = []
 for tree, texts in json.load(sys.stdin):
-    # The root is in no document, since soupsieve takes one for a further ancestor.
-    root = build(BeautifulSoup("", "xml"), tree)
+    soup = BeautifulSoup("", "xml")
+    root, above = build(soup, tree), Above(name="above", is_xml=True)
+    above.append(root)
+    commented(above)
     numbers = {id(tag): number for number, tag in enumerate([root, *root.find_all(True)])}
     answers.append([select(root, numbers, text) for text in texts])
 json.dump(answers, sys.stdout)
@@ -260,19 +272,29 @@ def browser_finds(work: List[Tuple[Element, List[str]]]) -> Optional[List[List[F
     return json.loads(html.unescape(answer[1])) if answer else None
 
 
-# Differences that docs/DIFFERENCES.md names, by a pattern of the text and the reply. Refused here and not there:
-REFUSED_HERE = re.compile(r"not closed|function that is read|\||:(is|where|not)\(|/\*", re.IGNORECASE)
+# Differences that docs/DIFFERENCES.md names, by what is read before the place of a refusal, and by what is refused.
+INNER = re.compile(r":(is|where|not)\([^()]*(\([^()]*)?$", re.IGNORECASE)
+REFUSED_HERE = re.compile(r"is not closed|function that is read|: `(\||/\*)")
 # A browser knows no flag `s`, and takes a large number for another; it refuses pseudo-classes that it does not know.
-ODD_IN_BROWSERS = re.compile(r"[sS]\s*(/\*.*?\*/)?\s*\]|99999999999")
-KNOWN = set(STRUCTURES + NUMBERINGS) | {"not", "is", "where", "NOT"}
-# soupsieve reads empty values, and newlines after escapes, in another way, refuses some escapes, and finds no only
-# child by `:nth-child(2n+1)`.
-ODD_IN_SOUP = re.compile(r"=\s*(/\*.*?\*/)?\s*(''|\"\")|\\([0-9a-f]{1,6})?\n|:nth-", re.IGNORECASE)
+ODD_IN_BROWSERS = re.compile(r"""[\s'"/]s\s*(/\*.*?\*/\s*)*\]|\d{10}""", re.IGNORECASE)
+KNOWN = {*STRUCTURES, *(name + "(" for name in (*NUMBERINGS, "not", "is", "where", "NOT"))}
+# soupsieve takes an empty value for the start of each, finds nothing by `n-2`, and refuses two blanks before a sign and
+# newlines after escapes. It takes away comments before it reads escapes.
+ODD_IN_SOUP = re.compile(
+    r"[$^*]=\s*(/\*.*?\*/\s*)*(''|\"\")|\bn\s*-\s*2|\s\s[,+>~]|\\[0-9a-f]{1,6}\n|\\/\*", re.IGNORECASE)
+
+
+def front_of(text: str, reply: str) -> str:
+    """The text before the place of a refusal, without comments and what is in parentheses that are closed."""
+    row, column = (int(number) for number in reply.split(":")[1:3])
+    lines = text.split("\n")[:row]
+    front = re.sub(r"/\*.*?\*/", "", "\n".join(lines[:-1] + [lines[-1][:column - 1]]), flags=re.DOTALL)
+    return re.sub(r"\([^()]*\)", "", re.sub(r"\([^()]*\)", "", front))
 
 
 def has_unknown(text: str) -> bool:
     """Whether the text has the name of a pseudo-class that a browser may not know."""
-    return any(name not in KNOWN for name in re.findall(r":([\w-]*)", text))
+    return any(name not in KNOWN for name in re.findall(r":([\w-]*\(?)", text))
 
 
 class Judge:
@@ -286,7 +308,7 @@ class Judge:
     def compare(self, text: str, reply: str, theirs: Found) -> None:
         """Compares one text."""
         found = found_of(reply)
-        if theirs == "slow":
+        if theirs == "no answer":
             self.left_out += 1
         elif found != theirs and self.is_known(text, reply, theirs):
             self.left_out += 1
@@ -299,10 +321,9 @@ class Judge:
     def is_known(self, text: str, reply: str, theirs: Found) -> bool:
         """Whether the difference is one of those that are named."""
         if found_of(reply) is None:
-            return bool(REFUSED_HERE.search(reply + text))
-        if self.name == "chromium":
-            return bool(ODD_IN_BROWSERS.search(text)) or theirs is None and has_unknown(text)
-        return bool(ODD_IN_SOUP.search(text)) or theirs is None and (has_unknown(text) or "\\" in text)
+            return bool(REFUSED_HERE.search(reply) or INNER.search(front_of(text, reply)))
+        odd = ODD_IN_BROWSERS if self.name == "chromium" else ODD_IN_SOUP
+        return bool(odd.search(text)) or theirs is None and has_unknown(text)
 
 
 def compare(program: str, counts: Counts, count: int, kind: str) -> None:

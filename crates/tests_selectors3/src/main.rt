@@ -1,12 +1,12 @@
-//! What lists of selectors of level 3 match in a tree. The tree and the lists are on standard
+//! Prints what lists of selectors of level 3 match in a tree. The tree and the lists are on standard
 //! input, and a NUL byte separates them.
 //!
-//! A line of the tree is an element, in document order. Its fields, which the byte 1 separates, are its
-//! depth, its name, `1` if it has a text of its own, and the name and the value of each attribute.
+//! A line of the tree is an element, in document order. Its fields, which the byte 1 separates, are
+//! its depth, its name, `1` if it has a text of its own, and each attribute, as `name=value`.
 //!
-//! For each list a line is printed, and a NUL byte after it: the specificity of its first selector, a
-//! colon, and the numbers of the elements that one of its selectors matches, from 0 on. Of a list that is
-//! refused it says where and why.
+//! What is printed for each list ends with a NUL byte: the specificity of its first selector, a colon,
+//! and the numbers of the elements that one of its selectors matches, from 0 on; or, if it is refused,
+//! where and why.
 #![tactic(auto)]
 
 mod tree;
@@ -18,7 +18,7 @@ use std::io;
 use std::io::{BufWriter, ErrorKind, Read, Write};
 use tree::{mark_texts, read_tree};
 
-/// Whether one of the selectors matches.
+/// Whether one of the selectors matches the element.
 fn is_matched<E: Element3>(selectors: &[Selector3<'_>], element: &E) -> bool {
     selectors.iter().any(|selector| selector.matches(element))
 }

@@ -1,4 +1,4 @@
-//! Trees, of which each line is an element.
+//! Reads trees, of which each line is an element.
 
 use selectors3_tree::NumberedTree;
 use simplecss_tree::Tree;
@@ -15,15 +15,10 @@ fn split_field(text: &str) -> (&str, &str) {
 
 /// Adds the attributes of the element that was added last.
 fn add_attributes<'t>(tree: &mut Tree<'t>, fields: &'t str) -> io::Result<()> {
-    let mut names = true;
-    let mut name = "";
     for field in fields.split('\x01') {
-        if names {
-            name = field;
-        } else {
-            tree.set_attribute(name, field)?;
+        if let Some((name, value)) = field.split_once('=') {
+            tree.set_attribute(name, value)?;
         }
-        names = !names;
     }
     Ok(())
 }
