@@ -17,14 +17,14 @@ import shutil
 import subprocess
 import sys
 import tempfile
-from typing import Any, Dict, List, Optional, Sequence, Tuple
+from typing import Any, Dict, List, Optional, Sequence, Tuple, Union
 
 from common import Counts
 
 # An element: its name, its attributes, and its children, which are elements and texts.
 Element = Tuple[str, Dict[str, str], List[Any]]
-# What a text is: the numbers of the elements that it matches, or None if it is refused.
-Found = Optional[List[int]]
+# What a text is: the numbers of the elements that it matches, None if it is refused, or that there is no answer.
+Found = Union[List[int], None, str]
 
 NAMES = ("a", "b", "li", "x-y", "\xe9")
 WORDS = ("c", "d", "C", "1", "e-f", "\xe9t\xe9", "a b", "en", "en-US", "", " ", "x.y", "-")
@@ -253,11 +253,12 @@ def soup_finds(work: List[Tuple[Element, List[str]]]) -> Optional[List[List[Foun
     if subprocess.run(words + ["import soupsieve, bs4, lxml"], stderr=subprocess.DEVNULL, check=False).returncode:
         return None
     made = subprocess.run(words + [SOUP], input=json.dumps(work), stdout=subprocess.PIPE, text=True, check=True)
-    return json.loads(made.stdout)
+    answers: List[List[Found]] = json.loads(made.stdout)
+    return answers
 
 
 def browser_finds(work: List[Tuple[Element, List[str]]]) -> Optional[List[List[Found]]]:
-    """What a browser finds, or None if there is none."""
+    """What a browser finds, or None if there is none or it does not answer."""
     browser = shutil.which("chromium") or shutil.which("chromium-browser")
     if not browser:
         return None
@@ -267,34 +268,42 @@ def browser_finds(work: List[Tuple[Element, List[str]]]) -> Optional[List[List[F
             file.write(PAGE % json.dumps(work).replace("<", "\\u003c"))
         words = [browser, "--headless", "--no-sandbox", "--disable-gpu", f"--user-data-dir={folder}/profile",
                  "--virtual-time-budget=60000", "--dump-dom", "file://" + page]
-        made = subprocess.run(words, capture_output=True, check=False)
+        try:
+            made = subprocess.run(words, capture_output=True, check=False, timeout=120)
+        except subprocess.TimeoutExpired:
+            return None
     answer = re.search(r"ANSWER(.*)END", made.stdout.decode(), re.DOTALL)
     return json.loads(html.unescape(answer[1])) if answer else None
 
 
-# Differences that docs/DIFFERENCES.md names, by what is read before the place of a refusal, and by what is refused.
-INNER = re.compile(r":(is|where|not)\([^()]*(\([^()]*)?$", re.IGNORECASE)
-REFUSED_HERE = re.compile(r"is not closed|function that is read|: `(\||/\*)")
+# Differences that docs/DIFFERENCES.md names, by the words of a refusal and by what is read before its place: a list, or
+# a comment within a compound selector.
+REFUSED_HERE = re.compile(r"is not closed|function that is read|: `(\||/\*|[+-]?\\.*(An\+B|expected here))")
+INNER = re.compile(r":(is|where|not)\([^()]*(\([^()]*)?$|\*/$", re.IGNORECASE)
 # A browser knows no flag `s`, and takes a large number for another; it refuses pseudo-classes that it does not know.
 ODD_IN_BROWSERS = re.compile(r"""[\s'"/]s\s*(/\*.*?\*/\s*)*\]|\d{10}""", re.IGNORECASE)
 KNOWN = {*STRUCTURES, *(name + "(" for name in (*NUMBERINGS, "not", "is", "where", "NOT"))}
-# soupsieve takes an empty value for the start of each, finds nothing by `n-2`, and refuses two blanks before a sign and
-# newlines after escapes. It takes away comments before it reads escapes.
+# soupsieve takes an empty value for the start of each, finds nothing by `n-2`, refuses two blanks before a sign and
+# newlines after escapes, takes away comments before it reads escapes, and takes the name `*` for any.
 ODD_IN_SOUP = re.compile(
-    r"[$^*]=\s*(/\*.*?\*/\s*)*(''|\"\")|\bn\s*-\s*2|\s\s[,+>~]|\\[0-9a-f]{1,6}\n|\\/\*", re.IGNORECASE)
+    r"""[$^*]=\s*(/\*.*?\*/\s*)*(''|"")|\bn\s*-\s*2|\s(\s|/\*.*?\*/)+[,+>~]|\\[0-9a-f]{0,6}\n|\\/?\*""",
+    re.IGNORECASE,
+)
 
 
 def front_of(text: str, reply: str) -> str:
-    """The text before the place of a refusal, without comments and what is in parentheses that are closed."""
+    """The text before the place of a refusal, without escapes, and what is in comments and parentheses."""
     row, column = (int(number) for number in reply.split(":")[1:3])
     lines = text.split("\n")[:row]
-    front = re.sub(r"/\*.*?\*/", "", "\n".join(lines[:-1] + [lines[-1][:column - 1]]), flags=re.DOTALL)
-    return re.sub(r"\([^()]*\)", "", re.sub(r"\([^()]*\)", "", front))
+    front = "\n".join(lines[:-1] + [lines[-1][:column - 1]])
+    for pattern, shown in ((r"\\.", ""), (r"/\*.*?\*/", "/**/"), (r"\([^()]*\)", ""), (r"\([^()]*\)", "")):
+        front = re.sub(pattern, shown, front, flags=re.DOTALL)
+    return front
 
 
 def has_unknown(text: str) -> bool:
     """Whether the text has the name of a pseudo-class that a browser may not know."""
-    return any(name not in KNOWN for name in re.findall(r":([\w-]*\(?)", text))
+    return any(name not in KNOWN for name in re.findall(r":((?:[\w-]|\\.)*\(?)", text))
 
 
 class Judge:
@@ -320,10 +329,12 @@ class Judge:
 
     def is_known(self, text: str, reply: str, theirs: Found) -> bool:
         """Whether the difference is one of those that are named."""
+        odd = ODD_IN_BROWSERS if self.name == "chromium" else ODD_IN_SOUP
+        if odd.search(text):
+            return True
         if found_of(reply) is None:
             return bool(REFUSED_HERE.search(reply) or INNER.search(front_of(text, reply)))
-        odd = ODD_IN_BROWSERS if self.name == "chromium" else ODD_IN_SOUP
-        return bool(odd.search(text)) or theirs is None and has_unknown(text)
+        return theirs is None and has_unknown(text)
 
 
 def compare(program: str, counts: Counts, count: int, kind: str) -> None:
@@ -334,7 +345,7 @@ def compare(program: str, counts: Counts, count: int, kind: str) -> None:
     for name, finds in (("soupsieve", soup_finds), ("chromium", browser_finds)):
         theirs = finds(work)
         if theirs is None:
-            print(f"left out: {kind} selectors beside {name}, which is missing")
+            print(f"left out: {kind} selectors beside {name}, which is missing or does not answer")
             continue
         judge = Judge(name, counts)
         for (_, texts), answers, others in zip(work, replies, theirs):
