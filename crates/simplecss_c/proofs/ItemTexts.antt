@@ -103,25 +103,3 @@ pub line-some : {A : Type 0} (f : A → List ℕ) (x : A) (xs : List A) (out all
     → all ≡ out ++ f x → all ++ flat_map f xs ≡ out ++ flat_map f (x ∷ xs)
 line-some f x xs out all wrote =
     ap (λ t. t ++ flat_map f xs) wrote ∙ append_assoc out (f x) (flat_map f xs)
-
-levels-joined : (out a b d levels more : List ℕ)
-    → (((((out ++ codes "{") ++ members (a ∷ b ∷ d ∷ [])) ++ codes ",\"levels\":") ++ levels) ++ more)
-    ++ codes "}\n"
-    ≡ out ++ ((open_brace ∷ ((a ++ (comma ∷ (b ++ (comma ∷ (d ++
-    ((comma ∷ member (codes "levels") levels) ++ more)))))) ++ close_brace ∷ [])) ++ newline ∷ [])
-levels-joined out a b d levels more = simp append_assoc
-
--- the line of a statement, a piece after another
-pub statement-written : (out brace head key array more : List ℕ) (a b d levels : List ℕ)
-    (rest : List (List ℕ)) → brace ≡ out ++ codes "{"
-    → head ≡ brace ++ members (a ∷ b ∷ d ∷ []) → key ≡ head ++ codes ",\"levels\":"
-    → array ≡ key ++ levels → more ≡ array ++ further rest
-    → more ++ codes "}\n"
-    ≡ out ++ line (object (a ∷ b ∷ d ∷ member (codes "levels") levels ∷ rest))
-statement-written out brace head key array more a b d levels rest first second third fourth fifth =
-    ap (λ t. t ++ codes "}\n") (fifth ∙ ap (λ t. t ++ further rest)
-    (fourth ∙ ap (λ t. t ++ levels) (third ∙ ap (λ t. t ++ codes ",\"levels\":")
-    (second ∙ ap (λ t. t ++ members (a ∷ b ∷ d ∷ [])) first))))
-    ∙ levels-joined out a b d levels (further rest)
-    ∙ ap (λ t. out ++ ((open_brace ∷ ((a ++ (comma ∷ (b ++ (comma ∷ t)))) ++ close_brace ∷ []))
-    ++ newline ∷ [])) (sym (join-further d (member (codes "levels") levels ∷ rest)))

@@ -9,3 +9,6 @@ pub mod JsonTexts
 pub mod JsonVectors
 pub mod ItemTexts
 pub mod SelectorTexts
+pub mod PlacedTexts
+pub mod FurtherMembers
+pub mod SheetTexts

@@ -1,7 +1,8 @@
 -- What a call over a tree answers.
 -- Serves `calls::{matches, select, match_selectors, style_text}`.
-use Rattle.std.proofs.Common.{◌≡◌, ℕ, List, Some, sym, subst}
+use Rattle.std.proofs.Common.{◌≡◌, ℕ, List, Some, inl, inr, sym, subst}
 use Rattle.std.specs.Prelude.{Result, Ok, Err, MatchResult, string_bytes}
+use Rattle.std.specs.Result.{IsErrAnd}
 use Rattle.std.specs.declared.string.String.{String}
 use Rattle.std.specs.Str.{IsUtf8}
 use Rattle.simplecss.specs.Components.{Component}
@@ -11,7 +12,7 @@ use Rattle.simplecss.specs.Statements.{StyleRule}
 use Rattle.simplecss.specs.ThisEdition.{this_edition}
 use Rattle.simplecss_tree.specs.Rows.{Row}
 use Rattle.simplecss_c.specs.declared.answer.Failure.{Failure}
-use Rattle.simplecss_c.specs.declared.answer.Failure.TheVariants.{Memory}
+use Rattle.simplecss_c.specs.declared.answer.Failure.TheVariants.{Refused, Tree, Memory, TooManyDeclarations, NotUtf8}
 use Rattle.simplecss_c.specs.Outcomes.{outcome_of}
 use Rattle.simplecss_c.specs.declared.pages.LineContent.TheVariants.{Numbers, Selected}
 use Rattle.simplecss_c.specs.Calls.{HasTexts, IsReadWithin, Passed, passed_tree, IsPageCall, IsSelectCall, IsMatchSelectorsCall, AreSelectorsIn, HasNoSelector, HasRefusedText, HasBadEnds, IsBrokenUtf8, FailsFor}
@@ -80,3 +81,43 @@ match_due buffer ends passed texts rows has selectors read utf8 tree matched are
 )
 match_due buffer ends passed texts rows has selectors read utf8 tree matched are (Err failure) due =
     subst (λ failure. IsMatchSelectorsCall buffer ends passed (Err failure)) (sym due) tt
+
+-- why the texts of selectors are none
+pub texts_failed : (buffer ends : List ℕ) (passed : Passed) (failure : Failure)
+    → FailsFor (HasBadEnds buffer ends) (λ fault. ⊥) (IsBrokenUtf8 buffer ends) failure
+    → IsMatchSelectorsCall buffer ends passed (Err failure)
+texts_failed buffer ends passed Refused h = inl h
+texts_failed buffer ends passed (Tree fault) h = absurd h
+texts_failed buffer ends passed Memory h = tt
+texts_failed buffer ends passed TooManyDeclarations h = absurd h
+texts_failed buffer ends passed NotUtf8 h = inl h
+
+-- why the texts are no selectors
+pub selectors_failed : (buffer ends : List ℕ) (passed : Passed) (texts : List (List ℕ))
+    → HasTexts buffer ends texts → (failure : Failure)
+    → FailsFor (HasNoSelector texts) (λ fault. ⊥) ⊥ failure
+    → IsMatchSelectorsCall buffer ends passed (Err failure)
+selectors_failed buffer ends passed texts has Refused h = inr (texts, has, h)
+selectors_failed buffer ends passed texts has (Tree fault) h = absurd h
+selectors_failed buffer ends passed texts has Memory h = tt
+selectors_failed buffer ends passed texts has TooManyDeclarations h = absurd h
+selectors_failed buffer ends passed texts has NotUtf8 h = absurd h
+
+-- why the tree is none
+pub tree_failed : (buffer ends : List ℕ) (passed : Passed) (failure : Failure)
+    → FailsFor ⊥ (λ fault. passed_tree passed ≡ Err fault) (¬ (IsUtf8 passed.strings)) failure
+    → IsMatchSelectorsCall buffer ends passed (Err failure)
+tree_failed buffer ends passed Refused h = absurd h
+tree_failed buffer ends passed (Tree fault) h = h
+tree_failed buffer ends passed Memory h = tt
+tree_failed buffer ends passed TooManyDeclarations h = absurd h
+tree_failed buffer ends passed NotUtf8 h = inr h
+
+-- a failure that is handed on
+pub failed : {Z : Type 0} (buffer ends : List ℕ) (passed : Passed) (r : Result (String Z) Failure)
+    (failure : Failure) → IsErrAnd r (λ reported. reported ≡ failure)
+    → IsMatchSelectorsCall buffer ends passed (Err failure)
+    → IsMatchSelectorsCall buffer ends passed (outcome_of r)
+failed buffer ends passed (Ok text) failure is due = absurd is
+failed buffer ends passed (Err reported) failure is due =
+    subst (λ f. IsMatchSelectorsCall buffer ends passed (Err f)) (sym is) due

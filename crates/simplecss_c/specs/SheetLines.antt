@@ -1,5 +1,5 @@
 -- The statements of a style sheet by the grammar of today in JSON, with the offsets of their pieces.
-use Rattle.std.specs.Prelude.{ℕ, ◌+◌, ◌-◌, List, [], ◌∷◌, ◌++◌, codes, decimal, length, map, Option, None, Some}
+use Rattle.std.specs.Prelude.{ℕ, ◌+◌, ◌-◌, List, [], ◌∷◌, ◌++◌, codes, decimal, length, map, min, Option, None, Some}
 use Rattle.std.specs.List.{flat_map}
 use Rattle.std.specs.Option.{is_some}
 use Rattle.css_syntax.specs.declared.quality.Fault.{Fault}
@@ -60,14 +60,17 @@ selector_array end text = array (map (selector_object end) (placed_selectors tex
 
 -- ---- statements
 
+-- the offset at which the prelude of a rule set ends: before the contents of its block begin
+abbrev pub prelude_end : PlacesText → Stated → ℕ
+prelude_end places prelude = min (places.prelude + length prelude.text) places.block
+
 -- of a rule set: its prelude and its block, its selectors, and the items of its block
 abbrev pub rule_members : PlacesText → Stated → BlockText → List (List ℕ)
 rule_members places prelude block =
     member (codes "prelude") (extent places.prelude (length prelude.text))
     ∷ member (codes "block") (range places.block places.block_end)
     ∷ member (codes "closed") (boolean block.closed)
-    ∷ member (codes "selectors")
-    (selector_array (places.prelude + length prelude.text) prelude.text)
+    ∷ member (codes "selectors") (selector_array (prelude_end places prelude) prelude.text)
     ∷ member (codes "items") (item_array places.block_end block.text)
     ∷ []
 

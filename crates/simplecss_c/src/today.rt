@@ -123,18 +123,18 @@ fn push_rule(
     rule: &RuleSet<'_>,
     places: Places,
 ) -> Result<(), AllocError>
-    requires { places.prelude + length rule.now.prelude.text.now < 2 ^ 63 }
     ensures { OnOk result (string_bytes out.new
         ≡ string_bytes out.old ++ further (rule_members (places_of places)
         (prelude_of rule.now.prelude) (block_of rule.now.block))) }
 {
     let prelude = rule.prelude.text;
+    let prelude_end = (places.prelude + prelude.len()).min(places.block);
     push_extent(out, "prelude", places.prelude, prelude.len())?;
     out.push_str(",\"block\":")?;
     push_range(out, places.block, places.block_end)?;
     push_flag(out, "closed", rule.block.closed)?;
     out.push_str(",\"selectors\":")?;
-    push_selectors(out, alloc, prelude, places.prelude + prelude.len())?;
+    push_selectors(out, alloc, prelude, prelude_end)?;
     out.push_str(",\"items\":")?;
     push_items(out, rule.block.text, places.block_end)
 }

@@ -1,0 +1,116 @@
+-- Objects of selectors and statements that are written piece by piece.
+-- Serves `today::{push_selector, push_rule, push_part}`.
+use Rattle.std.proofs.Common.{◌≡◌, ℕ, List, [], ◌∷◌, ◌++◌, sym, ap, ◌∙◌, append_assoc, append-nil}
+use Rattle.std.specs.Prelude.{codes}
+use Rattle.simplecss.specs.AsciiBytes.{comma, colon, newline, open_brace, close_brace}
+use Rattle.simplecss_c.specs.Json.{string, member, members, object}
+use Rattle.simplecss_c.specs.JsonLines.{line}
+use Rattle.simplecss_c.specs.Ranges.{further}
+use Rattle.simplecss_c.proofs.FurtherMembers.{further-more}
+use Rattle.simplecss_c.proofs.ItemTexts.{join-further}
+
+-- the name of a member and its value
+keyed : (name out v : List ℕ)
+    → (out ++ (comma ∷ (string name ++ colon ∷ []))) ++ v ≡ out ++ further (member name v ∷ [])
+keyed name out v =
+    append_assoc out (comma ∷ (string name ++ colon ∷ [])) v
+    ∙ ap (λ t. out ++ (comma ∷ t)) (append_assoc (string name) (colon ∷ []) v)
+    ∙ ap (λ t. out ++ t) (sym (append-nil (comma ∷ member name v)))
+
+-- a member after those that were written
+pub member-more : (name start out key all v : List ℕ) (ms : List (List ℕ))
+    → out ≡ start ++ further ms → key ≡ out ++ (comma ∷ (string name ++ colon ∷ []))
+    → all ≡ key ++ v → all ≡ start ++ further (ms ++ member name v ∷ [])
+member-more name start out key all v ms before first second =
+    further-more start out all ms (member name v ∷ []) before
+    (second ∙ ap (λ t. t ++ v) first ∙ keyed name out v)
+
+-- the first member of an object
+pub first-member : (name out key all v : List ℕ)
+    → key ≡ out ++ (open_brace ∷ (string name ++ colon ∷ [])) → all ≡ key ++ v
+    → all ≡ (out ++ open_brace ∷ []) ++ member name v
+first-member name out key all v first second =
+    second ∙ ap (λ t. t ++ v) first
+    ∙ append_assoc out (open_brace ∷ (string name ++ colon ∷ [])) v
+    ∙ ap (λ t. out ++ (open_brace ∷ t)) (append_assoc (string name) (colon ∷ []) v)
+    ∙ sym (append_assoc out (open_brace ∷ []) (member name v))
+
+braces : (out m more : List ℕ)
+    → (((out ++ open_brace ∷ []) ++ m) ++ more) ++ close_brace ∷ []
+    ≡ out ++ (open_brace ∷ ((m ++ more) ++ close_brace ∷ []))
+braces out m more = simp append_assoc
+
+-- an object, by its first member and the others
+pub object-closed : (out all m : List ℕ) (rest : List (List ℕ))
+    → all ≡ ((out ++ open_brace ∷ []) ++ m) ++ further rest
+    → all ++ close_brace ∷ [] ≡ out ++ object (m ∷ rest)
+object-closed out all m rest e =
+    ap (λ t. t ++ close_brace ∷ []) e ∙ braces out m (further rest)
+    ∙ ap (λ t. out ++ (open_brace ∷ (t ++ close_brace ∷ []))) (sym (join-further m rest))
+
+-- the line of an object
+pub line-closed : (out all m : List ℕ) (rest : List (List ℕ))
+    → all ≡ ((out ++ open_brace ∷ []) ++ m) ++ further rest
+    → all ++ (close_brace ∷ newline ∷ []) ≡ out ++ line (object (m ∷ rest))
+line-closed out all m rest e =
+    sym (append_assoc all (close_brace ∷ []) (newline ∷ []))
+    ∙ ap (λ t. t ++ newline ∷ []) (object-closed out all m rest e)
+    ∙ append_assoc out (object (m ∷ rest)) (newline ∷ [])
+
+-- the object of a selector, a piece after another
+pub selector-written : (out key text flag name all range is_read element : List ℕ)
+    → key ≡ out ++ codes "{\"text\":" → text ≡ key ++ range
+    → flag ≡ text ++ further (member (codes "is_read") is_read ∷ [])
+    → name ≡ flag ++ codes ",\"pseudo_element\":" → all ≡ name ++ element
+    → all ++ codes "}"
+    ≡ out ++ object (member (codes "text") range ∷ member (codes "is_read") is_read
+    ∷ member (codes "pseudo_element") element ∷ [])
+selector-written out key text flag name all range is_read element first second third fourth fifth =
+    let one = member (codes "text") range in
+    let two = member (codes "is_read") is_read in
+    let start = (out ++ open_brace ∷ []) ++ one in
+    object-closed out all one (two ∷ member (codes "pseudo_element") element ∷ [])
+    (member-more (codes "pseudo_element") start flag name all element (two ∷ [])
+    (third ∙ ap (λ t. t ++ further (two ∷ []))
+    (first-member (codes "text") out key text range first second)) fourth fifth)
+
+-- the members of a rule set, a piece after another
+pub rule-written : (out prelude block range closed selectors list items all : List ℕ)
+    (extent_is range_is closed_is list_is items_is : List ℕ)
+    → prelude ≡ out ++ further (member (codes "prelude") extent_is ∷ [])
+    → block ≡ prelude ++ codes ",\"block\":" → range ≡ block ++ range_is
+    → closed ≡ range ++ further (member (codes "closed") closed_is ∷ [])
+    → selectors ≡ closed ++ codes ",\"selectors\":" → list ≡ selectors ++ list_is
+    → items ≡ list ++ codes ",\"items\":" → all ≡ items ++ items_is
+    → all ≡ out ++ further (member (codes "prelude") extent_is ∷ member (codes "block") range_is
+    ∷ member (codes "closed") closed_is ∷ member (codes "selectors") list_is
+    ∷ member (codes "items") items_is ∷ [])
+rule-written out prelude block range closed selectors list items all extent_is range_is closed_is
+    list_is items_is first second third fourth fifth sixth seventh eighth =
+    let a = member (codes "prelude") extent_is in
+    let b = member (codes "block") range_is in
+    let d = member (codes "closed") closed_is in
+    let e = member (codes "selectors") list_is in
+    member-more (codes "items") out list items all items_is (a ∷ b ∷ d ∷ e ∷ [])
+    (member-more (codes "selectors") out closed selectors list list_is (a ∷ b ∷ d ∷ [])
+    (further-more out range closed (a ∷ b ∷ []) (d ∷ [])
+    (member-more (codes "block") out prelude block range range_is (a ∷ []) first second third)
+    fourth) fifth sixth) seventh eighth
+
+-- the line of a statement, a piece after another
+pub statement-written : (out brace head key array more : List ℕ) (a b d levels : List ℕ)
+    (rest : List (List ℕ)) → brace ≡ out ++ codes "{"
+    → head ≡ brace ++ members (a ∷ b ∷ d ∷ []) → key ≡ head ++ codes ",\"levels\":"
+    → array ≡ key ++ levels → more ≡ array ++ further rest
+    → more ++ codes "}\n"
+    ≡ out ++ line (object (a ∷ b ∷ d ∷ member (codes "levels") levels ∷ rest))
+statement-written out brace head key array more a b d levels rest first second third fourth fifth =
+    let start = (out ++ open_brace ∷ []) ++ a in
+    let begun : head ≡ start ++ further (b ∷ d ∷ []) =
+        second ∙ ap (λ t. brace ++ t) (join-further a (b ∷ d ∷ []))
+        ∙ sym (append_assoc brace a (further (b ∷ d ∷ [])))
+        ∙ ap (λ t. (t ++ a) ++ further (b ∷ d ∷ [])) first in
+    line-closed out more a (b ∷ d ∷ member (codes "levels") levels ∷ rest)
+    (further-more start array more (b ∷ d ∷ member (codes "levels") levels ∷ []) rest
+    (member-more (codes "levels") start head key array levels (b ∷ d ∷ []) begun third fourth)
+    fifth)
