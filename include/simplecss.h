@@ -6,9 +6,9 @@
  * Several texts of one style sheet are passed as one buffer that has them one after another, and an
  * array of where each ends. The ends do not fall, and the last is the length of the buffer.
  *
- * A call that reads a style sheet has a `limit`: the most declarations that the rules of all texts
- * together may hold. A rule set's declarations are stored once for each of its selectors and count as
- * often, so the rules of a short text may take memory quadratic in its length. Pass
+ * A call that keeps the rules of a style sheet has a `limit`: the most declarations that the rules of
+ * all texts together may hold. A rule set's declarations are stored once for each of its selectors and
+ * count as often, so the rules of a short text may take memory quadratic in its length. Pass
  * SIMPLECSS_NO_LIMIT for texts that you trust.
  *
  * A tree is three arrays: its elements in document order, the bytes of all its strings one after

@@ -25,6 +25,7 @@ PLAIN = (
     ("pages.py", ("cssq_cli",)),
     ("skipped.py", ("example_linter", "cssq_cli")),
     ("syntax.py", ("example_today",)),
+    ("level3.py", ("tests_selectors3",)),
     ("script.py", ()),
     ("library.py", ()),
     ("sheets.py", ()),

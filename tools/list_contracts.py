@@ -59,6 +59,8 @@ CALLS = (
     ("C library", "simplecss_c/src/exports.rt"),
     ("today's sheets", "css_syntax/src"),
     ("today's selectors", "css_selectors/src"),
+    ("which of them are read", "css_sheet/src/selectors.rt"),
+    ("selectors of level 3", "selectors3/src"),
     ("matching with `~`", "sibling_matching/src"),
 )
 

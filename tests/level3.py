@@ -1,0 +1,369 @@
+#!/usr/bin/env python3
+"""Selectors of level 3 beside soupsieve and a browser: what random selectors match, and which texts are refused.
+
+    level3.py PROGRAM [--count N]    PROGRAM is the built `tests_selectors3`; N random selectors, else 4000
+
+soupsieve is Debian's `python3-soupsieve`, used by /usr/bin/python3; the browser is Debian's `chromium`. Without one
+of them what it would judge is left out, and a line says so. The trees and the texts are equal in each run. The last
+line is 'N passed, M failed'.
+"""
+import argparse
+import html
+import json
+import os
+import random
+import re
+import shutil
+import subprocess
+import sys
+import tempfile
+from typing import Any, Dict, List, Optional, Sequence, Tuple, Union
+
+from common import Counts
+
+# An element: its name, its attributes, and its children, which are elements and texts.
+Element = Tuple[str, Dict[str, str], List[Any]]
+# What a text is: the numbers of the elements that it matches, None if it is refused, or that there is no answer.
+Found = Union[List[int], None, str]
+
+NAMES = ("a", "b", "li", "x-y", "\xe9")
+WORDS = ("c", "d", "C", "1", "e-f", "\xe9t\xe9", "a b", "en", "en-US", "", " ", "x.y", "-")
+ATTRIBUTES = ("class", "id", "title", "lang", "data-x")
+OPERATORS = ("=", "~=", "|=", "^=", "$=", "*=")
+STRUCTURES = (
+    "root", "empty", "first-child", "last-child", "only-child", "first-of-type", "last-of-type", "only-of-type",
+    "FIRST-child", "Empty",
+)
+NUMBERINGS = ("nth-child", "nth-last-child", "nth-of-type", "nth-last-of-type", "NTH-Child")
+PROGRESSIONS = (
+    "odd", "even", "ODD", "1", "2", "+3", "-1", "0", "n", "-n", "+n", "2n", "2n+1", "2N + 1", "-n+3", "-2n + 5",
+    "3n - 1", "0n+2", "n+0", " 2n ", "-0n-0", "+2n+0", "00002n+00001", "99999999999n+1", "n- 2", "-n- 1", "2n/**/+ 1",
+)
+COMBINATORS = (" ", " > ", " + ", " ~ ", ">", "+", "~", "  ", "\n>\t", " /**/ ", "/**/ ~")
+# What a text is changed by, so that many changed texts are no selectors.
+CHANGES = (
+    ".", "#", ":", "::", "[", "]", "(", ")", "=", "'", '"', "\\", "\n", ",", ">", "*", "a", "1", " ", "|", "/*", "/**/",
+    "+", "~", "-", "n", "!", "=>", "\\\n", "\\31 ", ":not(", ":is(", ":foo(",
+)
+
+
+class Source(random.Random):
+    """Random trees and selectors, the same in each run."""
+
+    def tree(self, depth: int = 0) -> Element:
+        """A random element."""
+        attributes = {name: self.choice(WORDS) for name in ATTRIBUTES if self.random() < 0.4}
+        children: List[Any] = []
+        for _ in range(self.choice((0, 1, 2, 3, 4)) if depth < 4 else 0):
+            children.append(self.tree(depth + 1))
+            if self.random() < 0.2:
+                children.append(self.choice(("text", "")))
+        if not children and self.random() < 0.3:
+            children.append("text")
+        return self.choice(NAMES), attributes, children
+
+    def escaped(self, letter: str) -> str:
+        """The letter as an escape."""
+        number = f"{ord(letter):x}"
+        return "\\" + self.choice((number + " ", number.zfill(6), number.upper().zfill(6) + " ", number + "\n"))
+
+    def name(self, value: str) -> str:
+        """A name of this value, with escapes where it needs them, and sometimes where it does not."""
+        spelled = ""
+        for at, letter in enumerate(value):
+            bare = letter.isalpha() or (at and (letter in "-_" or letter.isdigit()))
+            spelled += letter if bare and self.random() < 0.93 else self.escaped(letter)
+        return spelled
+
+    def string(self, value: str) -> str:
+        """A string of this value."""
+        quote = self.choice("'\"")
+        return quote + "".join(self.escaped(letter) if self.random() < 0.1 else letter for letter in value) + quote
+
+    def attribute(self) -> str:
+        """An attribute selector."""
+        name, value = self.name(self.choice(ATTRIBUTES)), self.choice(WORDS)
+        blank = self.choice(("", "", "", " ", "/**/"))
+        if self.random() < 0.2:
+            return f"[{blank}{name}{blank}]"
+        text = self.string(value) if self.random() < 0.6 or not value else self.name(value)
+        flag = self.choice(("", "", " i", " s", " I"))
+        return f"[{blank}{name}{blank}{self.choice(OPERATORS)}{blank}{text}{blank}{flag}{blank}]"
+
+    def simple(self) -> str:
+        """A simple selector that is no type selector."""
+        kind = self.random()
+        if kind < 0.3:
+            return "." + self.name(self.choice([word for word in WORDS if word]))
+        if kind < 0.4:
+            return "#" + self.name(self.choice([word for word in WORDS if word]))
+        if kind < 0.6:
+            return self.attribute()
+        if kind < 0.8:
+            return ":" + self.choice(STRUCTURES)
+        return f":{self.choice(NUMBERINGS)}({self.choice(PROGRESSIONS)})"
+
+    def plain(self) -> str:
+        """A compound selector without lists."""
+        front = self.choice(("", "", "*", self.name(self.choice(NAMES))))
+        return front + "".join(self.simple() for _ in range(self.choice((0, 1, 1, 2) if front else (1, 1, 2))))
+
+    def compound(self) -> str:
+        """A compound selector."""
+        if self.random() < 0.7:
+            return self.plain()
+        parts = self.choice((",", " , ", ", ")).join(self.plain() for _ in range(self.choice((1, 1, 2, 3))))
+        front = self.plain() if self.random() < 0.5 else ""
+        name, blank = self.choice(("not", "is", "where", "NOT")), self.choice(("", " "))
+        return f"{front}:{name}({blank}{parts}{blank})"
+
+    def selector(self) -> str:
+        """A selector."""
+        text = self.compound()
+        for _ in range(self.choice((0, 0, 1, 1, 2, 3))):
+            text += self.choice(COMBINATORS) + self.compound()
+        return text
+
+    def listed(self) -> str:
+        """A list of selectors, most often of one."""
+        return self.choice((",", " , ")).join(self.selector() for _ in range(self.choice((1, 1, 1, 2, 3))))
+
+    def changed(self) -> str:
+        """A text that may be no selector."""
+        text = self.listed()
+        for _ in range(self.choice((1, 1, 2))):
+            at, to = sorted(self.randrange(len(text) + 1) for _ in range(2))
+            text = text[:at] + self.choice(CHANGES + ("",)) + text[self.choice((at, at + 1, to)):]
+        return text
+
+
+def lines_of(element: Element, depth: int = 0) -> List[str]:
+    """The tree as the program reads it: for each element a line of depth, name, whether it has text, and attributes."""
+    name, attributes, children = element
+    content = "1" if any(child for child in children if isinstance(child, str)) else "0"
+    fields = [str(depth), name, content]
+    fields += [f"{key}={value}" for key, value in attributes.items()]
+    found = ["\1".join(fields)]
+    for child in children:
+        if not isinstance(child, str):
+            found += lines_of(child, depth + 1)
+    return found
+
+
+def ours(program: str, tree: Element, texts: Sequence[str]) -> List[str]:
+    """What the program prints of each text: the numbers of the elements that it matches, or `refused` and why."""
+    data = "\0".join(["\n".join(lines_of(tree))] + list(texts)).encode()
+    made = subprocess.run([program], input=data, stdout=subprocess.PIPE, check=True).stdout.decode()
+    replies = made.split("\0")[:-1]
+    assert len(replies) == len(texts), (len(replies), len(texts))
+    return replies
+
+
+def found_of(reply: str) -> Found:
+    """The numbers of a reply, or None if the text is refused."""
+    if reply.startswith("refused"):
+        return None
+    return [int(number) for number in reply.split(":", 1)[1].split()]
+
+
+SOUP = r"""
+import json, signal, sys
+import soupsieve
+from bs4 import BeautifulSoup, Comment, Tag
+
+class Above(Tag):
+    # The parent of a root: soupsieve would take a document for a further ancestor.
+    def __bool__(self):
+        return False
+
+class Slow(Exception):
+    pass
+
+def stop(number, frame):
+    raise Slow
+
+signal.signal(signal.SIGALRM, stop)
+
+def build(soup, element):
+    tag = soup.new_tag(element[0])
+    for key, value in element[1].items():
+        tag[key] = value
+    for child in element[2]:
+        tag.append(child if isinstance(child, str) else build(soup, child))
+    return commented(tag)
+
+def commented(tag):
+    # soupsieve does not find the child B by `An+B` if B is the number of nodes.
+    for _ in range(8):
+        tag.append(Comment(""))
+    return tag
+
+def select(root, numbers, text):
+    # Some texts take it very long, and numbers of escapes above 10FFFF raise another error.
+    signal.setitimer(signal.ITIMER_REAL, 0.5)
+    try:
+        selector = soupsieve.compile(text)
+        return [numbers[id(tag)] for tag in [root, *root.find_all(True)] if selector.match(tag)]
+    except (soupsieve.SelectorSyntaxError, NotImplementedError):
+        return None
+    except (Slow, ValueError):
+        return "no answer"
+    finally:
+        signal.setitimer(signal.ITIMER_REAL, 0)
+
+answers = []
+for tree, texts in json.load(sys.stdin):
+    soup = BeautifulSoup("", "xml")
+    root, above = build(soup, tree), Above(name="above", is_xml=True)
+    above.append(root)
+    commented(above)
+    numbers = {id(tag): number for number, tag in enumerate([root, *root.find_all(True)])}
+    answers.append([select(root, numbers, text) for text in texts])
+json.dump(answers, sys.stdout)
+"""
+
+PAGE = """
+<!DOCTYPE html><meta charset=utf-8><script id=input type="application/json">%s</script>
+<script>
+const answers = [];
+function build(page, element) {
+    const made = page.createElementNS(null, element[0]);
+    for (const name in element[1]) made.setAttribute(name, element[1][name]);
+    for (const child of element[2]) made.append(typeof child == "string" ? child : build(page, child));
+    return made;
+}
+for (const [tree, texts] of JSON.parse(document.getElementById("input").textContent)) {
+    const page = document.implementation.createDocument(null, "", null);
+    page.append(build(page, tree));
+    const all = [...page.querySelectorAll("*")];
+    answers.push(texts.map(text => {
+        try { return [...page.querySelectorAll(text)].map(each => all.indexOf(each)); } catch { return null; }
+    }));
+}
+document.documentElement.textContent = "ANS" + "WER" + JSON.stringify(answers) + "END";
+</script>
+"""
+
+
+def soup_finds(work: List[Tuple[Element, List[str]]]) -> Optional[List[List[Found]]]:
+    """What soupsieve finds, or None if it is missing."""
+    if not os.path.exists("/usr/bin/python3"):
+        return None
+    words = ["/usr/bin/python3", "-c"]
+    if subprocess.run(words + ["import soupsieve, bs4, lxml"], stderr=subprocess.DEVNULL, check=False).returncode:
+        return None
+    made = subprocess.run(words + [SOUP], input=json.dumps(work), stdout=subprocess.PIPE, text=True, check=True)
+    answers: List[List[Found]] = json.loads(made.stdout)
+    return answers
+
+
+def browser_finds(work: List[Tuple[Element, List[str]]]) -> Optional[List[List[Found]]]:
+    """What a browser finds, or None if there is none or it does not answer."""
+    browser = shutil.which("chromium") or shutil.which("chromium-browser")
+    if not browser:
+        return None
+    with tempfile.TemporaryDirectory() as folder:
+        page = os.path.join(folder, "selectors.html")
+        with open(page, "w", encoding="utf-8") as file:
+            file.write(PAGE % json.dumps(work).replace("<", "\\u003c"))
+        words = [browser, "--headless", "--no-sandbox", "--disable-gpu", f"--user-data-dir={folder}/profile",
+                 "--virtual-time-budget=60000", "--dump-dom", "file://" + page]
+        try:
+            made = subprocess.run(words, capture_output=True, check=False, timeout=120)
+        except subprocess.TimeoutExpired:
+            return None
+    answer = re.search(r"ANSWER(.*)END", made.stdout.decode(), re.DOTALL)
+    return json.loads(html.unescape(answer[1])) if answer else None
+
+
+# Differences that docs/DIFFERENCES.md names, by the words of a refusal and by what is read before its place: a list, or
+# a comment within a compound selector.
+REFUSED_HERE = re.compile(r"is not closed|function that is read|: `(\||/\*|[+-]?\\.*(An\+B|expected here))")
+INNER = re.compile(r":(is|where|not)\([^()]*(\([^()]*)?$|\*/$", re.IGNORECASE)
+# A browser knows no flag `s`, and takes a large number for another; it refuses pseudo-classes that it does not know.
+ODD_IN_BROWSERS = re.compile(r"""[\s'"/]s\s*(/\*.*?\*/\s*)*\]|\d{10}""", re.IGNORECASE)
+KNOWN = {*STRUCTURES, *(name + "(" for name in (*NUMBERINGS, "not", "is", "where", "NOT"))}
+# soupsieve takes an empty value for the start of each, finds nothing by `n-2`, refuses two blanks before a sign and
+# newlines after escapes, takes away comments before it reads escapes, and takes the name `*` for any.
+ODD_IN_SOUP = re.compile(
+    r"""[$^*]=\s*(/\*.*?\*/\s*)*(''|"")|\bn\s*-\s*2|\s(\s|/\*.*?\*/)+[,+>~]|\\[0-9a-f]{0,6}\n|\\/?\*""",
+    re.IGNORECASE,
+)
+
+
+def front_of(text: str, reply: str) -> str:
+    """The text before the place of a refusal, without escapes, and what is in comments and parentheses."""
+    row, column = (int(number) for number in reply.split(":")[1:3])
+    lines = text.split("\n")[:row]
+    front = "\n".join(lines[:-1] + [lines[-1][:column - 1]])
+    for pattern, shown in ((r"\\.", ""), (r"/\*.*?\*/", "/**/"), (r"\([^()]*\)", ""), (r"\([^()]*\)", "")):
+        front = re.sub(pattern, shown, front, flags=re.DOTALL)
+    return front
+
+
+def has_unknown(text: str) -> bool:
+    """Whether the text has the name of a pseudo-class that a browser may not know."""
+    return any(name not in KNOWN for name in re.findall(r":((?:[\w-]|\\.)*\(?)", text))
+
+
+class Judge:
+    """Compares what the program and another found, and counts."""
+
+    def __init__(self, name: str, counts: Counts):
+        self.name = name
+        self.counts = counts
+        self.shown = self.left_out = 0
+
+    def compare(self, text: str, reply: str, theirs: Found) -> None:
+        """Compares one text."""
+        found = found_of(reply)
+        if theirs == "no answer":
+            self.left_out += 1
+        elif found != theirs and self.is_known(text, reply, theirs):
+            self.left_out += 1
+        elif found == theirs or self.shown < 10:
+            self.counts.expect(found == theirs, f"{text!r}: {self.name} has {theirs}, and not {reply!r}")
+            self.shown += found != theirs
+        else:
+            self.counts.failed += 1
+
+    def is_known(self, text: str, reply: str, theirs: Found) -> bool:
+        """Whether the difference is one of those that are named."""
+        odd = ODD_IN_BROWSERS if self.name == "chromium" else ODD_IN_SOUP
+        if odd.search(text):
+            return True
+        if found_of(reply) is None:
+            return bool(REFUSED_HERE.search(reply) or INNER.search(front_of(text, reply)))
+        return theirs is None and has_unknown(text)
+
+
+def compare(program: str, counts: Counts, count: int, kind: str) -> None:
+    """Compares random texts of this kind."""
+    source = Source(kind)
+    work = [(source.tree(), [getattr(source, kind)() for _ in range(50)]) for _ in range(count // 50)]
+    replies = [ours(program, tree, texts) for tree, texts in work]
+    for name, finds in (("soupsieve", soup_finds), ("chromium", browser_finds)):
+        theirs = finds(work)
+        if theirs is None:
+            print(f"left out: {kind} selectors beside {name}, which is missing or does not answer")
+            continue
+        judge = Judge(name, counts)
+        for (_, texts), answers, others in zip(work, replies, theirs):
+            for text, reply, other in zip(texts, answers, others):
+                judge.compare(text, reply, other)
+        print(f"{count // 50 * 50} {kind} texts beside {name}; {judge.left_out} left out, of named differences")
+
+
+def main() -> int:
+    parser = argparse.ArgumentParser()
+    parser.add_argument("program")
+    parser.add_argument("--count", type=int, default=4000)
+    words = parser.parse_args()
+    counts = Counts()
+    compare(words.program, counts, words.count, "listed")
+    compare(words.program, counts, words.count, "changed")
+    return counts.end()
+
+
+if __name__ == "__main__":
+    sys.exit(main())
