@@ -60,7 +60,8 @@ CALLS = (
     ("today's sheets", "css_syntax/src"),
     ("today's selectors", "css_selectors/src"),
     ("which of them are read", "css_sheet/src/selectors.rt"),
-    ("selectors of level 3", "selectors3/src"),
+    ("reading selectors of level 3", "selectors3/src/reading.rt"),
+    ("matching them", "selectors3/src/matching.rt"),
     ("matching with `~`", "sibling_matching/src"),
 )
 
