@@ -81,6 +81,55 @@ fn search_recent<E: Keyed>(
     index.matching_recent(rules, element, &mut indices, &mut recent)
 }
 
+/// Finds the rules twice.
+fn search_rules<E: Keyed>(
+    alloc: Global,
+    rules: &[Rule<'_>],
+    element: &E,
+) -> Result<(), AllocError> {
+    let index = RuleIndex::new(alloc, rules)?;
+    let mut indices = Vec::new(alloc);
+    index.matching(rules, element, &mut indices)?;
+    index.matching(rules, element, &mut indices)
+}
+
+/// Finds the rules twice, and counts the tests.
+fn search_counted<E: Keyed>(
+    alloc: Global,
+    rules: &[Rule<'_>],
+    element: &E,
+) -> Result<(), AllocError> {
+    let index = RuleIndex::new(alloc, rules)?;
+    let mut indices = Vec::new(alloc);
+    let mut tests = Tests::new();
+    index.matching_counted(rules, element, &mut indices, &mut tests)?;
+    index.matching_counted(rules, element, &mut indices, &mut tests)
+}
+
+/// Finds the declarations of an element twice.
+fn search_stated<E: Keyed>(
+    alloc: Global,
+    rules: &[Rule<'_>],
+    element: &E,
+) -> Result<(), AllocError> {
+    let mut cascade = Cascade::new(alloc, rules)?;
+    cascade.stated(element)?;
+    cascade.stated(element)?;
+    Ok(())
+}
+
+/// Finds what wins on an element twice.
+fn search_winners<E: Keyed>(
+    alloc: Global,
+    rules: &[Rule<'_>],
+    element: &E,
+) -> Result<(), AllocError> {
+    let mut cascade = Cascade::new(alloc, rules)?;
+    cascade.winners(element)?;
+    cascade.winners(element)?;
+    Ok(())
+}
+
 /// Makes the call twice for an element.
 fn search_twice<E: Keyed>(
     alloc: Global,
@@ -88,29 +137,13 @@ fn search_twice<E: Keyed>(
     rules: &[Rule<'_>],
     element: &E,
 ) -> Result<(), AllocError> {
-    let index = RuleIndex::new(alloc, rules)?;
-    let mut indices = Vec::new(alloc);
-    let mut cascade = Cascade::new(alloc, rules)?;
     match search {
-        Search::Recent => search_recent(alloc, rules, element)?,
-        Search::Matching => {
-            index.matching(rules, element, &mut indices)?;
-            index.matching(rules, element, &mut indices)?;
-        }
-        Search::Counted => {
-            index.matching_counted(rules, element, &mut indices, &mut Tests::new())?;
-            index.matching_counted(rules, element, &mut indices, &mut Tests::new())?;
-        }
-        Search::Stated => {
-            cascade.stated(element)?;
-            cascade.stated(element)?;
-        }
-        Search::Winners => {
-            cascade.winners(element)?;
-            cascade.winners(element)?;
-        }
+        Search::Matching => search_rules(alloc, rules, element),
+        Search::Counted => search_counted(alloc, rules, element),
+        Search::Recent => search_recent(alloc, rules, element),
+        Search::Stated => search_stated(alloc, rules, element),
+        Search::Winners => search_winners(alloc, rules, element),
     }
-    Ok(())
 }
 
 /// Returns how often the names and the attributes of the last element of the tree and of those near
