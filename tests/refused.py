@@ -3,7 +3,8 @@
     refused.py CALLS SHIM     CALLS is the built `tests_refusals`, SHIM the built tests/refuse.c
 
 A call answers that it is out of memory if the refused request was its own, and what it answers with ample memory if the
-request was the logger's; there is no other answer. In each of these runs the calls that take no memory answer the same, and
+request was the logger's or for the table of an index, which answers by its ordered map then; there is no other answer. A
+table is made for the first key of each kind, and again for the second. In each of these runs the calls that take no memory answer the same, and
 make no request. Prints a line for each call with the number of refused requests, then 'N passed, M failed'; the status is 1 if
 something failed.
 """
@@ -63,10 +64,12 @@ TREES = [
 ]
 MATCHED = ("a > b { c:d } b { e:f }", "0\ta\n1\tb\n1\tc\n2\tb\n")
 
-def sweep(name, words, answers):
-    """Refuses the requests of a call one by one. `answers(out)` says whether an answer is out of memory."""
+def sweep(words, answers, tables):
+    """Refuses the requests of a call one by one. `answers(out)` says whether an answer is out of memory, and `tables` how
+    many of the requests are for tables."""
     total = 0
     for logger in ("lost", "kept"):
+        unnoticed = 0
         status, whole, _ = run([logger, *words], 0)
         expect(status == 0 and not whole.startswith("refused"), f"{words} with ample memory: {status} {whole!r}")
         number = 0
@@ -76,18 +79,18 @@ def sweep(name, words, answers):
             if b"x" not in requests:
                 break
             total += 1
-            lost = logger == "kept" and out == whole
-            expect(status == 0 and (lost or answers(out, whole)), f"{logger} {words} with request {number} refused: {status} {out!r}")
-            # The whole answer only if nothing was lost: the keys of a faulty line are then compared without memory.
-            expect(logger == "kept" or out != whole or whole.startswith("fault "), f"{words} took no notice of request {number}")
+            # The keys of a faulty line are compared without memory, if need be.
+            unnoticed += out == whole and not whole.startswith("fault ")
+            expect(status == 0 and (out == whole or answers(out, whole)), f"{logger} {words} with request {number} refused: {status} {out!r}")
+        expect(logger == "kept" or unnoticed == tables, f"{words} took no notice of {unnoticed} requests, {tables} of them for tables")
     return total
 
 
 counts = {}
 
 
-def add(name, words, answers):
-    counts[name] = counts.get(name, 0) + sweep(name, words, answers)
+def add(name, words, answers, tables=0):
+    counts[name] = counts.get(name, 0) + sweep(words, answers, tables)
 
 
 def plain(out, whole):
@@ -107,11 +110,11 @@ for text in SHEETS:
     add("run_sheet", ["run_sheet", text, "#x { a:b }"], unwritten)
 for tree, limit in TREES:
     add("Page::read", ["page", tree], lambda out, whole: out == whole or (re.fullmatch(r"refused at \d+\n", out) is not None and 1 <= int(out.split()[2]) <= limit))
-for text in SHEETS[:3]:
-    add("run_match", ["run_match", text, MATCHED[1]], unwritten)
-add("run_match", ["run_match", *MATCHED], unwritten)
-for sheet, tree, name in [("a { c:red !important; c:blue } a { c:green }", "0\ta", "c"), (*MATCHED, "e")]:
-    add("run_style", ["run_style", sheet, tree, name], unwritten)
+for text, tables in zip(SHEETS, (2, 2, 1)):
+    add("run_match", ["run_match", text, MATCHED[1]], unwritten, tables)
+add("run_match", ["run_match", *MATCHED], unwritten, 2)
+for sheet, tree, name, tables in [("a { c:red !important; c:blue } a { c:green }", "0\ta", "c", 1), (*MATCHED, "e", 2)]:
+    add("run_style", ["run_style", sheet, tree, name], unwritten, tables)
 
 for text in SHEETS:
     add("StyleSheet::read", ["sheets", text, "#x { a:b }", text], plain)
@@ -119,7 +122,7 @@ for text in SHEETS:
 for text in ["a < b, c:d { e } @f", "a < b { c:d }"]:
     add("find_skipped", ["skipped", text], plain)
 CASCADE = ("#a .b { c:d !important; e:f } * { c:g } .b.i { h:j } b { c:k }", "0\ta\tid=a\n1\tb\tclass=i b\n1\tb\n")
-add("RuleIndex::new, matching", ["index", *CASCADE], plain)
+add("RuleIndex::new, matching", ["index", *CASCADE], plain, 3)
 add("Recent::new", ["recent", CASCADE[0]], plain)
 add("matching_recent", ["kept", *CASCADE], plain)
 # What is found for an element is kept once for all elements with its name and classes.
