@@ -123,11 +123,11 @@ for text in ["a < b, c:d { e } @f", "a < b { c:d }"]:
     add("find_skipped", ["skipped", text], plain)
 CASCADE = ("#a .b { c:d !important; e:f } * { c:g } .b.i { h:j } b { c:k }", "0\ta\tid=a\n1\tb\tclass=i b\n1\tb\n")
 add("RuleIndex::new, matching", ["index", *CASCADE], plain, 3)
-add("Recent::new", ["recent", CASCADE[0]], plain)
-add("matching_recent", ["kept", *CASCADE], plain)
+add("RuleSearch::new", ["search", CASCADE[0]], plain, 3)
+add("RuleSearch::matching", ["kept", *CASCADE], plain)
 # What is found for an element is kept once for all elements with its name and classes.
 one, two = (len(run(["lost", "kept", CASCADE[0], f"0\ta\n1\tb\tclass=i b\n1\tb\tclass={other}\n"], 0)[2]) for other in ("i b", "b i"))
-expect(0 < one and 2 * one == two, f"matching_recent: {one} requests for two elements that are alike, and {two} for others")
+expect(0 < one and 2 * one == two, f"RuleSearch::matching: {one} requests for two elements that are alike, and {two} for others")
 add("winners", ["winners", *CASCADE], plain)
 add("Tree::push, set_attribute", ["tree", "a", "b", "c"], plain)
 

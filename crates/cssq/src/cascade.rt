@@ -13,7 +13,7 @@ ghost use Rattle.cssq.specs.Winners.{ListsInOrder, HaveOwnNames};
 ghost use Rattle.cssq.specs.RuleWinners.{better_of, InRule, IsCandidate, IsOutdone, IsPassedOver};
 ghost use Rattle.cssq.specs.RuleWinners.{DecidesWhether, HasBestIndices};
 
-use simplecss::{Declaration, Element, Keyed, Recent, Rule, RuleIndex, StyleSheet};
+use simplecss::{Declaration, Element, Keyed, Rule, RuleSearch, StyleSheet};
 use std::alloc::{AllocError, Global};
 use std::collections::BTreeMap;
 use std::marker::Model;
@@ -179,7 +179,7 @@ fn takes_over(
 }
 
 /// Returns for each name the index in the list of the declaration that wins.
-pub fn best_indices<'a>(
+fn best_indices<'a>(
     alloc: Global,
     declarations: &[Declaration<'a>],
 ) -> Result<BTreeMap<&'a str, usize>, AllocError>
@@ -271,12 +271,10 @@ pub struct Cascade<'s, 'a> {
     alloc: Global,
     /// The rules.
     rules: &'s [Rule<'a>],
-    /// The index of the rules.
-    index: RuleIndex<'a>,
+    /// Finds those that match an element.
+    search: RuleSearch<'a>,
     /// The indices of the rules that match the last element. The list is reused.
     indices: Vec<usize>,
-    /// What the index found for earlier elements by their names and classes.
-    recent: Recent<'a>,
 }
 
 impl<'s, 'a> Model for Cascade<'s, 'a> {
@@ -288,8 +286,8 @@ impl<'s, 'a> Model for Cascade<'s, 'a> {
 
     ghost view = { λ cascade. rules_of cascade.rules.now };
 
-    ghost invariant = { λ cascade. (cascade.index ≡ map (λ rule. rule.selector) cascade.rules.now)
-        × (cascade.recent ≡ cascade.index) };
+    ghost invariant = { λ cascade. cascade.search
+        ≡ map (λ rule. rule.selector) cascade.rules.now };
 }
 
 impl<'s, 'a> Cascade<'s, 'a> {
@@ -297,14 +295,11 @@ impl<'s, 'a> Cascade<'s, 'a> {
     pub fn new(alloc: Global, rules: &'s [Rule<'a>]) -> Result<Self, AllocError>
         ensures { IfOk result (λ cascade. cascade ≡ rules_of rules.now) }
     {
-        let index = RuleIndex::new(alloc, rules)?;
-        let recent = Recent::new(alloc, &index)?;
         Ok(Cascade {
             alloc,
             rules,
-            index,
+            search: RuleSearch::new(alloc, rules)?,
             indices: Vec::new(alloc),
-            recent,
         })
     }
 
@@ -315,8 +310,8 @@ impl<'s, 'a> Cascade<'s, 'a> {
             ListsInOrder (IsStated E.tree (E.node element.now) self.old) (declarations_of all.items)) }
         ensures same { self.new ≡ self.old }
     {
-        self.index
-            .matching_recent(self.rules, element, &mut self.indices, &mut self.recent)?;
+        self.search
+            .matching(self.rules, element, &mut self.indices)?;
         stated_at::<E>(self.alloc, self.rules, &self.indices)
     }
 

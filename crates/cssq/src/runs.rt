@@ -250,7 +250,7 @@ fn push_winner(
 
 /// What the lines say of the elements of a page.
 #[derive(Clone, Copy)]
-pub enum LineContent<'n> {
+pub(crate) enum LineContent<'n> {
     /// The numbers of the rules that match the element.
     Rules,
     /// The declaration of the name that wins on the element.
@@ -293,7 +293,7 @@ fn push_element<'a>(
 }
 
 /// The lines of the elements of a page, by an index of the rules.
-pub fn page_lines<'a>(
+fn page_lines<'a>(
     alloc: Global,
     content: LineContent<'_>,
     index: &RuleIndex<'a>,
@@ -340,12 +340,8 @@ fn tree_output(
     page_lines(alloc, content, &index, rules, &page)
 }
 
-/// Writes the lines of the elements of a tree by the rules of a sheet, as [`run_match`] and
-/// [`run_style`] do.
-///
-/// The whole output is built first: after `Tree` and `Memory` nothing was written. After `Output` a
-/// proper prefix of it was. `Refused` does not occur.
-pub fn write_page<W: Write>(
+/// Writes the lines of the elements of a tree by the rules of a sheet.
+fn write_page<W: Write>(
     alloc: Global,
     content: LineContent<'_>,
     rules: &[Rule<'_>],
@@ -360,20 +356,36 @@ pub fn write_page<W: Write>(
     write_out(out, lines.as_bytes())
 }
 
-/// Reads a sheet, and writes the lines of the elements of a tree.
-fn run_page<R: Log, W: Write>(
-    rt: &R,
+/// Writes, for each element of a tree, which of a sheet's rules match it, as [`run_match`] does.
+///
+/// The whole output is built first: after `Tree` and `Memory` nothing was written. After `Output` a
+/// proper prefix of it was. `Refused` does not occur.
+pub fn write_match<W: Write>(
     alloc: Global,
-    content: LineContent<'_>,
-    sheet: &str,
+    rules: &[Rule<'_>],
     tree: &str,
     out: &mut W,
 ) -> Result<(), RunFault>
-    ensures { Writes (IsPageRun content.entry sheet.now tree.now) result (W.contents out.old)
+    ensures { (text : List ℕ) → rules_of rules.now ≡ sheet_of this_edition (text ∷ [])
+        → Writes (IsMatchRun text tree.now) result (W.contents out.old) (W.contents out.new) }
+{
+    write_page(alloc, LineContent::Rules, rules, tree, out)
+}
+
+/// Writes, for each element of a tree, which declaration of the name wins there by a sheet's rules,
+/// as [`run_style`] does. After a fault what was written is as after one of [`write_match`].
+pub fn write_style<W: Write>(
+    alloc: Global,
+    rules: &[Rule<'_>],
+    tree: &str,
+    name: &str,
+    out: &mut W,
+) -> Result<(), RunFault>
+    ensures { (text : List ℕ) → rules_of rules.now ≡ sheet_of this_edition (text ∷ [])
+        → Writes (IsStyleRun text tree.now name.now) result (W.contents out.old)
         (W.contents out.new) }
 {
-    let sheet = StyleSheet::parse(rt, alloc, sheet)?;
-    write_page(alloc, content, sheet.rules.as_slice(), tree, out)
+    write_page(alloc, LineContent::Winner(name), rules, tree, out)
 }
 
 /// Writes for each element of a tree its number from 1, a colon, a space and the number of each
@@ -392,7 +404,8 @@ pub fn run_match<R: Log, W: Write>(
     ensures { Writes (IsMatchRun sheet.now tree.now) result (W.contents out.old)
         (W.contents out.new) }
 {
-    run_page(rt, alloc, LineContent::Rules, sheet, tree, out)
+    let sheet = StyleSheet::parse(rt, alloc, sheet)?;
+    write_match(alloc, &sheet.rules, tree, out)
 }
 
 /// Writes for each element of a tree its number from 1, a colon, and where a declaration of the
@@ -412,5 +425,6 @@ pub fn run_style<R: Log, W: Write>(
     ensures { Writes (IsStyleRun sheet.now tree.now name.now) result (W.contents out.old)
         (W.contents out.new) }
 {
-    run_page(rt, alloc, LineContent::Winner(name), sheet, tree, out)
+    let sheet = StyleSheet::parse(rt, alloc, sheet)?;
+    write_style(alloc, &sheet.rules, tree, name, out)
 }

@@ -10,13 +10,15 @@ mod trees;
 mod warnings;
 
 use cssq::command::{Command, USAGE};
-use cssq::runs::{LineContent, RunFault, run_selector, write_page, write_sheet};
+use cssq::runs::{RunFault, run_selector, write_match, write_sheet, write_style};
 use help::{help_for, write_text};
 use inputs::{INPUT, read_file, read_input};
 use limit::{read_limit, write_beyond};
 use log::sink::Discard;
 use output::Output;
-use simplecss::{Reading, SheetError, StyleSheet};
+use simplecss::{Reading, Rule, SheetError, StyleSheet};
+use std::alloc::Global;
+use std::io::Stdout;
 use std::process::ExitCode;
 use std::{env, mem};
 use trees::{fault_of_line, has_crlf};
@@ -165,16 +167,20 @@ fn warn_of_tree(rt: &HostRuntime, name: &str, text: &str, outcome: &Result<(), R
     }
 }
 
-/// Shows the elements of the tree in a file by the rules of the file's sheet. The sheet is read first,
-/// and is not dropped.
-fn show_page(
+/// Shows the elements of the tree in a file by the rules of the file's sheet, as `write` does. The
+/// sheet is read first, and is not dropped.
+fn show_page<F>(
     rt: &HostRuntime,
     file: &str,
     sheet: &str,
     tree: &str,
-    content: LineContent<'_>,
     most: usize,
-) -> ExitCode {
+    write: F,
+) -> ExitCode
+where
+    F: FnOnce(Global, &[Rule<'_>], &str, &mut Output<Stdout>) -> Result<(), RunFault>,
+    requires { F.IsAlwaysCallable write }
+{
     let Some(page) = read_file(rt, tree) else {
         return unreadable(rt, tree);
     };
@@ -183,26 +189,29 @@ fn show_page(
         Ok(sheet) => sheet,
         Err(fault) => return ended(rt, Err(fault)),
     };
-    let (alloc, mut out) = (rt.alloc(), Output::new(rt.stdout()));
-    let outcome = write_page(alloc, content, sheet.rules.as_slice(), page, &mut out);
+    let mut out = Output::new(rt.stdout());
+    let outcome = write(rt.alloc(), &sheet.rules, page, &mut out);
     mem::forget(sheet);
     warn_of_tree(rt, tree, page, &outcome);
     written(rt, outcome, &out)
 }
 
-/// Shows, for each element of the tree, which rules of the file's sheet match it, or which declaration
-/// of a name wins there.
-fn show_elements(
+/// Reads the sheet of a file, and shows the elements of the tree in another by it, as `write` does.
+fn show_elements<F>(
     rt: &HostRuntime,
     file: &str,
     tree: &str,
-    content: LineContent<'_>,
-) -> Result<ExitCode, ExitCode> {
+    write: F,
+) -> Result<ExitCode, ExitCode>
+where
+    F: FnOnce(Global, &[Rule<'_>], &str, &mut Output<Stdout>) -> Result<(), RunFault>,
+    requires { F.IsAlwaysCallable write }
+{
     let most = read_limit(rt)?;
     let Some(sheet) = read_file(rt, file) else {
         return Err(unreadable(rt, file));
     };
-    Ok(show_page(rt, file, sheet.as_str(), tree, content, most))
+    Ok(show_page(rt, file, sheet.as_str(), tree, most, write))
 }
 
 /// Returns the status of a command that reads a sheet.
@@ -226,10 +235,14 @@ fn main(rt: HostRuntime) -> ExitCode {
         Some(Command::Selector(text)) => show_selector(&rt, "selector", text),
         Some(Command::Sheet(names)) => status_of(show_sheet(&rt, names)),
         Some(Command::Match(file, tree)) => {
-            status_of(show_elements(&rt, file, tree, LineContent::Rules))
+            status_of(show_elements(&rt, file, tree, |alloc, rules, page, out| {
+                write_match(alloc, rules, page, out)
+            }))
         }
         Some(Command::Style(file, tree, name)) => {
-            status_of(show_elements(&rt, file, tree, LineContent::Winner(name)))
+            status_of(show_elements(&rt, file, tree, |alloc, rules, page, out| {
+                write_style(alloc, rules, page, name, out)
+            }))
         }
         None => answer_other(&rt, arguments),
     }

@@ -7,7 +7,7 @@ ghost use Rattle.simplecss.specs.ListTrees.{parent_index, sibling_index};
 ghost use Rattle.example_library.specs.OwnTree.{entry_list, value_of, value_at, reported_at, keys_reported};
 ghost use Rattle.example_library.specs.declared.own_tree.Entry.{Entry};
 
-use simplecss::{AttributeOperator, Element, Keyed, PseudoClass, all_key_bits};
+use simplecss::{AttributeOperator, Element, Keyed, PseudoClass};
 
 /// An entry: a name, an id and a class, if it has them, and the indices of the parent and of the
 /// previous sibling, if any.
@@ -146,9 +146,5 @@ impl<'t> Keyed for Spot<'t> {
 
     fn has_attribute(&self, name: &str) -> bool {
         self.value(name).is_some()
-    }
-
-    fn ancestor_bits(&self) -> u64 {
-        all_key_bits()
     }
 }

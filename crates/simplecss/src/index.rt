@@ -11,8 +11,9 @@ mod open_keys;
 mod open_path;
 mod recent;
 mod rule_index;
+mod rule_search;
 mod texts;
 
 pub use open_path::OpenPath;
-pub use recent::Recent;
 pub use rule_index::RuleIndex;
+pub use rule_search::RuleSearch;

@@ -14,9 +14,8 @@ pub use crate::sheet::laws::{
 };
 pub use simplecss_selector::laws::{at_most_two_errors, token_equality_law};
 pub use simplecss_selector::{
-    ancestor_keys_law, ancestors_law, components_law, key_equality_law, key_law,
-    operator_equality_laws, printing_law, reported_near_law, same_meanings_law,
-    selector_equality_law, wanted_law,
+    components_law, key_equality_law, key_law, operator_equality_laws, printing_law,
+    same_meanings_law, selector_equality_law,
 };
 pub use simplecss_text::laws::{
     blank_is_cut, blank_is_longest, comment_is_closed, nothing_is_lost, open_comment_breaks_blank,

@@ -23,13 +23,13 @@ mod skipped_lines;
 
 pub use has_selector::HasSelector;
 pub use hints::{Hint, HintKind, find_hints, open_parenthesis};
-pub use index::{OpenPath, Recent, RuleIndex};
+pub use index::{OpenPath, RuleIndex, RuleSearch};
 pub use place::Place;
 pub use sheet::{Reading, Rule, SheetError, Statement, StatementReader, StyleSheet, find_skipped};
 pub use simplecss_declaration::{Declaration, DeclarationTokenizer};
 pub use simplecss_selector::{
     AttributeOperator, Element, Key, Keyed, ListRefusal, PseudoClass, Selector, SelectorToken,
-    SelectorTokenizer, Tests, Wanted, Warnings, all_key_bits, element_bits, refused_pos,
+    SelectorTokenizer, Tests, Warnings, refused_pos,
 };
 pub use simplecss_text::report::{Kept, Refusal, Report, Silent, Skipped, Why};
 pub use simplecss_text::{Error, TextPos, stream};

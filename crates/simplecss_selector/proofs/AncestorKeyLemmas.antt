@@ -1,5 +1,5 @@
 -- The keys that a selector requires of an element's ancestors.
--- Serves `Selector::{step_key, push_ancestor_keys}` and `wanted::ancestor_keys_law`.
+-- Serves `Selector::{step_key, push_ancestor_keys}`, and the index of the crate `simplecss`.
 use Rattle.std.proofs.Common.{◌≡◌, ℕ, zero, suc, ◌+◌, ◌-◌, ◌<◌, ◌⊎◌, ◌↔◌, inl, inr, List, [], ◌∷◌, ◌++◌, Option, Some, None, length, refl, sym, ap, ◌∙◌, arith, append_assoc}
 use Rattle.std.specs.List.{All, cons_option}
 use Rattle.std.proofs.lemmas.List.Elements.{All-append}

@@ -1,6 +1,6 @@
 -- An element that a selector matches, or its parent or previous sibling, has the wanted key, and
 -- reports it.
--- Serves `wanted::{wanted_law, reported_near_law}` and `Selector::wanted`.
+-- Serves `Selector::wanted`, and the index of the crate `simplecss`.
 use Rattle.std.proofs.Common.{◌≡◌, ℕ, suc, ◌+◌, ◌-◌, ◌<◌, List, [], ◌∷◌, Option, Some, None, false, IsTrue, length, refl, sym, ◌∙◌, ap, subst, arith}
 use Rattle.std.specs.Option.{option_map_or}
 use Rattle.simplecss_text.specs.Components.{Component, Combinator}

@@ -2,17 +2,15 @@
 //! element lacks.
 ghost use Rattle.std.specs.Prelude.{◌≡◌, ℕ, List, IsTrue};
 ghost use Rattle.std.specs.Option.{option_map};
-ghost use Rattle.simplecss_text.specs.Components.{Component};
 ghost use Rattle.simplecss_text.specs.Components.Operator.{equals, has_word};
 ghost use Rattle.simplecss_selector.specs.Keys.{Key as KeyValue, Reported, has_satisfying_value};
 ghost use Rattle.simplecss_selector.specs.Keys.Key.{by_id, by_class};
-ghost use Rattle.simplecss_selector.specs.KeyBits.{number_from, bit_by, key_bits, Covers, covers};
-ghost use Rattle.simplecss_selector.specs.KeyBits.{CoversReported, CoversAncestors, ancestor_bits};
+ghost use Rattle.simplecss_selector.specs.KeyBits.{number_from, bit_by, key_bits, Covers};
+ghost use Rattle.simplecss_selector.specs.KeyBits.{CoversReported};
 ghost use Rattle.simplecss_selector.specs.Operators.{is_word_of};
-ghost use Rattle.simplecss_selector.specs.Placements.{HasPlacement};
 ghost use Rattle.simplecss_selector.specs.KeyViews.{key_value};
 
-use crate::{Element, Key};
+use crate::Key;
 
 /// Returns a number for the text, counted from the number of a kind of key.
 #[inline(always)]
@@ -38,7 +36,7 @@ impl Key<'_> {
     /// Returns the key as a set of keys: one bit of 64 for an id, a class or a name, and none for
     /// an attribute's name. Equal keys have the same bit; different keys may share one.
     #[inline(always)]
-    pub fn bits(&self) -> u64
+    pub(crate) fn bits(&self) -> u64
         ensures { result ≡ key_bits (key_value self.now) }
     {
         match *self {
@@ -100,18 +98,9 @@ pub fn element_bits(name: &str, id: Option<&str>, class: Option<&str>) -> u64
     Key::Name(name).bits() | id_bits(id) | class_bits(class)
 }
 
-/// Returns the bits of all keys. An implementation of `Keyed::ancestor_bits` may return it for
-/// every element: an index then tests more selectors, and finds the same ones.
-pub fn all_key_bits() -> u64
+/// Returns the bits of all keys.
+pub(crate) fn all_key_bits() -> u64
     ensures { (key : KeyValue) → Covers result (key_bits key) }
 {
     u64::MAX
 }
-
-/// If a selector matches an element, bits that cover the keys of the element's ancestors cover those
-/// that the selector requires of them.
-pub fn ancestors_law<E: Element>()
-    ensures { (components : List Component) (n : E.Node) (bits : ℕ)
-        → CoversAncestors E.tree n bits → HasPlacement E.tree components n
-        → IsTrue (covers bits (ancestor_bits components)) }
-{}

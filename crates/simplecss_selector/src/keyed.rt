@@ -1,6 +1,7 @@
 //! Elements that report by what an index finds selectors: name, id, class and attributes, and bits of the
 //! ancestors.
 use crate::Element;
+use crate::key_bits::all_key_bits;
 
 /// An element that reports its name, its id, its class and which attributes it has, and bits of its
 /// ancestors, so that an index finds the selectors that can match it without testing it for each name,
@@ -40,10 +41,6 @@ use crate::Element;
 ///     fn has_attribute(&self, name: &str) -> bool {
 ///         self.value(name).is_some()
 ///     }
-///
-///     fn ancestor_bits(&self) -> u64 {
-///         all_key_bits()
-///     }
 /// }
 /// ```
 pub trait Keyed: Element {
@@ -69,11 +66,14 @@ pub trait Keyed: Element {
     fn has_attribute(&self, name: &str) -> bool
         ensures { result ≡ (reported self.now).has_attribute name.now };
 
-    /// Returns bits that cover the keys (`Key::bits`) of all ancestors. `all_key_bits` returns such
-    /// bits for any element; with fewer, an index tests fewer selectors. It is called once for each
+    /// Returns bits that cover the keys of all ancestors: those of `element_bits` of each, or, by
+    /// default, all bits. With fewer an index tests fewer selectors. It is called once for each
     /// element.
     fn ancestor_bits(&self) -> u64
-        ensures { CoversAncestors Self.tree (Self.node self.now) result };
+        ensures { CoversAncestors Self.tree (Self.node self.now) result }
+    {
+        all_key_bits()
+    }
 
     ghost reported_law: { (element : Self)
         → ReportsKeys Self.tree (Self.node element) (reported element) };

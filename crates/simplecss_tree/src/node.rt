@@ -5,7 +5,7 @@ ghost use Rattle.simplecss_tree.specs.TreeNodes.{is_in_language, value_in};
 ghost use Rattle.simplecss_tree.specs.Rows.{attribute_of};
 
 use crate::Tree;
-use simplecss::{AttributeOperator, Element, Keyed, PseudoClass, all_key_bits};
+use simplecss::{AttributeOperator, Element, Keyed, PseudoClass};
 use std::marker::Model;
 
 /// An element of a tree.
@@ -164,10 +164,5 @@ impl<'p, 't> Keyed for Node<'p, 't> {
 
     fn has_attribute(&self, name: &str) -> bool {
         self.tree.attribute(self.index, name).is_some()
-    }
-
-    #[inline(always)]
-    fn ancestor_bits(&self) -> u64 {
-        all_key_bits()
     }
 }

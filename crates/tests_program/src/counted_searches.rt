@@ -5,7 +5,7 @@ use crate::same::same;
 use cssq::cascade::{Cascade, winners, winning};
 use cssq::tree::Page;
 use log::sink::Discard;
-use simplecss::{Keyed, Recent, Rule, RuleIndex, StyleSheet, Tests};
+use simplecss::{Keyed, Rule, RuleIndex, RuleSearch, StyleSheet, Tests};
 use std::alloc::{AllocError, Global};
 use std::test::Fail;
 
@@ -74,11 +74,10 @@ fn search_recent<E: Keyed>(
     rules: &[Rule<'_>],
     element: &E,
 ) -> Result<(), AllocError> {
-    let index = RuleIndex::new(alloc, rules)?;
-    let mut recent = Recent::new(alloc, &index)?;
+    let mut search = RuleSearch::new(alloc, rules)?;
     let mut indices = Vec::new(alloc);
-    index.matching_recent(rules, element, &mut indices, &mut recent)?;
-    index.matching_recent(rules, element, &mut indices, &mut recent)
+    search.matching(rules, element, &mut indices)?;
+    search.matching(rules, element, &mut indices)
 }
 
 /// Finds the rules twice.

@@ -13,7 +13,7 @@ use free::Made;
 use log::Log;
 use log::sink::{Discard, Memory};
 use simplecss::{
-    Reading, Recent, RuleIndex, Selector, SheetError, StatementReader, StyleSheet, Warnings,
+    Reading, RuleIndex, RuleSearch, Selector, SheetError, StatementReader, StyleSheet, Warnings,
     find_skipped,
 };
 use simplecss_tree::{Tree, TreeError};
@@ -251,21 +251,20 @@ fn found_rules(
     Ok(sum)
 }
 
-/// Makes room for what the index finds for earlier elements.
-fn show_recent(rt: &HostRuntime, made: &Made<'_>, text: &str) -> io::Result<()> {
+/// Makes an index that keeps what it finds for earlier elements.
+fn show_search(rt: &HostRuntime, made: &Made<'_>, text: &str) -> io::Result<()> {
     let sheet = StyleSheet::parse(&Discard, rt.alloc(), text)?;
-    let index = RuleIndex::new(rt.alloc(), &sheet.rules)?;
     begin(rt);
-    let recent = Recent::new(rt.alloc(), &index);
+    let search = RuleSearch::new(rt.alloc(), &sheet.rules);
     end(rt, made);
-    match recent {
+    match search {
         Err(_) => println!(rt; "refused"),
         Ok(_) => println!(rt; "room"),
     }
 }
 
-/// Finds the rules of the second and the third element of the page by an index and what it found for
-/// earlier elements. The list of indices has room, so that only what is kept is allocated.
+/// Finds the rules of the second and the third element of the page by an index that keeps what it
+/// finds. The list of indices has room, so that only what is kept is allocated.
 fn show_kept(rt: &HostRuntime, made: &Made<'_>, text: &str, tree: &str) -> io::Result<()> {
     let sheet = StyleSheet::parse(&Discard, rt.alloc(), text)?;
     let Ok(page) = Page::read(rt.alloc(), tree) else {
@@ -274,13 +273,12 @@ fn show_kept(rt: &HostRuntime, made: &Made<'_>, text: &str, tree: &str) -> io::R
     let (Some(first), Some(second)) = (page.node(1), page.node(2)) else {
         return println!(rt; "no elements");
     };
-    let index = RuleIndex::new(rt.alloc(), &sheet.rules)?;
-    let mut recent = Recent::new(rt.alloc(), &index)?;
+    let mut search = RuleSearch::new(rt.alloc(), &sheet.rules)?;
     let mut indices = Vec::with_capacity(rt.alloc(), 100)?;
     begin(rt);
-    let mut outcome = index.matching_recent(&sheet.rules, &first, &mut indices, &mut recent);
+    let mut outcome = search.matching(&sheet.rules, &first, &mut indices);
     if outcome.is_ok() {
-        outcome = index.matching_recent(&sheet.rules, &second, &mut indices, &mut recent);
+        outcome = search.matching(&sheet.rules, &second, &mut indices);
     }
     end(rt, made);
     show_number(rt, outcome.map(|_| indices.len()))
@@ -370,7 +368,7 @@ fn show<R: Log>(rt: &HostRuntime, made: &Made<'_>, log: &R, words: &[&str]) -> i
             show_number(rt, parts)
         }
         [call @ ("index" | "winners"), text, tree] => show_found(rt, made, call, text, tree),
-        ["recent", text] => show_recent(rt, made, text),
+        ["search", text] => show_search(rt, made, text),
         ["kept", text, tree] => show_kept(rt, made, text, tree),
         ["tree", names @ ..] => {
             begin(rt);

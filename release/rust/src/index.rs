@@ -17,13 +17,12 @@ use crate::rattle_std::alloc::Global;
 use crate::rattle_std::vec::Vec;
 use crate::{done, StyleSheet};
 
-pub use crate::erased::simplecss::{all_key_bits, Keyed};
+pub use crate::erased::simplecss::Keyed;
 
 /// The rules of a sheet as they were when this was made, and an index of them.
 pub struct RuleIndex<'a> {
     rules: Vec<proved::Rule<'a>>,
-    index: proved::RuleIndex<'a>,
-    recent: proved::Recent<'a>,
+    search: proved::RuleSearch<'a>,
     indices: Vec<usize>,
 }
 
@@ -31,16 +30,15 @@ impl<'a> RuleIndex<'a> {
     /// Makes the index of a sheet's rules.
     pub fn new(sheet: &StyleSheet<'a>) -> Self {
         let rules = sheet.clone().take_proved().rules;
-        let index = done(proved::RuleIndex::new(Global, &rules));
-        let recent = done(proved::Recent::new(Global, &index));
-        RuleIndex { rules, index, recent, indices: Vec::new(Global) }
+        let search = done(proved::RuleSearch::new(Global, &rules));
+        RuleIndex { rules, search, indices: Vec::new(Global) }
     }
 
     /// Returns the indices in the sheet's `rules` of those that match the element, in order: what testing
     /// each rule finds.
     pub fn matching<E: Keyed>(&mut self, element: &E) -> &[usize] {
-        let RuleIndex { rules, index, recent, indices } = self;
-        done(index.matching_recent(rules, element, indices, recent));
+        let RuleIndex { rules, search, indices } = self;
+        done(search.matching(rules, element, indices));
         &self.indices
     }
 }

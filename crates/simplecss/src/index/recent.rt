@@ -70,9 +70,9 @@ impl Slot {
 }
 
 /// What searches by an index found for elements by their names and classes, for later elements with
-/// the same name and the same class value. It takes at most 60 kilobytes.
+/// the same name and the same class value.
 #[derive(Drop)]
-pub struct Recent<'a> {
+pub(crate) struct Recent<'a> {
     /// Allocates the slots.
     alloc: Global,
     /// The results, each at the number of its name and class value.
@@ -131,7 +131,7 @@ impl<'a> Recent<'a> {
 
     /// Has room for results of searches by this index, and none yet. Fails only if an allocation
     /// fails.
-    pub fn new(alloc: Global, index: &RuleIndex<'a>) -> Result<Recent<'a>, AllocError>
+    pub(crate) fn new(alloc: Global, index: &RuleIndex<'a>) -> Result<Recent<'a>, AllocError>
         ensures { IfOk result (λ recent. recent ≡ index.now) }
     {
         let mut slots = Vec::with_capacity(alloc, SLOTS)?;

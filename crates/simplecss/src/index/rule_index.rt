@@ -192,26 +192,6 @@ impl<'a> RuleIndex<'a> {
         self.matching_counted(rules, element, indices, &mut Tests::new())
     }
 
-    /// Does what [`RuleIndex::matching`] does, and keeps in `recent`, which was made of this index,
-    /// what it found by the element's name and classes. For a later element with the same name and
-    /// the same class value that is not looked up again.
-    pub fn matching_recent<T: HasSelector<'a>, E: Keyed>(
-        &self,
-        rules: &[T],
-        element: &E,
-        indices: &mut Vec<usize>,
-        recent: &mut Recent<'a>,
-    ) -> Result<(), AllocError>
-        requires index { self.now ≡ map T.selector_in rules.now }
-        requires recent { recent.old ≡ self.now }
-        ensures matches { OnOk result
-            (AreMatches E.tree (E.node element.now) self.now indices.new.items) }
-        ensures err { OnErr result (indices.new.items ≡ []) }
-        ensures recent { recent.new ≡ recent.old }
-    {
-        self.matching_all(rules, element, indices, recent, &mut Tests::new())
-    }
-
     /// `matching`, with a count of the tests that were made. A rule is tested only if its key is
     /// reported (`Selector::wanted`: by the element, its parent or its previous sibling), and
     /// `Keyed::ancestor_bits` covers the bits of `Selector::ancestor_bits`.
@@ -260,7 +240,7 @@ impl<'a> RuleIndex<'a> {
     }
 
     /// `matching_open`, with a count of the tests that were made.
-    pub fn matching_open_counted<T: HasSelector<'a>, E: Keyed>(
+    fn matching_open_counted<T: HasSelector<'a>, E: Keyed>(
         &self,
         rules: &[T],
         element: &E,
@@ -291,9 +271,10 @@ impl<'a> RuleIndex<'a> {
         Ok(())
     }
 
-    /// `matching_counted` and `matching_recent` at once.
+    /// `matching_counted`, which looks up in `recent`, and keeps there, what is found by the element's
+    /// name and classes.
     #[inline(always)]
-    fn matching_all<T: HasSelector<'a>, E: Keyed>(
+    pub(crate) fn matching_all<T: HasSelector<'a>, E: Keyed>(
         &self,
         rules: &[T],
         element: &E,
