@@ -34,7 +34,7 @@ and 4 if a file cannot be read or the output cannot be written.
 const VERSION: &str = "cssq 0.1.0\n";
 
 /// Returns what the words ask for, if they are `--help`, `-h` or `--version`.
-pub fn help_for(words: &[String]) -> Option<&'static str> {
+pub(crate) fn help_for(words: &[String]) -> Option<&'static str> {
     match words {
         [word] => match word.as_str() {
             "-h" | "--help" => Some(HELP),
@@ -46,7 +46,7 @@ pub fn help_for(words: &[String]) -> Option<&'static str> {
 }
 
 /// Writes a text to standard output.
-pub fn write_text<W: Write>(text: &str, out: &mut Output<W>) -> Result<(), RunFault> {
+pub(crate) fn write_text<W: Write>(text: &str, out: &mut Output<W>) -> Result<(), RunFault> {
     match out.write_all(text.as_bytes()) {
         Ok(()) => Ok(()),
         Err(_) => Err(RunFault::Output),

@@ -4,7 +4,7 @@ use std::io;
 use std::io::{Error, ErrorKind, Read};
 
 /// What a warning calls standard input.
-pub const INPUT: &str = "standard input";
+pub(crate) const INPUT: &str = "standard input";
 
 /// Returns the length that the system reports of a file, or 0 if it reports none.
 fn file_len(file: &File) -> usize {
@@ -25,12 +25,12 @@ fn bytes_of(rt: &HostRuntime, name: &str) -> io::Result<Vec<u8>> {
 }
 
 /// Returns the text of a file, or writes the reason why there is none.
-pub fn read_file(rt: &HostRuntime, name: &str) -> Option<String> {
+pub(crate) fn read_file(rt: &HostRuntime, name: &str) -> Option<String> {
     text_of(rt, name, bytes_of(rt, name))
 }
 
 /// Returns the text of standard input, or writes the reason why there is none.
-pub fn read_input(rt: &HostRuntime) -> Option<String> {
+pub(crate) fn read_input(rt: &HostRuntime) -> Option<String> {
     let mut bytes = Vec::new(rt.alloc());
     let outcome = rt.reader().read_to_end(&mut bytes);
     text_of(rt, INPUT, outcome.map(|_| bytes))

@@ -9,7 +9,7 @@ const LIMIT: &str = "CSSQ_LIMIT";
 
 /// Returns the limit that the environment sets, and `usize::MAX` if it sets none. If what it sets is
 /// no number, or memory runs out, the error is the exit status, after a line that says so.
-pub fn read_limit(rt: &HostRuntime) -> Result<usize, ExitCode> {
+pub(crate) fn read_limit(rt: &HostRuntime) -> Result<usize, ExitCode> {
     let set = match env::var(rt, LIMIT) {
         Ok(text) => text.as_str().parse::<usize>().ok(),
         Err(VarError::NotPresent) => Some(usize::MAX),
@@ -30,6 +30,6 @@ pub fn read_limit(rt: &HostRuntime) -> Result<usize, ExitCode> {
 
 /// Writes that the rules would hold more declarations than the limit. An error of standard error is
 /// ignored.
-pub fn write_beyond(rt: &HostRuntime, most: usize) {
+pub(crate) fn write_beyond(rt: &HostRuntime, most: usize) {
     let _ = eprintln!(rt; "cssq: the rules have more than {most} declarations ({LIMIT})");
 }

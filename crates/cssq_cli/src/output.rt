@@ -4,16 +4,16 @@ use std::io::{ErrorKind, Write};
 
 /// Standard output, and whether a write found that it is a pipe which nobody reads.
 #[derive(Drop)]
-pub struct Output<W> {
+pub(crate) struct Output<W> {
     /// Where the bytes go.
     out: W,
     /// Whether nobody reads them.
-    pub is_unread: bool,
+    pub(crate) is_unread: bool,
 }
 
 impl<W: Write> Output<W> {
     /// Creates an output to which nothing was written.
-    pub fn new(out: W) -> Self {
+    pub(crate) fn new(out: W) -> Self {
         Output {
             out,
             is_unread: false,

@@ -6,7 +6,7 @@ use std::fmt;
 
 /// What is wrong with a line of a tree, with the field.
 #[derive(Clone, Copy, Debug, PartialEq)]
-pub enum LineFault<'t> {
+pub(crate) enum LineFault<'t> {
     /// The line is empty.
     EmptyLine,
     /// A byte order mark is before the depth.
@@ -76,7 +76,7 @@ impl fmt::Display for LineFault<'_> {
 }
 
 /// Returns what is wrong with the line that a fault of the tree's text names.
-pub fn fault_of_line(alloc: Global, text: &str, fault: TreeFault) -> LineFault<'_> {
+pub(crate) fn fault_of_line(alloc: Global, text: &str, fault: TreeFault) -> LineFault<'_> {
     let number = fault.line();
     let line = line_at(text, number);
     match fault {
@@ -95,7 +95,7 @@ pub fn fault_of_line(alloc: Global, text: &str, fault: TreeFault) -> LineFault<'
 }
 
 /// Whether a line of the tree ends in CR LF.
-pub fn has_crlf(text: &str) -> bool {
+pub(crate) fn has_crlf(text: &str) -> bool {
     text.contains("\r\n")
 }
 

@@ -10,14 +10,14 @@ use std::io::{BufWriter, Stderr, Write};
 /// A reporter that writes a line for each part of the files' texts that is skipped, and for a byte
 /// order mark at the start of one and each value that leaves a parenthesis open.
 #[derive(Debug, Drop)]
-pub struct SheetWarnings<'n, 'a, W: Write> {
+pub(crate) struct SheetWarnings<'n, 'a, W: Write> {
     /// Writes the lines.
     lines: SkippedLines<'n, 'a, W>,
 }
 
 impl<'n, 'a> SheetWarnings<'n, 'a, BufWriter<Stderr>> {
     /// Returns a reporter to standard error, for texts with these names.
-    pub fn new(rt: &HostRuntime, names: &'n [&'n str]) -> io::Result<Self> {
+    pub(crate) fn new(rt: &HostRuntime, names: &'n [&'n str]) -> io::Result<Self> {
         let out = BufWriter::new(rt.alloc(), rt.stderr())?;
         Ok(SheetWarnings {
             lines: SkippedLines::new(out, names),
@@ -27,7 +27,7 @@ impl<'n, 'a> SheetWarnings<'n, 'a, BufWriter<Stderr>> {
 
 impl<'n, 'a, W: Write + Drop> SheetWarnings<'n, 'a, W> {
     /// Writes what is in the writer's buffers.
-    pub fn finish(self) -> io::Result<()> {
+    pub(crate) fn finish(self) -> io::Result<()> {
         let SheetWarnings { lines } = self;
         lines.finish()
     }
@@ -77,7 +77,7 @@ fn write_refusal(rt: &HostRuntime, name: &str, text: &str, read: &str, skipped: 
 }
 
 /// Writes the warnings of a selector: why it is refused, or what follows it and is not read.
-pub fn warn_of_selector(rt: &HostRuntime, name: &str, text: &str) {
+pub(crate) fn warn_of_selector(rt: &HostRuntime, name: &str, text: &str) {
     if text.starts_with('\u{feff}') {
         let _ = eprintln!(rt; "{name}:1:1: {}", HintKind::ByteOrderMark);
     }
