@@ -16,7 +16,7 @@ use Rattle.simplecss.specs.Trees.{Tree}
 use Rattle.simplecss.specs.SelectorIndices.{selector_at}
 use Rattle.simplecss.specs.Matching.{AreMatches}
 use Rattle.cssq.specs.Winners.{Wins, IsStated}
-use Rattle.cssq.specs.RuleWinners.{InRule, IsOutdone}
+use Rattle.cssq.specs.internal.RuleWinners.{InRule, IsOutdone}
 use Rattle.cssq.proofs.FromLast.{From, KnownFrom, known_none, known_all, known_skipped, known_passed, known_here, rule_read}
 use Rattle.cssq.proofs.Indexed.{after, wanted_at, after_within, none_between}
 

@@ -15,7 +15,7 @@ use Rattle.simplecss.specs.DeclarationViews.{declaration_of, declarations_of}
 use Rattle.simplecss.specs.declared.Declaration.{Declaration}
 use Rattle.cssq.specs.Winners.{DeclarationSet, weight, Beats, WinsAt, HasNone, Indexed, IsEarlier, ListsInOrder, HaveOwnNames}
 use Rattle.cssq.specs.Winners.Beats.{by_importance, by_rule, by_index}
-use Rattle.cssq.specs.RuleWinners.{InRule, IsBestIndex, DecidesWhether}
+use Rattle.cssq.specs.internal.RuleWinners.{InRule, IsBestIndex, DecidesWhether}
 use Rattle.cssq.proofs.Cascading.{OneMore, beats_as_later, not_two, in_rule_more, others_stay, first, takes_over, stays}
 use Rattle.cssq.proofs.FromLast.{here_or_later, before_or_from}
 use Rattle.cssq.proofs.Listing.{indexed_at, slice_get_some, lists_none, lists_more, lists_same}

@@ -9,7 +9,7 @@ use Rattle.simplecss.specs.Declarations.{StyleDeclaration}
 use Rattle.simplecss.specs.DeclarationViews.{declaration_of, declarations_of}
 use Rattle.simplecss.specs.declared.Declaration.{Declaration}
 use Rattle.cssq.specs.Winners.{DeclarationSet, weight, Beats, WinsAt, HasNone, Wins, IsEarlier}
-use Rattle.cssq.specs.RuleWinners.{InRule, better_of}
+use Rattle.cssq.specs.internal.RuleWinners.{InRule, better_of}
 use Rattle.cssq.specs.Winners.Beats.{by_importance, by_rule, by_index}
 
 -- ---- the order

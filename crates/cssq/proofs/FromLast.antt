@@ -11,7 +11,7 @@ use Rattle.simplecss.specs.declared.sheet.rules.Rule.{Rule}
 use Rattle.simplecss.specs.Trees.{Tree}
 use Rattle.simplecss.specs.Placements.{HasPlacement}
 use Rattle.cssq.specs.Winners.{DeclarationSet, weight, Beats, WinsAt, HasNone, Wins, IsStated, IsEarlier}
-use Rattle.cssq.specs.RuleWinners.{InRule, IsCandidate, IsPassedOver}
+use Rattle.cssq.specs.internal.RuleWinners.{InRule, IsCandidate, IsPassedOver}
 use Rattle.cssq.specs.Winners.Beats.{by_importance}
 use Rattle.cssq.proofs.Cascading.{weight_small, beats_weight, beats_earlier, not_two}
 

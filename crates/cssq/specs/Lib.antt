@@ -5,9 +5,7 @@ pub mod SelectorRuns
 pub mod SheetRuns
 pub mod MatchRuns
 pub mod Winners
-pub mod RuleWinners
 pub mod StyleRuns
-pub mod PageRuns
 pub mod internal
 -- What contracts of trees name, under the names of this crate.
 pub use Rattle.cssq_page.specs.TreeText

@@ -10,8 +10,8 @@ ghost use Rattle.simplecss.specs.RuleViews.{rule_of, rules_of, rules_in};
 ghost use Rattle.simplecss.specs.Matching.{AreMatches};
 ghost use Rattle.cssq.specs.Winners.{Wins, IsStated, IsWinner, HasNoWinner, WinsForItsName};
 ghost use Rattle.cssq.specs.Winners.{ListsInOrder, HaveOwnNames};
-ghost use Rattle.cssq.specs.RuleWinners.{better_of, InRule, IsCandidate, IsOutdone, IsPassedOver};
-ghost use Rattle.cssq.specs.RuleWinners.{DecidesWhether, HasBestIndices};
+ghost use Rattle.cssq.specs.internal.RuleWinners.{better_of, InRule, IsCandidate, IsOutdone, IsPassedOver};
+ghost use Rattle.cssq.specs.internal.RuleWinners.{DecidesWhether, HasBestIndices};
 
 use simplecss::{Declaration, Element, Keyed, Rule, RuleSearch, StyleSheet};
 use std::alloc::{AllocError, Global};

@@ -12,7 +12,7 @@ ghost use Rattle.cssq.specs.SelectorRuns.{selector_line, IsSelectorRun};
 ghost use Rattle.cssq.specs.SheetRuns.{sheet_output, IsSheetText, IsSheetRun};
 ghost use Rattle.cssq.specs.MatchRuns.{numbers_line, IsMatchRun};
 ghost use Rattle.cssq.specs.StyleRuns.{style_line, IsStyleRun};
-ghost use Rattle.cssq.specs.PageRuns.{AppendsElementLine, AreElementLines, IsPageRun};
+ghost use Rattle.cssq.specs.internal.PageRuns.{AppendsElementLine, AreElementLines, IsPageRun};
 ghost use Rattle.cssq.specs.internal.Walks.{IsWalkOf};
 ghost use Rattle.cssq.specs.declared.runs.RunFault.TheVariants.{Memory};
 ghost use Rattle.simplecss.specs.DeclarationViews.{declaration_of};

@@ -2,7 +2,7 @@ use Rattle.std.proofs.Common.{◌≡◌, ◌+◌, ◌≤◌, ◌<◌, Some, IfSo
 use Rattle.std.proofs.lemmas.List.{take_all, length-map}
 use Rattle.std.proofs.lemmas.Map.Text.{btree_map_updates_str}
 use Rattle.simplecss.specs.DeclarationViews.{declaration_of, declarations_of}
-use Rattle.cssq.specs.RuleWinners.{IsBestIndex, DecidesWhether, index_for_name, HasBestIndices}
+use Rattle.cssq.specs.internal.RuleWinners.{IsBestIndex, DecidesWhether, index_for_name, HasBestIndices}
 use Rattle.cssq.proofs.BestIndices.{nothing, has_at, best_within, indices_taken, indices_kept}
 use Rattle.cssq.proofs.cascade.best_indices.Goals as goal
 use Rattle.cssq.proofs.cascade.best_indices.Goals.{Joined-takes_over, then-takes_over+in_ok-insert, else-takes_over}

@@ -1,6 +1,6 @@
 use Rattle.std.proofs.Common.{take}
 use Rattle.simplecss.specs.DeclarationViews.{declarations_of}
-use Rattle.cssq.specs.RuleWinners.{HasBestIndices}
+use Rattle.cssq.specs.internal.RuleWinners.{HasBestIndices}
 use Rattle.cssq.proofs.cascade.best_indices.Given as goal
 
 -- the best indices among the declarations so far

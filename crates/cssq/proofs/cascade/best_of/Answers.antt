@@ -4,7 +4,7 @@ use Rattle.std.specs.Cmp.Lexicographic.{bytes_decides}
 use Rattle.std.proofs.lemmas.Bool.{both_ways}
 use Rattle.simplecss.specs.DeclarationViews.{declaration_of, declarations_of}
 use Rattle.cssq.specs.Winners.{Wins}
-use Rattle.cssq.specs.RuleWinners.{InRule}
+use Rattle.cssq.specs.internal.RuleWinners.{InRule}
 use Rattle.cssq.proofs.Cascading.{best_named, best_other, best_all}
 use Rattle.cssq.proofs.cascade.best_of.Goals.{then-eq, else-eq}
 use Rattle.cssq.proofs.cascade.best_of.Goals as goal

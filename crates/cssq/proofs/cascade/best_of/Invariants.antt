@@ -2,7 +2,7 @@ use Rattle.std.proofs.Common.{ℕ, take}
 use Rattle.std.specs.Option.{option_map}
 use Rattle.simplecss.specs.DeclarationViews.{declaration_of, declarations_of}
 use Rattle.cssq.specs.Winners.{Wins}
-use Rattle.cssq.specs.RuleWinners.{InRule}
+use Rattle.cssq.specs.internal.RuleWinners.{InRule}
 use Rattle.cssq.proofs.cascade.best_of.Given as goal
 
 -- what wins among the declarations so far

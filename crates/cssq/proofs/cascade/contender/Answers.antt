@@ -2,7 +2,7 @@ use Rattle.std.proofs.Common.{Some, refl, ap, ◌∙◌, subst}
 use Rattle.std.specs.List.{slice_get}
 use Rattle.simplecss.specs.DeclarationViews.{declaration_of, declarations_of}
 use Rattle.cssq.specs.Winners.{Wins}
-use Rattle.cssq.specs.RuleWinners.{InRule}
+use Rattle.cssq.specs.internal.RuleWinners.{InRule}
 use Rattle.cssq.proofs.FromLast.{none_important}
 use Rattle.cssq.proofs.cascade.contender.Goals as goal
 

@@ -3,7 +3,7 @@ use Rattle.std.specs.Option.{option_eq}
 use Rattle.std.proofs.lemmas.List.{map-append, length-map}
 use Rattle.simplecss.specs.DeclarationViews.{declaration_of, declarations_of}
 use Rattle.cssq.specs.Winners.{IsStated, ListsInOrder}
-use Rattle.cssq.specs.RuleWinners.{index_for_name}
+use Rattle.cssq.specs.internal.RuleWinners.{index_for_name}
 use Rattle.cssq.proofs.BestIndices.{Kept, nothing, has_at, indexed_of, winners_none, winners_more, winners_skip, winners_all, same_index, other_index}
 use Rattle.cssq.proofs.cascade.winners_of.Goals as goal
 use Rattle.cssq.proofs.cascade.winners_of.Goals.{then-eq+in_ok-push, else-eq}

@@ -2,7 +2,7 @@ use Rattle.std.proofs.Common.{List}
 use Rattle.simplecss.specs.DeclarationViews.{declarations_of}
 use Rattle.simplecss.specs.Statements.{StyleRule}
 use Rattle.cssq.specs.Winners.{IsStated, ListsInOrder}
-use Rattle.cssq.specs.RuleWinners.{HasBestIndices}
+use Rattle.cssq.specs.internal.RuleWinners.{HasBestIndices}
 use Rattle.cssq.proofs.BestIndices.{Kept}
 use Rattle.cssq.proofs.cascade.winners_of.Given as goal
 

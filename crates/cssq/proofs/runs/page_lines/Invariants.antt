@@ -1,6 +1,6 @@
 use Rattle.std.proofs.Common.{◌≡◌, string_bytes}
 use Rattle.simplecss.specs.RuleViews.{rules_of}
-use Rattle.cssq.specs.PageRuns.{IsElementLine}
+use Rattle.cssq.specs.internal.PageRuns.{IsElementLine}
 use Rattle.cssq.specs.internal.Walks.{IsWalkOf}
 use Rattle.cssq.proofs.MatchLines.{LinesSoFar}
 use Rattle.cssq.proofs.runs.page_lines.Given as goal

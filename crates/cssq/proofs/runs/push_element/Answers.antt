@@ -8,7 +8,7 @@ use Rattle.simplecss.specs.Matching.{AreMatches}
 use Rattle.cssq_page.specs.PageNodes.{spot, page_tree}
 use Rattle.cssq.specs.MatchRuns.{numbers_line}
 use Rattle.cssq.specs.StyleRuns.{style_line}
-use Rattle.cssq.specs.PageRuns.{AppendsElementLine}
+use Rattle.cssq.specs.internal.PageRuns.{AppendsElementLine}
 use Rattle.cssq.proofs.Among.{index_within}
 use Rattle.cssq.proofs.Indexed.{numbers_reported, same_selectors}
 use Rattle.cssq.proofs.runs.push_element.Goals.{After-as_slice-indices}

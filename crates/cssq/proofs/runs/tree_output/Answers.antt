@@ -9,7 +9,7 @@ use Rattle.cssq.specs.declared.runs.RunFault.{RunFault}
 use Rattle.cssq.specs.declared.runs.RunFault.TheVariants.{Tree, Memory}
 use Rattle.cssq.specs.Faults.{run_fault}
 use Rattle.cssq.specs.Writing.{FailsBeforeWriting}
-use Rattle.cssq.specs.PageRuns.{AreElementLines, IsPageRun}
+use Rattle.cssq.specs.internal.PageRuns.{AreElementLines, IsPageRun}
 use Rattle.cssq.proofs.Written.{failed_with, tree_due}
 use Rattle.cssq.proofs.runs.tree_output.Goals as goal
 

@@ -1,6 +1,6 @@
 use Rattle.std.proofs.Common.{Ok, subst, sym}
 use Rattle.std.proofs.lemmas.Result.{IfOk-weaker}
-use Rattle.cssq.specs.PageRuns.{IsPageRun}
+use Rattle.cssq.specs.internal.PageRuns.{IsPageRun}
 use Rattle.cssq.proofs.Written.{runs_written, runs_failed}
 use Rattle.cssq.proofs.runs.write_page.Goals as goal
 
