@@ -11,3 +11,6 @@ pub mod RunSteps
 pub mod Decoding
 pub mod PlacedSteps
 pub mod PlaceBounds
+pub mod Parting
+pub mod PartingTokens
+pub mod PartingAddresses

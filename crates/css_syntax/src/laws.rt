@@ -1,6 +1,7 @@
 //! Laws: contracts of functions that do nothing.
 ghost use Rattle.std.specs.Prelude.{ℕ, Bool, List};
 ghost use Rattle.css_syntax.specs.NothingLost.{LosesNoItem, LosesNoStatement};
+ghost use Rattle.css_syntax.specs.Printing.{ItemsReadBack};
 
 /// Every byte of a text is in the text of an item or a statement, which may be one that is skipped,
 /// or it is between them: a space byte, in a comment, a semicolon between items, and in a sheet
@@ -9,4 +10,10 @@ ghost use Rattle.css_syntax.specs.NothingLost.{LosesNoItem, LosesNoStatement};
 pub fn nothing_is_lost()
     ensures items { (in_block : Bool) (text : List ℕ) → LosesNoItem in_block text }
     ensures statements { (in_block : Bool) (text : List ℕ) → LosesNoStatement in_block text }
+{}
+
+/// A declaration that was read is itself, if it is printed and read again, unless something of its
+/// value was open at the end of the text or its value ends in a backslash.
+pub fn printed_declarations_read_back()
+    ensures { (in_block : Bool) (text : List ℕ) → ItemsReadBack in_block text }
 {}

@@ -1,0 +1,49 @@
+-- The printed text of a declaration, and what reading it again returns.
+use Rattle.std.specs.Prelude.{◌≡◌, ℕ, Bool, true, false, ◌==◌, if◌then◌else◌, List, [], ◌∷◌, ◌++◌, codes, Some}
+use Rattle.std.specs.List.{All}
+use Rattle.simplecss_text.specs.AsciiBytes.{newline, backslash}
+use Rattle.css_syntax.specs.DeclarationLists.{DeclarationText, ItemText, declared, at_rule_item, skipped_item, ListText, next_item, items}
+
+-- the last byte of the text is this one
+abbrev pub ends_in : ℕ → List ℕ → Bool
+ends_in byte [] = false
+ends_in byte (b ∷ []) = b == byte
+ends_in byte (b ∷ c ∷ text) = ends_in byte (c ∷ text)
+
+-- A newline after a value that ends in a backslash, which would escape any other byte.
+abbrev pub backslash_end : List ℕ → List ℕ
+backslash_end value = if ends_in backslash value then newline ∷ [] else []
+
+-- The importance of a declaration. No blank is before it, since an escape at the end of the value
+-- would consume that blank.
+abbrev pub important_text : Bool → List ℕ
+important_text important = if important then codes "!important" else []
+
+-- a declaration without the semicolon after it
+abbrev pub stated_text : DeclarationText → List ℕ
+stated_text d =
+    d.name ++ codes ": " ++ d.value ++ backslash_end d.value ++ important_text d.important
+
+-- a printed declaration
+abbrev pub declaration_text : DeclarationText → List ℕ
+declaration_text d = stated_text d ++ codes ";"
+
+-- Printed before any text and read again, the declaration is itself, and its semicolon and that
+-- text are left.
+abbrev pub DeclarationReadsBack : DeclarationText → Type 0
+DeclarationReadsBack d =
+    (in_block : Bool) (text : List ℕ)
+    → next_item in_block (declaration_text d ++ text)
+    ≡ Some (record { text = stated_text d; item = declared d }, codes ";" ++ text)
+
+-- This holds of a declaration in a list, if nothing of its value is open at the end of the text and
+-- its value does not end in a backslash.
+abbrev pub ItemReadsBack : ItemText → Type 0
+ItemReadsBack (declared d) =
+    d.closed ≡ true → ends_in backslash d.value ≡ false → DeclarationReadsBack d
+ItemReadsBack (at_rule_item a) = Unit {0}
+ItemReadsBack (skipped_item fault) = Unit {0}
+
+-- each item of a list of declarations
+abbrev pub ItemsReadBack : Bool → List ℕ → Type 0
+ItemsReadBack in_block text = All (λ p. ItemReadsBack p.item) (items in_block text)
