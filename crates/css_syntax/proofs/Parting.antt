@@ -1,6 +1,6 @@
 -- Two texts that are alike up to where they part, and readers of them that stop there or before.
 -- Serves `laws::printed_declarations_read_back`.
-use Rattle.std.proofs.Common.{◌≡◌, ℕ, zero, suc, ◌<◌, ◌≤◌, ◌==◌, ◌||◌, ◌&&◌, not, Bool, true, false, List, [], ◌∷◌, length, Option, Some, None, arith, refl, sym, ap, subst, ◌∙◌, if◌then◌else◌, ◌⊎◌, inl, inr}
+use Rattle.std.proofs.Common.{◌≡◌, ℕ, zero, suc, ◌<◌, ◌≤◌, ◌==◌, ◌||◌, ◌&&◌, not, Bool, true, false, List, [], ◌∷◌, length, Option, Some, None, arith, refl, sym, ap, subst, ◌∙◌, if◌then◌else◌, eqb-true, ◌⊎◌, inl, inr}
 use Rattle.simplecss_text.specs.AsciiBytes.{newline, carriage_return, backslash}
 use Rattle.simplecss_text.specs.Reading.{each, followed_by}
 use Rattle.simplecss_text.specs.Bytes.{past, past_byte, past_one, starts, starts_by}
@@ -12,15 +12,14 @@ use Rattle.simplecss_text.proofs.bytes.RunLemmas.{past-yes, past-no}
 use Rattle.css_syntax.specs.Tokens.{is_newline, past_one_space, past_hex, past_escape, begins_escape}
 use Rattle.css_syntax.proofs.Shorter.{past_one_space-within, past_hex-within, past_escape-within}
 
--- a backslash is not the last byte before t
-abbrev pub Inside : List ℕ → ℕ → List ℕ → Type 0
-Inside t b r = (b == backslash) ≡ true → length t < length r
-
--- Two texts with the same front, which does not end in a backslash, and then t in the first and u
--- in the second.
+-- Two texts with the same front, and then t in the first and u in the second. Each backslash of the
+-- front is with the byte after it, so the front does not end in a lone one.
 pub data Parting (t u : List ℕ) : List ℕ → List ℕ → Type 0 where
   at : Parting t u t u
-  on : (b : ℕ) (r s : List ℕ) → Parting t u r s → Inside t b r → Parting t u (b ∷ r) (b ∷ s)
+  on : (b : ℕ) (r s : List ℕ) → (b == backslash) ≡ false → Parting t u r s
+      → Parting t u (b ∷ r) (b ∷ s)
+  pair : (c : ℕ) (r s : List ℕ) → Parting t u r s
+      → Parting t u (backslash ∷ c ∷ r) (backslash ∷ c ∷ s)
 
 -- if the first reading stops where the texts part or before, what is left of both is alike
 abbrev pub Kept : (t u : List ℕ) → List ℕ → List ℕ → Type 0
@@ -28,12 +27,14 @@ Kept t u r s = length t ≤ length r → Parting t u r s
 
 pub parting-longer : (t u r s : List ℕ) → Parting t u r s → length t ≤ length r
 parting-longer t u r s at = omega arith
-parting-longer t u r s (on b r1 s1 h i) = omega (arith, parting-longer t u r1 s1 h)
+parting-longer t u r s (on b r1 s1 e h) = omega (arith, parting-longer t u r1 s1 h)
+parting-longer t u r s (pair c r1 s1 h) = omega (arith, parting-longer t u r1 s1 h)
 
 -- what is left is the end
 pub parting-end : (t u r s : List ℕ) → Parting t u r s → length r ≤ length t → (r ≡ t) × (s ≡ u)
 parting-end t u r s at l = (refl, refl)
-parting-end t u r s (on b r1 s1 h i) l = absurd (omega (arith, parting-longer t u r1 s1 h))
+parting-end t u r s (on b r1 s1 e h) l = absurd (omega (arith, parting-longer t u r1 s1 h))
+parting-end t u r s (pair c r1 s1 h) l = absurd (omega (arith, parting-longer t u r1 s1 h))
 
 pub kept-if : (t u : List ℕ) (c : Bool) (a b x y : List ℕ) → Kept t u a x → Kept t u b y
     → Kept t u (if c then a else b) (if c then x else y)
@@ -42,16 +43,17 @@ kept-if t u false a b x y h k = k
 
 -- ---- bytes and escapes
 
-pub past_byte-kept : (t u : List ℕ) (c : ℕ) → past_byte c u ≡ u → (r s : List ℕ)
-    → Parting t u r s → Kept t u (past_byte c r) (past_byte c s)
-past_byte-kept [] u c e r s at = λ l. rw e at
-past_byte-kept (b ∷ t) u c e r s at = by (b == c)
+pub past_byte-kept : (t u : List ℕ) (c : ℕ) → (backslash == c) ≡ false → past_byte c u ≡ u
+    → (r s : List ℕ) → Parting t u r s → Kept t u (past_byte c r) (past_byte c s)
+past_byte-kept [] u c n e r s at = λ l. rw e at
+past_byte-kept (b ∷ t) u c n e r s at = by (b == c)
   where
     by : (k : Bool) → Kept (b ∷ t) u (if k then t else b ∷ t) (past_byte c u)
     by true = λ l. absurd (omega arith)
     by false = λ l. rw e at
-past_byte-kept t u c e r s (on b r1 s1 h i) =
-    kept-if t u (b == c) r1 (b ∷ r1) s1 (b ∷ s1) (λ l. h) (λ l. on b r1 s1 h i)
+past_byte-kept t u c n e r s (on b r1 s1 f h) =
+    kept-if t u (b == c) r1 (b ∷ r1) s1 (b ∷ s1) (λ l. h) (λ l. on b r1 s1 f h)
+past_byte-kept t u c n e r s (pair d r1 s1 h) = λ l. rw n (pair d r1 s1 h)
 
 pub past_one_space-kept : (t u : List ℕ) → past_byte newline u ≡ u → past_one_space u ≡ u
     → (r s : List ℕ) → Parting t u r s → Kept t u (past_one_space r) (past_one_space s)
@@ -64,9 +66,10 @@ past_one_space-kept (b ∷ t) u f e r s at = by (b == carriage_return) (is_space
     by true m = λ l. absurd (omega (arith, l, length-past_byte newline t))
     by false true = λ l. absurd (omega arith)
     by false false = λ l. rw e at
-past_one_space-kept t u f e r s (on b r1 s1 h i) =
-    kept-if t u (b == carriage_return) _ _ _ _ (past_byte-kept t u newline f r1 s1 h)
-    (kept-if t u (is_space b) r1 (b ∷ r1) s1 (b ∷ s1) (λ l. h) (λ l. on b r1 s1 h i))
+past_one_space-kept t u f e r s (on b r1 s1 g h) =
+    kept-if t u (b == carriage_return) _ _ _ _ (past_byte-kept t u newline refl f r1 s1 h)
+    (kept-if t u (is_space b) r1 (b ∷ r1) s1 (b ∷ s1) (λ l. h) (λ l. on b r1 s1 g h))
+past_one_space-kept t u f e r s (pair d r1 s1 h) = λ l. pair d r1 s1 h
 
 pub past_hex-kept : (t u : List ℕ) → ((n : ℕ) → past_hex n u ≡ u) → (n : ℕ) (r s : List ℕ)
     → Parting t u r s → Kept t u (past_hex n r) (past_hex n s)
@@ -77,47 +80,50 @@ past_hex-kept (b ∷ t) u e (suc n) r s at = by (is_hex_digit b)
     by : (k : Bool) → Kept (b ∷ t) u (if k then past_hex n t else b ∷ t) (past_hex (suc n) u)
     by true = λ l. absurd (omega (arith, l, past_hex-within n t))
     by false = λ l. subst (Parting (b ∷ t) u (b ∷ t)) (sym (e (suc n))) at
-past_hex-kept t u e (suc n) r s (on b r1 s1 h i) =
-    kept-if t u (is_hex_digit b) _ _ _ _ (past_hex-kept t u e n r1 s1 h) (λ l. on b r1 s1 h i)
+past_hex-kept t u e (suc n) r s (on b r1 s1 f h) =
+    kept-if t u (is_hex_digit b) _ _ _ _ (past_hex-kept t u e n r1 s1 h) (λ l. on b r1 s1 f h)
+past_hex-kept t u e (suc n) r s (pair d r1 s1 h) = λ l. pair d r1 s1 h
 
--- A byte at which names, escapes, brackets and comments end, and which begins none: what is read
--- of a text from it on.
+-- A text that continues no escape.
 pub record Quiet (u : List ℕ) : Type 0 where
   pub newline_is : past_byte newline u ≡ u
   pub space_is : past_one_space u ≡ u
   pub hex_is : (n : ℕ) → past_hex n u ≡ u
 
-pub past_escape-kept : (t u : List ℕ) → Quiet u → (r s : List ℕ) → Parting t u r s
-    → length t < length r → Kept t u (past_escape r) (past_escape s)
-unfolding past_escape
-past_escape-kept t u q r s at k = absurd (omega arith)
-past_escape-kept t u q r s (on b r1 s1 h i) k =
-    kept-if t u (is_hex_digit b) _ _ _ _
-    (λ l. past_one_space-kept t u q.newline_is q.space_is (past_hex 5 r1) (past_hex 5 s1)
-    (past_hex-kept t u q.hex_is 5 r1 s1 h
-    (omega (arith, l, past_one_space-within (past_hex 5 r1)))) l)
-    (kept-if t u (is_newline b) _ _ _ _
-    (past_one_space-kept t u q.newline_is q.space_is (b ∷ r1) (b ∷ s1) (on b r1 s1 h i))
-    (λ l. h))
-
-pub escape-same : (t u : List ℕ) (b : ℕ) (r s : List ℕ) → Parting t u r s → Inside t b r
-    → begins_escape (b ∷ r) ≡ begins_escape (b ∷ s)
-escape-same t u b r s h i = by (b == backslash) refl
+-- a newline is no backslash
+pub newline-no_backslash : (c : ℕ) → is_newline c ≡ true → (c == backslash) ≡ false
+newline-no_backslash c e = by (c == backslash) refl
   where
-    inner : (r s : List ℕ) → Parting t u r s → length t < length r
-        → not (starts_by is_newline r) ≡ not (starts_by is_newline s)
-    inner r s at k = absurd (omega arith)
-    inner r s (on c r1 s1 g j) k = refl
+    by : (k : Bool) → (c == backslash) ≡ k → (c == backslash) ≡ false
+    by true f =
+        absurd (let wrong : is_newline c ≡ false =
+        subst (λ (x : ℕ). is_newline x ≡ false) (sym (eqb-true c backslash f)) refl in cc)
+    by false f = f
 
-    by : (k : Bool) → (b == backslash) ≡ k → begins_escape (b ∷ r) ≡ begins_escape (b ∷ s)
-    by true e = rw e (inner r s h (i e))
-    by false e = rw e refl
+-- what a backslash escapes
+pub past_escape-kept : (t u : List ℕ) → Quiet u → (c : ℕ) (r s : List ℕ) → Parting t u r s
+    → Kept t u (past_escape (c ∷ r)) (past_escape (c ∷ s))
+unfolding past_escape
+past_escape-kept t u q c r s h =
+    kept-if t u (is_hex_digit c) _ _ _ _
+    (λ l. past_one_space-kept t u q.newline_is q.space_is (past_hex 5 r) (past_hex 5 s)
+    (past_hex-kept t u q.hex_is 5 r s h (omega (arith, l, past_one_space-within (past_hex 5 r)))) l)
+    (by (is_newline c) refl)
+  where
+    by : (k : Bool) → is_newline c ≡ k
+        → Kept t u (if k then past_one_space (c ∷ r) else r)
+        (if k then past_one_space (c ∷ s) else s)
+    by true e =
+        past_one_space-kept t u q.newline_is q.space_is (c ∷ r) (c ∷ s)
+        (on c r s (newline-no_backslash c e) h)
+    by false e = λ l. h
 
 -- a run of bytes that ends before the texts part
-pub past-kept : (t u : List ℕ) (test : ℕ → Bool) (r s : List ℕ) → Parting t u r s
+pub past-kept : (t u : List ℕ) (test : ℕ → Bool) → test backslash ≡ false → (r s : List ℕ)
+    → Parting t u r s
     → length t < length (past test r) → Parting t u (past test r) (past test s)
-past-kept t u test r s at l = absurd (omega (arith, l, length-past test t))
-past-kept t u test r s (on b r1 s1 h i) l = by (past-kept t u test r1 s1 h) (test b) refl
+past-kept t u test n r s at l = absurd (omega (arith, l, length-past test t))
+past-kept t u test n r s (on b r1 s1 f h) l = by (past-kept t u test n r1 s1 h) (test b) refl
   where
     by : (length t < length (past test r1) → Parting t u (past test r1) (past test s1))
         → (k : Bool) → test b ≡ k → Parting t u (past test (b ∷ r1)) (past test (b ∷ s1))
@@ -125,7 +131,9 @@ past-kept t u test r s (on b r1 s1 h i) l = by (past-kept t u test r1 s1 h) (tes
         let less : length t < length (past test r1) =
         subst (λ (x : List ℕ). length t < length x) (past-yes test b r1 e) l in
         rw (past-yes test b r1 e, past-yes test b s1 e) (more less)
-    by more false e = rw (past-no test b r1 e, past-no test b s1 e) (on b r1 s1 h i)
+    by more false e = rw (past-no test b r1 e, past-no test b s1 e) (on b r1 s1 f h)
+past-kept t u test n r s (pair c r1 s1 h) l =
+    rw (past-no test backslash (c ∷ r1) n, past-no test backslash (c ∷ s1) n) (pair c r1 s1 h)
 
 -- ---- one thing after another
 

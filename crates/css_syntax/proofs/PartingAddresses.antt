@@ -10,8 +10,8 @@ use Rattle.simplecss_text.specs.Terms.{is_hex_digit}
 use Rattle.simplecss_text.proofs.bytes.RunLemmas.{past-yes, past-no}
 use Rattle.css_syntax.specs.Tokens.{is_newline, past_hex, past_one_space, past_escape, begins_escape, hex_digit, hex_number, escaped_char, is_either, past_letter, then_letter, then_open, after_url, is_name_byte, name_part, past_word, begins_cdo}
 use Rattle.css_syntax.proofs.Shorter.{each-goes, each-rests, name_part-takes, past_one_space-within, past_hex-within, word-less, past_word_within}
-use Rattle.css_syntax.proofs.Parting.{Inside, Parting, Kept, Quiet, past_escape-kept, escape-same}
-use Rattle.css_syntax.proofs.Parting.Parting.{at, on}
+use Rattle.css_syntax.proofs.Parting.{Parting, Kept, Quiet, past_escape-kept}
+use Rattle.css_syntax.proofs.Parting.Parting.{at, on, pair}
 
 -- ---- letters
 
@@ -33,7 +33,8 @@ hex_number-same (b ∷ t) u e (suc n) so_far r s at l = by (is_hex_digit b) refl
         (let longer : length (b ∷ t) ≤ length (past_hex n t) = rw f at l in
         omega (arith, longer, past_hex-within n t))
     by false f = rw f (sym (e (suc n) so_far))
-hex_number-same t u e (suc n) so_far r s (on b r1 s1 h i) l =
+hex_number-same t u e (suc n) so_far r s (pair c r1 s1 h) l = refl
+hex_number-same t u e (suc n) so_far r s (on b r1 s1 g h) l =
     by (hex_number-same t u e n (16 * so_far + hex_digit b) r1 s1 h) (is_hex_digit b) refl
   where
     by : (length t ≤ length (past_hex n r1)
@@ -46,18 +47,17 @@ hex_number-same t u e (suc n) so_far r s (on b r1 s1 h i) l =
     by more false f = rw f refl
 
 escaped_char-same : (t u : List ℕ) → ((n so_far : ℕ) → hex_number n so_far u ≡ so_far)
-    → (r s : List ℕ) → Parting t u r s → length t < length r → length t ≤ length (past_escape r)
-    → escaped_char r ≡ escaped_char s
+    → (c : ℕ) (r s : List ℕ) → Parting t u r s → length t ≤ length (past_escape (c ∷ r))
+    → escaped_char (c ∷ r) ≡ escaped_char (c ∷ s)
 unfolding past_escape
-escaped_char-same t u e r s at k l = absurd (omega arith)
-escaped_char-same t u e r s (on b r1 s1 h i) k l = by (is_hex_digit b) refl
+escaped_char-same t u e c r s h l = by (is_hex_digit c) refl
   where
-    by : (k : Bool) → is_hex_digit b ≡ k → escaped_char (b ∷ r1) ≡ escaped_char (b ∷ s1)
+    by : (k : Bool) → is_hex_digit c ≡ k → escaped_char (c ∷ r) ≡ escaped_char (c ∷ s)
     by true f =
-        let spaced : length t ≤ length (past_one_space (past_hex 5 r1)) = rw f at l in
-        let left : length t ≤ length (past_hex 5 r1) =
-        omega (arith, spaced, past_one_space-within (past_hex 5 r1)) in
-        rw f (hex_number-same t u e 5 (16 * 0 + hex_digit b) r1 s1 h left)
+        let spaced : length t ≤ length (past_one_space (past_hex 5 r)) = rw f at l in
+        let left : length t ≤ length (past_hex 5 r) =
+        omega (arith, spaced, past_one_space-within (past_hex 5 r)) in
+        rw f (hex_number-same t u e 5 (16 * 0 + hex_digit c) r s h left)
     by false f = rw f refl
 
 -- the word after a byte of a name, and after an escape
@@ -81,14 +81,6 @@ word-escape b r e =
     let no = escape_no-name b r e in
     let found : name_part (b ∷ r) ≡ Some (tt, past_escape r) = rw (no, e) refl in
     sym (each-goes name_part name_part-takes (b ∷ r) (past_escape r) tt found)
-
-escape-lone : (t : List ℕ) (b : ℕ) (r : List ℕ) → begins_escape (b ∷ r) ≡ true → Inside t b r
-    → length t < length r
-escape-lone t b r e i = by (b == backslash) refl
-  where
-    by : (k : Bool) → (b == backslash) ≡ k → length t < length r
-    by true f = i f
-    by false f = absurd (let wrong = rw f at e in cc)
 
 either-name : (low up b : ℕ) → is_name_byte low ≡ true → is_name_byte up ≡ true
     → is_either low up b ≡ true → is_name_byte b ≡ true
@@ -138,39 +130,49 @@ letter-kept low up [] u q n l m r s at w =
 letter-kept low up (b ∷ t) u q n l m r s at w =
     subst (Letters (b ∷ t) u (past_letter low up (b ∷ t))) (sym (n.letter low up l m))
     (subst (λ o. Letters (b ∷ t) u o None) (sym (no_word-letter low up b t l m w)) tt)
-letter-kept low up t u q n l m r s (on b r1 s1 h i) w =
-    by (is_either low up b) (begins_escape (b ∷ r1)) refl refl
+letter-kept low up t u q n l m r s (on b r1 s1 g h) w = by (is_either low up b) refl
   where
-    escaped : (k o : Bool) → k ≡ o → Parting t u (past_escape r1) (past_escape s1)
-        → WordKept t (past_escape r1)
-        → Letters t u (if k then Some (past_escape r1) else None)
-        (if o then Some (past_escape s1) else None)
-    escaped true true e g v = (g, v)
-    escaped false false e g v = tt
-    escaped true false e g v = absurd (cc)
-    escaped false true e g v = absurd (cc)
-
-    by : (k o : Bool) → is_either low up b ≡ k → begins_escape (b ∷ r1) ≡ o
+    by : (k : Bool) → is_either low up b ≡ k
         → Letters t u (past_letter low up (b ∷ r1)) (past_letter low up (b ∷ s1))
-    by true o e f =
+    by true e =
         let name = either-name low up b l m e in
         let left : WordKept t r1 =
         subst (λ (x : List ℕ). length t ≤ length x) (word-byte b r1 name) w in
         rw e (h, left)
-    by false true e f =
-        let same : begins_escape (b ∷ s1) ≡ true = sym (escape-same t u b r1 s1 h i) ∙ f in
-        let left : WordKept t (past_escape r1) =
-        subst (λ (x : List ℕ). length t ≤ length x) (word-escape b r1 f) w in
-        let longer = escape-lone t b r1 f i in
-        let here : length t ≤ length (past_escape r1) =
-        omega (arith, left, past_word_within (past_escape r1)) in
-        let chars = escaped_char-same t u n.number r1 s1 h longer here in
-        rw (e, f, same)
-        (escaped (is_either low up (escaped_char r1)) (is_either low up (escaped_char s1))
-        (ap (is_either low up) chars) (past_escape-kept t u q r1 s1 h longer here) left)
-    by false false e f =
-        let same : begins_escape (b ∷ s1) ≡ false = sym (escape-same t u b r1 s1 h i) ∙ f in
-        rw (e, f, same) tt
+    by false e = rw (e, g) tt
+letter-kept low up t u q n l m r s (pair c r1 s1 h) w =
+    rw no_letter (by (not (is_newline c)) refl)
+  where
+    no_letter : is_either low up backslash ≡ false
+    no_letter = inner (is_either low up backslash) refl
+      where
+        inner : (k : Bool) → is_either low up backslash ≡ k → is_either low up backslash ≡ false
+        inner true e =
+            absurd (let wrong = either-name low up backslash l m e in cc)
+        inner false e = e
+
+    chosen : (k o : Bool) → k ≡ o → Parting t u (past_escape (c ∷ r1)) (past_escape (c ∷ s1))
+        → WordKept t (past_escape (c ∷ r1))
+        → Letters t u (if k then Some (past_escape (c ∷ r1)) else None)
+        (if o then Some (past_escape (c ∷ s1)) else None)
+    chosen true true e g v = (g, v)
+    chosen false false e g v = tt
+    chosen true false e g v = absurd (cc)
+    chosen false true e g v = absurd (cc)
+
+    by : (k : Bool) → not (is_newline c) ≡ k
+        → Letters t u
+        (if k && is_either low up (escaped_char (c ∷ r1)) then Some (past_escape (c ∷ r1)) else None)
+        (if k && is_either low up (escaped_char (c ∷ s1)) then Some (past_escape (c ∷ s1)) else None)
+    by true e =
+        let left : WordKept t (past_escape (c ∷ r1)) =
+        subst (λ (x : List ℕ). length t ≤ length x) (word-escape backslash (c ∷ r1) e) w in
+        let here : length t ≤ length (past_escape (c ∷ r1)) =
+        omega (arith, left, past_word_within (past_escape (c ∷ r1))) in
+        let chars = escaped_char-same t u n.number c r1 s1 h here in
+        chosen (is_either low up (escaped_char (c ∷ r1))) (is_either low up (escaped_char (c ∷ s1)))
+        (ap (is_either low up) chars) (past_escape-kept t u q c r1 s1 h here) left
+    by false e = tt
 
 then_letter-kept : (low up : ℕ) (t u : List ℕ) → Quiet u → NoLetter u → is_name_byte low ≡ true
     → is_name_byte up ≡ true → (o p : Option (List ℕ)) → Letters t u o p
@@ -191,7 +193,8 @@ quote-same : (t u : List ℕ) → starts_by is_quote (past is_space t) ≡ false
     → starts_by is_quote (past is_space u) ≡ false → (r s : List ℕ) → Parting t u r s
     → starts_by is_quote (past is_space r) ≡ starts_by is_quote (past is_space s)
 quote-same t u e f r s at = e ∙ sym f
-quote-same t u e f r s (on b r1 s1 h i) = by (quote-same t u e f r1 s1 h) (is_space b) refl
+quote-same t u e f r s (pair c r1 s1 h) = refl
+quote-same t u e f r s (on b r1 s1 j h) = by (quote-same t u e f r1 s1 h) (is_space b) refl
   where
     by : starts_by is_quote (past is_space r1) ≡ starts_by is_quote (past is_space s1) → (k : Bool)
         → is_space b ≡ k
@@ -225,7 +228,8 @@ then_open-kept t u e f g (Some x) (Some y) h = by x y h.0
     by : (x y : List ℕ) → Parting t u x y
         → Addresses t u (then_open (Some x)) (then_open (Some y))
     by x y at = rw g (seam t)
-    by x y (on b r s k i) =
+    by x y (pair c r s k) = tt
+    by x y (on b r s i k) =
         let same = quote-same t u e f r s k in
         rw same (inner (b == open_parenthesis && no_quote s))
       where
@@ -309,12 +313,19 @@ pub record NoCdo (u : List ℕ) : Type 0 where
   pub two : (b c : ℕ) → begins_cdo (b ∷ c ∷ u) ≡ false
   pub three : (b c d : ℕ) → begins_cdo (b ∷ c ∷ d ∷ u) ≡ false
 
+and-none : (x y : Bool) → (x && false && y) ≡ false
+and-none true y = refl
+and-none false y = refl
+
 pub cdo-none : (t u : List ℕ) → NoCdo u → (b : ℕ) (r s : List ℕ) → Parting t u r s
     → begins_cdo (b ∷ r) ≡ false → begins_cdo (b ∷ s) ≡ false
 cdo-none t u n b r s at e = n.one b
-cdo-none t u n b r s (on c r1 s1 at i) e = n.two b c
-cdo-none t u n b r s (on c r1 s1 (on d r2 s2 at j) i) e = n.three b c d
-cdo-none t u n b r s (on c r1 s1 (on d r2 s2 (on f r3 s3 h k) j) i) e = e
+cdo-none t u n b r s (pair c r1 s1 h) e = and-none (b == 60) (starts_two hyphen hyphen (c ∷ s1))
+cdo-none t u n b r s (on c r1 s1 i at) e = n.two b c
+cdo-none t u n b r s (on c r1 s1 i (pair d r2 s2 h)) e = e
+cdo-none t u n b r s (on c r1 s1 i (on d r2 s2 j at)) e = n.three b c d
+cdo-none t u n b r s (on c r1 s1 i (on d r2 s2 j (pair f r3 s3 h))) e = e
+cdo-none t u n b r s (on c r1 s1 i (on d r2 s2 j (on f r3 s3 k h))) e = e
 
 cdo-long : (b : ℕ) (r : List ℕ) → begins_cdo (b ∷ r) ≡ true → 3 ≤ length r
 cdo-long b [] e = absurd (by (b == 60) e)
@@ -337,12 +348,32 @@ cdo-long b (c ∷ d ∷ []) e = absurd (by (b == 60) (c == exclamation_mark) (d 
     by false y z e = cc
 cdo-long b (c ∷ d ∷ f ∷ r) e = omega arith
 
+-- what has no hyphen or mark there is none of it
+no_second : (x : Bool) → (x && false) ≡ true → ⊥
+no_second true e = cc
+no_second false e = cc
+
+no_third : (x y : Bool) → (x && y && false) ≡ true → ⊥
+no_third true y e = no_second y e
+no_third false y e = cc
+
+no_fourth : (x y z : Bool) → (x && y && (z && false)) ≡ true → ⊥
+no_fourth true true z e = no_second z e
+no_fourth true false z e = cc
+no_fourth false y z e = cc
+
 pub cdo-kept : (t u : List ℕ) (b : ℕ) (r s : List ℕ) → Parting t u r s
     → begins_cdo (b ∷ r) ≡ true → length t ≤ length (drop 3 r)
     → (begins_cdo (b ∷ s) ≡ true) × Parting t u (drop 3 r) (drop 3 s)
 cdo-kept t u b r s at e l = absurd (omega (arith, l, length-drop 3 t, cdo-long b t e))
-cdo-kept t u b r s (on c r1 s1 at i) e l =
+cdo-kept t u b r s (pair c r1 s1 h) e l =
+    absurd (let wrong = and-none (b == 60) (starts_two hyphen hyphen (c ∷ r1)) in cc)
+cdo-kept t u b r s (on c r1 s1 i at) e l =
     absurd (omega (arith, l, length-drop 3 (c ∷ t), cdo-long b (c ∷ t) e))
-cdo-kept t u b r s (on c r1 s1 (on d r2 s2 at j) i) e l =
+cdo-kept t u b r s (on c r1 s1 i (pair d r2 s2 h)) e l =
+    absurd (no_third (b == 60) (c == exclamation_mark) e)
+cdo-kept t u b r s (on c r1 s1 i (on d r2 s2 j at)) e l =
     absurd (omega (arith, l, length-drop 3 (c ∷ d ∷ t), cdo-long b (c ∷ d ∷ t) e))
-cdo-kept t u b r s (on c r1 s1 (on d r2 s2 (on f r3 s3 h k) j) i) e l = (e, h)
+cdo-kept t u b r s (on c r1 s1 i (on d r2 s2 j (pair f r3 s3 h))) e l =
+    absurd (no_fourth (b == 60) (c == exclamation_mark) (d == hyphen) e)
+cdo-kept t u b r s (on c r1 s1 i (on d r2 s2 j (on f r3 s3 k h))) e l = (e, h)

@@ -12,8 +12,8 @@ use Rattle.css_syntax.specs.declared.quality.Quality.{Quality}
 use Rattle.css_syntax.specs.declared.quality.Quality.TheVariants.{Whole, Open, BadString, BadUrl}
 use Rattle.css_syntax.specs.Tokens.{is_newline, past_escape, begins_escape, from_close, closed_or_open, past_comment, comment_quality, gap_part, past_gap, string_part, string_end, past_string, is_name_byte, name_part, past_word, is_never_bare, url_part, url_end, past_url}
 use Rattle.css_syntax.proofs.Shorter.{past_escape-within, past_comment-within, gap_part-takes, string_part-takes, name_part-takes, url_part-takes}
-use Rattle.css_syntax.proofs.Parting.{Inside, Parting, Kept, Quiet, kept-if, past_escape-kept, escape-same, past-kept, Follows, follows-if, Any, each_left-kept, parting-longer}
-use Rattle.css_syntax.proofs.Parting.Parting.{at, on}
+use Rattle.css_syntax.proofs.Parting.{Parting, Kept, Quiet, kept-if, past_escape-kept, past-kept, Follows, follows-if, Any, each_left-kept, parting-longer, newline-no_backslash}
+use Rattle.css_syntax.proofs.Parting.Parting.{at, on, pair}
 
 -- ---- words
 
@@ -29,24 +29,11 @@ name_part-follows (b ∷ t) u q e r s at l = rw e (by (is_name_byte b) (begins_e
     by true m = omega arith
     by false true = omega (arith, past_escape-within t)
     by false false = tt
-name_part-follows t u q e r s (on b r1 s1 h i) l =
-    follows-if Any (length t) t u (is_name_byte b) _ _ _ _ (λ p k. (refl, h))
-    (by (begins_escape (b ∷ r1)) (begins_escape (b ∷ s1)) refl (escape-same t u b r1 s1 h i))
-  where
-    lone : begins_escape (b ∷ r1) ≡ true → length t < length r1
-    lone e = inner (b == backslash) refl
-      where
-        inner : (k : Bool) → (b == backslash) ≡ k → length t < length r1
-        inner true f = i f
-        inner false f = absurd (let wrong = rw f at e in cc)
-
-    by : (k m : Bool) → begins_escape (b ∷ r1) ≡ k → k ≡ m
-        → Follows Any (length t) t u (if k then Some (tt {0}, past_escape r1) else None)
-        (if m then Some (tt {0}, past_escape s1) else None)
-    by true true e f = λ p k. (refl, past_escape-kept t u q r1 s1 h (lone e) k)
-    by false false e f = tt
-    by true false e f = absurd (cc)
-    by false true e f = absurd (cc)
+name_part-follows t u q e r s (on b r1 s1 f h) l =
+    follows-if Any (length t) t u (is_name_byte b) _ _ _ _ (λ p k. (refl, h)) (rw f tt)
+name_part-follows t u q e r s (pair c r1 s1 h) l =
+    follows-if Any (length t) t u (not (is_newline c)) (Some (tt, past_escape (c ∷ r1))) None
+    (Some (tt, past_escape (c ∷ s1))) None (λ p k. (refl, past_escape-kept t u q c r1 s1 h k)) tt
 
 pub word-kept : (t u : List ℕ) → Quiet u → name_part u ≡ None → (r s : List ℕ)
     → Parting t u r s → Kept t u (past_word r) (past_word s)
@@ -76,18 +63,14 @@ close-less t x e =
     let found = subst (IfAfter slash t) e (after_close-after t) in
     omega (arith, ap length found.1, length-append found.0 (slash ∷ x))
 
-pub after_close-kept : (t u : List ℕ) → starts slash u ≡ false → (r s : List ℕ) → Parting t u r s
+-- one byte further
+close-step : (t u : List ℕ) → starts slash u ≡ false → (b : ℕ) (r s : List ℕ) → Parting t u r s
     → Closes t u (after_close r) (after_close s)
-after_close-kept t u e r s at = by (after_close t) refl
-  where
-    by : (o : Option (List ℕ)) → after_close t ≡ o → Closes t u o (after_close u)
-    by None f = tt
-    by (Some x) f = closes-passed t u x (after_close u) (close-less t x f)
-after_close-kept t u e r s (on b r1 s1 h i) = by r1 s1 h (after_close-kept t u e r1 s1 h)
+    → Closes t u (after_close (b ∷ r)) (after_close (b ∷ s))
+close-step t u e b r s h more = by r s h more
   where
     -- at the last byte before the texts part
-    last : (k m : Bool) → starts slash t ≡ m
-        → Closes t u (after_close t) (after_close u)
+    last : (k m : Bool) → starts slash t ≡ m → Closes t u (after_close t) (after_close u)
         → Closes t u (if k && m then Some (past_one t) else after_close t)
         (if k && false then Some (past_one u) else after_close u)
     last true true f more = closes-passed t u (past_one t) (after_close u) (shorter t f)
@@ -98,11 +81,31 @@ after_close-kept t u e r s (on b r1 s1 h i) = by r1 s1 h (after_close-kept t u e
     last true false f more = more
     last false m f more = more
 
-    by : (r1 s1 : List ℕ) → Parting t u r1 s1 → Closes t u (after_close r1) (after_close s1)
-        → Closes t u (after_close (b ∷ r1)) (after_close (b ∷ s1))
-    by r1 s1 at more = rw e (last (b == asterisk) (starts slash t) refl more)
-    by r1 s1 (on c r2 s2 g j) more =
+    never : (k : Bool) (a x : List ℕ) (o p : Option (List ℕ)) → Closes t u o p
+        → Closes t u (if k && false then Some a else o) (if k && false then Some x else p)
+    never true a x o p h = h
+    never false a x o p h = h
+
+    by : (r s : List ℕ) → Parting t u r s → Closes t u (after_close r) (after_close s)
+        → Closes t u (after_close (b ∷ r)) (after_close (b ∷ s))
+    by r s at more = rw e (last (b == asterisk) (starts slash t) refl more)
+    by r s (on c r2 s2 f g) more =
         closes-if t u (b == asterisk && c == slash) (Some r2) _ (Some s2) _ (λ l. g) more
+    by r s (pair c r2 s2 g) more =
+        never (b == asterisk) (c ∷ r2) (c ∷ s2) (after_close (backslash ∷ c ∷ r2))
+        (after_close (backslash ∷ c ∷ s2)) more
+
+pub after_close-kept : (t u : List ℕ) → starts slash u ≡ false → (r s : List ℕ) → Parting t u r s
+    → Closes t u (after_close r) (after_close s)
+after_close-kept t u e r s at = by (after_close t) refl
+  where
+    by : (o : Option (List ℕ)) → after_close t ≡ o → Closes t u o (after_close u)
+    by None f = tt
+    by (Some x) f = closes-passed t u x (after_close u) (close-less t x f)
+after_close-kept t u e r s (on b r1 s1 f h) =
+    close-step t u e b r1 s1 h (after_close-kept t u e r1 s1 h)
+after_close-kept t u e r s (pair c r1 s1 h) =
+    close-step t u e c r1 s1 h (after_close-kept t u e r1 s1 h)
 
 -- a comment that is closed before the texts part
 pub comment-kept : (t u : List ℕ) → starts slash u ≡ false → (r s : List ℕ) → Parting t u r s
@@ -135,7 +138,7 @@ gap_part-follows : (t u : List ℕ) → starts slash u ≡ false → starts aste
     → Follows Any (suc (length t)) t u (gap_part r) (gap_part s)
 unfolding gap_part past_comment
 gap_part-follows t u e f r s at l = absurd (omega arith)
-gap_part-follows t u e f r s (on b r1 s1 h i) l =
+gap_part-follows t u e f r s (on b r1 s1 g h) l =
     follows-if Any (suc (length t)) t u (is_space b) _ _ _ _ (λ p k. (refl, h)) (by r1 s1 h)
   where
     last : (k : Bool) → Follows Any (suc (length t)) t u
@@ -151,9 +154,17 @@ gap_part-follows t u e f r s (on b r1 s1 h i) l =
         (if opens_comment (b ∷ r1) then Some (tt {0}, past_comment (b ∷ r1)) else None)
         (if opens_comment (b ∷ s1) then Some (tt {0}, past_comment (b ∷ s1)) else None)
     by r1 s1 at = rw (f, none (b == slash)) (last (opens_comment (b ∷ t)))
-    by r1 s1 (on c r2 s2 g j) =
+    by r1 s1 (on c r2 s2 j g) =
         follows-if Any (suc (length t)) t u (opens_comment (b ∷ c ∷ r2)) _ _ _ _
         (λ p k. (refl, strict-kept t u e r2 s2 g k)) tt
+    by r1 s1 (pair c r2 s2 g) = never (b == slash)
+      where
+        never : (k : Bool) → Follows Any (suc (length t)) t u
+            (if k && false then Some (tt {0}, past_comment (b ∷ backslash ∷ c ∷ r2)) else None)
+            (if k && false then Some (tt {0}, past_comment (b ∷ backslash ∷ c ∷ s2)) else None)
+        never true = tt
+        never false = tt
+gap_part-follows t u e f r s (pair c r1 s1 h) l = tt
 
 pub gap-kept : (t u : List ℕ) → starts slash u ≡ false → starts asterisk u ≡ false
     → (r s : List ℕ) → Parting t u r s → length t < length (past_gap r)
@@ -174,22 +185,16 @@ pub whole-if : (t u : List ℕ) (c : Bool) (a b x y : Quality × List ℕ) → W
 whole-if t u true a b x y h k = h
 whole-if t u false a b x y h k = k
 
-string_part-follows : (quote : ℕ) (t u : List ℕ) → Quiet u → (r s : List ℕ) → Parting t u r s
+string_part-follows : (quote : ℕ) → (backslash == quote) ≡ false → (t u : List ℕ) → Quiet u → (r s : List ℕ) → Parting t u r s
     → suc (length t) ≤ length r
     → Follows Any (suc (length t)) t u (string_part quote r) (string_part quote s)
 unfolding string_part
-string_part-follows quote t u q r s at l = absurd (omega arith)
-string_part-follows quote t u q r s (on b r1 s1 h i) l =
+string_part-follows quote n t u q r s at l = absurd (omega arith)
+string_part-follows quote n t u q r s (on b r1 s1 f h) l =
     follows-if Any (suc (length t)) t u (b == quote || is_newline b) None _ None _ tt
-    (follows-if Any (suc (length t)) t u (b == backslash) (Some (tt, past_escape r1)) (Some (tt, r1))
-    (Some (tt, past_escape s1)) (Some (tt, s1))
-    (λ p k. (refl, strict_escape r1 s1 h k))
-    (λ p k. (refl, h)))
-  where
-    strict_escape : (r1 s1 : List ℕ) → Parting t u r1 s1 → suc (length t) ≤ length (past_escape r1)
-        → Parting t u (past_escape r1) (past_escape s1)
-    strict_escape r1 s1 h k =
-        past_escape-kept t u q r1 s1 h (omega (arith, k, past_escape-within r1)) (omega arith)
+    (rw f (λ p k. (refl, h)))
+string_part-follows quote n t u q r s (pair c r1 s1 h) l =
+    rw n (λ p k. (refl, past_escape-kept t u q c r1 s1 h (omega arith)))
 
 abbrev string_closed : Bool → ℕ → List ℕ → Quality × List ℕ
 string_closed k b e = if k then (Whole, e) else (BadString, b ∷ e)
@@ -204,21 +209,22 @@ string_end-less quote (b ∷ e) w = by (b == quote) w
     by true w = omega arith
     by false w = absurd (cc)
 
-string_end-kept : (quote : ℕ) (t u e f : List ℕ) → Parting t u e f → length t < length e
+string_end-kept : (quote : ℕ) → (backslash == quote) ≡ false → (t u e f : List ℕ) → Parting t u e f → length t < length e
     → WholeKept t u (string_end quote e) (string_end quote f)
-string_end-kept quote t u e f at k = absurd (omega arith)
-string_end-kept quote t u e f (on b r1 s1 h i) k =
+string_end-kept quote n t u e f at k = absurd (omega arith)
+string_end-kept quote n t u e f (on b r1 s1 g h) k =
     whole-if t u (b == quote) (Whole, r1) _ (Whole, s1) _ (λ w l. (refl, h)) (λ w l. absurd (cc))
+string_end-kept quote n t u e f (pair c r1 s1 h) k = rw n (λ w l. absurd (cc))
 
-pub past_string-kept : (quote : ℕ) (t u : List ℕ) → Quiet u → (r s : List ℕ) → Parting t u r s
+pub past_string-kept : (quote : ℕ) → (backslash == quote) ≡ false → (t u : List ℕ) → Quiet u → (r s : List ℕ) → Parting t u r s
     → WholeKept t u (past_string quote r) (past_string quote s)
 unfolding past_string
-past_string-kept quote t u q r s h w l =
+past_string-kept quote n t u q r s h w l =
     let e = (each (string_part quote) r).1 in
     let before_end : length t < length e = omega (arith, l, string_end-less quote e w) in
-    string_end-kept quote t u e (each (string_part quote) s).1
+    string_end-kept quote n t u e (each (string_part quote) s).1
     (each_left-kept (string_part quote) (string_part-takes quote) (suc (length t)) t u
-    (string_part-follows quote t u q) r s h (omega arith))
+    (string_part-follows quote n t u q) r s h (omega arith))
     before_end w l
 
 -- ---- addresses
@@ -227,26 +233,16 @@ url_part-follows : (t u : List ℕ) → Quiet u → (r s : List ℕ) → Parting
     → suc (length t) ≤ length r → Follows Any (suc (length t)) t u (url_part r) (url_part s)
 unfolding url_part
 url_part-follows t u q r s at l = absurd (omega arith)
-url_part-follows t u q r s (on b r1 s1 h i) l =
-    by (begins_escape (b ∷ r1)) (begins_escape (b ∷ s1)) (escape-same t u b r1 s1 h i)
+url_part-follows t u q r s (on b r1 s1 f h) l =
+    rw f (follows-if Any (suc (length t)) t u _ None (Some (tt, r1)) None (Some (tt, s1)) tt
+    (λ p k. (refl, h)))
+url_part-follows t u q r s (pair c r1 s1 h) l =
+    follows-if Any (suc (length t)) t u (not (is_newline c)) (Some (tt, past_escape (c ∷ r1))) None
+    (Some (tt, past_escape (c ∷ s1))) None (λ p k. (refl, strict k)) tt
   where
-    by : (k m : Bool) → k ≡ m
-        → Follows Any (suc (length t)) t u
-        (if k then Some (tt {0}, past_escape r1)
-        else (if b == close_parenthesis || is_space b || is_never_bare b then None
-        else Some (tt {0}, r1)))
-        (if m then Some (tt {0}, past_escape s1)
-        else (if b == close_parenthesis || is_space b || is_never_bare b then None
-        else Some (tt {0}, s1)))
-    by true true f = λ p k. (
-      refl,
-      past_escape-kept t u q r1 s1 h (omega (arith, k, past_escape-within r1)) (omega arith),
-    )
-    by false false f =
-        follows-if Any (suc (length t)) t u (b == close_parenthesis || is_space b || is_never_bare b)
-        None (Some (tt, r1)) None (Some (tt, s1)) tt (λ p k. (refl, h))
-    by true false f = absurd (cc)
-    by false true f = absurd (cc)
+    strict : suc (length t) ≤ length (past_escape (c ∷ r1))
+        → Parting t u (past_escape (c ∷ r1)) (past_escape (c ∷ s1))
+    strict k = past_escape-kept t u q c r1 s1 h (omega arith)
 
 abbrev chosen_end : Bool → List ℕ → List ℕ → Quality × List ℕ
 chosen_end k e left = if k then (Whole, e) else (BadUrl, left)
@@ -263,9 +259,10 @@ url_end-less (b ∷ e) w = by (b == close_parenthesis) _ w
 url_end-kept : (t u e f : List ℕ) → Parting t u e f → length t < length e
     → WholeKept t u (url_end e) (url_end f)
 url_end-kept t u e f at k = absurd (omega arith)
-url_end-kept t u e f (on b r1 s1 h i) k =
+url_end-kept t u e f (on b r1 s1 g h) k =
     whole-if t u (b == close_parenthesis) (Whole, r1) _ (Whole, s1) _ (λ w l. (refl, h))
     (λ w l. absurd (cc))
+url_end-kept t u e f (pair c r1 s1 h) k = λ w l. absurd (cc)
 
 -- an address that is whole ends after it begins
 pub past_url-less : (r : List ℕ) → (past_url r).0 ≡ Whole → length (past_url r).1 < length r
@@ -293,8 +290,8 @@ past_url-kept t u q r s h w l =
     omega (arith, at_bare, each-within url_part url_part-takes start) in
     let other = (each url_part (past is_space s)).1 in
     url_end-kept t u e (past is_space other)
-    (past-kept t u is_space bare other
+    (past-kept t u is_space refl bare other
     (each_left-kept url_part url_part-takes (suc (length t)) t u (url_part-follows t u q) start
-    (past is_space s) (past-kept t u is_space r s h at_start) (omega arith))
+    (past is_space s) (past-kept t u is_space refl r s h at_start) (omega arith))
     at_end)
     at_end w l
