@@ -14,3 +14,4 @@ pub mod PlaceBounds
 pub mod Parting
 pub mod PartingTokens
 pub mod PartingAddresses
+pub mod PartingValues

@@ -58,7 +58,7 @@ closes-if t u true a b x y h k = h
 closes-if t u false a b x y h k = k
 
 -- what is left after a comment
-close-less : (t x : List ℕ) → after_close t ≡ Some x → length x < length t
+pub close-less : (t x : List ℕ) → after_close t ≡ Some x → length x < length t
 close-less t x e =
     let found = subst (IfAfter slash t) e (after_close-after t) in
     omega (arith, ap length found.1, length-append found.0 (slash ∷ x))

@@ -106,7 +106,7 @@ both-true true true e = absurd (cc)
 both-true true false e = (refl, refl)
 both-true false b e = absurd (cc)
 
-or-both : (a b : Bool) → (a || b) ≡ false → (a ≡ false) × (b ≡ false)
+pub or-both : (a b : Bool) → (a || b) ≡ false → (a ≡ false) × (b ≡ false)
 or-both true b e = absurd (cc)
 or-both false b e = (refl, e)
 
