@@ -15,3 +15,4 @@ pub mod Parting
 pub mod PartingTokens
 pub mod PartingAddresses
 pub mod PartingValues
+pub mod PartingParts

@@ -273,7 +273,7 @@ value_inside-follows t u read kept closer n r s (pair c r1 s1 h) l =
     (w ∙ sym both.0, both.1))
 
 -- two flaws are none, if both are none
-first_flaw-whole : (a b : Quality) → first_flaw a b ≡ Whole → (a ≡ Whole) × (b ≡ Whole)
+pub first_flaw-whole : (a b : Quality) → first_flaw a b ≡ Whole → (a ≡ Whole) × (b ≡ Whole)
 first_flaw-whole Whole b e = (refl, e)
 first_flaw-whole Open b e = absurd (cc)
 first_flaw-whole BadString b e = absurd (cc)
