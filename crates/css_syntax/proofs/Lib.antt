@@ -16,3 +16,5 @@ pub mod PartingTokens
 pub mod PartingAddresses
 pub mod PartingValues
 pub mod PartingParts
+pub mod PartingNames
+pub mod PrintedAgain

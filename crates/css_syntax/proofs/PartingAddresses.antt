@@ -61,7 +61,7 @@ escaped_char-same t u e c r s h l = by (is_hex_digit c) refl
     by false f = rw f refl
 
 -- the word after a byte of a name, and after an escape
-word-byte : (b : ℕ) (r : List ℕ) → is_name_byte b ≡ true → past_word (b ∷ r) ≡ past_word r
+pub word-byte : (b : ℕ) (r : List ℕ) → is_name_byte b ≡ true → past_word (b ∷ r) ≡ past_word r
 unfolding name_part
 word-byte b r e =
     let found : name_part (b ∷ r) ≡ Some (tt, r) = rw e refl in
@@ -74,7 +74,7 @@ escape_no-name b r e = by (b == backslash) refl
     by true f = subst (λ (c : ℕ). is_name_byte c ≡ false) (sym (eqb-true b backslash f)) refl
     by false f = absurd (let wrong = rw f at e in cc)
 
-word-escape : (b : ℕ) (r : List ℕ) → begins_escape (b ∷ r) ≡ true
+pub word-escape : (b : ℕ) (r : List ℕ) → begins_escape (b ∷ r) ≡ true
     → past_word (b ∷ r) ≡ past_word (past_escape r)
 unfolding name_part
 word-escape b r e =
@@ -82,7 +82,7 @@ word-escape b r e =
     let found : name_part (b ∷ r) ≡ Some (tt, past_escape r) = rw (no, e) refl in
     sym (each-goes name_part name_part-takes (b ∷ r) (past_escape r) tt found)
 
-either-name : (low up b : ℕ) → is_name_byte low ≡ true → is_name_byte up ≡ true
+pub either-name : (low up b : ℕ) → is_name_byte low ≡ true → is_name_byte up ≡ true
     → is_either low up b ≡ true → is_name_byte b ≡ true
 either-name low up b l u e = by (b == low) (b == up) refl refl e
   where
@@ -313,7 +313,7 @@ pub record NoCdo (u : List ℕ) : Type 0 where
   pub two : (b c : ℕ) → begins_cdo (b ∷ c ∷ u) ≡ false
   pub three : (b c d : ℕ) → begins_cdo (b ∷ c ∷ d ∷ u) ≡ false
 
-and-none : (x y : Bool) → (x && false && y) ≡ false
+pub and-none : (x y : Bool) → (x && false && y) ≡ false
 and-none true y = refl
 and-none false y = refl
 

@@ -133,7 +133,7 @@ strict-kept t u e r s h l = by (after_close r) (after_close s) (after_close-kept
     by (Some x) None k l = absurd (omega arith)
     by (Some x) (Some y) k l = k (omega arith)
 
-gap_part-follows : (t u : List ℕ) → starts slash u ≡ false → starts asterisk u ≡ false
+pub gap_part-follows : (t u : List ℕ) → starts slash u ≡ false → starts asterisk u ≡ false
     → (r s : List ℕ) → Parting t u r s → suc (length t) ≤ length r
     → Follows Any (suc (length t)) t u (gap_part r) (gap_part s)
 unfolding gap_part past_comment

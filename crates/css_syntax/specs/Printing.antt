@@ -4,15 +4,16 @@ use Rattle.std.specs.List.{All}
 use Rattle.simplecss_text.specs.AsciiBytes.{newline, backslash}
 use Rattle.css_syntax.specs.DeclarationLists.{DeclarationText, ItemText, declared, at_rule_item, skipped_item, ListText, next_item, items}
 
--- the last byte of the text is this one
-abbrev pub ends_in : ℕ → List ℕ → Bool
-ends_in byte [] = false
-ends_in byte (b ∷ []) = b == byte
-ends_in byte (b ∷ c ∷ text) = ends_in byte (c ∷ text)
+-- The text ends in a lone backslash: where each backslash is taken with the byte after it, the last
+-- one has none.
+abbrev pub ends_lone : List ℕ → Bool
+ends_lone [] = false
+ends_lone (b ∷ []) = b == backslash
+ends_lone (b ∷ c ∷ text) = if b == backslash then ends_lone text else ends_lone (c ∷ text)
 
--- A newline after a value that ends in a backslash, which would escape any other byte.
-abbrev pub backslash_end : List ℕ → List ℕ
-backslash_end value = if ends_in backslash value then newline ∷ [] else []
+-- A newline after a value that ends in a lone backslash, which would escape any other byte.
+abbrev pub lone_end : List ℕ → List ℕ
+lone_end value = if ends_lone value then newline ∷ [] else []
 
 -- The importance of a declaration. No blank is before it, since an escape at the end of the value
 -- would consume that blank.
@@ -22,7 +23,7 @@ important_text important = if important then codes "!important" else []
 -- a declaration without the semicolon after it
 abbrev pub stated_text : DeclarationText → List ℕ
 stated_text d =
-    d.name ++ codes ": " ++ d.value ++ backslash_end d.value ++ important_text d.important
+    d.name ++ codes ": " ++ d.value ++ lone_end d.value ++ important_text d.important
 
 -- a printed declaration
 abbrev pub declaration_text : DeclarationText → List ℕ
@@ -36,11 +37,11 @@ DeclarationReadsBack d =
     → next_item in_block (declaration_text d ++ text)
     ≡ Some (record { text = stated_text d; item = declared d }, codes ";" ++ text)
 
--- This holds of a declaration in a list, if nothing of its value is open at the end of the text and
--- its value does not end in a backslash.
+-- This holds of a declaration that was read, if nothing of its value is open at the end of the text
+-- and its value does not end in a lone backslash.
 abbrev pub ItemReadsBack : ItemText → Type 0
 ItemReadsBack (declared d) =
-    d.closed ≡ true → ends_in backslash d.value ≡ false → DeclarationReadsBack d
+    d.closed ≡ true → ends_lone d.value ≡ false → DeclarationReadsBack d
 ItemReadsBack (at_rule_item a) = Unit {0}
 ItemReadsBack (skipped_item fault) = Unit {0}
 
