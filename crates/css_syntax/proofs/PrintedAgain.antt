@@ -5,7 +5,7 @@ use Rattle.std.specs.List.{All}
 use Rattle.std.specs.Str.{str_eq_ignore_ascii_case}
 use Rattle.std.proofs.lemmas.Bool.{and_parts}
 use Rattle.std.proofs.lemmas.List.Elements.{All-cons, All-nil}
-use Rattle.simplecss_text.specs.AsciiBytes.{colon, semicolon, exclamation_mark, backslash, hyphen, at_sign, slash, close_brace, space, underscore}
+use Rattle.simplecss_text.specs.AsciiBytes.{asterisk, newline, colon, semicolon, exclamation_mark, backslash, hyphen, at_sign, slash, close_brace, space, underscore}
 use Rattle.simplecss_text.specs.Reading.{before, each}
 use Rattle.simplecss_text.specs.Bytes.{past, past_byte, starts, starts_by, starts_two}
 use Rattle.simplecss_text.specs.Characters.{is_space}
@@ -16,7 +16,7 @@ use Rattle.simplecss_text.proofs.reading.EachLemmas.{each-stops, each-some, each
 use Rattle.css_syntax.specs.declared.quality.Quality.{Quality}
 use Rattle.css_syntax.specs.declared.quality.Quality.TheVariants.{Whole, Open, BadString, BadUrl, StrayBracket, TooDeep}
 use Rattle.css_syntax.specs.Qualities.{is_good, is_whole}
-use Rattle.css_syntax.specs.Tokens.{past_hex, begins_escape, hex_number, is_either, past_letter, then_open, is_name_byte, name_part, past_word, gap_part, past_gap, begins_cdo}
+use Rattle.css_syntax.specs.Tokens.{past_one_space, past_hex, begins_escape, hex_number, is_either, past_letter, then_open, is_name_byte, name_part, past_word, gap_part, past_gap, begins_cdo}
 use Rattle.css_syntax.specs.Parts.{Stated, ends_at, part, parts}
 use Rattle.css_syntax.specs.Statements.{begins_name_byte, begins_plain_ident, begins_ident, begins_at_rule, ends_block, at_rule}
 use Rattle.css_syntax.specs.DeclarationLists.{DeclarationText, ItemText, declared, at_rule_item, skipped_item, declaration_ends, value_ends, value, important_word, importance, is_custom, is_empty, is_stated, stated_as, valued, named, broken, declaration, item, separator_part, past_separators, ListText, with_text, item_from, next_item, items}
@@ -97,3 +97,165 @@ item-read in_block start = by (begins_at_rule start)
         else declaration in_block start).0
     by true = tt
     by false = declaration-read in_block start
+
+-- ---- what follows a name and a value, printed
+
+quiet-byte : (q : ℕ) (more : List ℕ) → past_byte newline (q ∷ more) ≡ q ∷ more
+    → past_one_space (q ∷ more) ≡ q ∷ more → is_hex_digit q ≡ false → Quiet (q ∷ more)
+quiet-byte q more n s x = record { newline_is = n; space_is = s; hex_is = by }
+  where
+    by : (n : ℕ) → past_hex n (q ∷ more) ≡ q ∷ more
+    by zero = refl
+    by (suc n) = rw x refl
+
+no_letter-byte : (q : ℕ) (more : List ℕ) → is_hex_digit q ≡ false → is_name_byte q ≡ false
+    → (q == backslash) ≡ false → NoLetter (q ∷ more)
+unfolding past_letter
+no_letter-byte q more x n b = record { number = number; letter = letter }
+  where
+    number : (n so_far : ℕ) → hex_number n so_far (q ∷ more) ≡ so_far
+    number zero so_far = refl
+    number (suc n) so_far = rw x refl
+
+    letter : (low up : ℕ) → is_name_byte low ≡ true → is_name_byte up ≡ true
+        → past_letter low up (q ∷ more) ≡ None
+    letter low up l m = by (is_either low up q) refl
+      where
+        by : (k : Bool) → is_either low up q ≡ k → past_letter low up (q ∷ more) ≡ None
+        by true e = absurd (let wrong = either-name low up q l m e in cc)
+        by false e = rw (e, b) refl
+
+-- no hyphen or mark, in any place
+second-none : (x y : Bool) → (x && y && false) ≡ false
+second-none true true = refl
+second-none true false = refl
+second-none false y = refl
+
+third-none : (x y z : Bool) → (x && y && (z && false)) ≡ false
+third-none true true true = refl
+third-none true true false = refl
+third-none true false z = refl
+third-none false y z = refl
+
+-- before a semicolon
+seam-semicolon : (t text : List ℕ) → starts_by is_quote (past is_space t) ≡ false
+    → Seam t (semicolon ∷ text)
+unfolding name_part
+seam-semicolon t text e = record {
+  quiet = quiet-byte semicolon text refl refl refl;
+  no_letter = no_letter-byte semicolon text refl refl refl;
+  no_cdo = record {
+    one = λ b. and-none (b == 60) (starts_two hyphen hyphen text);
+    two = λ b c. second-none (b == 60) (c == exclamation_mark);
+    three = λ b c d. third-none (b == 60) (c == exclamation_mark) (d == hyphen);
+  };
+  no_name = refl;
+  no_slash = refl;
+  no_star = refl;
+  no_open = refl;
+  no_quote = refl;
+  first_quote = e;
+}
+
+-- before `!important`
+seam-mark : (t text : List ℕ) → starts_by is_quote (past is_space t) ≡ false
+    → Seam t (codes "!important" ++ text)
+unfolding name_part
+seam-mark t text e =
+    let more = codes "important" ++ text in
+    record {
+      quiet = quiet-byte exclamation_mark more refl refl refl;
+      no_letter = no_letter-byte exclamation_mark more refl refl refl;
+      no_cdo = record {
+        one = λ b. second-none (b == 60) true;
+        two = λ b c. second-none (b == 60) (c == exclamation_mark);
+        three = λ b c d. third-none (b == 60) (c == exclamation_mark) (d == hyphen);
+      };
+      no_name = refl;
+      no_slash = refl;
+      no_star = refl;
+      no_open = refl;
+      no_quote = refl;
+      first_quote = e;
+    }
+
+-- the importance and the semicolon
+abbrev after_value : Bool → List ℕ → List ℕ
+after_value important text = important_text important ++ (semicolon ∷ text)
+
+seam-value : (t : List ℕ) (important : Bool) (text : List ℕ)
+    → starts_by is_quote (past is_space t) ≡ false → Seam t (after_value important text)
+seam-value t true text e = seam-mark t (semicolon ∷ text) e
+seam-value t false text e = seam-semicolon t text e
+
+-- no blank is there, and the value ends
+no_gap-value : (important : Bool) (text : List ℕ)
+    → gap_part (after_value important text) ≡ None
+unfolding gap_part
+no_gap-value true text = refl
+no_gap-value false text = refl
+
+value-stops : (important : Bool) (text : List ℕ)
+    → ends_at value_ends (after_value important text) ≡ true
+value-stops true text = refl
+value-stops false text = refl
+
+word-important : (text : List ℕ)
+    → past_word (codes "important" ++ (semicolon ∷ text)) ≡ semicolon ∷ text
+unfolding name_part each
+word-important text = refl
+
+mark-read : (text : List ℕ)
+    → importance (codes "!important" ++ (semicolon ∷ text)) ≡ (true, semicolon ∷ text)
+unfolding gap_part
+mark-read text =
+    let following = codes "important" ++ (semicolon ∷ text) in
+    let start : past_gap following ≡ following = each-rests gap_part following refl in
+    let word : before following (past_word following) ≡ codes "important" =
+    ap (before following) (word-important text)
+    ∙ before-append (codes "important") (semicolon ∷ text) in
+    let end : past_gap (past_word following) ≡ semicolon ∷ text =
+    ap past_gap (word-important text) ∙ each-rests gap_part (semicolon ∷ text) refl in
+    ap (important_word (exclamation_mark ∷ following)) start
+    ∙ rw word (ap (λ (x : List ℕ). (true, x)) end)
+
+importance-read : (important : Bool) (text : List ℕ)
+    → importance (after_value important text) ≡ (important, semicolon ∷ text)
+importance-read true text = mark-read text
+importance-read false text = refl
+
+-- ---- the value again
+
+-- a value that was read whole from a start without blanks
+pub value-again : (start : List ℕ) → past_gap start ≡ start → (v : List ℕ)
+    → (value start).0 ≡ record { text = v; quality = Whole } → ends_lone v ≡ false
+    → (important : Bool) (text : List ℕ)
+    → (past_gap (v ++ after_value important text) ≡ v ++ after_value important text)
+    × (value (v ++ after_value important text)
+    ≡ (record { text = v; quality = Whole }, after_value important text))
+unfolding parts
+value-again start g v read lone important text =
+    let u = after_value important text in
+    let t = last_or start (ends_of value_ends start) in
+    let seam = seam-value t important text (last-no_quote value_ends start g) in
+    let v_is : before start t ≡ v = ap (λ (s : Stated). s.text) read in
+    let whole : flaws_of value_ends start ≡ Whole = ap (λ (s : Stated). s.quality) read in
+    let start_is : v ++ t ≡ start =
+    ap (λ (x : List ℕ). x ++ t) (sym v_is) ∙ (end-well value_ends start).0 in
+    let alike : Parting t u start (v ++ u) =
+    subst (λ (x : List ℕ). Parting t u x (v ++ u)) start_is (parting-front t u v lone) in
+    let stays : past_gap u ≡ u = each-rests gap_part u (no_gap-value important text) in
+    let kept = parts-kept value_ends t u seam stays (value-stops important text) (length start)
+    start (v ++ u) (omega arith) alike refl whole in
+    let text_is : before (v ++ u) (last_or (v ++ u) (ends_of value_ends (v ++ u))) ≡ v =
+    ap (before (v ++ u)) kept.last ∙ before-append v u in
+    (blank start (v ++ u) alike g seam.no_slash seam.no_star stays, rw (text_is, kept.whole, kept.left) refl)
+  where
+    blank : (r s : List ℕ)
+        → Parting (last_or start (ends_of value_ends start)) (after_value important text) r s
+        → past_gap r ≡ r
+        → starts slash (after_value important text) ≡ false
+        → starts asterisk (after_value important text) ≡ false
+        → past_gap (after_value important text) ≡ after_value important text
+        → past_gap s ≡ s
+    blank r s h g x y stays = ?

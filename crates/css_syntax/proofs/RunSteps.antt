@@ -92,7 +92,7 @@ no_gap_part (b ∷ text) e s = rw (s, e) refl
 -- ---- tokens
 
 -- a byte of a name is none of these
-not-this : (b k : ℕ) → is_name_byte b ≡ true → is_name_byte k ≡ false → (b == k) ≡ false
+pub not-this : (b k : ℕ) → is_name_byte b ≡ true → is_name_byte k ≡ false → (b == k) ≡ false
 not-this b k h n = by (b == k) refl
   where
     by : (t : Bool) → (b == k) ≡ t → (b == k) ≡ false
