@@ -7,8 +7,8 @@ use Rattle.std.proofs.lemmas.Bool.{and_parts}
 use Rattle.std.proofs.lemmas.List.Elements.{All-cons, All-nil}
 use Rattle.simplecss_text.specs.AsciiBytes.{asterisk, newline, colon, semicolon, exclamation_mark, backslash, hyphen, at_sign, slash, close_brace, space, underscore}
 use Rattle.simplecss_text.specs.Reading.{before, each}
-use Rattle.simplecss_text.specs.Bytes.{past, past_byte, starts, starts_by, starts_two}
-use Rattle.simplecss_text.specs.Characters.{is_space}
+use Rattle.simplecss_text.specs.Bytes.{past, past_byte, starts, starts_by, starts_two, is_digit}
+use Rattle.simplecss_text.specs.Characters.{is_space, is_letter}
 use Rattle.simplecss_text.specs.Strings.{is_quote}
 use Rattle.simplecss_text.specs.Terms.{is_hex_digit}
 use Rattle.simplecss_text.specs.Declarations.{last_or}
@@ -16,7 +16,7 @@ use Rattle.simplecss_text.proofs.reading.EachLemmas.{each-stops, each-some, each
 use Rattle.css_syntax.specs.declared.quality.Quality.{Quality}
 use Rattle.css_syntax.specs.declared.quality.Quality.TheVariants.{Whole, Open, BadString, BadUrl, StrayBracket, TooDeep}
 use Rattle.css_syntax.specs.Qualities.{is_good, is_whole}
-use Rattle.css_syntax.specs.Tokens.{past_one_space, past_hex, begins_escape, hex_number, is_either, past_letter, then_open, is_name_byte, name_part, past_word, gap_part, past_gap, begins_cdo}
+use Rattle.css_syntax.specs.Tokens.{past_one_space, past_hex, past_escape, begins_escape, hex_number, is_either, past_letter, then_open, is_name_byte, name_part, past_word, gap_part, past_gap, begins_cdo}
 use Rattle.css_syntax.specs.Parts.{Stated, ends_at, part, parts}
 use Rattle.css_syntax.specs.Statements.{begins_name_byte, begins_plain_ident, begins_ident, begins_at_rule, ends_block, at_rule}
 use Rattle.css_syntax.specs.DeclarationLists.{DeclarationText, ItemText, declared, at_rule_item, skipped_item, declaration_ends, value_ends, value, important_word, importance, is_custom, is_empty, is_stated, stated_as, valued, named, broken, declaration, item, separator_part, past_separators, ListText, with_text, item_from, next_item, items}
@@ -24,6 +24,7 @@ use Rattle.css_syntax.specs.Printing.{ends_lone, lone_end, important_text, state
 use Rattle.css_syntax.proofs.Shorter.{each-rests, each-goes, gap_part-takes}
 use Rattle.css_syntax.proofs.RunSteps.{not-this}
 use Rattle.css_syntax.proofs.PartTexts.{end-well}
+use Rattle.css_syntax.proofs.ItemLemmas.{ident-word}
 use Rattle.css_syntax.proofs.Parting.{Parting, Quiet, parting-longer, parting-end, Follows, Any}
 use Rattle.css_syntax.proofs.Parting.Parting.{at, on, pair}
 use Rattle.css_syntax.proofs.PartingTokens.{word-kept, gap_part-follows}
@@ -226,6 +227,37 @@ importance-read false text = refl
 
 -- ---- the value again
 
+-- no blank is at the start of the first, and so none at that of the second
+gap-same : (t u : List ℕ) → starts slash u ≡ false → starts asterisk u ≡ false → past_gap u ≡ u
+    → (r s : List ℕ) → Parting t u r s → past_gap r ≡ r → past_gap s ≡ s
+gap-same t u x y stays r s at g = stays
+gap-same t u x y stays r s (on b r1 s1 e h) g =
+    by (gap_part (b ∷ s1)) refl
+    (subst (λ (o : Option (Unit {0} × List ℕ)).
+    Follows Any (suc (length t)) t u o (gap_part (b ∷ s1)))
+    (subst (λ (z : List ℕ). gap_part z ≡ None) g (each-stops gap_part gap_part-takes (b ∷ r1)))
+    (gap_part-follows t u x y (b ∷ r1) (b ∷ s1) (on b r1 s1 e h)
+    (omega (arith, parting-longer t u r1 s1 h))))
+  where
+    by : (o : Option (Unit {0} × List ℕ)) → gap_part (b ∷ s1) ≡ o
+        → Follows Any (suc (length t)) t u None o → past_gap (b ∷ s1) ≡ b ∷ s1
+    by None f k = each-rests gap_part (b ∷ s1) f
+    by (Some z) f k = absurd k
+gap-same t u x y stays r s (pair c r1 s1 h) g =
+    by (gap_part (backslash ∷ c ∷ s1)) refl
+    (subst (λ (o : Option (Unit {0} × List ℕ)).
+    Follows Any (suc (length t)) t u o (gap_part (backslash ∷ c ∷ s1)))
+    (subst (λ (z : List ℕ). gap_part z ≡ None) g
+    (each-stops gap_part gap_part-takes (backslash ∷ c ∷ r1)))
+    (gap_part-follows t u x y (backslash ∷ c ∷ r1) (backslash ∷ c ∷ s1) (pair c r1 s1 h)
+    (omega (arith, parting-longer t u r1 s1 h))))
+  where
+    by : (o : Option (Unit {0} × List ℕ)) → gap_part (backslash ∷ c ∷ s1) ≡ o
+        → Follows Any (suc (length t)) t u None o
+        → past_gap (backslash ∷ c ∷ s1) ≡ backslash ∷ c ∷ s1
+    by None f k = each-rests gap_part (backslash ∷ c ∷ s1) f
+    by (Some z) f k = absurd k
+
 -- a value that was read whole from a start without blanks
 pub value-again : (start : List ℕ) → past_gap start ≡ start → (v : List ℕ)
     → (value start).0 ≡ record { text = v; quality = Whole } → ends_lone v ≡ false
@@ -249,13 +281,135 @@ value-again start g v read lone important text =
     start (v ++ u) (omega arith) alike refl whole in
     let text_is : before (v ++ u) (last_or (v ++ u) (ends_of value_ends (v ++ u))) ≡ v =
     ap (before (v ++ u)) kept.last ∙ before-append v u in
-    (blank start (v ++ u) alike g seam.no_slash seam.no_star stays, rw (text_is, kept.whole, kept.left) refl)
+    (
+      gap-same t u seam.no_slash seam.no_star stays start (v ++ u) alike g,
+      rw (text_is, kept.whole, kept.left) refl,
+    )
+
+-- ---- the name again
+
+-- what begins a name is none of these bytes
+ident-first : (b : ℕ) (text : List ℕ) (k : ℕ) → (is_name_byte b || begins_escape (b ∷ text)) ≡ true
+    → is_name_byte k ≡ false → (backslash == k) ≡ false → (b == k) ≡ false
+ident-first b text k e n m = by (is_name_byte b) refl
   where
-    blank : (r s : List ℕ)
-        → Parting (last_or start (ends_of value_ends start)) (after_value important text) r s
-        → past_gap r ≡ r
-        → starts slash (after_value important text) ≡ false
-        → starts asterisk (after_value important text) ≡ false
-        → past_gap (after_value important text) ≡ after_value important text
-        → past_gap s ≡ s
-    blank r s h g x y stays = ?
+    escaped : (j : Bool) → (b == backslash) ≡ j → begins_escape (b ∷ text) ≡ true → (b == k) ≡ false
+    escaped true f e = subst (λ (x : ℕ). (x == k) ≡ false) (sym (eqb-true b backslash f)) m
+    escaped false f e = absurd (let wrong = rw f at e in cc)
+
+    by : (j : Bool) → is_name_byte b ≡ j → (b == k) ≡ false
+    by true f = not-this b k f n
+    by false f = escaped (b == backslash) refl (rw f at e)
+
+-- a name that begins here is no separator, no end of a block and no at-rule
+record BeginsItem (in_block : Bool) (text : List ℕ) : Type 0 where
+  pub no_separator : past_separators text ≡ text
+  pub no_end : ends_block in_block text ≡ false
+  pub no_at : begins_at_rule text ≡ false
+
+ident-item : (in_block : Bool) (text : List ℕ) → begins_ident text ≡ true
+    → BeginsItem in_block text
+unfolding separator_part gap_part
+ident-item in_block [] e = absurd (cc)
+ident-item in_block (b ∷ text) e =
+    let word = ident-word b text e in
+    let semicolon_not = ident-first b text semicolon word refl refl in
+    let brace_not = ident-first b text close_brace word refl refl in
+    let at_not = ident-first b text at_sign word refl refl in
+    let slash_not = ident-first b text slash word refl refl in
+    let space_not = ident-first b text 32 word refl refl in
+    let tab_not = ident-first b text 9 word refl refl in
+    let newline_not = ident-first b text 10 word refl refl in
+    let return_not = ident-first b text 13 word refl refl in
+    let feed_not = ident-first b text 12 word refl refl in
+    let none : separator_part (b ∷ text) ≡ None =
+    rw (semicolon_not, space_not, tab_not, newline_not, return_not, feed_not, slash_not) refl in
+    record {
+      no_separator = each-rests separator_part (b ∷ text) none;
+      no_end = rw brace_not (never in_block);
+      no_at = rw at_not refl;
+    }
+  where
+    never : (k : Bool) → (k && false) ≡ false
+    never true = refl
+    never false = refl
+
+-- a name begins in both texts that part after it
+ident-same : (t u r s : List ℕ) → starts hyphen t ≡ false → starts hyphen u ≡ false
+    → begins_plain_ident t ≡ false → Parting t u r s → length t < length r
+    → begins_ident r ≡ true → begins_ident s ≡ true
+ident-same t u r s x y z at k e = absurd (omega arith)
+ident-same t u r s x y z (pair c r1 s1 h) k e = e
+ident-same t u r s x y z (on b r1 s1 f h) k e = by r1 s1 h e
+  where
+    -- a hyphen and then the texts part, or another byte
+    last : (j : Bool) → (b == hyphen) ≡ j → begins_ident (b ∷ t) ≡ true
+        → begins_ident (b ∷ u) ≡ true
+    last true g e = absurd (let wrong = rw (g, x, z) at e in cc)
+    last false g e = rw (g, f) (rw (g, f) at e)
+
+    same : (j : Bool) (c : ℕ) (r s : List ℕ) → (b == hyphen) ≡ j → (c == backslash) ≡ false
+        → begins_ident (b ∷ c ∷ r) ≡ true → begins_ident (b ∷ c ∷ s) ≡ true
+    same true c r s g i e = rw (g, i) (rw (g, i) at e)
+    same false c r s g i e = rw (g, f) (rw (g, f) at e)
+
+    escaped : (j : Bool) (c : ℕ) (r s : List ℕ) → (b == hyphen) ≡ j
+        → begins_ident (b ∷ backslash ∷ c ∷ r) ≡ true
+        → begins_ident (b ∷ backslash ∷ c ∷ s) ≡ true
+    escaped true c r s g e = rw g (rw g at e)
+    escaped false c r s g e = rw (g, f) (rw (g, f) at e)
+
+    by : (r1 s1 : List ℕ) → Parting t u r1 s1 → begins_ident (b ∷ r1) ≡ true
+        → begins_ident (b ∷ s1) ≡ true
+    by r1 s1 at e = last (b == hyphen) refl e
+    by r1 s1 (on c r2 s2 g h) e = same (b == hyphen) c r2 s2 refl g e
+    by r1 s1 (pair c r2 s2 h) e = escaped (b == hyphen) c r2 s2 refl e
+
+-- after a word no hyphen and no name is next
+after-word : (text : List ℕ) → name_part text ≡ None
+    → (starts hyphen text ≡ false) × (begins_plain_ident text ≡ false)
+unfolding name_part
+after-word [] e = (refl, refl)
+after-word (b ∷ text) e = by (is_name_byte b) (begins_escape (b ∷ text)) refl refl e
+  where
+    letters : (l d u h w : Bool) → (l || d || u || h || w) ≡ false
+        → (h ≡ false) × ((l || u || w) ≡ false)
+    letters true d u h w e = absurd (cc)
+    letters false true u h w e = absurd (cc)
+    letters false false true h w e = absurd (cc)
+    letters false false false true w e = absurd (cc)
+    letters false false false false w e = (refl, e)
+
+    by : (k m : Bool) → is_name_byte b ≡ k → begins_escape (b ∷ text) ≡ m
+        → (if k then Some (tt {0}, text) else (if m then Some (tt {0}, past_escape text) else None))
+        ≡ None
+        → (starts hyphen (b ∷ text) ≡ false) × (begins_plain_ident (b ∷ text) ≡ false)
+    by true m f g e = absurd (cc)
+    by false true f g e = absurd (cc)
+    by false false f g e =
+        let none = letters (is_letter b) (is_digit b) (b == underscore) (b == hyphen) (nat_le 128 b) f
+        in (none.0, rw (none.1, g) refl)
+
+-- what follows the name
+abbrev after_name : DeclarationText → List ℕ → List ℕ
+after_name d text = codes ": " ++ (d.value ++ after_value d.important text)
+
+-- ---- the declaration again
+
+printed-assoc : (d : DeclarationText) (text : List ℕ) → ends_lone d.value ≡ false
+    → (declaration_text d ++ text ≡ d.name ++ after_name d text)
+    × (declaration_text d ++ text ≡ stated_text d ++ (semicolon ∷ text))
+printed-assoc d text e = (
+  rw e (simp append_assoc),
+  append_assoc (stated_text d) (semicolon ∷ []) text,
+)
+
+-- what follows a name that a colon follows, after blanks
+some-colon : (text : List ℕ) → starts colon (past_gap text) ≡ true → 0 < length text
+some-colon [] e = absurd (let none : past_gap [] ≡ [] = each-rests gap_part [] refl in
+    let wrong : starts colon (past_gap []) ≡ false = rw none refl in cc)
+some-colon (b ∷ text) e = omega arith
+
+read-again : (start : List ℕ) (d : DeclarationText) → ReadFrom start d → d.closed ≡ true
+    → ends_lone d.value ≡ false → DeclarationReadsBack d
+read-again start d w closed lone in_block text = ?
