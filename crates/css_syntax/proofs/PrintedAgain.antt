@@ -1,6 +1,6 @@
 -- A declaration that was read, printed and read again.
 -- Serves `laws::printed_declarations_read_back`.
-use Rattle.std.proofs.Common.{◌≡◌, ℕ, zero, suc, ◌<◌, ◌≤◌, ◌-◌, ◌==◌, ◌||◌, ◌&&◌, not, codes, nat_le, Bool, true, false, List, [], ◌∷◌, ◌++◌, append_assoc, append-nil, length, length-append, map, Option, Some, None, arith, refl, sym, ap, subst, ◌∙◌, if◌then◌else◌, eqb-true}
+use Rattle.std.proofs.Common.{◌≡◌, ℕ, zero, suc, ◌<◌, ◌≤◌, ◌-◌, ◌==◌, ◌||◌, ◌&&◌, not, codes, nat_le, Bool, true, false, List, [], ◌∷◌, ◌++◌, append_assoc, append-nil, length, length-append, map, Option, Some, None, arith, refl, sym, ap, subst, ◌∙◌, if◌then◌else◌, eqb-true, ◌⊎◌, inl, inr}
 use Rattle.std.specs.List.{All}
 use Rattle.std.specs.Str.{str_eq_ignore_ascii_case}
 use Rattle.std.proofs.lemmas.Bool.{and_parts}
@@ -12,7 +12,7 @@ use Rattle.simplecss_text.specs.Characters.{is_space, is_letter}
 use Rattle.simplecss_text.specs.Strings.{is_quote}
 use Rattle.simplecss_text.specs.Terms.{is_hex_digit}
 use Rattle.simplecss_text.specs.Declarations.{last_or}
-use Rattle.simplecss_text.proofs.reading.EachLemmas.{each-stops, each-some, each-none}
+use Rattle.simplecss_text.proofs.reading.EachLemmas.{each-stops, option_cases, took}
 use Rattle.css_syntax.specs.declared.quality.Quality.{Quality}
 use Rattle.css_syntax.specs.declared.quality.Quality.TheVariants.{Whole, Open, BadString, BadUrl, StrayBracket, TooDeep}
 use Rattle.css_syntax.specs.Qualities.{is_good, is_whole}
@@ -21,10 +21,11 @@ use Rattle.css_syntax.specs.Parts.{Stated, ends_at, part, parts}
 use Rattle.css_syntax.specs.Statements.{begins_name_byte, begins_plain_ident, begins_ident, begins_at_rule, ends_block, at_rule}
 use Rattle.css_syntax.specs.DeclarationLists.{DeclarationText, ItemText, declared, at_rule_item, skipped_item, declaration_ends, value_ends, value, important_word, importance, is_custom, is_empty, is_stated, stated_as, valued, named, broken, declaration, item, separator_part, past_separators, ListText, with_text, item_from, next_item, items}
 use Rattle.css_syntax.specs.Printing.{ends_lone, lone_end, important_text, stated_text, declaration_text, DeclarationReadsBack, ItemReadsBack, ItemsReadBack}
-use Rattle.css_syntax.proofs.Shorter.{each-rests, each-goes, gap_part-takes}
+use Rattle.css_syntax.proofs.Shorter.{each-rests, each-goes, gap_part-takes, name_part-takes, word-less}
 use Rattle.css_syntax.proofs.RunSteps.{not-this}
 use Rattle.css_syntax.proofs.PartTexts.{end-well}
-use Rattle.css_syntax.proofs.ItemLemmas.{ident-word}
+use Rattle.css_syntax.proofs.ItemLemmas.{ident-word, next_item-takes}
+use Rattle.css_syntax.proofs.ListSteps.{items-some, items-none}
 use Rattle.css_syntax.proofs.Parting.{Parting, Quiet, parting-longer, parting-end, Follows, Any}
 use Rattle.css_syntax.proofs.Parting.Parting.{at, on, pair}
 use Rattle.css_syntax.proofs.PartingTokens.{word-kept, gap_part-follows}
@@ -365,6 +366,10 @@ ident-same t u r s x y z (on b r1 s1 f h) k e = by r1 s1 h e
     by r1 s1 (on c r2 s2 g h) e = same (b == hyphen) c r2 s2 refl g e
     by r1 s1 (pair c r2 s2 h) e = escaped (b == hyphen) c r2 s2 refl e
 
+-- what is found in one of two cases
+abbrev word_found : Bool → Bool → (x y : Unit {0} × List ℕ) → Option (Unit {0} × List ℕ)
+word_found k m x y = if k then Some x else (if m then Some y else None)
+
 -- after a word no hyphen and no name is next
 after-word : (text : List ℕ) → name_part text ≡ None
     → (starts hyphen text ≡ false) × (begins_plain_ident text ≡ false)
@@ -381,8 +386,7 @@ after-word (b ∷ text) e = by (is_name_byte b) (begins_escape (b ∷ text)) ref
     letters false false false false w e = (refl, e)
 
     by : (k m : Bool) → is_name_byte b ≡ k → begins_escape (b ∷ text) ≡ m
-        → (if k then Some (tt {0}, text) else (if m then Some (tt {0}, past_escape text) else None))
-        ≡ None
+        → word_found k m (tt, text) (tt, past_escape text) ≡ None
         → (starts hyphen (b ∷ text) ≡ false) × (begins_plain_ident (b ∷ text) ≡ false)
     by true m f g e = absurd (cc)
     by false true f g e = absurd (cc)
@@ -406,10 +410,160 @@ printed-assoc d text e = (
 
 -- what follows a name that a colon follows, after blanks
 some-colon : (text : List ℕ) → starts colon (past_gap text) ≡ true → 0 < length text
+unfolding gap_part
 some-colon [] e = absurd (let none : past_gap [] ≡ [] = each-rests gap_part [] refl in
     let wrong : starts colon (past_gap []) ≡ false = rw none refl in cc)
 some-colon (b ∷ text) e = omega arith
 
+ident-less : (start : List ℕ) → begins_ident start ≡ true
+    → length (past_word start) < length start
+ident-less [] e = absurd (cc)
+ident-less (b ∷ start) e = omega (arith, word-less b start (ident-word b start e))
+
+abbrev stated_with : List ℕ → Quality → Stated
+stated_with v quality = record { text = v; quality = quality }
+
+-- a value that is whole
+whole-is : (s : Stated) (v : List ℕ) (closed : Bool) → v ≡ s.text → closed ≡ is_whole s.quality
+    → closed ≡ true → s ≡ record { text = v; quality = Whole }
+whole-is s v closed e f g = by s.quality (sym f ∙ g)
+  where
+    by : (q : Quality) → is_whole q ≡ true
+        → stated_with s.text q ≡ stated_with v Whole
+    by Whole h = ap (λ (x : List ℕ). stated_with x Whole) (sym e)
+    by Open h = absurd (cc)
+    by BadString h = absurd (cc)
+    by BadUrl h = absurd (cc)
+    by StrayBracket h = absurd (cc)
+    by TooDeep h = absurd (cc)
+
+-- what is read after the name
+named-again : (in_block : Bool) (whole : List ℕ) (d : DeclarationText) (text : List ℕ)
+    → d.closed ≡ true → (not (is_empty d.value) || is_custom d.name) ≡ true
+    → past_gap (d.value ++ after_value d.important text) ≡ d.value ++ after_value d.important text
+    → value (d.value ++ after_value d.important text)
+    ≡ (record { text = d.value; quality = Whole }, after_value d.important text)
+    → named in_block whole d.name (after_name d text) ≡ (declared d, semicolon ∷ text)
+unfolding gap_part
+named-again in_block whole d text closed some g v =
+    let rest = d.value ++ after_value d.important text in
+    let read : value (past_gap (space ∷ rest))
+    ≡ (record { text = d.value; quality = Whole }, after_value d.important text) =
+    ap value (sym (each-goes gap_part gap_part-takes (space ∷ rest) rest tt refl) ∙ g) ∙ v in
+    ap (valued in_block d.name) read
+    ∙ ap (stated_as in_block d.name (record { text = d.value; quality = Whole }))
+    (importance-read d.important text)
+    ∙ rw some (ap (λ (c : Bool). (declared (record {
+      name = d.name;
+      value = d.value;
+      important = d.important;
+      closed = c;
+    }), semicolon ∷ text)) (sym closed))
+
+declaration-again : (in_block : Bool) (whole : List ℕ) (d : DeclarationText) (text : List ℕ)
+    → begins_ident whole ≡ true → past_word whole ≡ after_name d text
+    → whole ≡ d.name ++ after_name d text
+    → named in_block whole d.name (after_name d text) ≡ (declared d, semicolon ∷ text)
+    → declaration in_block whole ≡ (declared d, semicolon ∷ text)
+unfolding declaration gap_part
+declaration-again in_block whole d text e f g h =
+    let u = after_name d text in
+    let name : before whole (past_word whole) ≡ d.name =
+    ap (before whole) f ∙ ap (λ (x : List ℕ). before x u) g ∙ before-append d.name u in
+    let stays : past_gap (past_word whole) ≡ u = ap past_gap f ∙ each-rests gap_part u refl in
+    rw e (ap (λ (x : List ℕ). named in_block whole x (past_gap (past_word whole))) name
+    ∙ ap (named in_block whole d.name) stays ∙ h)
+
+next-again : (in_block : Bool) (whole : List ℕ) (d : DeclarationText) (text : List ℕ)
+    → BeginsItem in_block whole → whole ≡ stated_text d ++ (semicolon ∷ text)
+    → declaration in_block whole ≡ (declared d, semicolon ∷ text)
+    → next_item in_block whole
+    ≡ Some (record { text = stated_text d; item = declared d }, semicolon ∷ text)
+unfolding next_item item
+next-again in_block whole d text w e h =
+    let front : before whole (semicolon ∷ text) ≡ stated_text d =
+    ap (λ (x : List ℕ). before x (semicolon ∷ text)) e ∙ before-append (stated_text d)
+    (semicolon ∷ text) in
+    let here : item in_block whole ≡ (declared d, semicolon ∷ text) = rw w.no_at h in
+    ap (item_from in_block) w.no_separator
+    ∙ rw w.no_end (ap (λ (x : ItemText × List ℕ). Some (with_text whole x)) here
+    ∙ ap (λ (x : List ℕ). Some (record { text = x; item = declared d }, semicolon ∷ text)) front)
+
 read-again : (start : List ℕ) (d : DeclarationText) → ReadFrom start d → d.closed ≡ true
     → ends_lone d.value ≡ false → DeclarationReadsBack d
-read-again start d w closed lone in_block text = ?
+unfolding name_part
+read-again start d w closed lone in_block text =
+    let t = past_word start in
+    let u = after_name d text in
+    let whole = d.name ++ u in
+    let alike : Parting t u start whole =
+    subst (λ (x : List ℕ). Parting t u start (x ++ u)) (sym w.name_is)
+    (word-parting u start (some-colon t w.colon_is)) in
+    let after = after-word t (each-stops name_part name_part-takes start) in
+    let begins = ident-same t u start whole after.0 refl after.1 alike (ident-less start w.begins)
+    w.begins in
+    let word = word-kept t u (quiet-byte colon (space ∷ (d.value ++ after_value d.important text))
+    refl refl refl) refl start whole alike (omega arith) in
+    let word_is : past_word whole ≡ u = (parting-end t u t (past_word whole) word (omega arith)).1 in
+    let from = past_gap (past_byte colon (past_gap t)) in
+    let read = whole-is (value from).0 d.value d.closed w.value_is w.closed_is closed in
+    let again = value-again from (gap-again (past_byte colon (past_gap t))) d.value read lone
+    d.important text in
+    let named_is = named-again in_block whole d text closed w.some again.0 again.1 in
+    let both = printed-assoc d text lone in
+    ap (next_item in_block) both.0
+    ∙ next-again in_block whole d text (ident-item in_block whole begins) (sym both.0 ∙ both.1)
+    (declaration-again in_block whole d text begins word_is refl named_is)
+
+-- ---- the items of a list
+
+item-back : (start : List ℕ) (i : ItemText) → IsReadFrom start i → ItemReadsBack i
+item-back start (declared d) w = read-again start d w
+item-back start (at_rule_item a) w = tt
+item-back start (skipped_item fault) w = tt
+
+-- the next item was read from where it begins
+abbrev NextReadsBack : Option (ListText × List ℕ) → Type 0
+NextReadsBack None = Unit {0}
+NextReadsBack (Some x) = ItemReadsBack x.0.item
+
+next-back : (in_block : Bool) (text : List ℕ) → NextReadsBack (next_item in_block text)
+unfolding next_item
+next-back in_block text = by (ends_block in_block (past_separators text))
+  where
+    by : (k : Bool) → NextReadsBack (if k then None
+        else Some (with_text (past_separators text) (item in_block (past_separators text))))
+    by true = tt
+    by false =
+        item-back (past_separators text) (item in_block (past_separators text)).0
+        (item-read in_block (past_separators text))
+
+items-step : (in_block : Bool) (text : List ℕ)
+    → ((rest : List ℕ) → length rest < length text → ItemsReadBack in_block rest)
+    → ItemsReadBack in_block text
+items-step in_block text more = by (option_cases (next_item in_block text))
+  where
+    by : (next_item in_block text ≡ None)
+        ⊎ ((x : ListText × List ℕ) × (next_item in_block text ≡ Some x))
+        → ItemsReadBack in_block text
+    by (inl e) =
+        subst (All (λ (p : ListText). ItemReadsBack p.item)) (sym (items-none in_block text e))
+        (All-nil (λ (p : ListText). ItemReadsBack p.item))
+    by (inr x) =
+        let all = items-some in_block text x.0.1 x.0.0 x.1 in
+        let here : ItemReadsBack x.0.0.item =
+        subst NextReadsBack x.1 (next-back in_block text) in
+        subst (All (λ (p : ListText). ItemReadsBack p.item)) (sym all)
+        (All-cons (λ (p : ListText). ItemReadsBack p.item) x.0.0 (items in_block x.0.1) here
+        (more x.0.1 (took (next_item in_block) (next_item-takes in_block) text x.0.1 x.0.0 x.1)))
+
+items-within : (in_block : Bool) (n : ℕ) (text : List ℕ) → length text ≤ n
+    → ItemsReadBack in_block text
+items-within in_block zero text l =
+    items-step in_block text (λ rest less. absurd (omega (arith, less, l)))
+items-within in_block (suc n) text l =
+    items-step in_block text
+    (λ rest less. items-within in_block n rest (omega (arith, less, l)))
+
+pub items-read_back : (in_block : Bool) (text : List ℕ) → ItemsReadBack in_block text
+items-read_back in_block text = items-within in_block (length text) text (omega arith)
