@@ -13,6 +13,7 @@ pub mod escapes;
 pub mod laws;
 pub mod parts;
 pub mod places;
+pub mod printing;
 pub mod quality;
 pub mod statements;
 pub mod texts;
