@@ -18,3 +18,4 @@ pub mod PartingValues
 pub mod PartingParts
 pub mod PartingNames
 pub mod PrintedAgain
+pub mod PrintedLists

@@ -1,7 +1,7 @@
 -- The printed text of a declaration, and what reading it again returns.
-use Rattle.std.specs.Prelude.{◌≡◌, ℕ, Bool, true, false, ◌==◌, if◌then◌else◌, List, [], ◌∷◌, ◌++◌, codes, Some}
-use Rattle.std.specs.List.{All}
-use Rattle.simplecss_text.specs.AsciiBytes.{newline, backslash}
+use Rattle.std.specs.Prelude.{◌≡◌, ℕ, Bool, true, false, ◌==◌, if◌then◌else◌, List, [], ◌∷◌, ◌++◌, codes, map, Some}
+use Rattle.std.specs.List.{All, join_with_byte}
+use Rattle.simplecss_text.specs.AsciiBytes.{newline, space, backslash}
 use Rattle.css_syntax.specs.DeclarationLists.{DeclarationText, ItemText, declared, at_rule_item, skipped_item, ListText, next_item, items}
 
 -- The text ends in a lone backslash: where each backslash is taken with the byte after it, the last
@@ -36,6 +36,20 @@ DeclarationReadsBack d =
     (in_block : Bool) (text : List ℕ)
     → next_item in_block (declaration_text d ++ text)
     ≡ Some (record { text = stated_text d; item = declared d }, codes ";" ++ text)
+
+-- a printed declaration, as a part of a list
+abbrev pub printed_part : DeclarationText → ListText
+printed_part d = record { text = stated_text d; item = declared d }
+
+-- declarations one after another, with a space between two
+abbrev pub list_text : List DeclarationText → List ℕ
+list_text declarations = join_with_byte space (map declaration_text declarations)
+
+-- Declarations that read back are the items of their printed list, in their order.
+abbrev pub ListReadsBack : List DeclarationText → Type 0
+ListReadsBack declarations =
+    All DeclarationReadsBack declarations → (in_block : Bool)
+    → items in_block (list_text declarations) ≡ map printed_part declarations
 
 -- This holds of a declaration that was read, if nothing of its value is open at the end of the text
 -- and its value does not end in a lone backslash.

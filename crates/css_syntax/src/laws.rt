@@ -1,7 +1,8 @@
 //! Laws: contracts of functions that do nothing.
 ghost use Rattle.std.specs.Prelude.{ℕ, Bool, List};
 ghost use Rattle.css_syntax.specs.NothingLost.{LosesNoItem, LosesNoStatement};
-ghost use Rattle.css_syntax.specs.Printing.{ItemsReadBack};
+ghost use Rattle.css_syntax.specs.Printing.{ItemsReadBack, ListReadsBack};
+ghost use Rattle.css_syntax.specs.DeclarationLists.{DeclarationText};
 
 /// Every byte of a text is in the text of an item or a statement, which may be one that is skipped,
 /// or it is between them: a space byte, in a comment, a semicolon between items, and in a sheet
@@ -12,8 +13,10 @@ pub fn nothing_is_lost()
     ensures statements { (in_block : Bool) (text : List ℕ) → LosesNoStatement in_block text }
 {}
 
-/// A declaration that was read is itself, if it is printed and read again, unless something of its
-/// value was open at the end of the text or its value ends in a backslash.
+/// A declaration that was read is itself, if it is printed before any text and read again, unless
+/// something of its value was open at the end of the text or its value ends in a lone backslash.
+/// A printed list of such declarations has them as its items.
 pub fn printed_declarations_read_back()
-    ensures { (in_block : Bool) (text : List ℕ) → ItemsReadBack in_block text }
+    ensures each_item { (in_block : Bool) (text : List ℕ) → ItemsReadBack in_block text }
+    ensures lists { (declarations : List DeclarationText) → ListReadsBack declarations }
 {}
