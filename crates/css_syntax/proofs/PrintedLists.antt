@@ -1,7 +1,7 @@
 -- A printed list of declarations, read again.
--- Serves `laws::printed_declarations_read_back`.
+-- Serves `laws::printed_declarations_read_back` and Display of `DeclarationList`.
 use Rattle.std.proofs.Common.{◌≡◌, ℕ, zero, suc, ◌<◌, ◌≤◌, Bool, true, false, List, [], ◌∷◌, ◌++◌, append-nil, map, Option, Some, None, arith, refl, sym, ap, subst, ◌∙◌, ◌⊎◌, inl, inr}
-use Rattle.std.specs.List.{All, join_with_byte}
+use Rattle.std.specs.List.{All, flat_map, join_with_byte}
 use Rattle.std.proofs.lemmas.List.Elements.{All-head, All-tail}
 use Rattle.simplecss_text.specs.AsciiBytes.{semicolon, space}
 use Rattle.simplecss_text.specs.Reading.{each}
@@ -70,3 +70,9 @@ list-read_back (d ∷ e ∷ more) all in_block =
     ∙ ap (λ (xs : List ListText). printed_part d ∷ xs)
     (after-space in_block (list_text (e ∷ more)) ∙ list-read_back (e ∷ more)
     (All-tail DeclarationReadsBack d (e ∷ more) all) in_block)
+
+-- a join is its first piece, and then each other after the byte
+pub join_first : {X : Type 0} (c : ℕ) (f : X → List ℕ) (x : X) (xs : List X)
+    → join_with_byte c (map f (x ∷ xs)) ≡ f x ++ flat_map (λ y. c ∷ f y) xs
+join_first c f x [] = sym (append-nil (f x))
+join_first c f x (y ∷ ys) = ap (λ l. f x ++ (c ∷ l)) (join_first c f y ys)

@@ -72,3 +72,35 @@ impl<'a> Display for Declaration<'a> {
         f.write_str(";")
     }
 }
+
+/// Declarations, to be printed one after another.
+#[derive(Clone, Copy, Debug)]
+pub struct DeclarationList<'d, 'a> {
+    /// The declarations.
+    pub declarations: &'d [Declaration<'a>],
+}
+
+/// Prints the declarations with a space between two, as those of a style attribute. Width, fill and
+/// flags of the formatter change nothing.
+impl<'d, 'a> Display for DeclarationList<'d, 'a> {
+    ghost use Rattle.std.specs.Prelude.{Some};
+    ghost use Rattle.css_syntax.specs.Printing.{list_text};
+    ghost use Rattle.css_syntax.specs.Views.{declarations_in};
+
+    ghost output = { λ l. Some (list_text (declarations_in l)) };
+
+    ghost styled_output = { λ l _. Some (list_text (declarations_in l)) };
+
+    #[tactic(auto, using(simplecss_text::proofs::round_trip::StyledWrites::plain_of_styled))]
+    fn fmt<W: fmt::Write>(&self, f: &mut fmt::Formatter<W>) -> fmt::Result {
+        let Some((first, rest)) = self.declarations.split_first() else {
+            return Ok(());
+        };
+        first.fmt(f)?;
+        for declaration in rest {
+            f.write_str(" ")?;
+            declaration.fmt(f)?;
+        }
+        Ok(())
+    }
+}
