@@ -1,16 +1,16 @@
 -- Two texts that are alike up to where they part, and readers of them that stop there or before.
 -- Serves `laws::printed_declarations_read_back`.
-use Rattle.std.proofs.Common.{◌≡◌, ℕ, zero, suc, ◌<◌, ◌≤◌, ◌==◌, ◌||◌, ◌&&◌, not, Bool, true, false, List, [], ◌∷◌, length, Option, Some, None, arith, refl, sym, ap, subst, ◌∙◌, if◌then◌else◌, eqb-true, ◌⊎◌, inl, inr}
+use Rattle.std.proofs.Common.{◌≡◌, ℕ, zero, suc, ◌<◌, ◌≤◌, ◌==◌, Bool, true, false, List, [], ◌∷◌, length, Option, Some, None, arith, refl, sym, ap, subst, if◌then◌else◌, eqb-true, ◌⊎◌, inl, inr}
 use Rattle.simplecss_text.specs.AsciiBytes.{newline, carriage_return, backslash}
-use Rattle.simplecss_text.specs.Reading.{each, followed_by}
-use Rattle.simplecss_text.specs.Bytes.{past, past_byte, past_one, starts, starts_by}
+use Rattle.simplecss_text.specs.Reading.{each}
+use Rattle.simplecss_text.specs.Bytes.{past, past_byte}
 use Rattle.simplecss_text.specs.Characters.{is_space}
 use Rattle.simplecss_text.specs.Terms.{is_hex_digit}
 use Rattle.simplecss_text.proofs.reading.EachLemmas.{Takes, took, each-none, each-some, option_cases}
 use Rattle.simplecss_text.proofs.reading.TakesLemmas.{each-within, length-past, length-past_byte}
 use Rattle.simplecss_text.proofs.bytes.RunLemmas.{past-yes, past-no}
-use Rattle.css_syntax.specs.Tokens.{is_newline, past_one_space, past_hex, past_escape, begins_escape}
-use Rattle.css_syntax.proofs.Shorter.{past_one_space-within, past_hex-within, past_escape-within}
+use Rattle.css_syntax.specs.Tokens.{is_newline, past_one_space, past_hex, past_escape}
+use Rattle.css_syntax.proofs.Shorter.{past_one_space-within, past_hex-within}
 
 -- Two texts with the same front, and then t in the first and u in the second. Each backslash of the
 -- front is with the byte after it, so the front does not end in a lone one.
@@ -186,11 +186,11 @@ each-step {A = A} P read takes n t u r s more h good l k =
     by (inl e) (inr y) = absurd (subst (Follows P n t u None) y.1
         (subst (λ o. Follows P n t u o (read s)) e k))
     by (inr x) (inl f) = absurd (
-      let less : length x.0.1 < n = subst (Follows P n t u (Some x.0)) f
-          (subst (λ o. Follows P n t u o (read s)) x.1 k) in
-      let all = each-some read takes r x.0.1 x.0.0 x.1 in
-      omega (arith, l, ap (λ (p : List A × List ℕ). length p.1) all, each-within read takes x.0.1)
-    )
+        let less : length x.0.1 < n = subst (Follows P n t u (Some x.0)) f
+        (subst (λ o. Follows P n t u o (read s)) x.1 k) in
+        let all = each-some read takes r x.0.1 x.0.0 x.1 in
+        omega (arith, l, ap (λ (p : List A × List ℕ). length p.1) all, each-within read takes x.0.1)
+        )
     by (inr x) (inr y) =
         let all = each-some read takes r x.0.1 x.0.0 x.1 in
         let also = each-some read takes s y.0.1 y.0.0 y.1 in

@@ -2,15 +2,14 @@
 -- Serves `laws::printed_declarations_read_back`.
 use Rattle.std.proofs.Common.{◌≡◌, ℕ, zero, suc, ◌<◌, ◌≤◌, ◌+◌, ◌*◌, ◌==◌, ◌||◌, ◌&&◌, not, Bool, true, false, List, [], ◌∷◌, length, drop, length-drop, Option, Some, None, arith, refl, sym, ap, subst, ◌∙◌, if◌then◌else◌, eqb-true}
 use Rattle.simplecss_text.specs.AsciiBytes.{backslash, open_parenthesis, hyphen, exclamation_mark}
-use Rattle.simplecss_text.specs.Reading.{each}
-use Rattle.simplecss_text.specs.Bytes.{past, past_one, starts, starts_by, starts_two}
+use Rattle.simplecss_text.specs.Bytes.{past, starts_by, starts_two}
 use Rattle.simplecss_text.specs.Characters.{is_space}
 use Rattle.simplecss_text.specs.Strings.{is_quote}
 use Rattle.simplecss_text.specs.Terms.{is_hex_digit}
 use Rattle.simplecss_text.proofs.bytes.RunLemmas.{past-yes, past-no}
 use Rattle.css_syntax.specs.Tokens.{is_newline, past_hex, past_one_space, past_escape, begins_escape, hex_digit, hex_number, escaped_char, is_either, past_letter, then_letter, then_open, after_url, is_name_byte, name_part, past_word, begins_cdo}
 use Rattle.css_syntax.proofs.Shorter.{each-goes, each-rests, name_part-takes, past_one_space-within, past_hex-within, word-less, past_word_within}
-use Rattle.css_syntax.proofs.Parting.{Parting, Kept, Quiet, past_escape-kept}
+use Rattle.css_syntax.proofs.Parting.{Parting, Quiet, past_escape-kept}
 use Rattle.css_syntax.proofs.Parting.Parting.{at, on, pair}
 
 -- ---- letters

@@ -1,10 +1,10 @@
 -- A front without a lone backslash at its end, before either of two texts; and names, which have
 -- none.
 -- Serves `laws::printed_declarations_read_back`.
-use Rattle.std.proofs.Common.{◌≡◌, ℕ, zero, suc, ◌<◌, ◌≤◌, ◌-◌, ◌==◌, ◌||◌, ◌&&◌, not, Bool, true, false, List, [], ◌∷◌, ◌++◌, length, length-append, take, Option, Some, None, arith, refl, sym, ap, subst, ◌∙◌, if◌then◌else◌, eqb-true}
+use Rattle.std.proofs.Common.{◌≡◌, ℕ, zero, suc, ◌<◌, ◌≤◌, ◌-◌, ◌==◌, not, Bool, true, false, List, [], ◌∷◌, ◌++◌, length, length-append, take, arith, refl, sym, ap, subst, ◌∙◌, if◌then◌else◌, eqb-true}
 use Rattle.std.proofs.Math.Seq.{take-append_seam}
 use Rattle.simplecss_text.specs.AsciiBytes.{newline, carriage_return, backslash}
-use Rattle.simplecss_text.specs.Reading.{before, Ends, each}
+use Rattle.simplecss_text.specs.Reading.{before}
 use Rattle.simplecss_text.specs.Bytes.{past_byte}
 use Rattle.simplecss_text.specs.Characters.{is_space}
 use Rattle.simplecss_text.specs.Terms.{is_hex_digit}

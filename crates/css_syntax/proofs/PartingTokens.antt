@@ -1,18 +1,18 @@
 -- Tokens of two texts that part after them.
 -- Serves `laws::printed_declarations_read_back`.
-use Rattle.std.proofs.Common.{◌≡◌, ℕ, zero, suc, ◌<◌, ◌≤◌, ◌+◌, ◌*◌, ◌==◌, ◌||◌, ◌&&◌, not, Bool, true, false, List, [], ◌∷◌, ◌++◌, length, drop, length-append, Option, Some, None, arith, refl, sym, ap, subst, ◌∙◌, if◌then◌else◌, eqb-true}
-use Rattle.simplecss_text.specs.AsciiBytes.{asterisk, slash, backslash, close_parenthesis, hyphen, exclamation_mark}
+use Rattle.std.proofs.Common.{◌≡◌, ℕ, suc, ◌<◌, ◌≤◌, ◌==◌, ◌||◌, ◌&&◌, not, Bool, true, false, List, [], ◌∷◌, length, length-append, Option, Some, None, arith, refl, ap, subst, if◌then◌else◌}
+use Rattle.simplecss_text.specs.AsciiBytes.{asterisk, slash, backslash, close_parenthesis}
 use Rattle.simplecss_text.specs.Reading.{each}
-use Rattle.simplecss_text.specs.Bytes.{past, past_one, starts, starts_by, starts_two}
+use Rattle.simplecss_text.specs.Bytes.{past, past_one, starts}
 use Rattle.simplecss_text.specs.Characters.{is_space}
-use Rattle.simplecss_text.specs.Comments.{opens_comment, after_close, after_comment}
+use Rattle.simplecss_text.specs.Comments.{opens_comment, after_close}
 use Rattle.simplecss_text.proofs.reading.GotLemmas.{IfAfter, after_close-after}
 use Rattle.simplecss_text.proofs.reading.TakesLemmas.{each-within, length-past}
 use Rattle.css_syntax.specs.declared.quality.Quality.{Quality}
-use Rattle.css_syntax.specs.declared.quality.Quality.TheVariants.{Whole, Open, BadString, BadUrl}
-use Rattle.css_syntax.specs.Tokens.{is_newline, past_escape, begins_escape, from_close, closed_or_open, past_comment, comment_quality, gap_part, past_gap, string_part, string_end, past_string, is_name_byte, name_part, past_word, is_never_bare, url_part, url_end, past_url}
+use Rattle.css_syntax.specs.declared.quality.Quality.TheVariants.{Whole, BadString, BadUrl}
+use Rattle.css_syntax.specs.Tokens.{is_newline, past_escape, begins_escape, from_close, closed_or_open, past_comment, gap_part, past_gap, string_part, string_end, past_string, is_name_byte, name_part, past_word, url_part, url_end, past_url}
 use Rattle.css_syntax.proofs.Shorter.{past_escape-within, past_comment-within, gap_part-takes, string_part-takes, name_part-takes, url_part-takes}
-use Rattle.css_syntax.proofs.Parting.{Parting, Kept, Quiet, kept-if, past_escape-kept, past-kept, Follows, follows-if, Any, each_left-kept, parting-longer, newline-no_backslash}
+use Rattle.css_syntax.proofs.Parting.{Parting, Kept, Quiet, past_escape-kept, past-kept, Follows, follows-if, Any, each_left-kept}
 use Rattle.css_syntax.proofs.Parting.Parting.{at, on, pair}
 
 -- ---- words

@@ -1,24 +1,23 @@
 -- Component values of two texts that part after them.
 -- Serves `laws::printed_declarations_read_back`.
-use Rattle.std.proofs.Common.{◌≡◌, ℕ, zero, suc, ◌<◌, ◌≤◌, ◌==◌, ◌||◌, ◌&&◌, not, Bool, true, false, List, [], ◌∷◌, length, drop, length-drop, map, Option, Some, None, arith, refl, sym, ap, subst, ◌∙◌, if◌then◌else◌, eqb-true, ◌⊎◌, inl, inr}
+use Rattle.std.proofs.Common.{◌≡◌, ℕ, zero, suc, ◌<◌, ◌≤◌, ◌==◌, ◌||◌, ◌&&◌, not, Bool, true, false, List, [], ◌∷◌, length, drop, length-drop, Option, Some, None, arith, refl, sym, ap, subst, ◌∙◌, if◌then◌else◌, eqb-true}
 use Rattle.std.specs.Option.{is_some}
 use Rattle.simplecss_text.specs.AsciiBytes.{asterisk, slash, backslash, number_sign, at_sign, open_parenthesis, close_parenthesis, open_bracket, close_bracket, close_brace}
-use Rattle.simplecss_text.specs.Reading.{each, followed_by}
+use Rattle.simplecss_text.specs.Reading.{each}
 use Rattle.simplecss_text.specs.Bytes.{past, past_byte, starts, starts_by}
 use Rattle.simplecss_text.specs.Characters.{is_space}
 use Rattle.simplecss_text.specs.Comments.{opens_comment, after_close}
 use Rattle.simplecss_text.specs.Strings.{is_quote}
-use Rattle.simplecss_text.specs.Declarations.{last_or}
-use Rattle.simplecss_text.proofs.reading.EachLemmas.{Takes, each-none, each-some, each-stops, option_cases}
+use Rattle.simplecss_text.proofs.reading.EachLemmas.{Takes, each-stops}
 use Rattle.css_syntax.specs.declared.quality.Quality.{Quality}
 use Rattle.css_syntax.specs.declared.quality.Quality.TheVariants.{Whole, Open, BadString, BadUrl, StrayBracket, TooDeep}
 use Rattle.css_syntax.specs.Qualities.{first_flaw, flaw_of_all}
-use Rattle.css_syntax.specs.Tokens.{is_newline, begins_escape, from_close, closed_or_open, past_comment, comment_quality, past_gap, past_string, is_name_byte, name_part, past_word, then_open, after_url, past_url, begins_cdo, is_closer, other_token, token}
+use Rattle.css_syntax.specs.Tokens.{is_newline, begins_escape, from_close, closed_or_open, past_comment, comment_quality, past_string, is_name_byte, name_part, past_word, then_open, after_url, past_url, begins_cdo, is_closer, other_token, token}
 use Rattle.css_syntax.specs.ComponentValues.{is_opener, mirror, value_inside, end_quality, block_of, value_by, component_value}
-use Rattle.css_syntax.proofs.Shorter.{each-rests, past_comment-within}
+use Rattle.css_syntax.proofs.Shorter.{each-rests}
 use Rattle.css_syntax.proofs.RunSteps.{no_name_part, or-both}
 use Rattle.css_syntax.proofs.OpenBlocks.{inside-takes}
-use Rattle.css_syntax.proofs.Parting.{Parting, Kept, Quiet, parting-longer, kept-if, Follows, follows-if, Every, each-kept, newline-no_backslash}
+use Rattle.css_syntax.proofs.Parting.{Parting, Quiet, parting-longer, kept-if, Follows, follows-if, Every, each-kept, newline-no_backslash}
 use Rattle.css_syntax.proofs.Parting.Parting.{at, on, pair}
 use Rattle.css_syntax.proofs.PartingTokens.{word-kept, close-less, comment-kept, WholeKept, whole-if, past_string-kept, past_url-less, past_url-kept}
 use Rattle.css_syntax.proofs.PartingAddresses.{WordKept, NoLetter, Addresses, url-word, url-kept, NoCdo, cdo-none, cdo-kept}

@@ -1,8 +1,7 @@
 -- A declaration that was read, printed and read again.
 -- Serves `laws::printed_declarations_read_back`.
-use Rattle.std.proofs.Common.{◌≡◌, ℕ, zero, suc, ◌<◌, ◌≤◌, ◌-◌, ◌==◌, ◌||◌, ◌&&◌, not, codes, nat_le, Bool, true, false, List, [], ◌∷◌, ◌++◌, append_assoc, append-nil, length, length-append, map, Option, Some, None, arith, refl, sym, ap, subst, ◌∙◌, if◌then◌else◌, eqb-true, ◌⊎◌, inl, inr}
+use Rattle.std.proofs.Common.{◌≡◌, ℕ, zero, suc, ◌<◌, ◌≤◌, ◌==◌, ◌||◌, ◌&&◌, not, codes, nat_le, Bool, true, false, List, [], ◌∷◌, ◌++◌, append_assoc, length, Option, Some, None, arith, refl, sym, ap, subst, ◌∙◌, if◌then◌else◌, eqb-true, ◌⊎◌, inl, inr}
 use Rattle.std.specs.List.{All}
-use Rattle.std.specs.Str.{str_eq_ignore_ascii_case}
 use Rattle.std.proofs.lemmas.Bool.{and_parts}
 use Rattle.std.proofs.lemmas.List.Elements.{All-cons, All-nil}
 use Rattle.simplecss_text.specs.AsciiBytes.{asterisk, newline, colon, semicolon, exclamation_mark, backslash, hyphen, at_sign, slash, close_brace, space, underscore}
@@ -16,11 +15,11 @@ use Rattle.simplecss_text.proofs.reading.EachLemmas.{each-stops, option_cases, t
 use Rattle.css_syntax.specs.declared.quality.Quality.{Quality}
 use Rattle.css_syntax.specs.declared.quality.Quality.TheVariants.{Whole, Open, BadString, BadUrl, StrayBracket, TooDeep}
 use Rattle.css_syntax.specs.Qualities.{is_good, is_whole}
-use Rattle.css_syntax.specs.Tokens.{past_one_space, past_hex, past_escape, begins_escape, hex_number, is_either, past_letter, then_open, is_name_byte, name_part, past_word, gap_part, past_gap, begins_cdo}
-use Rattle.css_syntax.specs.Parts.{Stated, ends_at, part, parts}
-use Rattle.css_syntax.specs.Statements.{begins_name_byte, begins_plain_ident, begins_ident, begins_at_rule, ends_block, at_rule}
-use Rattle.css_syntax.specs.DeclarationLists.{DeclarationText, ItemText, declared, at_rule_item, skipped_item, declaration_ends, value_ends, value, important_word, importance, is_custom, is_empty, is_stated, stated_as, valued, named, broken, declaration, item, separator_part, past_separators, ListText, with_text, item_from, next_item, items}
-use Rattle.css_syntax.specs.Printing.{ends_lone, lone_end, important_text, stated_text, declaration_text, DeclarationReadsBack, ItemReadsBack, ItemsReadBack}
+use Rattle.css_syntax.specs.Tokens.{past_one_space, past_hex, past_escape, begins_escape, hex_number, is_either, past_letter, is_name_byte, name_part, past_word, gap_part, past_gap}
+use Rattle.css_syntax.specs.Parts.{Stated, ends_at, parts}
+use Rattle.css_syntax.specs.Statements.{begins_plain_ident, begins_ident, begins_at_rule, ends_block, at_rule}
+use Rattle.css_syntax.specs.DeclarationLists.{DeclarationText, ItemText, declared, at_rule_item, skipped_item, declaration_ends, value_ends, value, important_word, importance, is_custom, is_empty, is_stated, stated_as, valued, named, declaration, item, separator_part, past_separators, ListText, with_text, item_from, next_item, items}
+use Rattle.css_syntax.specs.Printing.{ends_lone, important_text, stated_text, declaration_text, DeclarationReadsBack, ItemReadsBack, ItemsReadBack}
 use Rattle.css_syntax.proofs.Shorter.{each-rests, each-goes, gap_part-takes, name_part-takes, word-less}
 use Rattle.css_syntax.proofs.RunSteps.{not-this}
 use Rattle.css_syntax.proofs.PartTexts.{end-well}
@@ -29,7 +28,7 @@ use Rattle.css_syntax.proofs.ListSteps.{items-some, items-none}
 use Rattle.css_syntax.proofs.Parting.{Parting, Quiet, parting-longer, parting-end, Follows, Any}
 use Rattle.css_syntax.proofs.Parting.Parting.{at, on, pair}
 use Rattle.css_syntax.proofs.PartingTokens.{word-kept, gap_part-follows}
-use Rattle.css_syntax.proofs.PartingAddresses.{NoLetter, NoCdo, either-name, and-none}
+use Rattle.css_syntax.proofs.PartingAddresses.{NoLetter, either-name, and-none}
 use Rattle.css_syntax.proofs.PartingValues.{Seam}
 use Rattle.css_syntax.proofs.PartingParts.{ends_of, flaws_of, gap-again, last-no_quote, parts-kept}
 use Rattle.css_syntax.proofs.PartingNames.{parting-front, before-append, word-parting}
@@ -281,8 +280,7 @@ value-again start g v read lone important text =
     let kept = parts-kept value_ends t u seam stays (value-stops important text) (length start)
     start (v ++ u) (omega arith) alike refl whole in
     let text_is : before (v ++ u) (last_or (v ++ u) (ends_of value_ends (v ++ u))) ≡ v =
-    ap (before (v ++ u)) kept.last ∙ before-append v u in
-    (
+    ap (before (v ++ u)) kept.last ∙ before-append v u in (
       gap-same t u seam.no_slash seam.no_star stays start (v ++ u) alike g,
       rw (text_is, kept.whole, kept.left) refl,
     )
@@ -453,12 +451,15 @@ named-again in_block whole d text closed some g v =
     ap (valued in_block d.name) read
     ∙ ap (stated_as in_block d.name (record { text = d.value; quality = Whole }))
     (importance-read d.important text)
-    ∙ rw some (ap (λ (c : Bool). (declared (record {
-      name = d.name;
-      value = d.value;
-      important = d.important;
-      closed = c;
-    }), semicolon ∷ text)) (sym closed))
+    ∙ rw some (ap (λ (c : Bool). (
+      declared (record {
+        name = d.name;
+        value = d.value;
+        important = d.important;
+        closed = c;
+      }),
+      semicolon ∷ text,
+    )) (sym closed))
 
 declaration-again : (in_block : Bool) (whole : List ℕ) (d : DeclarationText) (text : List ℕ)
     → begins_ident whole ≡ true → past_word whole ≡ after_name d text

@@ -1,13 +1,12 @@
 -- A printed list of declarations, read again.
 -- Serves `laws::printed_declarations_read_back` and Display of `DeclarationList`.
-use Rattle.std.proofs.Common.{◌≡◌, ℕ, zero, suc, ◌<◌, ◌≤◌, Bool, true, false, List, [], ◌∷◌, ◌++◌, append-nil, map, Option, Some, None, arith, refl, sym, ap, subst, ◌∙◌, ◌⊎◌, inl, inr}
-use Rattle.std.specs.List.{All, flat_map, join_with_byte}
+use Rattle.std.proofs.Common.{◌≡◌, ℕ, Bool, List, [], ◌∷◌, ◌++◌, append-nil, map, Some, None, refl, sym, ap, ◌∙◌, ◌⊎◌, inl, inr}
+use Rattle.std.specs.List.{flat_map, join_with_byte}
 use Rattle.std.proofs.lemmas.List.Elements.{All-head, All-tail}
 use Rattle.simplecss_text.specs.AsciiBytes.{semicolon, space}
-use Rattle.simplecss_text.specs.Reading.{each}
 use Rattle.simplecss_text.proofs.reading.EachLemmas.{option_cases}
 use Rattle.css_syntax.specs.Tokens.{gap_part}
-use Rattle.css_syntax.specs.DeclarationLists.{DeclarationText, ListText, separator_part, past_separators, item_from, next_item, items}
+use Rattle.css_syntax.specs.DeclarationLists.{DeclarationText, ListText, separator_part, item_from, next_item, items}
 use Rattle.css_syntax.specs.Printing.{declaration_text, DeclarationReadsBack, printed_part, list_text, ListReadsBack}
 use Rattle.css_syntax.proofs.Shorter.{each-goes, each-rests}
 use Rattle.css_syntax.proofs.ItemLemmas.{separator_part-takes}

@@ -29,7 +29,11 @@ fn ends_lone(bytes: &[u8]) -> bool
 fn lone_end(value: &str) -> &'static str
     ensures { result.now ≡ lone_end_of value.now }
 {
-    if ends_lone(value.as_bytes()) { "\n" } else { "" }
+    if ends_lone(value.as_bytes()) {
+        "\n"
+    } else {
+        ""
+    }
 }
 
 /// Returns what follows an important value.
