@@ -240,7 +240,7 @@ plain-word false false true h w e k = refl
 plain-word false false false true w e k = refl
 plain-word false false false false w e k = k
 
-ident-word : (b : ℕ) (text : List ℕ) → begins_ident (b ∷ text) ≡ true
+pub ident-word : (b : ℕ) (text : List ℕ) → begins_ident (b ∷ text) ≡ true
     → (is_name_byte b || begins_escape (b ∷ text)) ≡ true
 ident-word b text h = by (b == hyphen) refl
   where

@@ -11,3 +11,11 @@ pub mod RunSteps
 pub mod Decoding
 pub mod PlacedSteps
 pub mod PlaceBounds
+pub mod Parting
+pub mod PartingTokens
+pub mod PartingAddresses
+pub mod PartingValues
+pub mod PartingParts
+pub mod PartingNames
+pub mod PrintedAgain
+pub mod PrintedLists

@@ -19,7 +19,7 @@ abbrev pub Follows : List ℕ → Option ((Quality × List ℕ) × List ℕ) →
 Follows text None = Unit {0}
 Follows text (Some x) = (length x.0.1 < length text) × (length x.1 ≤ length x.0.1)
 
-follows-part : (stops : Stops) (text : List ℕ) → Follows text (part stops text)
+pub follows-part : (stops : Stops) (text : List ℕ) → Follows text (part stops text)
 follows-part stops [] = tt
 follows-part stops (b ∷ text) = by (ends_at stops (b ∷ text))
   where

@@ -92,7 +92,7 @@ no_gap_part (b ∷ text) e s = rw (s, e) refl
 -- ---- tokens
 
 -- a byte of a name is none of these
-not-this : (b k : ℕ) → is_name_byte b ≡ true → is_name_byte k ≡ false → (b == k) ≡ false
+pub not-this : (b k : ℕ) → is_name_byte b ≡ true → is_name_byte k ≡ false → (b == k) ≡ false
 not-this b k h n = by (b == k) refl
   where
     by : (t : Bool) → (b == k) ≡ t → (b == k) ≡ false
@@ -106,7 +106,7 @@ both-true true true e = absurd (cc)
 both-true true false e = (refl, refl)
 both-true false b e = absurd (cc)
 
-or-both : (a b : Bool) → (a || b) ≡ false → (a ≡ false) × (b ≡ false)
+pub or-both : (a b : Bool) → (a || b) ≡ false → (a ≡ false) × (b ≡ false)
 or-both true b e = absurd (cc)
 or-both false b e = (refl, e)
 

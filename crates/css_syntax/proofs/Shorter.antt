@@ -33,14 +33,14 @@ if-le : (n : ℕ) (t : Bool) (x y : List ℕ) → length x ≤ n → length y �
 if-le n true x y a b = a
 if-le n false x y a b = b
 
-past_one_space-within : (text : List ℕ) → length (past_one_space text) ≤ length text
+pub past_one_space-within : (text : List ℕ) → length (past_one_space text) ≤ length text
 past_one_space-within [] = omega arith
 past_one_space-within (b ∷ text) =
     if-le (length (b ∷ text)) (b == carriage_return) _ _
     (omega (arith, length-past_byte newline text))
     (if-le (length (b ∷ text)) (is_space b) text (b ∷ text) (omega arith) (omega arith))
 
-past_hex-within : (n : ℕ) (text : List ℕ) → length (past_hex n text) ≤ length text
+pub past_hex-within : (n : ℕ) (text : List ℕ) → length (past_hex n text) ≤ length text
 past_hex-within zero text = omega arith
 past_hex-within (suc n) [] = omega arith
 past_hex-within (suc n) (b ∷ text) =
@@ -127,7 +127,7 @@ past_string-within quote text =
     by [] h = h
     by (b ∷ rest) h = if-within (length text) (b == quote) _ _ (omega arith) h
 
-url_end-within : (text : List ℕ) → length (url_end text).1 ≤ length text
+pub url_end-within : (text : List ℕ) → length (url_end text).1 ≤ length text
 url_end-within [] = omega arith
 url_end-within (b ∷ text) =
     if-within (length (b ∷ text)) (b == close_parenthesis) _ _ (omega arith)
@@ -137,7 +137,7 @@ url_end-within (b ∷ text) =
       each-within remnant_part remnant_part-takes (b ∷ text),
     ))
 
-past_url-within : (text : List ℕ) → length (past_url text).1 ≤ length text
+pub past_url-within : (text : List ℕ) → length (past_url text).1 ≤ length text
 unfolding past_url
 past_url-within text =
     let bare = (each url_part (past is_space text)).1 in

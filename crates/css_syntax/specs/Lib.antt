@@ -11,3 +11,4 @@ pub mod Views
 pub mod ListReaders
 pub mod internal
 pub mod NothingLost
+pub mod Printing

@@ -1,5 +1,6 @@
 -- What contracts see of statements, declarations and lists: the bytes of their texts, wherever
 -- these are stored.
+use Rattle.std.specs.Prelude.{List, map}
 use Rattle.std.specs.Option.{option_map}
 use Rattle.css_syntax.specs.declared.parts.Parts.{Parts}
 use Rattle.css_syntax.specs.declared.statements.Prelude.{Prelude}
@@ -12,6 +13,7 @@ use Rattle.css_syntax.specs.declared.declarations.Declaration.{Declaration}
 use Rattle.css_syntax.specs.declared.declarations.Item.{Item}
 use Rattle.css_syntax.specs.declared.declarations.Item.TheVariants as items
 use Rattle.css_syntax.specs.declared.declarations.ListPart.{ListPart}
+use Rattle.css_syntax.specs.declared.printing.DeclarationList.{DeclarationList}
 use Rattle.css_syntax.specs.Parts.{Stated}
 use Rattle.css_syntax.specs.Statements.{BlockText, AtRuleText, StatementText, rule_set, at_rule_statement, skipped_statement, SheetText}
 use Rattle.css_syntax.specs.DeclarationLists.{DeclarationText, ItemText, declared, at_rule_item, skipped_item, ListText}
@@ -55,3 +57,7 @@ item_of (items.Skipped fault) = skipped_item fault
 
 abbrev pub list_part_of : ListPart → ListText
 list_part_of p = record { text = p.text.now; item = item_of p.item }
+
+-- the declarations that a list prints
+abbrev pub declarations_in : DeclarationList → List DeclarationText
+declarations_in l = map declaration_of l.declarations.now

@@ -33,7 +33,7 @@ fn past_digits(text: &str) -> &str
     &text[text.len() - rest.len()..]
 }
 
-/// Appends what an escape stands for, from after its backslash, and returns the rest after it.
+/// Appends what an escape denotes, from after its backslash, and returns the rest after it.
 fn push_escape<'a>(out: &mut String, after: &'a str) -> Result<&'a str, AllocError>
     ensures pushed { IfOk result (λ rest. string_bytes out.new ++ decoded rest.now
         ≡ string_bytes out.old ++ decoded (backslash ∷ after.now)) }
@@ -78,11 +78,11 @@ fn decode_from<'a>(alloc: Global, front: &'a str, after: &'a str) -> Result<Stri
     Ok(out)
 }
 
-/// Returns the text that a name or a value stands for: its escapes are decoded. A text without a
+/// Returns the text that a name or a value denotes: its escapes are decoded. A text without a
 /// backslash is returned as it is; else the decoded text is allocated. Fails only if an allocation
 /// fails.
 ///
-/// Hexadecimal digits of zero, of a surrogate or of more than U+10FFFF stand for U+FFFD, and so does
+/// Hexadecimal digits of zero, of a surrogate or of more than U+10FFFF denote U+FFFD, and so does
 /// a backslash at the end. A backslash before a newline is no escape, and is kept.
 pub fn decode<'a>(alloc: Global, text: &'a str) -> Result<CowStr<'a>, AllocError>
     ensures { IfOk result (λ found. cow_str_bytes found ≡ decoded text.now) }

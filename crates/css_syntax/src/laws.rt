@@ -1,6 +1,8 @@
 //! Laws: contracts of functions that do nothing.
 ghost use Rattle.std.specs.Prelude.{ℕ, Bool, List};
 ghost use Rattle.css_syntax.specs.NothingLost.{LosesNoItem, LosesNoStatement};
+ghost use Rattle.css_syntax.specs.Printing.{ItemsReadBack, ListReadsBack};
+ghost use Rattle.css_syntax.specs.DeclarationLists.{DeclarationText};
 
 /// Every byte of a text is in the text of an item or a statement, which may be one that is skipped,
 /// or it is between them: a space byte, in a comment, a semicolon between items, and in a sheet
@@ -9,4 +11,12 @@ ghost use Rattle.css_syntax.specs.NothingLost.{LosesNoItem, LosesNoStatement};
 pub fn nothing_is_lost()
     ensures items { (in_block : Bool) (text : List ℕ) → LosesNoItem in_block text }
     ensures statements { (in_block : Bool) (text : List ℕ) → LosesNoStatement in_block text }
+{}
+
+/// A declaration that was read is itself, if it is printed before any text and read again, unless
+/// something of its value was open at the end of the text or its value ends in a lone backslash.
+/// A printed list of such declarations has them as its items.
+pub fn printed_declarations_read_back()
+    ensures each_item { (in_block : Bool) (text : List ℕ) → ItemsReadBack in_block text }
+    ensures lists { (declarations : List DeclarationText) → ListReadsBack declarations }
 {}

@@ -13,6 +13,7 @@ pub mod escapes;
 pub mod laws;
 pub mod parts;
 pub mod places;
+pub mod printing;
 pub mod quality;
 pub mod statements;
 pub mod texts;
@@ -20,5 +21,6 @@ pub mod tokens;
 
 pub use declarations::{Declaration, Declarations, Item, ListPart};
 pub use escapes::decode;
+pub use printing::DeclarationList;
 pub use quality::{Fault, Quality};
 pub use statements::{AtRule, Block, Prelude, RuleSet, SheetPart, Statement, Statements};

@@ -351,7 +351,7 @@ fn starts_with_quote(bytes: &[u8]) -> bool
     matches!(bytes, [b'\'' | b'"', ..])
 }
 
-/// Returns the number that a hexadecimal digit stands for.
+/// Returns the number that a hexadecimal digit denotes.
 fn hex_value(byte: u8) -> u32
     requires { is_hex byte ≡ true }
     ensures value { result ≡ hex_digit byte }

@@ -1,0 +1,64 @@
+-- The printed text of a declaration, and what reading it again returns.
+use Rattle.std.specs.Prelude.{◌≡◌, ℕ, Bool, true, false, ◌==◌, if◌then◌else◌, List, [], ◌∷◌, ◌++◌, codes, map, Some}
+use Rattle.std.specs.List.{All, join_with_byte}
+use Rattle.simplecss_text.specs.AsciiBytes.{newline, space, backslash}
+use Rattle.css_syntax.specs.DeclarationLists.{DeclarationText, ItemText, declared, at_rule_item, skipped_item, ListText, next_item, items}
+
+-- The text ends in a lone backslash: where each backslash is taken with the byte after it, the last
+-- one has none.
+abbrev pub ends_lone : List ℕ → Bool
+ends_lone [] = false
+ends_lone (b ∷ []) = b == backslash
+ends_lone (b ∷ c ∷ text) = if b == backslash then ends_lone text else ends_lone (c ∷ text)
+
+-- A newline after a value that ends in a lone backslash, which would escape any other byte.
+abbrev pub lone_end : List ℕ → List ℕ
+lone_end value = if ends_lone value then newline ∷ [] else []
+
+-- The importance of a declaration. No blank is before it, since an escape at the end of the value
+-- would consume that blank.
+abbrev pub important_text : Bool → List ℕ
+important_text important = if important then codes "!important" else []
+
+-- a declaration without the semicolon after it
+abbrev pub stated_text : DeclarationText → List ℕ
+stated_text d =
+    d.name ++ codes ": " ++ d.value ++ lone_end d.value ++ important_text d.important
+
+-- a printed declaration
+abbrev pub declaration_text : DeclarationText → List ℕ
+declaration_text d = stated_text d ++ codes ";"
+
+-- Printed before any text and read again, the declaration is itself, and its semicolon and that
+-- text are left.
+abbrev pub DeclarationReadsBack : DeclarationText → Type 0
+DeclarationReadsBack d =
+    (in_block : Bool) (text : List ℕ)
+    → next_item in_block (declaration_text d ++ text)
+    ≡ Some (record { text = stated_text d; item = declared d }, codes ";" ++ text)
+
+-- a printed declaration, as a part of a list
+abbrev pub printed_part : DeclarationText → ListText
+printed_part d = record { text = stated_text d; item = declared d }
+
+-- declarations one after another, with a space between two
+abbrev pub list_text : List DeclarationText → List ℕ
+list_text declarations = join_with_byte space (map declaration_text declarations)
+
+-- Declarations that read back are the items of their printed list, in their order.
+abbrev pub ListReadsBack : List DeclarationText → Type 0
+ListReadsBack declarations =
+    All DeclarationReadsBack declarations → (in_block : Bool)
+    → items in_block (list_text declarations) ≡ map printed_part declarations
+
+-- This holds of a declaration that was read, if nothing of its value is open at the end of the text
+-- and its value does not end in a lone backslash.
+abbrev pub ItemReadsBack : ItemText → Type 0
+ItemReadsBack (declared d) =
+    d.closed ≡ true → ends_lone d.value ≡ false → DeclarationReadsBack d
+ItemReadsBack (at_rule_item a) = Unit {0}
+ItemReadsBack (skipped_item fault) = Unit {0}
+
+-- each item of a list of declarations
+abbrev pub ItemsReadBack : Bool → List ℕ → Type 0
+ItemsReadBack in_block text = All (λ p. ItemReadsBack p.item) (items in_block text)
