@@ -1,4 +1,3 @@
 pub mod Sizes
 pub mod SheetSteps
 pub mod PlaceLemmas
-mod SelectorLemmas

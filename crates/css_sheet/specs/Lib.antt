@@ -2,6 +2,5 @@ pub mod Places
 pub mod SheetItems
 pub mod GroupViews
 pub mod ReaderViews
-pub mod SelectorTexts
 pub mod RuleSelectors
 pub mod RuleViews

@@ -3,7 +3,6 @@
 //! rules that it is in. Whether the condition of a group rule holds is for the caller to decide.
 #![tactic(auto)]
 
-mod alike;
 mod groups;
 mod reader;
 mod selectors;
