@@ -1,3 +1,4 @@
 pub mod Sizes
 pub mod SheetSteps
 pub mod PlaceLemmas
+mod SheetRuleLemmas

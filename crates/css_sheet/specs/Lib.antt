@@ -4,3 +4,6 @@ pub mod GroupViews
 pub mod ReaderViews
 pub mod RuleSelectors
 pub mod RuleViews
+pub mod SheetOrder
+pub mod SheetMessages
+pub mod SheetRuleViews
