@@ -1,4 +1,4 @@
 pub mod Sizes
 pub mod SheetSteps
 pub mod PlaceLemmas
-mod SelectorLemmas
+mod SheetRuleLemmas

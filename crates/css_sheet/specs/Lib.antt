@@ -2,6 +2,8 @@ pub mod Places
 pub mod SheetItems
 pub mod GroupViews
 pub mod ReaderViews
-pub mod SelectorTexts
 pub mod RuleSelectors
 pub mod RuleViews
+pub mod SheetOrder
+pub mod SheetMessages
+pub mod SheetRuleViews

@@ -1,33 +1,42 @@
--- The selectors of a rule set: what the library can match of each.
+-- The selectors of a rule set, each read as one of level 3 where it is one.
 use Rattle.std.specs.Prelude.{ℕ, List, [], ◌∷◌, map, codes, Option, Some, None, Result, Ok, Err}
-use Rattle.simplecss_text.specs.Components.{Component}
 use Rattle.css_syntax.specs.declared.quality.Fault.{Fault}
 use Rattle.css_syntax.specs.Parts.{Stated}
 use Rattle.css_selectors.specs.SelectorGrammar.{SelectorText, plain, with_element, other_valid, invalid}
 use Rattle.css_selectors.specs.SelectorLists.{ListedText, selectors, prelude_fault}
-use Rattle.css_sheet.specs.SelectorTexts.{components_of}
+use Rattle.selectors3.specs.Components.{Selector}
+use Rattle.selectors3.specs.Readings.{Reading, got, refused}
+use Rattle.selectors3.specs.Grammar.{selector as selector_grammar}
 
--- A selector of a rule set: its text; the components of the selector without its pseudo-element, if
--- the library reads it; and the name of the pseudo-element at its end, if it has one.
+-- A selector of a rule set: its text; the selector without its pseudo-element, if it is one of level
+-- 3; and the name of the pseudo-element at its end, if it has one.
 pub record SelectorRead : Type 0 where
   pub text : List ℕ
-  pub components : Option (List Component)
+  pub selector : Option Selector
   pub pseudo_element : Option (List ℕ)
+
+-- what was read, unless the text is refused
+abbrev pub if_read : Reading Selector → Option Selector
+if_read (got s rest) = Some s
+if_read (refused reason rest) = None
+
+-- the selector that the text is by the grammar of level 3, if it is one
+abbrev pub selector_of : List ℕ → Option Selector
+selector_of text = if_read (selector_grammar text)
 
 -- a pseudo-element alone is one of any element
 abbrev pub or_any : List ℕ → List ℕ
 or_any [] = codes "*"
 or_any (b ∷ text) = b ∷ text
 
--- A selector with a pseudo-element elsewhere than at its end is valid, and none that the library
--- reads.
+-- A selector with a pseudo-element elsewhere than at its end is valid, and none of level 3.
 abbrev pub read_by_form : List ℕ → SelectorText → SelectorRead
 read_by_form text plain =
-    record { text = text; components = components_of text; pseudo_element = None }
+    record { text = text; selector = selector_of text; pseudo_element = None }
 read_by_form text (with_element front name) =
-    record { text = text; components = components_of (or_any front); pseudo_element = Some name }
-read_by_form text other_valid = record { text = text; components = None; pseudo_element = None }
-read_by_form text invalid = record { text = text; components = None; pseudo_element = None }
+    record { text = text; selector = selector_of (or_any front); pseudo_element = Some name }
+read_by_form text other_valid = record { text = text; selector = None; pseudo_element = None }
+read_by_form text invalid = record { text = text; selector = None; pseudo_element = None }
 
 abbrev pub selector_read : ListedText → SelectorRead
 selector_read listed = read_by_form listed.text listed.form

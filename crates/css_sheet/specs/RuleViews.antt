@@ -8,7 +8,7 @@ use Rattle.css_sheet.specs.RuleSelectors.{SelectorRead}
 abbrev pub rule_selector_of : RuleSelector → SelectorRead
 rule_selector_of s = record {
   text = s.text.now;
-  components = s.selector;
+  selector = s.selector;
   pseudo_element = option_map (λ name. name.now) s.pseudo_element;
 }
 

@@ -3,11 +3,17 @@
 //! rules that it is in. Whether the condition of a group rule holds is for the caller to decide.
 #![tactic(auto)]
 
-mod alike;
+mod gathering;
 mod groups;
 mod reader;
 mod selectors;
+mod sheet_error;
+mod sheet_order;
+mod sheet_rules;
 mod state;
 
 pub use selectors::{RuleSelector, read_listed, read_selectors};
+pub use sheet_error::SheetError;
+pub use sheet_order::read_sheet;
+pub use sheet_rules::SheetRule;
 pub use state::{Level, Places, SheetReader};

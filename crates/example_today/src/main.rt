@@ -1,18 +1,20 @@
 //! An example: reads texts by the rules of today's style sheets, `today statements`, `today
-//! declarations`, `today names`, `today rules` or `today selectors`. The texts are on standard input,
-//! and a NUL byte separates them. For each text, what it has is printed in fields, of which each ends
-//! with the byte 1; a NUL byte ends the text.
+//! declarations`, `today names`, `today rules`, `today selectors` or `today order`. The texts are on
+//! standard input, and a NUL byte separates them. For each text, what it has is printed in fields, of
+//! which each ends with the byte 1; a NUL byte ends the text.
 //!
 //! The fields of a statement are its kind, its name, its prelude and its block; those of an item of
 //! a list are its kind, its name, its value and its flags. What is skipped has its fault in place
 //! of a name, and its text. With `names` the escapes in the names of declarations are decoded. The
 //! fields of a rule set, which may be in group rules, are the preludes of these with a comma after
-//! each, why it is dropped, its prelude and its block; those of its selectors are the text, what the
-//! library reads of it, the name of the pseudo-element, and why the rule set is dropped.
+//! each, why it is dropped, its prelude and its block; those of its selectors are the text, the text
+//! again if it is a selector of level 3, the name of the pseudo-element, and why the rule set is
+//! dropped. With `order` the rules are printed in the order of the cascade, but for those in `@media
+//! print`: the text of the selector, the name of the pseudo-element and the block.
 #![tactic(auto)]
 
 use css_selectors::prelude_fault;
-use css_sheet::{RuleSelector, SheetReader, read_selectors};
+use css_sheet::{RuleSelector, SheetReader, read_selectors, read_sheet};
 use css_syntax::{
     AtRule, Declaration, Declarations, Fault, Item, RuleSet, Statement, Statements, decode,
 };
@@ -20,6 +22,9 @@ use std::alloc::Global;
 use std::borrow::CowStr;
 use std::io::{BufWriter, Read, Write};
 use std::{env, io};
+
+/// How many declarations the rules that are put in order may hold.
+const MOST: usize = 1_000_000;
 
 /// Writes a field and the byte that ends it.
 fn write_field<W: Write>(out: &mut W, text: &str) -> io::Result<()> {
@@ -165,13 +170,13 @@ fn write_rules<W: Write>(alloc: Global, out: &mut W, text: &str) -> io::Result<(
 }
 
 /// Writes a selector of a rule set.
-fn write_selector<W: Write>(alloc: Global, out: &mut W, one: &RuleSelector<'_>) -> io::Result<()> {
-    let read = match &one.selector {
-        Some(selector) => format!(in alloc; "{selector}")?,
-        None => String::new(alloc),
+fn write_selector<W: Write>(out: &mut W, one: &RuleSelector<'_>) -> io::Result<()> {
+    let read = match one.selector {
+        Some(_) => one.text,
+        None => "",
     };
     let pseudo_element = one.pseudo_element.unwrap_or("");
-    write_fields(out, one.text, read.as_str(), pseudo_element, "")
+    write_fields(out, one.text, read, pseudo_element, "")
 }
 
 /// Writes the selectors of a rule set, or why it is dropped.
@@ -179,7 +184,7 @@ fn write_selectors_of<W: Write>(alloc: Global, out: &mut W, rule: &RuleSet<'_>) 
     match read_selectors(alloc, &rule.prelude) {
         Ok(Ok(selectors)) => {
             for one in &selectors {
-                write_selector(alloc, out, one)?;
+                write_selector(out, one)?;
             }
             Ok(())
         }
@@ -203,6 +208,31 @@ fn write_selectors<W: Write>(alloc: Global, out: &mut W, text: &str) -> io::Resu
     Ok(())
 }
 
+/// Whether a group rule holds: all do but `@media print`.
+fn holds(name: &str, prelude: &str) -> bool {
+    !(name.eq_ignore_ascii_case("media") && prelude.eq_ignore_ascii_case("print"))
+}
+
+/// Writes the rules of a text in the order of the cascade.
+fn write_order<W: Write>(alloc: Global, out: &mut W, text: &str) -> io::Result<()> {
+    let rules = read_sheet(
+        alloc,
+        text,
+        MOST,
+        |name: &str, prelude: &str| holds(name, prelude),
+    )?;
+    for rule in &rules {
+        write_fields(
+            out,
+            rule.text,
+            rule.pseudo_element.unwrap_or(""),
+            rule.block,
+            "",
+        )?;
+    }
+    Ok(())
+}
+
 /// What is read of a text.
 #[derive(Clone, Copy)]
 enum Part {
@@ -211,6 +241,7 @@ enum Part {
     Rules,
     Names,
     Selectors,
+    Order,
 }
 
 /// The part with this name.
@@ -220,6 +251,7 @@ fn part_of(word: &str) -> Part {
         "rules" => Part::Rules,
         "names" => Part::Names,
         "selectors" => Part::Selectors,
+        "order" => Part::Order,
         _ => Part::Declarations,
     }
 }
@@ -232,6 +264,7 @@ fn write_text<W: Write>(alloc: Global, out: &mut W, text: &str, part: Part) -> i
         Part::Rules => write_rules(alloc, out, text)?,
         Part::Names => write_names(alloc, out, text)?,
         Part::Selectors => write_selectors(alloc, out, text)?,
+        Part::Order => write_order(alloc, out, text)?,
     }
     out.write_all(b"\x00")
 }

@@ -1,0 +1,56 @@
+//! Style rules, each with one selector.
+ghost use Rattle.std.specs.Prelude.{◌≡◌, false};
+ghost use Rattle.css_syntax.specs.ListReaders.{BeginsList};
+ghost use Rattle.selectors3.specs.SpecificityViews.{counts_of};
+ghost use Rattle.css_sheet.specs.SheetOrder.{rule_counts, weight as weight_of};
+ghost use Rattle.css_sheet.specs.SheetRuleViews.{sheet_rule_of};
+
+use css_syntax::Declarations;
+use selectors3::{Selector3, Specificity};
+
+/// A style rule with one selector. The rules of one rule set share the text of its block.
+///
+/// With a `pseudo_element` it is one of these pseudo-elements of the elements that the selector
+/// matches, and of no element itself.
+#[derive(Drop)]
+pub struct SheetRule<'a> {
+    /// The text of the selector, with its pseudo-element.
+    pub text: &'a str,
+    /// The selector without its pseudo-element.
+    pub selector: Selector3<'a>,
+    /// The name of the pseudo-element, as written, with what it has in parentheses.
+    pub pseudo_element: Option<&'a str>,
+    /// The contents of the block of the rule set.
+    pub block: &'a str,
+}
+
+impl<'a> SheetRule<'a> {
+    /// Returns the declarations of the block, with what is skipped between them.
+    pub fn declarations(&self) -> Declarations<'a>
+        ensures { BeginsList false self.now.block.now result }
+    {
+        Declarations::new(self.block)
+    }
+
+    /// Returns the specificity: that of the selector, and a name more for a pseudo-element.
+    pub fn specificity(&self) -> Specificity
+        ensures { counts_of result ≡ rule_counts (sheet_rule_of self.now) }
+    {
+        let of_selector = self.selector.specificity();
+        match self.pseudo_element {
+            Some(_) => Specificity {
+                names: of_selector.names.saturating_add(1),
+                ..of_selector
+            },
+            None => of_selector,
+        }
+    }
+
+    /// Returns the counts of the specificity, of which the first that differs decides.
+    pub(crate) fn weight(&self) -> [u32; 3]
+        ensures { result ≡ weight_of (rule_counts (sheet_rule_of self.now)) }
+    {
+        let counts = self.specificity();
+        [counts.ids, counts.classes, counts.names]
+    }
+}
