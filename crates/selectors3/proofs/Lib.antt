@@ -5,4 +5,5 @@ pub mod TextLemmas
 pub mod ItemLemmas
 pub mod GapLemmas
 pub mod EscapeLemmas
+pub mod PrintLemmas
 mod KeyLemmas

@@ -17,7 +17,7 @@ use Rattle.selectors3.specs.declared.components.Function.{Function}
 use Rattle.selectors3.specs.declared.components.Function.TheVariants.{Numbered, Language}
 use Rattle.selectors3.specs.declared.components.ListKind.{ListKind}
 use Rattle.selectors3.specs.declared.components.ListKind.TheVariants.{Not, Is, Where}
-use Rattle.selectors3.specs.declared.refusal.Reason.TheVariants.{NoSelector, NoName, NotClosed, BrokenString, NoOperator, NoValue, UnknownFlag, NoProgression, UnknownFunction, Unexpected}
+use Rattle.selectors3.specs.declared.refusal.Why.TheVariants.{NoSelector, NoName, NotClosed, BrokenString, NoOperator, NoValue, UnknownFlag, NoProgression, UnknownFunction, Unexpected}
 use Rattle.selectors3.specs.Components.{Comparison, Signed, Progression, Structure, Simple, Condition, Part, Selector}
 use Rattle.selectors3.specs.Components.Comparison.{equals, has_word, has_subtag, starts as starts_with, ends as ends_with, contains}
 use Rattle.selectors3.specs.Components.Structure.{root, empty, first_child, last_child, only_child, first_of_type, last_of_type, only_of_type, nth_child, nth_last_child, nth_of_type, nth_last_of_type}
@@ -277,7 +277,7 @@ function_named n =
     if is_word (codes "lang") n then Some Language else option_map Numbered (numbering n)
 
 abbrev pub range_after : Reading Bool → Step (List ℕ)
-range_after (refused reason rest) = stop reason rest
+range_after (refused why rest) = stop why rest
 range_after (got spaced rest) =
     if starts comma rest then as_item (λ r. r) ((gap >> value) (past_one rest)) else none
 
@@ -340,12 +340,12 @@ next_simple (b ∷ text) =
 abbrev pub some_of : {A : Type 0} → List ℕ → Reading (List A) → Reading (List A)
 some_of text (got [] rest) = refused NoSelector text
 some_of text (got (x ∷ xs) rest) = got (x ∷ xs) rest
-some_of text (refused reason rest) = refused reason rest
+some_of text (refused why rest) = refused why rest
 
 abbrev pub after_type : List ℕ → Step Simple → Reading (List Simple)
 after_type text (item s rest) = with_first s (items next_simple rest)
 after_type text none = some_of text (items next_simple text)
-after_type text (stop reason rest) = refused reason rest
+after_type text (stop why rest) = refused why rest
 
 -- a compound selector in a list
 unfoldable pub compound : Reader (List Simple)
@@ -356,7 +356,7 @@ abbrev pub comma_compound : Reader (List Simple)
 comma_compound = gap >> compound
 
 abbrev pub after_gap : Reading Bool → Step (List Simple)
-after_gap (refused reason rest) = stop reason rest
+after_gap (refused why rest) = stop why rest
 after_gap (got spaced rest) =
     if starts comma rest then as_item (λ c. c) (comma_compound (past_one rest)) else none
 
@@ -385,7 +385,7 @@ begins_pseudo_class text = starts colon text && not (starts colon (past_one text
 abbrev pub simple_item : Step Simple → Step Condition
 simple_item (item s rest) = item (simple s) rest
 simple_item none = none
-simple_item (stop reason rest) = stop reason rest
+simple_item (stop why rest) = stop why rest
 
 -- the argument of a functional pseudo-class, from after its parenthesis
 abbrev pub with_argument : List ℕ → Option ListKind → Option Function → Reader Condition
@@ -415,7 +415,7 @@ some_or_element text reading =
 abbrev pub after_type_name : List ℕ → Step Simple → Reading (List Condition)
 after_type_name text (item s rest) = with_first (simple s) (items next_condition rest)
 after_type_name text none = some_or_element text (items next_condition text)
-after_type_name text (stop reason rest) = refused reason rest
+after_type_name text (stop why rest) = refused why rest
 
 -- a compound selector
 unfoldable pub conditions : Reader (List Condition)
@@ -454,7 +454,7 @@ first_sign [] = None
 first_sign (b ∷ text) = sign_combinator b
 
 abbrev pub part_after : Reading Bool → Step Part
-part_after (refused reason rest) = stop reason rest
+part_after (refused why rest) = stop why rest
 part_after (got spaced rest) = by_sign spaced rest (first_sign rest)
 
 -- the next compound selector and what joins it to the one before

@@ -3,8 +3,8 @@ use Rattle.std.specs.Prelude.{ℕ, Bool, not, ◌&&◌, ◌||◌, ◌==◌, nat_
 use Rattle.simplecss_text.specs.AsciiBytes.{backslash, colon}
 use Rattle.simplecss_text.specs.Bytes.{starts_by}
 use Rattle.css_syntax.specs.Tokens.{is_newline, is_name_byte}
-use Rattle.selectors3.specs.declared.refusal.Reason.{Reason}
-use Rattle.selectors3.specs.declared.refusal.Reason.TheVariants.{Memory, NoSelector, NoName, NotClosed, BrokenString, NoOperator, NoValue, UnknownFlag, NoProgression, UnknownFunction, Unexpected}
+use Rattle.selectors3.specs.declared.refusal.Why.{Why}
+use Rattle.selectors3.specs.declared.refusal.Why.TheVariants.{Memory, NoSelector, NoName, NotClosed, BrokenString, NoOperator, NoValue, UnknownFlag, NoProgression, UnknownFunction, Unexpected}
 use Rattle.selectors3.specs.declared.refusal.Quoted.{Quoted}
 use Rattle.selectors3.specs.declared.refusal.Quoted.TheVariants.{Line, Word, Signs}
 use Rattle.selectors3.specs.Spellings.{run}
@@ -23,24 +23,24 @@ abbrev pub word_or_signs : List ℕ → Quoted
 word_or_signs text = if starts_by is_word_byte text then Word else Signs
 
 -- of what is not closed the line is quoted, of anything else the word or the signs
-abbrev pub quoted_by : Reason → List ℕ → Quoted
+abbrev pub quoted_by : Why → List ℕ → Quoted
 quoted_by NotClosed text = Line
 quoted_by BrokenString text = Line
-quoted_by reason text = word_or_signs text
+quoted_by why text = word_or_signs text
 
 -- what is quoted of the rest
-abbrev pub quote : Reason → List ℕ → List ℕ
-quote reason rest = run (is_quoted (quoted_by reason rest)) rest
+abbrev pub quote : Why → List ℕ → List ℕ
+quote why rest = run (is_quoted (quoted_by why rest)) rest
 
-abbrev pub reason_words : Reason → List ℕ
-reason_words Memory = codes "out of memory"
-reason_words NoSelector = codes "begins no selector"
-reason_words NoName = codes "is no name"
-reason_words NotClosed = codes "is not closed"
-reason_words BrokenString = codes "is not closed on its line"
-reason_words NoOperator = codes "is no attribute operator"
-reason_words NoValue = codes "is no value"
-reason_words UnknownFlag = codes "is no flag"
-reason_words NoProgression = codes "is no An+B"
-reason_words UnknownFunction = codes "is no function that is read here"
-reason_words Unexpected = codes "is not expected here"
+abbrev pub why_words : Why → List ℕ
+why_words Memory = codes "out of memory"
+why_words NoSelector = codes "begins no selector"
+why_words NoName = codes "is no name"
+why_words NotClosed = codes "is not closed"
+why_words BrokenString = codes "is not closed on its line"
+why_words NoOperator = codes "is no attribute operator"
+why_words NoValue = codes "is no value"
+why_words UnknownFlag = codes "is no flag"
+why_words NoProgression = codes "is no An+B"
+why_words UnknownFunction = codes "is no function that is read here"
+why_words Unexpected = codes "is not expected here"

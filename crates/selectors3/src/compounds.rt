@@ -15,7 +15,7 @@ use crate::components::{Compound, Condition, Function, ListKind, Simple};
 use crate::pseudo_classes::{
     function_named, list_kind, plain_pseudo, read_functional, read_pseudo_class,
 };
-use crate::refusal::{Reason, Refusal};
+use crate::refusal::{Refusal, Why};
 use crate::texts::{past_ascii, split_ascii};
 use crate::words::{begins_name, read_closing, read_gap, read_name};
 use simplecss_text::readers;
@@ -99,7 +99,7 @@ fn read_compound<'a>(alloc: Global, text: &'a str) -> Result<(Compound<'a>, &'a 
         None => read_simples(alloc, None, text)?,
     };
     if simples.is_empty() {
-        return Err(Refusal::new(Reason::NoSelector, text));
+        return Err(Refusal::new(Why::NoSelector, text));
     }
     Ok((Compound { simples }, rest))
 }
@@ -290,7 +290,7 @@ pub(crate) fn read_conditions<'a>(
         None => read_more(alloc, None, text)?,
     };
     if conditions.is_empty() && !begins_pseudo_element(text) {
-        return Err(Refusal::new(Reason::NoSelector, text));
+        return Err(Refusal::new(Why::NoSelector, text));
     }
     Ok((conditions, rest))
 }

@@ -7,8 +7,7 @@
 //! for each compound selector, related as the combinators say. An element is any type with the trait
 //! `Element3`.
 //!
-//! Namespaces, and lists within the lists of `:not()`, `:is()` and `:where()` are not read. Selectors
-//! are not printed yet.
+//! Namespaces, and lists within the lists of `:not()`, `:is()` and `:where()` are not read.
 #![tactic(auto)]
 
 mod attribute_selectors;
@@ -23,6 +22,7 @@ mod languages;
 mod matching;
 mod meeting;
 mod numbers;
+mod printing;
 mod progression;
 mod pseudo_classes;
 mod read;
@@ -31,6 +31,7 @@ mod refusal;
 mod refusal_words;
 mod selector;
 mod specificity;
+mod spelling;
 mod texts;
 mod words;
 
@@ -39,7 +40,7 @@ pub use components::{
 };
 pub use element::Element3;
 pub use key::Key;
-pub use refusal::{Reason, Refusal};
+pub use refusal::{Refusal, Why};
 pub use selector::Selector3;
 pub use sibling_matching::Combinator;
 pub use specificity::Specificity;

@@ -10,7 +10,7 @@ ghost use Rattle.selectors3.specs.Views.{structure_of, progression_of, simple_of
 use crate::components::{Function, ListKind, Numbering, Progression, Simple, Structure};
 use crate::languages::read_ranges;
 use crate::numbers::read_progression;
-use crate::refusal::{Reason, Refusal};
+use crate::refusal::{Refusal, Why};
 use crate::texts::split_ascii;
 use crate::words::{read_closing, read_gap, read_name};
 use std::alloc::Global;
@@ -116,7 +116,7 @@ pub(crate) fn read_functional<'a>(
     ensures { Reads simple_of result (functional opened.now function text.now) }
 {
     let numbering = match function {
-        None => return Err(Refusal::new(Reason::UnknownFunction, opened)),
+        None => return Err(Refusal::new(Why::UnknownFunction, opened)),
         Some(Function::Language) => {
             let (ranges, rest) = read_ranges(alloc, opened, text)?;
             return Ok((Simple::Language(ranges), rest));

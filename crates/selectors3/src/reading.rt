@@ -14,7 +14,7 @@ ghost use Rattle.selectors3.specs.ReadViews.{read_of};
 use crate::components::Part;
 use crate::compounds::read_conditions;
 use crate::read::Read;
-use crate::refusal::{Reason, Refusal};
+use crate::refusal::{Refusal, Why};
 use crate::texts::split_ascii;
 use crate::words::{read_gap, read_name};
 use crate::{Combinator, Selector3};
@@ -217,7 +217,7 @@ impl<'a> Selector3<'a> {
     {
         let (read, rest) = read_selector(alloc, text)?;
         if !rest.is_empty() {
-            return Err(Refusal::new(Reason::Unexpected, rest));
+            return Err(Refusal::new(Why::Unexpected, rest));
         }
         Ok(selector_of(read))
     }
@@ -231,7 +231,7 @@ impl<'a> Selector3<'a> {
         let (first, rest) = read_selector(alloc, text)?;
         match read_others(alloc, first, rest) {
             Ok((selectors, rest)) if rest.is_empty() => Ok(selectors),
-            Ok((_, rest)) => Err(Refusal::new(Reason::Unexpected, rest)),
+            Ok((_, rest)) => Err(Refusal::new(Why::Unexpected, rest)),
             Err(refusal) => Err(refusal),
         }
     }

@@ -5,7 +5,7 @@ use std::alloc::{AllocError, AllocFailed};
 
 /// Why a text is no selector that is read here.
 #[derive(Clone, Copy, Debug, PartialEq, Eq)]
-pub enum Reason {
+pub enum Why {
     /// An allocation failed.
     Memory,
     /// There is no selector here.
@@ -45,30 +45,30 @@ pub(crate) enum Quoted {
 #[derive(Clone, Copy, Debug, PartialEq)]
 pub struct Refusal<'a> {
     /// Why.
-    pub reason: Reason,
+    pub why: Why,
     /// The text from there on. If an allocation failed, it is empty.
     pub rest: &'a str,
 }
 
 impl<'a> Refusal<'a> {
     /// Returns a refusal.
-    pub(crate) fn new(reason: Reason, rest: &'a str) -> Refusal<'a>
-        ensures reason { result.reason ≡ reason }
+    pub(crate) fn new(why: Why, rest: &'a str) -> Refusal<'a>
+        ensures why { result.why ≡ why }
         ensures rest { result.rest.now ≡ rest.now }
     {
-        Refusal { reason, rest }
+        Refusal { why, rest }
     }
 }
 
 impl<'a> From<AllocError> for Refusal<'a> {
     ghost use Rattle.std.specs.Prelude.{◌≡◌};
-    ghost use Rattle.selectors3.specs.declared.refusal.Reason.TheVariants.{Memory};
+    ghost use Rattle.selectors3.specs.declared.refusal.Why.TheVariants.{Memory};
 
-    ghost from_gives = { λ _ refusal. refusal.reason ≡ Memory };
+    ghost from_gives = { λ _ refusal. refusal.why ≡ Memory };
 
     fn from(_error: AllocError) -> Refusal<'a> {
         Refusal {
-            reason: Reason::Memory,
+            why: Why::Memory,
             rest: "",
         }
     }
@@ -76,13 +76,13 @@ impl<'a> From<AllocError> for Refusal<'a> {
 
 impl<'a, T: Drop> From<AllocFailed<T>> for Refusal<'a> {
     ghost use Rattle.std.specs.Prelude.{◌≡◌};
-    ghost use Rattle.selectors3.specs.declared.refusal.Reason.TheVariants.{Memory};
+    ghost use Rattle.selectors3.specs.declared.refusal.Why.TheVariants.{Memory};
 
-    ghost from_gives = { λ _ refusal. refusal.reason ≡ Memory };
+    ghost from_gives = { λ _ refusal. refusal.why ≡ Memory };
 
     fn from(_error: AllocFailed<T>) -> Refusal<'a> {
         Refusal {
-            reason: Reason::Memory,
+            why: Why::Memory,
             rest: "",
         }
     }

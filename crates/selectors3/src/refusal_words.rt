@@ -5,10 +5,10 @@ ghost use Rattle.std.specs.Str.{IsCharBoundary};
 ghost use Rattle.simplecss_text.specs.Errors.{position_of};
 ghost use Rattle.simplecss_text.specs.Reading.{rest_offset};
 ghost use Rattle.selectors3.specs.RefusalWords.{is_word_byte as is_word_byte_of, is_quoted as is_quoted_of, word_or_signs as word_or_signs_of};
-ghost use Rattle.selectors3.specs.RefusalWords.{quoted_by as quoted_by_of, quote, reason_words};
+ghost use Rattle.selectors3.specs.RefusalWords.{quoted_by as quoted_by_of, quote, why_words};
 ghost use Rattle.selectors3.specs.Spellings.{run};
 
-use crate::refusal::{Quoted, Reason, Refusal};
+use crate::refusal::{Quoted, Refusal, Why};
 use crate::texts::{is_name_byte, is_newline};
 use simplecss_text::TextPos;
 use simplecss_text::stream::Stream;
@@ -43,11 +43,11 @@ fn word_or_signs(text: &str) -> Quoted
 }
 
 /// Returns what is quoted of a text that is refused for this reason.
-fn quoted_by(reason: Reason, text: &str) -> Quoted
-    ensures { result ≡ quoted_by_of reason text.now }
+fn quoted_by(why: Why, text: &str) -> Quoted
+    ensures { result ≡ quoted_by_of why text.now }
 {
-    match reason {
-        Reason::NotClosed | Reason::BrokenString => Quoted::Line,
+    match why {
+        Why::NotClosed | Why::BrokenString => Quoted::Line,
         _ => word_or_signs(text),
     }
 }
@@ -71,23 +71,23 @@ fn quoted_front(quoted: Quoted, text: &str) -> &str
     &text[..len]
 }
 
-impl Reason {
+impl Why {
     /// Returns the reason in a few words, which follow what is quoted.
     pub fn words(&self) -> &'static str
-        ensures { result.now ≡ reason_words self.now }
+        ensures { result.now ≡ why_words self.now }
     {
         match *self {
-            Reason::Memory => "out of memory",
-            Reason::NoSelector => "begins no selector",
-            Reason::NoName => "is no name",
-            Reason::NotClosed => "is not closed",
-            Reason::BrokenString => "is not closed on its line",
-            Reason::NoOperator => "is no attribute operator",
-            Reason::NoValue => "is no value",
-            Reason::UnknownFlag => "is no flag",
-            Reason::NoProgression => "is no An+B",
-            Reason::UnknownFunction => "is no function that is read here",
-            Reason::Unexpected => "is not expected here",
+            Why::Memory => "out of memory",
+            Why::NoSelector => "begins no selector",
+            Why::NoName => "is no name",
+            Why::NotClosed => "is not closed",
+            Why::BrokenString => "is not closed on its line",
+            Why::NoOperator => "is no attribute operator",
+            Why::NoValue => "is no value",
+            Why::UnknownFlag => "is no flag",
+            Why::NoProgression => "is no An+B",
+            Why::UnknownFunction => "is no function that is read here",
+            Why::Unexpected => "is not expected here",
         }
     }
 }
@@ -96,9 +96,9 @@ impl<'a> Refusal<'a> {
     /// Returns what a message quotes of the rest: of what is not closed the line, and else the name or
     /// the signs at the start. It is empty before a blank and at the end of the text.
     pub fn quote(&self) -> &'a str
-        ensures { result.now ≡ quote self.now.reason self.now.rest.now }
+        ensures { result.now ≡ quote self.now.why self.now.rest.now }
     {
-        quoted_front(quoted_by(self.reason, self.rest), self.rest)
+        quoted_front(quoted_by(self.why, self.rest), self.rest)
     }
 
     /// Returns the row and the column in the text that was read, at whose end the rest is.
@@ -119,8 +119,8 @@ impl<'a> Refusal<'a> {
 /// Prints what is quoted and the reason, as in ``:nth-child(2` is not closed``.
 impl fmt::Display for Refusal<'_> {
     fn fmt<W: fmt::Write>(&self, f: &mut fmt::Formatter<W>) -> fmt::Result {
-        let words = self.reason.words();
-        if self.reason == Reason::Memory {
+        let words = self.why.words();
+        if self.why == Why::Memory {
             return f.write_str(words);
         }
         let quote = self.quote();

@@ -11,7 +11,7 @@ returns-in_err-compound c =
     let p =
     err_from_is_err_and c.from_residual-in_err-compound.result c.from_residual-in_err-compound.ensures.1 in
     rw (p.1, p.2) (λ ne. loop_stop compound_of next_compound c.compounds.compounds.items c.compounds.left c.compounds.rest.now
-    c.in_err-compound.field-0.0.reason c.in_err-compound.field-0.0.rest.now _ c.compounds-test.true
+    c.in_err-compound.field-0.0.why c.in_err-compound.field-0.0.rest.now _ c.compounds-test.true
     (c.in_err-compound.ensures ne) c.compounds.invariant.found)
 
 pub returns-in-None : goal.returns-in-None

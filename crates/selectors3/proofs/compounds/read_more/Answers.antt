@@ -11,7 +11,7 @@ returns-in_err-condition c =
     let p =
     err_from_is_err_and c.from_residual-in_err-condition.result c.from_residual-in_err-condition.ensures.1 in
     rw (p.1, p.2) (λ ne. loop_stop condition_of next_condition c.conditions.conditions.items c.conditions.left c.conditions.rest.now
-    c.in_err-condition.field-0.0.reason c.in_err-condition.field-0.0.rest.now _ c.conditions-test.true
+    c.in_err-condition.field-0.0.why c.in_err-condition.field-0.0.rest.now _ c.conditions-test.true
     (c.in_err-condition.ensures ne) c.conditions.invariant.found)
 
 pub returns-in-None : goal.returns-in-None

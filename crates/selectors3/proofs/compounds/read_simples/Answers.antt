@@ -11,7 +11,7 @@ returns-in_err-simple c =
     let p =
     err_from_is_err_and c.from_residual-in_err-simple.result c.from_residual-in_err-simple.ensures.1 in
     rw (p.1, p.2) (λ ne. loop_stop simple_of next_simple c.simples.simples.items c.simples.left c.simples.rest.now
-    c.in_err-simple.field-0.0.reason c.in_err-simple.field-0.0.rest.now _ c.simples-test.true
+    c.in_err-simple.field-0.0.why c.in_err-simple.field-0.0.rest.now _ c.simples-test.true
     (c.in_err-simple.ensures ne) c.simples.invariant.found)
 
 pub returns-in-None : goal.returns-in-None
