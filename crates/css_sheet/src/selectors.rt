@@ -9,7 +9,7 @@ ghost use Rattle.css_sheet.specs.RuleViews.{rule_selector_of, listed_result};
 use css_selectors::{ListedSelector, SelectorForm, Selectors, is_valid};
 use css_syntax::quality::{fault_of, is_good};
 use css_syntax::{Fault, Prelude};
-use selectors3::{Reason, Selector3};
+use selectors3::{Selector3, Why};
 use std::alloc::{AllocError, Global};
 
 /// A selector of a rule set.
@@ -41,7 +41,7 @@ fn read_level3<'a>(alloc: Global, text: &'a str) -> Result<Option<Selector3<'a>>
 {
     match Selector3::parse(alloc, text) {
         Ok(selector) => Ok(Some(selector)),
-        Err(refusal) if refusal.reason == Reason::Memory => Err(AllocError),
+        Err(refusal) if refusal.why == Why::Memory => Err(AllocError),
         Err(_) => Ok(None),
     }
 }
