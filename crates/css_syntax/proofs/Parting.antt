@@ -210,11 +210,13 @@ pub each-kept : {A : Type 0} (P : A → Type 0) (read : List ℕ → Option (A �
     → (m : ℕ) (r s : List ℕ) → length r ≤ m → Parting t u r s → Every P (each read r).0
     → n ≤ length (each read r).1 → EachKept read t u r s
 each-kept P read takes n t u follow zero r s small h good l =
-    each-step P read takes n t u r s (λ x y less g w e. absurd (omega (arith, less, small))) h good l
+    each-step P read takes n t u r s (λ x y less g w e. absurd (omega (arith, less, small)))
+    h good l
     (follow r s h (omega (arith, l, each-within read takes r)))
 each-kept P read takes n t u follow (suc m) r s small h good l =
     each-step P read takes n t u r s
-    (λ x y less g w e. each-kept P read takes n t u follow m x.1 y.1 (omega (arith, less, small)) g w e)
+    (λ x y less g w e.
+    each-kept P read takes n t u follow m x.1 y.1 (omega (arith, less, small)) g w e)
     h good l
     (follow r s h (omega (arith, l, each-within read takes r)))
 

@@ -161,8 +161,10 @@ letter-kept low up t u q n l m r s (pair c r1 s1 h) w =
 
     by : (k : Bool) → not (is_newline c) ≡ k
         → Letters t u
-        (if k && is_either low up (escaped_char (c ∷ r1)) then Some (past_escape (c ∷ r1)) else None)
-        (if k && is_either low up (escaped_char (c ∷ s1)) then Some (past_escape (c ∷ s1)) else None)
+        (if k && is_either low up (escaped_char (c ∷ r1)) then Some (past_escape (c ∷ r1))
+        else None)
+        (if k && is_either low up (escaped_char (c ∷ s1)) then Some (past_escape (c ∷ s1))
+        else None)
     by true e =
         let left : WordKept t (past_escape (c ∷ r1)) =
         subst (λ (x : List ℕ). length t ≤ length x) (word-escape backslash (c ∷ r1) e) w in

@@ -109,7 +109,8 @@ hex-back t u (suc n) (b ∷ r) h = by (hex-back t u n r) (is_hex_digit b) refl h
     by : (Parts t u (past_hex n r) → Parts t u r) → (k : Bool) → is_hex_digit b ≡ k
         → Parts t u (if k then past_hex n r else b ∷ r) → Parts t u (b ∷ r)
     by more true e h =
-        let inner = more h in (b ∷ inner.0, on b r inner.0 (no_backslash is_hex_digit b refl e) inner.1)
+        let inner = more h in
+        (b ∷ inner.0, on b r inner.0 (no_backslash is_hex_digit b refl e) inner.1)
     by more false e h = h
 
 escape-back : (t u : List ℕ) (c : ℕ) (r : List ℕ) → is_newline c ≡ false

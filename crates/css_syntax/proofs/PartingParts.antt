@@ -33,6 +33,10 @@ flaws_of stops text = flaw_of_all (map (λ one. one.0) (each (part stops) text).
 abbrev value_at : List ℕ → Quality × List ℕ
 value_at text = component_value deepest text
 
+-- what `each` reads of parts
+abbrev Read : Type 0
+Read = List (Quality × List ℕ) × List ℕ
+
 -- one part and then the others, if the parts do not end here
 parts-some : (stops : Stops) (text : List ℕ) → ends_at stops text ≡ false
     → each (part stops) text
@@ -77,8 +81,8 @@ last-other : (stops : Stops) (a b text : List ℕ) → ends_at stops text ≡ fa
     → last_or a (ends_of stops text) ≡ last_or b (ends_of stops text)
 last-other stops a b text e =
     let all = parts-some stops text e in
-    ap (λ (p : List (Quality × List ℕ) × List ℕ). last_or a (map (λ one. one.1) p.0)) all
-    ∙ sym (ap (λ (p : List (Quality × List ℕ) × List ℕ). last_or b (map (λ one. one.1) p.0)) all)
+    ap (λ (p : Read). last_or a (map (λ one. one.1) p.0)) all
+    ∙ sym (ap (λ (p : Read). last_or b (map (λ one. one.1) p.0)) all)
 
 -- ---- what is left after parts
 
@@ -86,7 +90,7 @@ pub gap-again : (text : List ℕ) → past_gap (past_gap text) ≡ past_gap text
 gap-again text = each-rests gap_part (past_gap text) (each-stops gap_part gap_part-takes text)
 
 -- what is left is what follows the last part and its blank
-abbrev GapLeft : List ℕ → List (Quality × List ℕ) × List ℕ → Type 0
+abbrev GapLeft : List ℕ → Read → Type 0
 GapLeft r p = p.1 ≡ past_gap (last_or r (map (λ one. one.1) p.0))
 
 ends-step : (stops : Stops) (r : List ℕ) → past_gap r ≡ r
@@ -152,8 +156,8 @@ pub last-no_quote : (stops : Stops) (r : List ℕ) → past_gap r ≡ r
 last-no_quote stops r g =
     let t = last_or r (ends_of stops r) in
     let left = ends-gap stops (length r) r (omega arith) g in
-    let ended = ends-end stops (each (part stops) r).1 (each-stops (part stops) (part-takes stops) r)
-    in
+    let ended = ends-end stops (each (part stops) r).1
+    (each-stops (part stops) (part-takes stops) r) in
     let ends : ends_at stops (past_gap t) ≡ true =
     subst (λ (x : List ℕ). ends_at stops x ≡ true) left ended in
     by (past is_space t) (run-gap t) ends
@@ -184,9 +188,9 @@ kept-end : (stops : Stops) (u : List ℕ) → ends_at stops u ≡ true → Parts
 kept-end stops u e =
     let none = parts-none stops u e in
     record {
-      whole = ap (λ (p : List (Quality × List ℕ) × List ℕ). flaw_of_all (map (λ one. one.0) p.0)) none;
-      last = ap (λ (p : List (Quality × List ℕ) × List ℕ). last_or u (map (λ one. one.1) p.0)) none;
-      left = ap (λ (p : List (Quality × List ℕ) × List ℕ). p.1) none;
+      whole = ap (λ (p : Read). flaw_of_all (map (λ one. one.0) p.0)) none;
+      last = ap (λ (p : Read). last_or u (map (λ one. one.1) p.0)) none;
+      left = ap (λ (p : Read). p.1) none;
     }
 
 ends-same : (stops : Stops) (t u r s : List ℕ) → Parting t u r s → length t < length r
@@ -202,11 +206,11 @@ kept-then : (stops : Stops) (u s : List ℕ) → ends_at stops s ≡ false → (
 kept-then stops u s e w more last =
     let all = parts-some stops s e in
     record {
-      whole = ap (λ (p : List (Quality × List ℕ) × List ℕ). flaw_of_all (map (λ one. one.0) p.0)) all
+      whole = ap (λ (p : Read). flaw_of_all (map (λ one. one.0) p.0)) all
           ∙ rw (w, more.whole) refl;
-      last = ap (λ (p : List (Quality × List ℕ) × List ℕ). last_or s (map (λ one. one.1) p.0)) all
+      last = ap (λ (p : Read). last_or s (map (λ one. one.1) p.0)) all
           ∙ last;
-      left = ap (λ (p : List (Quality × List ℕ) × List ℕ). p.1) all ∙ more.left;
+      left = ap (λ (p : Read). p.1) all ∙ more.left;
     }
 
 parts-step : (stops : Stops) (t u : List ℕ) → Seam t u → past_gap u ≡ u → ends_at stops u ≡ true
@@ -224,7 +228,7 @@ parts-step stops t u m g stop r s more h last whole = by (ends_at stops r) refl
 
     by : (k : Bool) → ends_at stops r ≡ k → PartsKept stops u s
     by true e =
-        ended (sym (ap (λ (p : List (Quality × List ℕ) × List ℕ). last_or r (map (λ one. one.1) p.0))
+        ended (sym (ap (λ (p : Read). last_or r (map (λ one. one.1) p.0))
         (parts-none stops r e)) ∙ last)
     by false e =
         let v = value_at r in
@@ -233,10 +237,10 @@ parts-step stops t u m g stop r s more h last whole = by (ends_at stops r) refl
         let s2 = past_gap y.1 in
         let all = parts-some stops r e in
         let last2 : last_or v.1 (ends_of stops r2) ≡ t =
-        sym (ap (λ (p : List (Quality × List ℕ) × List ℕ). last_or r (map (λ one. one.1) p.0)) all)
+        sym (ap (λ (p : Read). last_or r (map (λ one. one.1) p.0)) all)
         ∙ last in
         let flaws = first_flaw-whole v.0 (flaws_of stops r2)
-        (sym (ap (λ (p : List (Quality × List ℕ) × List ℕ). flaw_of_all (map (λ one. one.0) p.0)) all)
+        (sym (ap (λ (p : Read). flaw_of_all (map (λ one. one.0) p.0)) all)
         ∙ whole) in
         let gap = past_gap-within v.1 in
         let here : length t ≤ length v.1 =
@@ -256,7 +260,7 @@ parts-step stops t u m g stop r s more h last whole = by (ends_at stops r) refl
             → (k : Bool) → ends_at stops (past_gap r1) ≡ k → PartsKept stops u s
         inner r1 s1 k last2 flaw less joined true f =
             let end_is : r1 ≡ t =
-            sym (ap (λ (p : List (Quality × List ℕ) × List ℕ). last_or r1 (map (λ one. one.1) p.0))
+            sym (ap (λ (p : Read). last_or r1 (map (λ one. one.1) p.0))
             (parts-none stops (past_gap r1) f)) ∙ last2 in
             let same : s1 ≡ u = (parting-end t u r1 s1 k (omega (arith, ap length end_is))).1 in
             let rest : past_gap s1 ≡ u = ap past_gap same ∙ g in
@@ -271,7 +275,7 @@ parts-step stops t u m g stop r s more h last whole = by (ends_at stops r) refl
             let again : last_or r2 (ends_of stops r2) ≡ t =
             last-other stops r2 r1 r2 f ∙ last2 in
             let deeper : last_or v2.1 (ends_of stops (past_gap v2.1)) ≡ t =
-            sym (ap (λ (p : List (Quality × List ℕ) × List ℕ). last_or r2 (map (λ one. one.1) p.0))
+            sym (ap (λ (p : Read). last_or r2 (map (λ one. one.1) p.0))
             (parts-some stops r2 f)) ∙ again in
             let strict : length t < length r2 =
             omega (

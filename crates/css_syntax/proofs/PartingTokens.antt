@@ -185,7 +185,8 @@ pub whole-if : (t u : List ℕ) (c : Bool) (a b x y : Quality × List ℕ) → W
 whole-if t u true a b x y h k = h
 whole-if t u false a b x y h k = k
 
-string_part-follows : (quote : ℕ) → (backslash == quote) ≡ false → (t u : List ℕ) → Quiet u → (r s : List ℕ) → Parting t u r s
+string_part-follows : (quote : ℕ) → (backslash == quote) ≡ false → (t u : List ℕ) → Quiet u
+    → (r s : List ℕ) → Parting t u r s
     → suc (length t) ≤ length r
     → Follows Any (suc (length t)) t u (string_part quote r) (string_part quote s)
 unfolding string_part
@@ -209,14 +210,16 @@ string_end-less quote (b ∷ e) w = by (b == quote) w
     by true w = omega arith
     by false w = absurd (cc)
 
-string_end-kept : (quote : ℕ) → (backslash == quote) ≡ false → (t u e f : List ℕ) → Parting t u e f → length t < length e
+string_end-kept : (quote : ℕ) → (backslash == quote) ≡ false → (t u e f : List ℕ)
+    → Parting t u e f → length t < length e
     → WholeKept t u (string_end quote e) (string_end quote f)
 string_end-kept quote n t u e f at k = absurd (omega arith)
 string_end-kept quote n t u e f (on b r1 s1 g h) k =
     whole-if t u (b == quote) (Whole, r1) _ (Whole, s1) _ (λ w l. (refl, h)) (λ w l. absurd (cc))
 string_end-kept quote n t u e f (pair c r1 s1 h) k = rw n (λ w l. absurd (cc))
 
-pub past_string-kept : (quote : ℕ) → (backslash == quote) ≡ false → (t u : List ℕ) → Quiet u → (r s : List ℕ) → Parting t u r s
+pub past_string-kept : (quote : ℕ) → (backslash == quote) ≡ false → (t u : List ℕ) → Quiet u
+    → (r s : List ℕ) → Parting t u r s
     → WholeKept t u (past_string quote r) (past_string quote s)
 unfolding past_string
 past_string-kept quote n t u q r s h w l =

@@ -72,7 +72,8 @@ cdo_token-kept : (t u : List ℕ) → Seam t u → (b : ℕ) (r s : List ℕ)
     → WholeKept t u (cdo_token b r) (cdo_token b s)
 cdo_token-kept t u m b r s e h = by (begins_cdo (b ∷ r)) refl
   where
-    chosen : (k : Bool) → k ≡ true → Parting t u (drop 3 r) (drop 3 s) → length t ≤ length (drop 3 r)
+    chosen : (k : Bool) → k ≡ true → Parting t u (drop 3 r) (drop 3 s)
+        → length t ≤ length (drop 3 r)
         → ((if k then (Whole, drop 3 s) else word_token b s).0 ≡ Whole)
         × Parting t u (drop 3 r) (if k then (Whole, drop 3 s) else word_token b s).1
     chosen true f g l = (refl, g)

@@ -19,7 +19,7 @@ use Rattle.css_syntax.specs.Tokens.{past_one_space, past_hex, past_escape, begin
 use Rattle.css_syntax.specs.Parts.{Stated, ends_at, parts}
 use Rattle.css_syntax.specs.Statements.{begins_plain_ident, begins_ident, begins_at_rule, ends_block, at_rule}
 use Rattle.css_syntax.specs.DeclarationLists.{DeclarationText, ItemText, declared, at_rule_item, skipped_item, declaration_ends, value_ends, value, important_word, importance, is_custom, is_empty, is_stated, stated_as, valued, named, declaration, item, separator_part, past_separators, ListText, with_text, item_from, next_item, items}
-use Rattle.css_syntax.specs.Printing.{ends_lone, important_text, stated_text, declaration_text, DeclarationReadsBack, ItemReadsBack, ItemsReadBack}
+use Rattle.css_syntax.specs.Printing.{ends_lone, important_text, stated_text, declaration_text, DeclarationReadsBack, ItemReadsBack, ItemsReadBack, IsWholeValue, ReadsBackWith, ItemsReadBackWith}
 use Rattle.css_syntax.proofs.Shorter.{each-rests, each-goes, gap_part-takes, name_part-takes, word-less}
 use Rattle.css_syntax.proofs.RunSteps.{not-this}
 use Rattle.css_syntax.proofs.PartTexts.{end-well}
@@ -389,8 +389,9 @@ after-word (b ∷ text) e = by (is_name_byte b) (begins_escape (b ∷ text)) ref
     by true m f g e = absurd (cc)
     by false true f g e = absurd (cc)
     by false false f g e =
-        let none = letters (is_letter b) (is_digit b) (b == underscore) (b == hyphen) (nat_le 128 b) f
-        in (none.0, rw (none.1, g) refl)
+        let none =
+        letters (is_letter b) (is_digit b) (b == underscore) (b == hyphen) (nat_le 128 b) f in
+        (none.0, rw (none.1, g) refl)
 
 -- what follows the name
 abbrev after_name : DeclarationText → List ℕ → List ℕ
@@ -490,27 +491,30 @@ next-again in_block whole d text w e h =
     ∙ rw w.no_end (ap (λ (x : ItemText × List ℕ). Some (with_text whole x)) here
     ∙ ap (λ (x : List ℕ). Some (record { text = x; item = declared d }, semicolon ∷ text)) front)
 
-read-again : (start : List ℕ) (d : DeclarationText) → ReadFrom start d → d.closed ≡ true
-    → ends_lone d.value ≡ false → DeclarationReadsBack d
+-- the name that was read from a start, with a value that is whole where it begins
+read-with : (start : List ℕ) (d : DeclarationText) → begins_ident start ≡ true
+    → d.name ≡ before start (past_word start) → starts colon (past_gap (past_word start)) ≡ true
+    → (from : List ℕ) → past_gap from ≡ from
+    → (value from).0 ≡ record { text = d.value; quality = Whole } → d.closed ≡ true
+    → (not (is_empty d.value) || is_custom d.name) ≡ true → ends_lone d.value ≡ false
+    → DeclarationReadsBack d
 unfolding name_part
-read-again start d w closed lone in_block text =
+read-with start d ident name_is colon_is from blank read closed some lone in_block text =
     let t = past_word start in
     let u = after_name d text in
     let whole = d.name ++ u in
     let alike : Parting t u start whole =
-    subst (λ (x : List ℕ). Parting t u start (x ++ u)) (sym w.name_is)
-    (word-parting u start (some-colon t w.colon_is)) in
+    subst (λ (x : List ℕ). Parting t u start (x ++ u)) (sym name_is)
+    (word-parting u start (some-colon t colon_is)) in
     let after = after-word t (each-stops name_part name_part-takes start) in
-    let begins = ident-same t u start whole after.0 refl after.1 alike (ident-less start w.begins)
-    w.begins in
+    let begins = ident-same t u start whole after.0 refl after.1 alike (ident-less start ident)
+    ident in
     let word = word-kept t u (quiet-byte colon (space ∷ (d.value ++ after_value d.important text))
     refl refl refl) refl start whole alike (omega arith) in
-    let word_is : past_word whole ≡ u = (parting-end t u t (past_word whole) word (omega arith)).1 in
-    let from = past_gap (past_byte colon (past_gap t)) in
-    let read = whole-is (value from).0 d.value d.closed w.value_is w.closed_is closed in
-    let again = value-again from (gap-again (past_byte colon (past_gap t))) d.value read lone
-    d.important text in
-    let named_is = named-again in_block whole d text closed w.some again.0 again.1 in
+    let word_is : past_word whole ≡ u =
+    (parting-end t u t (past_word whole) word (omega arith)).1 in
+    let again = value-again from blank d.value read lone d.important text in
+    let named_is = named-again in_block whole d text closed some again.0 again.1 in
     let both = printed-assoc d text lone in
     ap (next_item in_block) both.0
     ∙ next-again in_block whole d text (ident-item in_block whole begins) (sym both.0 ∙ both.1)
@@ -518,53 +522,85 @@ read-again start d w closed lone in_block text =
 
 -- ---- the items of a list
 
-item-back : (start : List ℕ) (i : ItemText) → IsReadFrom start i → ItemReadsBack i
-item-back start (declared d) w = read-again start d w
+-- what is known of an item that was read is known of each
+FromStart : (ItemText → Type 0) → Type 0
+FromStart P = (start : List ℕ) (i : ItemText) → IsReadFrom start i → P i
+
+-- a declaration as it was read
+item-back : FromStart ItemReadsBack
+unfolding FromStart
+item-back start (declared d) w = λ closed lone.
+    let after = past_byte colon (past_gap (past_word start)) in
+    read-with start d w.begins w.name_is w.colon_is (past_gap after) (gap-again after)
+    (whole-is (value (past_gap after)).0 d.value d.closed w.value_is w.closed_is closed) closed
+    w.some lone
 item-back start (at_rule_item a) w = tt
 item-back start (skipped_item fault) w = tt
 
--- the next item was read from where it begins
-abbrev NextReadsBack : Option (ListText × List ℕ) → Type 0
-NextReadsBack None = Unit {0}
-NextReadsBack (Some x) = ItemReadsBack x.0.item
+-- and with another value
+item-back-with : (v : List ℕ) (important : Bool) → IsWholeValue v
+    → FromStart (λ i. ReadsBackWith i v important)
+unfolding FromStart
+item-back-with v important h start (declared d) w = λ lone some.
+    read-with start
+    (record { name = d.name; value = v; important = important; closed = true })
+    w.begins w.name_is w.colon_is v h.no_blank (ap (λ (x : Stated × List ℕ). x.0) h.whole) refl some
+    lone
+item-back-with v important h start (at_rule_item a) w = tt
+item-back-with v important h start (skipped_item fault) w = tt
 
-next-back : (in_block : Bool) (text : List ℕ) → NextReadsBack (next_item in_block text)
-unfolding next_item
-next-back in_block text = by (ends_block in_block (past_separators text))
+-- the next item was read from where it begins
+abbrev OfNext : (ItemText → Type 0) → Option (ListText × List ℕ) → Type 0
+OfNext P None = Unit {0}
+OfNext P (Some x) = P x.0.item
+
+next-back : (P : ItemText → Type 0) → FromStart P → (in_block : Bool) (text : List ℕ)
+    → OfNext P (next_item in_block text)
+unfolding next_item FromStart
+next-back P back in_block text = by (ends_block in_block (past_separators text))
   where
-    by : (k : Bool) → NextReadsBack (if k then None
+    by : (k : Bool) → OfNext P (if k then None
         else Some (with_text (past_separators text) (item in_block (past_separators text))))
     by true = tt
     by false =
-        item-back (past_separators text) (item in_block (past_separators text)).0
+        back (past_separators text) (item in_block (past_separators text)).0
         (item-read in_block (past_separators text))
 
-items-step : (in_block : Bool) (text : List ℕ)
-    → ((rest : List ℕ) → length rest < length text → ItemsReadBack in_block rest)
-    → ItemsReadBack in_block text
-items-step in_block text more = by (option_cases (next_item in_block text))
+-- it is known of each item
+abbrev OfItems : (ItemText → Type 0) → Bool → List ℕ → Type 0
+OfItems P in_block text = All (λ (p : ListText). P p.item) (items in_block text)
+
+items-step : (P : ItemText → Type 0) → FromStart P → (in_block : Bool) (text : List ℕ)
+    → ((rest : List ℕ) → length rest < length text → OfItems P in_block rest)
+    → OfItems P in_block text
+items-step P back in_block text more = by (option_cases (next_item in_block text))
   where
     by : (next_item in_block text ≡ None)
         ⊎ ((x : ListText × List ℕ) × (next_item in_block text ≡ Some x))
-        → ItemsReadBack in_block text
+        → OfItems P in_block text
     by (inl e) =
-        subst (All (λ (p : ListText). ItemReadsBack p.item)) (sym (items-none in_block text e))
-        (All-nil (λ (p : ListText). ItemReadsBack p.item))
+        subst (All (λ (p : ListText). P p.item)) (sym (items-none in_block text e))
+        (All-nil (λ (p : ListText). P p.item))
     by (inr x) =
         let all = items-some in_block text x.0.1 x.0.0 x.1 in
-        let here : ItemReadsBack x.0.0.item =
-        subst NextReadsBack x.1 (next-back in_block text) in
-        subst (All (λ (p : ListText). ItemReadsBack p.item)) (sym all)
-        (All-cons (λ (p : ListText). ItemReadsBack p.item) x.0.0 (items in_block x.0.1) here
+        let here : P x.0.0.item = subst (OfNext P) x.1 (next-back P back in_block text) in
+        subst (All (λ (p : ListText). P p.item)) (sym all)
+        (All-cons (λ (p : ListText). P p.item) x.0.0 (items in_block x.0.1) here
         (more x.0.1 (took (next_item in_block) (next_item-takes in_block) text x.0.1 x.0.0 x.1)))
 
-items-within : (in_block : Bool) (n : ℕ) (text : List ℕ) → length text ≤ n
-    → ItemsReadBack in_block text
-items-within in_block zero text l =
-    items-step in_block text (λ rest less. absurd (omega (arith, less, l)))
-items-within in_block (suc n) text l =
-    items-step in_block text
-    (λ rest less. items-within in_block n rest (omega (arith, less, l)))
+items-within : (P : ItemText → Type 0) → FromStart P → (in_block : Bool) (n : ℕ) (text : List ℕ)
+    → length text ≤ n → OfItems P in_block text
+items-within P back in_block zero text l =
+    items-step P back in_block text (λ rest less. absurd (omega (arith, less, l)))
+items-within P back in_block (suc n) text l =
+    items-step P back in_block text
+    (λ rest less. items-within P back in_block n rest (omega (arith, less, l)))
 
 pub items-read_back : (in_block : Bool) (text : List ℕ) → ItemsReadBack in_block text
-items-read_back in_block text = items-within in_block (length text) text (omega arith)
+items-read_back in_block text =
+    items-within ItemReadsBack item-back in_block (length text) text (omega arith)
+
+pub items-read_back-with : (in_block : Bool) (text : List ℕ) → ItemsReadBackWith in_block text
+items-read_back-with in_block text v important h =
+    items-within (λ i. ReadsBackWith i v important) (item-back-with v important h) in_block
+    (length text) text (omega arith)

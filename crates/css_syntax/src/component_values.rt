@@ -9,10 +9,10 @@ use crate::quality::{Quality, first_flaw};
 use crate::tokens::{Skipped, skip_token, split, whole};
 
 /// How many brackets may be open at once: as many as a `u128` has digits to the base of four.
-const DEEPEST: usize = 64;
+pub(crate) const DEEPEST: usize = 64;
 
 /// The closing bracket of a number from 1 to 3.
-fn closer_of(kind: u128) -> u8
+pub(crate) fn closer_of(kind: u128) -> u8
     ensures { result ≡ closer_named kind }
 {
     match kind {
@@ -23,7 +23,7 @@ fn closer_of(kind: u128) -> u8
 }
 
 /// The number of the closing bracket for an opening one, if the byte is one.
-fn opened_kind(byte: u8) -> Option<u128>
+pub(crate) fn opened_kind(byte: u8) -> Option<u128>
     ensures none { result ≡ None → is_opener byte ≡ false }
     ensures some { IfSome result (λ kind. (is_opener byte ≡ true) × (kind < 4)
         × (closer_named kind ≡ mirror byte)) }

@@ -107,7 +107,7 @@ fn declaration_ends(in_block: bool) -> Stops
 }
 
 /// Reads the value at the start of the text.
-fn read_value(text: &str) -> Parts<'_>
+pub(crate) fn read_value(text: &str) -> Parts<'_>
     ensures { value text.now ≡ (parts_of result, result.rest.now) }
 {
     let stops = Stops {

@@ -1,7 +1,7 @@
 //! Laws: contracts of functions that do nothing.
 ghost use Rattle.std.specs.Prelude.{ℕ, Bool, List};
 ghost use Rattle.css_syntax.specs.NothingLost.{LosesNoItem, LosesNoStatement};
-ghost use Rattle.css_syntax.specs.Printing.{ItemsReadBack, ListReadsBack};
+ghost use Rattle.css_syntax.specs.Printing.{ItemsReadBack, ItemsReadBackWith, ListReadsBack};
 ghost use Rattle.css_syntax.specs.DeclarationLists.{DeclarationText};
 
 /// Every byte of a text is in the text of an item or a statement, which may be one that is skipped,
@@ -15,8 +15,10 @@ pub fn nothing_is_lost()
 
 /// A declaration that was read is itself, if it is printed before any text and read again, unless
 /// something of its value was open at the end of the text or its value ends in a lone backslash.
-/// A printed list of such declarations has them as its items.
+/// With another value that is whole it reads back, too. A printed list of declarations that read
+/// back has them as its items.
 pub fn printed_declarations_read_back()
     ensures each_item { (in_block : Bool) (text : List ℕ) → ItemsReadBack in_block text }
+    ensures other_values { (in_block : Bool) (text : List ℕ) → ItemsReadBackWith in_block text }
     ensures lists { (declarations : List DeclarationText) → ListReadsBack declarations }
 {}

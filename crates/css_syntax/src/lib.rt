@@ -7,6 +7,7 @@
 //! once.
 #![tactic(auto)]
 
+pub mod closing;
 pub mod component_values;
 pub mod declarations;
 pub mod escapes;
@@ -19,6 +20,7 @@ pub mod statements;
 pub mod texts;
 pub mod tokens;
 
+pub use closing::closed_value;
 pub use declarations::{Declaration, Declarations, Item, ListPart};
 pub use escapes::decode;
 pub use printing::DeclarationList;

@@ -9,7 +9,7 @@ use std::fmt;
 use std::fmt::Display;
 
 /// Whether the text ends in a lone backslash: one that no backslash before it escapes.
-fn ends_lone(bytes: &[u8]) -> bool
+pub(crate) fn ends_lone(bytes: &[u8]) -> bool
     ensures { result ≡ ends_lone_of bytes.now }
 {
     let mut rest = bytes;
@@ -59,7 +59,7 @@ fn write_stated<W: fmt::Write>(f: &mut fmt::Formatter<W>, name: &str, value: &st
 ///
 /// Printed before any text and read again, a declaration that was read is itself, except if its
 /// value ends in such a backslash, or if something of it was open at the end of the text (`closed`
-/// is false), which is not closed here.
+/// is false), which is not closed here, but by `closed_value`.
 impl<'a> Display for Declaration<'a> {
     ghost use Rattle.std.specs.Prelude.{Some};
     ghost use Rattle.css_syntax.specs.Printing.{declaration_text};

@@ -10,4 +10,5 @@ use Rattle.css_syntax.proofs.printing.DeclarationListDisplay.fmt.Given as goal
 abbrev pub invariant-loop-declaration : goal.invariant-loop-declaration
 invariant-loop-declaration g l =
     IsFlush l.initial.f → HasWrittenStyled g.W.Write.write_str_gives l.initial.f
-    (flat_map (λ r. space ∷ declaration_text (declaration_of r)) (take l.declaration-index l.rest)) l.f
+    (flat_map (λ d. space ∷ declaration_text (declaration_of d))
+    (take l.declaration-index l.rest)) l.f
