@@ -7,3 +7,8 @@ pub mod GapLemmas
 pub mod EscapeLemmas
 pub mod PrintLemmas
 mod KeyLemmas
+mod SpelledAgain
+mod NumbersAgain
+mod CompoundsAgain
+mod SelectorsAgain
+mod ReadWellFormed

@@ -17,3 +17,4 @@ pub mod SpecificityViews
 pub mod Spellings
 pub mod TriedElements
 pub mod Views
+pub mod WellFormed

@@ -23,6 +23,7 @@ mod matching;
 mod meeting;
 mod numbers;
 mod printing;
+mod printing_laws;
 mod progression;
 mod pseudo_classes;
 mod read;

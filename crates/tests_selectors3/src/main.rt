@@ -5,8 +5,8 @@
 //! its depth, its name, `1` if it has a text of its own, and each attribute, as `name=value`.
 //!
 //! What is printed for each list ends with a NUL byte: the specificity of its first selector, a colon,
-//! and the numbers of the elements that one of its selectors matches, from 0 on; or, if it is refused,
-//! where and why.
+//! the numbers of the elements that one of its selectors matches, from 0 on, the byte 1, and the list
+//! as it is serialized; or, if it is refused, where and why.
 #![tactic(auto)]
 
 mod tree;
@@ -43,6 +43,16 @@ fn write_found<W: Write>(
     Ok(())
 }
 
+/// Writes the list as it is serialized, with a comma and a blank between two selectors.
+fn write_printed<W: Write>(out: &mut W, selectors: &[Selector3<'_>]) -> io::Result<()> {
+    let mut before = "\x01";
+    for selector in selectors {
+        write!(out, "{before}{selector}")?;
+        before = ", ";
+    }
+    Ok(())
+}
+
 /// Writes what the selectors of a list match, or why it is refused.
 fn write_list<W: Write>(
     alloc: Global,
@@ -51,7 +61,10 @@ fn write_list<W: Write>(
     list: &str,
 ) -> io::Result<()> {
     match Selector3::parse_list(alloc, list) {
-        Ok(selectors) => write_found(out, page, selectors.as_slice())?,
+        Ok(selectors) => {
+            write_found(out, page, selectors.as_slice())?;
+            write_printed(out, selectors.as_slice())?;
+        }
         Err(refusal) => write!(out, "refused: {}: {refusal}", refusal.position_in(list))?,
     }
     out.write_all(b"\x00")

@@ -1,0 +1,91 @@
+-- Selectors that some text reads as.
+use Rattle.std.specs.Prelude.{◌≡◌, ◌<◌, ◌≤◌, ◌&&◌, ℕ, Bool, true, false, List, [], ◌∷◌, length, All, Option, None, Some}
+use Rattle.std.specs.Option.{ForSome, is_some}
+use Rattle.sibling_matching.specs.declared.Combinator.TheVariants.{Descendant}
+use Rattle.selectors3.specs.Components.{Signed, Progression, Structure, Simple, Condition, Part, Selector}
+use Rattle.selectors3.specs.Components.Structure.{nth_child, nth_last_child, nth_of_type, nth_last_of_type}
+use Rattle.selectors3.specs.Components.Simple.{universal, type_name, id, class, has_attribute, attribute, structure, language, state}
+use Rattle.selectors3.specs.Components.Condition.{simple, negation, any_of, where_any}
+use Rattle.selectors3.specs.Grammar.{plain_structure}
+
+-- a name is not empty
+abbrev pub IsName : List ℕ → Type 0
+IsName name = 0 < length name
+
+-- a number is at most the greatest `u32`
+abbrev pub IsSize : Signed → Type 0
+IsSize number = number.size ≤ 4294967295
+
+abbrev pub IsProgression : Progression → Type 0
+IsProgression p = IsSize p.step × IsSize p.offset
+
+abbrev pub IsStructure : Structure → Type 0
+IsStructure (nth_child p) = IsProgression p
+IsStructure (nth_last_child p) = IsProgression p
+IsStructure (nth_of_type p) = IsProgression p
+IsStructure (nth_last_of_type p) = IsProgression p
+IsStructure s = Unit {0}
+
+-- A simple selector that may follow others. `*` and a type may not, and a pseudo-class that is a
+-- structural one by its name is no other.
+abbrev pub IsFurther : Simple → Type 0
+IsFurther universal = ⊥
+IsFurther (type_name name) = ⊥
+IsFurther (id name) = IsName name
+IsFurther (class name) = IsName name
+IsFurther (has_attribute name) = IsName name
+IsFurther (attribute name comparison value ignores_case) = IsName name
+IsFurther (structure s) = IsStructure s
+IsFurther (language ranges) = 0 < length ranges
+IsFurther (state name) = IsName name × (plain_structure name ≡ None)
+
+-- a simple selector that may be the first
+abbrev pub IsFirst : Simple → Type 0
+IsFirst universal = Unit {0}
+IsFirst (type_name name) = IsName name
+IsFirst s = IsFurther s
+
+-- a compound selector of a list has a simple selector at least
+abbrev pub IsCompound : List Simple → Type 0
+IsCompound [] = ⊥
+IsCompound (s ∷ simples) = IsFirst s × All IsFurther simples
+
+-- a list is not empty
+abbrev pub AreCompounds : List (List Simple) → Type 0
+AreCompounds compounds = (0 < length compounds) × All IsCompound compounds
+
+abbrev pub IsFurtherCondition : Condition → Type 0
+IsFurtherCondition (simple s) = IsFurther s
+IsFurtherCondition (negation compounds) = AreCompounds compounds
+IsFurtherCondition (any_of compounds) = AreCompounds compounds
+IsFurtherCondition (where_any compounds) = AreCompounds compounds
+
+abbrev pub IsFirstCondition : Condition → Type 0
+IsFirstCondition (simple s) = IsFirst s
+IsFirstCondition c = IsFurtherCondition c
+
+-- the conditions of a compound selector: only before a pseudo-element there may be none
+abbrev pub AreConditions : Bool → List Condition → Type 0
+AreConditions before_element [] = before_element ≡ true
+AreConditions before_element (c ∷ conditions) =
+    IsFirstCondition c × All IsFurtherCondition conditions
+
+abbrev pub is_last : List Part → Bool
+is_last [] = true
+is_last (part ∷ parts) = false
+
+-- compound selectors, with a pseudo-element after the last or without one
+abbrev pub AreParts : Bool → List Part → Type 0
+AreParts has_element [] = Unit {0}
+AreParts has_element (part ∷ parts) =
+    AreConditions (has_element && is_last parts) part.conditions × AreParts has_element parts
+
+-- there is a first compound selector, which is joined to none
+abbrev pub BeginsPlain : List Part → Type 0
+BeginsPlain [] = ⊥
+BeginsPlain (part ∷ parts) = part.combinator ≡ Descendant
+
+-- A selector that some text reads as.
+abbrev pub IsWellFormed : Selector → Type 0
+IsWellFormed s =
+    BeginsPlain s.parts × AreParts (is_some s.pseudo_element) s.parts × ForSome s.pseudo_element IsName

@@ -1,0 +1,18 @@
+//! The law of printing.
+ghost use Rattle.std.specs.Prelude.{◌≡◌, ℕ, List, []};
+ghost use Rattle.selectors3.specs.Components.{Selector};
+ghost use Rattle.selectors3.specs.Grammar.{selector};
+ghost use Rattle.selectors3.specs.Printing.{selector_text};
+ghost use Rattle.selectors3.specs.Readings.{got};
+ghost use Rattle.selectors3.specs.WellFormed.{IsWellFormed};
+
+/// A selector that was read from a text reads back from the text that it is printed as. The selectors
+/// that are read are the well-formed ones.
+pub fn printing_law()
+    ensures read_again { (text rest : List ℕ) (s : Selector) → selector text ≡ got s rest
+        → selector (selector_text s) ≡ got s [] }
+    ensures well_formed { (text rest : List ℕ) (s : Selector) → selector text ≡ got s rest
+        → IsWellFormed s }
+    ensures all_well_formed { (s : Selector) → IsWellFormed s
+        → selector (selector_text s) ≡ got s [] }
+{}
