@@ -1,5 +1,6 @@
 #!/usr/bin/env python3
-"""Selectors of level 3 beside soupsieve and a browser: what random selectors match, and which texts are refused.
+"""Selectors of level 3 beside soupsieve and a browser: what random selectors match, which texts are refused, and how
+selectors are serialized.
 
     level3.py PROGRAM [--count N]    PROGRAM is the built `tests_selectors3`; N random selectors, else 4000
 
@@ -163,7 +164,12 @@ def found_of(reply: str) -> Found:
     """The numbers of a reply, or None if the text is refused."""
     if reply.startswith("refused"):
         return None
-    return [int(number) for number in reply.split(":", 1)[1].split()]
+    return [int(number) for number in reply.split("\1")[0].split(":", 1)[1].split()]
+
+
+def printed_of(reply: str) -> Optional[str]:
+    """The list of a reply as it is serialized, or None if the text is refused."""
+    return None if reply.startswith("refused") else reply.split("\1", 1)[1]
 
 
 SOUP = r"""
@@ -245,6 +251,22 @@ document.documentElement.textContent = "ANS" + "WER" + JSON.stringify(answers) +
 """
 
 
+SHEET = """
+<!DOCTYPE html><meta charset=utf-8><script id=input type="application/json">%s</script>
+<script>
+const answers = JSON.parse(document.getElementById("input").textContent).map(text => {
+    const sheet = document.createElement("style");
+    sheet.textContent = text + " {}";
+    document.head.append(sheet);
+    const rule = sheet.sheet.cssRules[0];
+    sheet.remove();
+    return rule && rule.selectorText !== undefined ? rule.selectorText : null;
+});
+document.documentElement.textContent = "ANS" + "WER" + JSON.stringify(answers) + "END";
+</script>
+"""
+
+
 def soup_finds(work: List[Tuple[Element, List[str]]]) -> Optional[List[List[Found]]]:
     """What soupsieve finds, or None if it is missing."""
     if not os.path.exists("/usr/bin/python3"):
@@ -257,15 +279,15 @@ def soup_finds(work: List[Tuple[Element, List[str]]]) -> Optional[List[List[Foun
     return answers
 
 
-def browser_finds(work: List[Tuple[Element, List[str]]]) -> Optional[List[List[Found]]]:
-    """What a browser finds, or None if there is none or it does not answer."""
+def browser_answers(template: str, work: Any) -> Optional[Any]:
+    """What a browser answers on a page of this template, or None if there is none or it does not answer."""
     browser = shutil.which("chromium") or shutil.which("chromium-browser")
     if not browser:
         return None
     with tempfile.TemporaryDirectory() as folder:
         page = os.path.join(folder, "selectors.html")
         with open(page, "w", encoding="utf-8") as file:
-            file.write(PAGE % json.dumps(work).replace("<", "\\u003c"))
+            file.write(template % json.dumps(work).replace("<", "\\u003c"))
         words = [browser, "--headless", "--no-sandbox", "--disable-gpu", f"--user-data-dir={folder}/profile",
                  "--virtual-time-budget=60000", "--dump-dom", "file://" + page]
         try:
@@ -274,6 +296,16 @@ def browser_finds(work: List[Tuple[Element, List[str]]]) -> Optional[List[List[F
             return None
     answer = re.search(r"ANSWER(.*)END", made.stdout.decode(), re.DOTALL)
     return json.loads(html.unescape(answer[1])) if answer else None
+
+
+def browser_finds(work: List[Tuple[Element, List[str]]]) -> Optional[List[List[Found]]]:
+    """What a browser finds, or None if it does not answer."""
+    return browser_answers(PAGE, work)
+
+
+def browser_texts(texts: Sequence[str]) -> Optional[List[Optional[str]]]:
+    """How a browser serializes each text, None where it refuses one, or None if it does not answer."""
+    return browser_answers(SHEET, list(texts))
 
 
 # Differences that docs/DIFFERENCES.md names, by the words of a refusal and by what is read before its place: a list, or
@@ -354,6 +386,46 @@ def compare(program: str, counts: Counts, count: int, kind: str) -> None:
         print(f"{count // 50 * 50} {kind} texts beside {name}; {judge.left_out} left out, of named differences")
 
 
+# Texts whose serialization shows something: names that need escapes, strings, `An+B`, lists, combinators, blanks.
+SERIALIZED = (
+    "*", "*.a", "a.b#c", "a  >  b", "a>b+c~d e", "#\\31 x", ".\\31 23", "#-\\31 ", "#\\-", "#--", ".a\\.b", ".a\\20 b",
+    ".a\\7f b", ".a\\1 b", ".a\\1f c", ".\\1f600 ", "\\@x", ".\xe9", ".\\e9", "\\61 ", "a\\62 c", "\\-a", "-\\-a", "--a", "_a",
+    "a\\:hover", ".\\0 ", ".\\d800 x", "[a]", "[a=b]", "[a='b\"c']", '[a="x\\\\y"]', "[ a ~= b i ]", "[a^=''] ", "[a$=b]",
+    '[a*="\\a "]', "[a|='\\7f\\\n']", "[\\31 a='\xe9']", ":ROOT", ":First-Child", ":nth-child(odd)", ":nth-child(even)",
+    ":nth-child( 2n + 1 )", ":nth-child(+n)", ":nth-child(-n+3)", ":nth-child(0n+5)", ":nth-child(5)", ":nth-child(n)",
+    ":nth-child(2n+0)", ":nth-child(-5)", ":nth-child(-n)", ":nth-last-child(-2n - 1)", ":nth-of-type(3n-1)",
+    ":nth-last-of-type(1n+2)", ":not( .a )", ":not(.a,b)", ":is(*,a)", ":where( a , .b )", ":IS(a)", "a::before", "::before",
+    "a > ::after", "*::after", ":hover", ":not(*)", ":not(*.a)", "a/**/.b", "a /**/ b", "a,b , c", ":lang(en)",
+)
+# A browser drops a `*` before other simple selectors, and writes a language range as it was written.
+DROPPED = re.compile(r'("(?:\\.|[^"\\])*"|\\.)|\*(?=[.#:\[])')
+
+
+def as_browsers_do(printed: str) -> str:
+    """A serialized list with the differences that docs/DIFFERENCES.md names."""
+    return re.sub(r':lang\("(\w+)"\)', r":lang(\1)", DROPPED.sub(lambda found: found[1] or "", printed))
+
+
+def compare_printed(program: str, counts: Counts, count: int) -> None:
+    """Compares how selectors are serialized."""
+    source = Source("printed")
+    texts = list(SERIALIZED) + [source.listed() for _ in range(count)]
+    replies = ours(program, ("a", {}, []), texts)
+    theirs = browser_texts(texts)
+    if theirs is None:
+        print("left out: serialized selectors beside chromium, which is missing or does not answer")
+        return
+    left_out = 0
+    for text, reply, other in zip(texts, replies, theirs):
+        printed = printed_of(reply)
+        if text not in SERIALIZED and (None in (other, printed) or ODD_IN_BROWSERS.search(text) or "-0" in text):
+            left_out += 1
+            continue
+        shown = printed and as_browsers_do(printed)
+        counts.expect(shown and shown == other, f"{text!r}: chromium has {other!r}, and not {printed!r}")
+    print(f"{len(texts)} serialized texts beside chromium; {left_out} left out, of named differences")
+
+
 def main() -> int:
     parser = argparse.ArgumentParser()
     parser.add_argument("program")
@@ -362,6 +434,7 @@ def main() -> int:
     counts = Counts()
     compare(words.program, counts, words.count, "listed")
     compare(words.program, counts, words.count, "changed")
+    compare_printed(words.program, counts, words.count)
     return counts.end()
 
 

@@ -1,31 +1,28 @@
 -- Printed simple and compound selectors read back.
 -- Serves `printing_laws::printing_law`.
-use Rattle.std.proofs.Common.{◌≡◌, ℕ, zero, suc, ◌+◌, ◌<◌, ◌≤◌, ◌==◌, ◌||◌, ◌&&◌, not, nat_le, Bool, true, false, List, [], ◌∷◌, ◌++◌, Option, None, Some, All, length, length-append, flat_map, append_assoc, append-nil, arith, refl, sym, ap, ◌∙◌, subst, eqb-true}
+use Rattle.std.proofs.Common.{◌≡◌, ℕ, zero, suc, ◌<◌, ◌≤◌, ◌==◌, ◌||◌, ◌&&◌, not, Bool, true, false, List, [], ◌∷◌, ◌++◌, Option, None, Some, All, length, length-append, flat_map, append_assoc, arith, refl, sym, ap, ◌∙◌, subst, eqb-true}
 use Rattle.std.specs.Prelude.{codes, if◌then◌else◌}
 use Rattle.std.specs.Option.{is_some}
 use Rattle.std.proofs.lemmas.List.Elements.{All-cons, All-head, All-tail}
 use Rattle.simplecss_text.specs.AsciiBytes.{asterisk, backslash, close_bracket, close_parenthesis, colon, comma, double_quote, form_feed, full_stop, hyphen, newline, carriage_return, number_sign, open_bracket, open_parenthesis, slash, space, tab}
 use Rattle.simplecss_text.specs.Bytes.{starts_by, starts, past_one}
-use Rattle.simplecss_text.specs.Characters.{is_space}
 use Rattle.simplecss_text.proofs.bytes.GapLemmas.{NoGap, no_gap-byte}
-use Rattle.css_syntax.specs.Tokens.{is_name_byte, begins_escape}
+use Rattle.css_syntax.specs.Tokens.{is_name_byte}
 use Rattle.selectors3.specs.declared.components.Numbering.{Numbering}
 use Rattle.selectors3.specs.declared.components.Numbering.TheVariants.{Child as OfChild, LastChild as OfLastChild, OfType, LastOfType as OfLastType}
-use Rattle.selectors3.specs.declared.components.Function.{Function}
 use Rattle.selectors3.specs.declared.components.Function.TheVariants.{Numbered, Language}
 use Rattle.selectors3.specs.declared.components.ListKind.{ListKind}
 use Rattle.selectors3.specs.declared.components.ListKind.TheVariants.{Not, Is, Where}
-use Rattle.selectors3.specs.declared.refusal.Why.{Why}
-use Rattle.selectors3.specs.Components.{Comparison, Signed, Progression, Structure, Simple, Condition}
+use Rattle.selectors3.specs.Components.{Comparison, Progression, Structure, Simple, Condition}
 use Rattle.selectors3.specs.Components.Comparison.{equals, has_word, has_subtag, starts as starts_with, ends as ends_with, contains}
 use Rattle.selectors3.specs.Components.Structure.{root, empty, first_child, last_child, only_child, first_of_type, last_of_type, only_of_type, nth_child, nth_last_child, nth_of_type, nth_last_of_type}
 use Rattle.selectors3.specs.Components.Simple.{universal, type_name, id, class, has_attribute, attribute, structure, language, state}
 use Rattle.selectors3.specs.Components.Condition.{simple, negation, any_of, where_any}
-use Rattle.selectors3.specs.Readings.{Reading, got, refused, Reader, follow, give, ◌>>=◌, ◌>>◌, Step, item, none, stop, as_item, with_first, go_on, items, items_up_to}
-use Rattle.selectors3.specs.Grammar.{gap, name, begins_name, begins_word, begins_compound, value, comparison, flag, flag_named, compared, by_comparison, attribute_selector, closing, progression, one_more, plain_structure, plain_pseudo, list_kind, function_named, numbered_by, next_range, range_after, language_ranges, functional, pseudo_by, pseudo_class, begins_pseudo_element, type_selector, next_simple, after_type, some_of, compound, comma_compound, next_compound, after_gap, listed, compound_list, begins_pseudo_class, simple_item, with_argument, pseudo_condition, next_condition, after_type_name, some_or_element, conditions}
-use Rattle.selectors3.specs.Printing.{identifier_text, string_text, progression_text, comparison_text, flag_text, function_text, structure_text, further_text, list_text, simple_text, compound_text, compounds_text, condition_text}
+use Rattle.selectors3.specs.Readings.{Reading, got, refused, follow, give, ◌>>=◌, ◌>>◌, Step, item, none, as_item, with_first, go_on, items, items_up_to}
+use Rattle.selectors3.specs.Grammar.{gap, name, begins_name, begins_word, begins_compound, value, comparison, flag, flag_named, compared, by_comparison, attribute_selector, closing, progression, one_more, plain_structure, plain_pseudo, list_kind, function_named, numbered_by, next_range, range_after, language_ranges, functional, pseudo_class, begins_pseudo_element, type_selector, next_simple, after_type, some_of, compound, next_compound, after_gap, listed, compound_list, simple_item, with_argument, next_condition, after_type_name, some_or_element, conditions}
+use Rattle.selectors3.specs.Printing.{identifier_text, string_text, progression_text, comparison_text, flag_text, structure_text, further_text, list_text, simple_text, compound_text, compounds_text, condition_text}
 use Rattle.selectors3.specs.WellFormed.{IsName, IsProgression, IsStructure, IsFurther, IsFirst, IsCompound, AreCompounds, IsFurtherCondition, IsFirstCondition, AreConditions}
-use Rattle.selectors3.proofs.SpelledAgain.{EndsName, name-again, begins-again, value-again, all_below, passes, and_first, and_second, either_fails, none_passes}
+use Rattle.selectors3.proofs.SpelledAgain.{EndsName, name-again, begins-again, value-again, all_below, passes, either_fails}
 use Rattle.selectors3.proofs.NumbersAgain.{no_gap, one_blank, progression-again, progression_calm}
 
 -- ---- items

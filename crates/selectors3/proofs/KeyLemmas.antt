@@ -1,9 +1,8 @@
 -- A node that satisfies a condition has one of its keys.
 -- Serves `key_laws::key_law`.
-use Rattle.std.proofs.Common.{◌≡◌, ℕ, ◌-◌, ◌≤◌, Bool, true, false, not, ◌&&◌, ◌||◌, List, [], ◌∷◌, length, map, Option, None, Some, IsTrue, refl, sym, ap, subst, arith}
+use Rattle.std.proofs.Common.{◌≡◌, ℕ, ◌-◌, ◌≤◌, Bool, true, false, not, ◌&&◌, ◌||◌, List, [], ◌∷◌, length, map, Option, None, Some, IsTrue, refl, subst, arith}
 use Rattle.std.specs.Prelude.{is_none, nat_lt, min, if◌then◌else◌}
-use Rattle.std.specs.List.{list_all, list_any}
-use Rattle.sibling_matching.specs.Placements.{HasPlacement}
+use Rattle.std.specs.List.{list_any}
 use Rattle.selectors3.specs.Documents.{Document}
 use Rattle.selectors3.specs.Components.{Comparison, Simple, Condition, Selector}
 use Rattle.selectors3.specs.Components.Simple.{universal, type_name, id, class, has_attribute, attribute, structure, language, state}

@@ -1,6 +1,6 @@
 -- A printed `An+B` reads back.
 -- Serves `printing_laws::printing_law`.
-use Rattle.std.proofs.Common.{◌≡◌, ℕ, zero, suc, ◌+◌, ◌*◌, ◌-◌, ◌<◌, ◌≤◌, ◌==◌, ◌||◌, ◌&&◌, not, nat_le, Bool, true, false, min, List, [], ◌∷◌, ◌++◌, decimal, length, append_assoc, arith, refl, sym, ap, ◌∙◌, subst, eqb-true}
+use Rattle.std.proofs.Common.{◌≡◌, ℕ, ◌+◌, ◌*◌, ◌-◌, ◌<◌, ◌≤◌, ◌==◌, ◌&&◌, not, Bool, true, false, List, [], ◌∷◌, ◌++◌, decimal, length, append_assoc, arith, refl, sym, ap, ◌∙◌, subst, eqb-true}
 use Rattle.std.specs.Prelude.{codes, if◌then◌else◌}
 use Rattle.std.specs.Char.{digit_value}
 use Rattle.std.specs.Str.Parse.{AllDigits, digits_value_after}
@@ -11,11 +11,10 @@ use Rattle.std.proofs.lemmas.Str.Parse.{digit_from_value}
 use Rattle.simplecss_text.specs.AsciiBytes.{close_parenthesis, hyphen, plus_sign, slash}
 use Rattle.simplecss_text.specs.Characters.{is_space}
 use Rattle.simplecss_text.specs.Bytes.{starts_by, is_digit, past_one}
-use Rattle.simplecss_text.specs.Comments.{gap as gap_before}
 use Rattle.simplecss_text.proofs.bytes.GapLemmas.{NoGap, no_gap-byte, gap-none, gap-space}
 use Rattle.selectors3.specs.Components.{Signed, Progression}
 use Rattle.selectors3.specs.declared.refusal.Why.TheVariants.{NoProgression}
-use Rattle.selectors3.specs.Readings.{Reading, got, refused, follow}
+use Rattle.selectors3.specs.Readings.{got, refused, follow}
 use Rattle.selectors3.specs.Grammar.{gap, closed_gap, digits, with_digit, sign, is_sign, is_n, signed, stepping, offset_after, offset_or_none, with_offset, numbered, unsigned, progression, name, word_progression}
 use Rattle.selectors3.proofs.SpelledAgain.{all_below, passes, none_passes}
 use Rattle.selectors3.specs.Printing.{minus_text, signed_text, is_zero, size_text, plus_text, offset_text, progression_text}

@@ -1,8 +1,8 @@
 -- What a text reads as is well-formed.
 -- Serves `printing_laws::printing_law`.
-use Rattle.std.proofs.Common.{◌≡◌, ℕ, zero, suc, ◌+◌, ◌-◌, ◌*◌, ◌<◌, ◌≤◌, ◌⊎◌, inl, inr, ◌==◌, ◌||◌, ◌&&◌, not, nat_le, nat_lt, eqb-true, Bool, true, false, min, List, [], ◌∷◌, ◌++◌, Option, None, Some, All, length, length-append, encode_utf8, arith, refl, sym, ap, ◌∙◌, subst}
+use Rattle.std.proofs.Common.{◌≡◌, ℕ, zero, suc, ◌<◌, ◌≤◌, ◌⊎◌, inl, inr, ◌==◌, ◌||◌, ◌&&◌, not, nat_le, nat_lt, eqb-true, Bool, true, false, List, [], ◌∷◌, ◌++◌, Option, None, Some, All, length, length-append, encode_utf8, arith, refl, sym, ap, ◌∙◌, subst}
 use Rattle.std.specs.Prelude.{codes, if◌then◌else◌}
-use Rattle.std.specs.Option.{is_some, option_map}
+use Rattle.std.specs.Option.{is_some}
 use Rattle.std.specs.Str.{str_eq_ignore_ascii_case}
 use Rattle.std.proofs.lemmas.Bool.Decides.{nat_tests}
 use Rattle.std.proofs.lemmas.Str.{length-encode, len_utf8_bounds}
@@ -21,16 +21,15 @@ use Rattle.selectors3.specs.declared.components.Function.{Function}
 use Rattle.selectors3.specs.declared.components.Function.TheVariants.{Numbered, Language}
 use Rattle.selectors3.specs.declared.components.ListKind.{ListKind}
 use Rattle.selectors3.specs.declared.components.ListKind.TheVariants.{Not, Is, Where}
-use Rattle.selectors3.specs.declared.refusal.Why.{Why}
 use Rattle.selectors3.specs.Components.{Comparison, Signed, Progression, Structure, Simple, Condition, Part, Selector}
-use Rattle.selectors3.specs.Components.Structure.{root, empty, first_child, last_child, only_child, first_of_type, last_of_type, only_of_type, nth_child, nth_last_child, nth_of_type, nth_last_of_type}
+use Rattle.selectors3.specs.Components.Structure.{root, empty, first_child, last_child, only_child, first_of_type, last_of_type, only_of_type}
 use Rattle.selectors3.specs.Components.Simple.{universal, type_name, id, class, has_attribute, attribute, structure, language, state}
 use Rattle.selectors3.specs.Components.Condition.{simple, negation, any_of, where_any}
-use Rattle.selectors3.specs.Spellings.{replacement, character, escape, is_escape, spelled, spelled_after, spelled_up_to}
+use Rattle.selectors3.specs.Spellings.{replacement, character, escape, spelled, spelled_up_to}
 use Rattle.selectors3.specs.Readings.{Reading, got, refused, Reader, follow, give, ◌>>=◌, ◌>>◌, Step, item, none, stop, as_item, with_first, go_on, items, items_up_to}
-use Rattle.selectors3.specs.declared.refusal.Why.TheVariants.{NoName, NoProgression, NotClosed, NoOperator, NoSelector, Unexpected}
-use Rattle.selectors3.specs.Grammar.{gap, name, begins_name, begins_word, begins_plain_name, begins_compound, value, comparison, flag, compared, by_comparison, compared_by, two_bytes, attribute_selector, closing, unclosed, progression, digits, with_digit, sign, is_sign, is_n, signed, stepping, offset_after, offset_or_none, with_offset, numbered, unsigned, word_progression, one_more, is_word, plain_structure, plain_pseudo, list_kind, function_named, numbering, numbered_by, next_range, range_after, language_ranges, functional, pseudo_by, pseudo_class, begins_pseudo_element, type_selector, next_simple, after_type, some_of, compound, comma_compound, next_compound, after_gap, listed, compound_list, begins_pseudo_class, simple_item, with_argument, pseudo_condition, next_condition, after_type_name, some_or_element, conditions, first_sign, joined_by, signed_part, by_sign, part_after, next_part, pseudo_element, selector_with, at_end, parts, listed_selector, selector}
-use Rattle.selectors3.specs.WellFormed.{IsName, IsSize, IsProgression, IsStructure, IsFurther, IsFirst, IsCompound, AreCompounds, IsFurtherCondition, IsFirstCondition, AreConditions, is_last, AreParts, BeginsPlain, IsWellFormed}
+use Rattle.selectors3.specs.declared.refusal.Why.TheVariants.{NoName, NoProgression}
+use Rattle.selectors3.specs.Grammar.{gap, name, begins_name, begins_word, begins_compound, value, comparison, flag, compared, by_comparison, attribute_selector, closing, progression, digits, with_digit, sign, is_sign, is_n, signed, stepping, offset_after, offset_or_none, with_offset, numbered, word_progression, one_more, is_word, plain_structure, plain_pseudo, list_kind, function_named, numbered_by, next_range, language_ranges, functional, pseudo_by, pseudo_class, begins_pseudo_element, type_selector, next_simple, after_type, some_of, compound, comma_compound, next_compound, after_gap, listed, compound_list, begins_pseudo_class, simple_item, with_argument, pseudo_condition, next_condition, after_type_name, some_or_element, conditions, first_sign, joined_by, signed_part, by_sign, part_after, next_part, pseudo_element, selector_with, at_end, parts, listed_selector, selector}
+use Rattle.selectors3.specs.WellFormed.{IsName, IsSize, IsProgression, IsStructure, IsFurther, IsFirst, IsCompound, AreCompounds, IsFurtherCondition, IsFirstCondition, AreConditions, AreParts, BeginsPlain, IsWellFormed}
 use Rattle.simplecss_text.proofs.bytes.GapLemmas.{no_gap-byte}
 use Rattle.selectors3.proofs.CompoundsAgain.{name_first}
 use Rattle.selectors3.proofs.NumbersAgain.{no_gap}

@@ -1,23 +1,23 @@
 -- A printed selector reads back.
 -- Serves `printing_laws::printing_law`.
-use Rattle.std.proofs.Common.{◌≡◌, ℕ, ◌<◌, ◌≤◌, ◌==◌, ◌&&◌, Bool, true, false, List, [], ◌∷◌, ◌++◌, Option, None, Some, length, flat_map, append_assoc, append-nil, arith, refl, sym, ap, ◌∙◌, subst}
-use Rattle.std.specs.Prelude.{codes, if◌then◌else◌}
+use Rattle.std.proofs.Common.{◌≡◌, ℕ, ◌≤◌, ◌&&◌, Bool, true, false, List, [], ◌∷◌, ◌++◌, Option, None, Some, length, flat_map, append_assoc, append-nil, arith, refl, sym, ap, ◌∙◌, subst}
+use Rattle.std.specs.Prelude.{if◌then◌else◌}
 use Rattle.std.specs.Option.{is_some}
 use Rattle.simplecss_text.specs.AsciiBytes.{colon, greater_than_sign, plus_sign, space, tilde}
-use Rattle.simplecss_text.specs.Bytes.{starts_by, starts, past_one}
+use Rattle.simplecss_text.specs.Bytes.{starts_by}
 use Rattle.simplecss_text.specs.Comments.{blank_part}
 use Rattle.simplecss_text.proofs.bytes.GapLemmas.{NoGap, no_gap-byte}
 use Rattle.simplecss_text.proofs.reading.EachLemmas.{each-none}
 use Rattle.sibling_matching.specs.declared.Combinator.{Combinator}
 use Rattle.sibling_matching.specs.declared.Combinator.TheVariants.{Descendant, Child, Adjacent, Sibling}
 use Rattle.selectors3.specs.Components.{Condition, Part, Selector}
-use Rattle.selectors3.specs.Readings.{Reading, got, Reader, follow, give, ◌>>=◌, ◌>>◌, Step, item, none, as_item, with_first, items}
-use Rattle.selectors3.specs.Grammar.{gap, name, begins_compound, begins_pseudo_element, next_condition, next_simple, conditions, sign_combinator, first_sign, joined_by, signed_part, by_sign, part_after, next_part, one_more, pseudo_element, selector_with, at_end, parts, listed_selector, selector}
+use Rattle.selectors3.specs.Readings.{got, follow, give, ◌>>=◌, ◌>>◌, item, none, as_item, with_first, items}
+use Rattle.selectors3.specs.Grammar.{gap, name, begins_compound, next_condition, next_simple, conditions, sign_combinator, first_sign, joined_by, by_sign, part_after, next_part, one_more, pseudo_element, selector_with, at_end, parts, listed_selector, selector}
 use Rattle.selectors3.specs.Printing.{identifier_text, condition_text, combinator_text, part_text, parts_text, pseudo_element_text, selector_text}
 use Rattle.selectors3.specs.WellFormed.{IsName, AreConditions, is_last, AreParts, BeginsPlain, IsWellFormed}
-use Rattle.selectors3.proofs.SpelledAgain.{EndsName, name-again}
+use Rattle.selectors3.proofs.SpelledAgain.{name-again}
 use Rattle.selectors3.proofs.NumbersAgain.{no_gap, one_blank}
-use Rattle.selectors3.proofs.CompoundsAgain.{EachReads, items-again, ends, differ, begins_solid, Follows, conditions-again, conditions_begin}
+use Rattle.selectors3.proofs.CompoundsAgain.{EachReads, items-again, differ, begins_solid, Follows, conditions-again, conditions_begin}
 
 -- a compound selector after another
 part_joined : (e : Bool) (c : Combinator) (cs : List Condition) (rest : List ℕ)

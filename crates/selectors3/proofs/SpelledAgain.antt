@@ -2,19 +2,18 @@
 -- Serves `printing_laws::printing_law`.
 use Rattle.std.proofs.Common.{◌≡◌, ℕ, zero, suc, ◌+◌, ◌*◌, ◌/◌, ◌%◌, ◌<◌, ◌≤◌, ◌⊎◌, inl, inr, ◌==◌, ◌||◌, ◌&&◌, not, nat_le, nat_lt, Bool, true, false, List, [], ◌∷◌, ◌++◌, Option, None, Some, length, length-append, take, drop, flat_map, encode_utf8, append_assoc, arith, refl, sym, ap, ◌∙◌, subst, eqb-true}
 use Rattle.std.specs.Prelude.{codes, if◌then◌else◌}
-use Rattle.std.specs.Fmt.{digits, digit_glyph}
+use Rattle.std.specs.Fmt.{digit_glyph}
 use Rattle.std.specs.List.{prefix_len}
-use Rattle.std.specs.Option.{ForSome}
 use Rattle.std.proofs.lemmas.Bool.Decides.{nat_tests}
 use Rattle.std.proofs.lemmas.Fmt.{hex_one_digit, hex_two_digits}
 use Rattle.std.proofs.lemmas.Str.{encode_ascii}
 use Rattle.std.proofs.Math.Nat.{eq-or-lt_of_le}
 use Rattle.simplecss_text.specs.AsciiBytes.{backslash, double_quote, hyphen, space, newline, carriage_return, form_feed, underscore}
-use Rattle.simplecss_text.specs.Bytes.{starts_by, starts, past, past_one, is_digit}
+use Rattle.simplecss_text.specs.Bytes.{starts_by, past, past_one, is_digit}
 use Rattle.simplecss_text.specs.Characters.{is_letter}
 use Rattle.simplecss_text.specs.Terms.{is_hex_digit}
-use Rattle.css_syntax.specs.Tokens.{is_newline, is_name_byte, begins_escape, hex_digit, hex_number, past_hex, past_one_space}
-use Rattle.selectors3.specs.Spellings.{run, is_bare, is_plain, is_escape, is_character, character, escape, spelled, spelled_after, spelled_up_to}
+use Rattle.css_syntax.specs.Tokens.{is_newline, is_name_byte, begins_escape, hex_digit}
+use Rattle.selectors3.specs.Spellings.{run, is_bare, is_escape, is_character, character, escape, spelled, spelled_after, spelled_up_to}
 use Rattle.selectors3.specs.Readings.{got}
 use Rattle.selectors3.specs.Grammar.{begins_plain_name, begins_name, name, string, closed_string, value}
 use Rattle.selectors3.specs.Printing.{is_control, is_kept, code_point_text, escape_text, byte_text, start_text, after_hyphen, identifier_text, string_text}

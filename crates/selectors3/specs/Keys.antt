@@ -1,7 +1,6 @@
 -- Keys: conditions of which each element that a selector matches satisfies one. By these an index
 -- finds the selectors that can match an element.
 use Rattle.std.specs.Prelude.{ℕ, ◌-◌, Bool, true, List, [], ◌∷◌, map, length, min, nat_lt, if◌then◌else◌}
-use Rattle.std.specs.List.{list_any}
 use Rattle.selectors3.specs.Documents.{Document}
 use Rattle.selectors3.specs.Components.{Simple, Condition, Selector}
 use Rattle.selectors3.specs.Components.Simple.{universal, type_name, id, class, has_attribute, attribute, structure, language, state}

@@ -2,7 +2,7 @@
 -- Idioms" and "Serializing Selectors") and CSS Syntax 3 (section 9.1). What would not read back as
 -- the same components is written otherwise: the `*` before other simple selectors is kept, and so are
 -- U+0000 and the sign of a negative zero.
-use Rattle.std.specs.Prelude.{ℕ, Bool, false, not, ◌&&◌, ◌||◌, ◌==◌, nat_lt, if◌then◌else◌, List, [], ◌∷◌, ◌++◌, codes, Option, Some, None}
+use Rattle.std.specs.Prelude.{ℕ, Bool, false, not, ◌&&◌, ◌||◌, ◌==◌, if◌then◌else◌, List, [], ◌∷◌, ◌++◌, codes, Option, Some, None}
 use Rattle.std.specs.Fmt.{decimal, digits}
 use Rattle.std.specs.List.{flat_map}
 use Rattle.simplecss_text.specs.AsciiBytes.{backslash, double_quote, hyphen}

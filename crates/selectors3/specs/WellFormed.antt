@@ -1,5 +1,5 @@
 -- Selectors that some text reads as.
-use Rattle.std.specs.Prelude.{◌≡◌, ◌<◌, ◌≤◌, ◌&&◌, ℕ, Bool, true, false, List, [], ◌∷◌, length, All, Option, None, Some}
+use Rattle.std.specs.Prelude.{◌≡◌, ◌<◌, ◌≤◌, ◌&&◌, ℕ, Bool, true, false, List, [], ◌∷◌, length, All, None}
 use Rattle.std.specs.Option.{ForSome, is_some}
 use Rattle.sibling_matching.specs.declared.Combinator.TheVariants.{Descendant}
 use Rattle.selectors3.specs.Components.{Signed, Progression, Structure, Simple, Condition, Part, Selector}

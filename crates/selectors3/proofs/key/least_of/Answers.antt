@@ -1,4 +1,4 @@
-use Rattle.std.proofs.Common.{◌≤◌, map, arith}
+use Rattle.std.proofs.Common.{map, arith}
 use Rattle.selectors3.specs.Keys.{compound_key, least_rank}
 use Rattle.selectors3.specs.Views.{compound_of}
 use Rattle.selectors3.proofs.KeyLemmas.{least_rank-at_most, min_right}
