@@ -71,7 +71,8 @@ module _ {A : Type 0} (read : List ℕ → Step A) (text_of : A → List ℕ) wh
 -- a byte before which a simple selector ends
 abbrev pub is_end : ℕ → Bool
 is_end b =
-    b == number_sign || b == full_stop || b == open_bracket || b == colon || b == space || b == comma
+    b == number_sign || b == full_stop || b == open_bracket || b == colon || b == space || b ==
+    comma
     || b == close_parenthesis
 
 -- a simple selector ends there
@@ -234,7 +235,8 @@ flag_end opened rest n v c ignores = by ignores
     calm = no_gap (close_bracket ∷ rest) (no_gap-byte close_bracket rest refl refl)
 
     by : (i : Bool) → follow (gap (flag_text i ++ (close_bracket ∷ rest)))
-        (λ x. flag opened >>= λ j. gap >> (closing opened close_bracket >> give (attribute n c v j)))
+        (λ x. flag opened >>= λ j. gap >> (closing opened close_bracket >> give
+        (attribute n c v j)))
         ≡ got (attribute n c v i) rest
     by false =
         ap (λ r. follow r (λ x. flag opened >>= λ j. gap >>
@@ -317,7 +319,8 @@ pseudo_simple text n rest begins reads no_list =
     found (refused why after) = refl
 
     by : (t : Bool) (kind : Option ListKind) → (t && is_some kind) ≡ false
-        → as_item (λ c. c) (if t then with_argument (colon ∷ text) kind (function_named n) (past_one rest)
+        → as_item (λ c. c) (if t then with_argument (colon ∷ text) kind (function_named n)
+        (past_one rest)
         else got (simple (plain_pseudo n (plain_structure n))) rest)
         ≡ simple_item (as_item (λ s. s) (if t
         then functional (colon ∷ text) (function_named n) (past_one rest)
@@ -597,7 +600,8 @@ each_simple (s ∷ simples) rest all h stops =
     let w = All-head IsFurther s simples all in
     let more = All-tail IsFurther s simples all in (
       (further_starts s rest w).1,
-      (further-again s (flat_map simple_text simples ++ rest) w (simples_end simples rest more h)).0,
+      (further-again s (flat_map simple_text simples
+          ++ rest) w (simples_end simples rest more h)).0,
       each_simple simples rest more h stops,
     )
 
@@ -844,7 +848,8 @@ list_both n rest kind compounds some is w =
     let one : starts colon text ≡ false = name_other colon text begins refl in
     let named = name-again n (open_parenthesis ∷ argument) some (call_end argument) in
     rw (one, named, is)
-    (ap (λ l. as_item (λ c. c) (follow (compound_list (colon ∷ text) l) (λ all. give (listed kind all))))
+    (ap (λ l. as_item (λ c. c) (follow (compound_list (colon ∷ text) l) (λ all. give
+    (listed kind all))))
     (append_assoc (compounds_text compounds) (close_parenthesis ∷ []) rest)
     ∙ ap (λ r. as_item (λ c. c) (follow r (λ all. give (listed kind all))))
     (compounds-again (colon ∷ text) rest compounds w))
@@ -921,7 +926,8 @@ module _ (conditions_after : List Condition) (rest : List ℕ)
   unfolding conditions after_first
   untyped_again c w =
       let text : List ℕ = condition_text c ++ after_first in
-      let joined = append_assoc (condition_text c) (flat_map condition_text conditions_after) rest in
+      let joined = append_assoc (condition_text c)
+      (flat_map condition_text conditions_after) rest in
       let reads : items next_condition text ≡ got (c ∷ conditions_after) rest =
       ap (items next_condition) (sym joined)
       ∙ items-again next_condition condition_text (c ∷ conditions_after) rest
@@ -986,7 +992,8 @@ no_conditions (b ∷ rest) stops h = by (b == colon) refl h
     by true e k =
         let is : b ≡ colon = eqb-true b colon e in
         let untyped : type_selector (b ∷ rest) ≡ none =
-        no_type b rest (ap (λ (d : ℕ). d == asterisk) is) (ap (λ (d : ℕ). begins_name (d ∷ rest)) is) in (
+        no_type b rest (ap (λ (d : ℕ). d == asterisk) is) (ap (λ (d : ℕ). begins_name
+        (d ∷ rest)) is) in (
           ap (after_type_name (b ∷ rest)) untyped
               ∙ ap (some_or_element (b ∷ rest))
               (items-again next_condition condition_text [] (b ∷ rest) stops)

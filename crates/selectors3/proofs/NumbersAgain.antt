@@ -85,14 +85,17 @@ first_digit n small = by (decimal n) (decimal_is_IsNumeral n (omega arith)).0
 
 -- ---- An+B
 
-digit_byte : (d : ℕ) → 48 ≤ d → d ≤ 57 → (test : ℕ → Bool) → all_below (λ k. test (48 + k)) 10 ≡ true
+digit_byte : (d : ℕ) → 48 ≤ d → d ≤ 57 → (test : ℕ → Bool)
+    → all_below (λ k. test (48 + k)) 10 ≡ true
     → test d ≡ true
 digit_byte d low high test all =
-    subst (λ k. test k ≡ true) (omega arith) (passes (λ k. test (48 + k)) 10 (d - 48) all (omega arith))
+    subst (λ k. test k ≡ true) (omega arith) (passes (λ k. test (48 + k)) 10 (d - 48) all
+    (omega arith))
 
 digit_other : (d : ℕ) → 48 ≤ d → d ≤ 57 → (test : ℕ → Bool)
     → all_below (λ k. not (test (48 + k))) 10 ≡ true → test d ≡ false
-digit_other d low high test all = none_passes (test d) (digit_byte d low high (λ k. not (test k)) all)
+digit_other d low high test all = none_passes (test d) (digit_byte d low high (λ k. not
+    (test k)) all)
 
 -- a number begins with no sign, and no gap begins with it
 number_calm : (n : ℕ) (rest : List ℕ) → n ≤ 4294967295 → NoGap (decimal n ++ rest)
@@ -173,7 +176,8 @@ offset-again step offset rest small =
         (no_gap-byte hyphen (decimal n ++ end) refl refl) refl refl
     by false n true small e =
         let is : n ≡ 0 = eqb-true n 0 e in
-        ap (λ r. follow r (λ spaced. offset_or_none step)) (no_gap end (no_gap-byte close_parenthesis rest refl refl))
+        ap (λ r. follow r (λ spaced. offset_or_none step)) (no_gap end
+        (no_gap-byte close_parenthesis rest refl refl))
         ∙ ap (λ m. got (stepping step (signed false m)) end) (sym is)
     by false n false small e =
         reads (plus_sign ∷ (decimal n ++ end)) false n small
@@ -254,7 +258,8 @@ pub progression-again : (p : Progression) (rest : List ℕ) → p.step.size ≤ 
     → p.offset.size ≤ 4294967295
     → progression (progression_text p ++ (close_parenthesis ∷ rest))
     ≡ got p (close_parenthesis ∷ rest)
-progression-again p rest small within = by p.step.is_negative p.step.size (p.step.size == 0) small refl
+progression-again p rest small within = by p.step.is_negative p.step.size
+    (p.step.size == 0) small refl
   where
     end : List ℕ
     end = close_parenthesis ∷ rest

@@ -38,7 +38,8 @@ use Rattle.selectors3.proofs.SpelledAgain.{step_bare, step_slash}
 -- ---- readers
 
 -- what is read after another was read after it
-record Followed {A B : Type 0} (r : Reading A) (next : A → Reader B) (y : B) (rest : List ℕ) : Type 0 where
+record Followed {A B : Type 0} (r : Reading A) (next : A
+    → Reader B) (y : B) (rest : List ℕ) : Type 0 where
   pub value : A
   pub middle : List ℕ
   pub first : r ≡ got value middle
@@ -72,7 +73,8 @@ module _ {A : Type 0} (read : List ℕ → Step A) (P : A → Type 0)
   all_up_to (suc n) text xs rest h = by (read text) refl h (all_up_to n)
     where
       by : (s : Step A) → read text ≡ s → go_on text s (items_up_to n read) ≡ got xs rest
-          → ((t : List ℕ) (ys : List A) (end : List ℕ) → items_up_to n read t ≡ got ys end → All P ys)
+          → ((t : List ℕ) (ys : List A) (end : List ℕ) → items_up_to n read t ≡ got ys end
+          → All P ys)
           → All P xs
       by none e k more = let nothing : [] ≡ xs = cc in subst (All P) nothing (All-nil P)
       by (stop why t) e k more = absurd (cc)
@@ -147,7 +149,8 @@ escape_some m (b ∷ others) calm =
         named false = high
 
     by : (x n l : Bool) → n ≡ false → nat_lt b 128 ≡ l
-        → 1 ≤ length ((denoted b others x n l).0 ++ (spelled_up_to m None (denoted b others x n l).1).0)
+        → 1 ≤ length ((denoted b others x n l).0
+        ++ (spelled_up_to m None (denoted b others x n l).1).0)
     by true n l c e =
         in_front (encode_utf8 (character (hex_number 6 0 (b ∷ others)))) _
         (encoded_some (character (hex_number 6 0 (b ∷ others))))
@@ -231,7 +234,8 @@ offset_well : (step : Signed) (negative : Bool) (text : List ℕ) (p : Progressi
     → IsSize step → offset_after step negative text ≡ got p rest → IsProgression p
 offset_well step negative text p rest fits h = by (starts_by is_digit text) h
   where
-    by : (t : Bool) → (if t then got (stepping step (signed negative (digits 0 text).0)) (digits 0 text).1
+    by : (t : Bool) → (if t then got (stepping step (signed negative (digits 0 text).0))
+        (digits 0 text).1
         else refused NoProgression text) ≡ got p rest → IsProgression p
     by false k = absurd (cc)
     by true k =
@@ -258,7 +262,8 @@ with_offset_well step text p rest fits h =
 word_well : (start word text : List ℕ) (p : Progression) (rest : List ℕ)
     → word_progression start word text ≡ got p rest → IsProgression p
 word_well start word text p rest h =
-    by (str_eq_ignore_ascii_case word (codes "odd")) (str_eq_ignore_ascii_case word (codes "even")) h
+    by (str_eq_ignore_ascii_case word (codes "odd")) (str_eq_ignore_ascii_case word
+    (codes "even")) h
   where
     by : (o e : Bool) → (if o then got (stepping (signed false 2) (signed false 1)) text
         else (if e then got (stepping (signed false 2) (signed false 0)) text
@@ -287,7 +292,8 @@ progression_well : (text : List ℕ) (p : Progression) (rest : List ℕ)
     → progression text ≡ got p rest → IsProgression p
 unfolding progression
 progression_well text p rest h =
-    by (sign text).0 (sign text).1 (starts_by is_digit (sign text).1) (starts_by is_n (sign text).1) h
+    by (sign text).0 (sign text).1 (starts_by is_digit (sign text).1) (starts_by is_n
+    (sign text).1) h
   where
     by : (negative : Bool) (after : List ℕ) (d n : Bool)
         → (if d then numbered negative (digits 0 after).0 (digits 0 after).1
@@ -315,9 +321,11 @@ attribute_well : (opened text : List ℕ) (s : Simple) (rest : List ℕ)
     → attribute_selector opened text ≡ got s rest → IsFurther s
 unfolding attribute_selector compared
 attribute_well opened text s rest h =
-    let f = followed (gap text) (λ x. name >>= λ n. gap >> (comparison opened >>= by_comparison opened n))
+    let f = followed (gap text) (λ x. name >>= λ n. gap >>
+    (comparison opened >>= by_comparison opened n))
     s rest h in
-    let g = followed (name f.middle) (λ n. gap >> (comparison opened >>= by_comparison opened n)) s rest
+    let g = followed (name f.middle) (λ n. gap >>
+    (comparison opened >>= by_comparison opened n)) s rest
     f.second in
     let i = followed (gap g.middle) (λ x. comparison opened >>= by_comparison opened g.value) s rest
     g.second in
@@ -327,7 +335,8 @@ attribute_well opened text s rest h =
     by : (n : List ℕ) → IsName n → (o : Option Comparison) (mid : List ℕ)
         → by_comparison opened n o mid ≡ got s rest → IsFurther s
     by n some None mid k =
-        let f = followed (closing opened close_bracket mid) (λ x. give (has_attribute n)) s rest k in
+        let f = followed (closing opened close_bracket mid) (λ x. give
+        (has_attribute n)) s rest k in
         let is : has_attribute n ≡ s = (let e = f.second in cc) in
         subst IsFurther is some
     by n some (Some c) mid k =
@@ -340,14 +349,16 @@ attribute_well opened text s rest h =
         let l = followed (flag opened j.middle) (λ i. gap >>
         (closing opened close_bracket >> give (attribute n c g.value i))) s rest j.second in
         subst IsFurther
-        (closing_gives opened close_bracket (attribute n c g.value l.value) s l.middle rest l.second)
+        (closing_gives opened close_bracket
+        (attribute n c g.value l.value) s l.middle rest l.second)
         some
 
 ranges_well : (opened text : List ℕ) (ranges : List (List ℕ)) (rest : List ℕ)
     → language_ranges opened text ≡ got ranges rest → 0 < length ranges
 unfolding language_ranges
 ranges_well opened text ranges rest h =
-    let f = followed (gap text) (λ x. value >>= λ first. one_more first (items next_range) >>= λ all.
+    let f = followed (gap text) (λ x. value >>= λ first. one_more first
+    (items next_range) >>= λ all.
     gap >> (closing opened close_parenthesis >> give all)) ranges rest h in
     let g = followed (value f.middle) (λ first. one_more first (items next_range) >>= λ all.
     gap >> (closing opened close_parenthesis >> give all)) ranges rest f.second in
@@ -380,7 +391,8 @@ functional_well opened text (Some (Numbered kind)) s rest h =
     g.second)
     (by kind g.value (progression_well f.middle g.value g.middle g.first))
   where
-    by : (k : Numbering) (p : Progression) → IsProgression p → IsFurther (structure (numbered_by k p))
+    by : (k : Numbering) (p : Progression) → IsProgression p
+        → IsFurther (structure (numbered_by k p))
     by OfChild p w = w
     by OfLastChild p w = w
     by OfType p w = w
@@ -440,7 +452,8 @@ next_simple_well : (text : List ℕ) (s : Simple) (rest : List ℕ)
 unfolding next_simple
 next_simple_well [] s rest h = absurd (cc)
 next_simple_well (b ∷ text) s rest h =
-    by (b == full_stop) (b == number_sign) (b == open_bracket) (b == colon && not (starts colon text)) h
+    by (b == full_stop) (b == number_sign) (b == open_bracket) (b == colon && not
+    (starts colon text)) h
   where
     named : (make : List ℕ → Simple) → ((n : List ℕ) → IsName n → IsFurther (make n))
         → as_item make (name text) ≡ item s rest → IsFurther s
@@ -559,7 +572,8 @@ compounds_well opened text compounds rest h =
         let is : c ∷ ds ≡ cs = cc in
         subst AreCompounds is (
           omega arith,
-          All-cons IsCompound c ds w (all_items next_compound IsCompound next_compound_well t ds u e),
+          All-cons IsCompound c ds w (all_items next_compound IsCompound next_compound_well t ds u
+              e),
         )
 
 -- ---- conditions
@@ -574,7 +588,8 @@ argument_well opened n text None c rest h =
 argument_well opened n text (Some kind) c rest h =
     let f = followed (compound_list opened text) (λ all. give (listed kind all)) c rest h in
     let is : listed kind f.value ≡ c = (let e = f.second in cc) in
-    subst IsFurtherCondition is (by kind f.value (compounds_well opened text f.value f.middle f.first))
+    subst IsFurtherCondition is (by kind f.value
+    (compounds_well opened text f.value f.middle f.first))
   where
     by : (k : ListKind) (cs : List (List Simple)) → AreCompounds cs
         → IsFurtherCondition (listed k cs)
@@ -649,7 +664,8 @@ conditions_well text cs rest h = by (type_selector text) refl h
         inr (sym none, ap begins_pseudo_element (sym same ∙ here) ∙ f)
     some (d ∷ ds) u e t f k =
         let is : d ∷ ds ≡ cs = both t k in
-        let all = all_items next_condition IsFurtherCondition next_condition_well text (d ∷ ds) u e in
+        let all = all_items next_condition IsFurtherCondition next_condition_well text
+        (d ∷ ds) u e in
         inl (subst (AreConditions false) is (
           first_of_condition d (All-head IsFurtherCondition d ds all),
           All-tail IsFurtherCondition d ds all,

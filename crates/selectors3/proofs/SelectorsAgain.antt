@@ -58,7 +58,8 @@ part_joined e c cs rest w f = by c
     by Descendant =
         ap part_after (one_blank text solid)
         ∙ ap (by_sign true text) (no_sign text begins)
-        ∙ ap (λ (t : Bool). if t then as_item (joined_by Descendant) (conditions text) else none) begins
+        ∙ ap (λ (t : Bool). if t then as_item (joined_by Descendant)
+        (conditions text) else none) begins
         ∙ ap (as_item (joined_by Descendant)) (conditions-again e cs rest w f)
     by Child =
         signed greater_than_sign Child (no_gap-byte greater_than_sign (space ∷ text) refl refl) refl
@@ -100,7 +101,8 @@ module _ (element : Option (List ℕ)) where
   end : List ℕ
   end = pseudo_element_text element
 
-  parts_follow : (ps : List Part) → Follows (is_some element && is_last ps) (flat_map part_text ps ++ end)
+  parts_follow : (ps : List Part) → Follows (is_some element && is_last ps) (flat_map part_text ps
+      ++ end)
   unfolding end
   parts_follow [] = by element
     where
@@ -156,7 +158,8 @@ module _ (element : Option (List ℕ)) where
       ap parts (append_assoc (flat_map condition_text p.conditions) (flat_map part_text ps) end)
       ∙ ap (λ r. follow r (λ x. conditions >>= λ first.
       one_more (joined_by Descendant first) (items next_part)))
-      (no_gap text (begins_solid text (conditions_begin e p.conditions others w.0 (parts_follow ps))))
+      (no_gap text (begins_solid text (conditions_begin e p.conditions others w.0
+      (parts_follow ps))))
       ∙ ap (λ r. follow r (λ first. one_more (joined_by Descendant first) (items next_part)))
       (conditions-again e p.conditions others w.0 (parts_follow ps))
       ∙ ap (with_first (joined_by Descendant p.conditions))
@@ -182,7 +185,8 @@ selector-again s w = by s.parts w.0 w.1
         ≡ got (selector_with ps s.pseudo_element) []
     by [] plain all = absurd plain
     by (p ∷ ps) plain all =
-        ap (λ r. follow (follow r (λ all. pseudo_element >>= λ e. gap >> give (selector_with all e)))
+        ap (λ r. follow (follow r (λ all. pseudo_element >>= λ e. gap >> give
+        (selector_with all e)))
         (λ s. at_end >> give s)) (parts-again s.pseudo_element p ps plain all)
         ∙ ap (λ r. follow (follow r (λ e. gap >> give (selector_with (p ∷ ps) e)))
         (λ s. at_end >> give s)) (element-again s.pseudo_element w.2)

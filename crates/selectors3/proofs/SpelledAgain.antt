@@ -349,7 +349,8 @@ string_place = record {
           calm_if (is_newline b) (is_control b) (newline_control b) plain,
           none_passes (is_hex_digit b)
               (either_passes (is_kept (Some double_quote) b || is_control b) (not (is_hex_digit b))
-              (passes (λ k. is_kept (Some double_quote) k || is_control k || not (is_hex_digit k)) 128
+              (passes (λ k. is_kept (Some double_quote) k || is_control k || not
+              (is_hex_digit k)) 128
               b refl (low b h)) (rw (h, plain) refl)),
         ))
 
@@ -387,7 +388,8 @@ name_place = record {
         (λ plain.
         let is = either_passes (is_control b) (not (is_newline b || is_hex_digit b))
         (either_passes (is_name_byte b) (is_control b || not (is_newline b || is_hex_digit b))
-        (passes (λ k. is_name_byte k || (is_control k || not (is_newline k || is_hex_digit k))) 128 b
+        (passes (λ k. is_name_byte k || (is_control k || not
+        (is_newline k || is_hex_digit k))) 128 b
         refl (name_low b h)) h) plain in
         neither (is_newline b) (is_hex_digit b) is)
       where
@@ -446,7 +448,8 @@ begins_escaped b own text e =
     ap (λ l. begins_plain_name (l ++ text)) e.is ∙ rw calm refl
 
 begins_first : (b : ℕ) (text : List ℕ) → (b == hyphen) ≡ false
-    → begins_plain_name ((if is_digit b then code_point_text b else byte_text None b) ++ text) ≡ true
+    → begins_plain_name ((if is_digit b then code_point_text b else byte_text None b) ++ text)
+    ≡ true
 begins_first b text other = by (is_digit b) (is_name_byte b) refl refl
   where
     word : (l d u h w : Bool) → (l || d || u || h || w) ≡ true → d ≡ false → h ≡ false
@@ -464,7 +467,8 @@ begins_first b text other = by (is_digit b) (is_name_byte b) refl refl
         let low = digit_low b ed in
         begins_escaped b (code_point_text b) text (code_point_escaped b low.0 low.1)
     by false true ed en =
-        let is = word (is_letter b) (is_digit b) (b == underscore) (b == hyphen) (nat_le 128 b) en ed
+        let is = word (is_letter b) (is_digit b) (b == underscore) (b == hyphen)
+        (nat_le 128 b) en ed
         other in
         rw is refl
     by false false ed en =

@@ -1,7 +1,7 @@
--- The text that a selector is printed as: it is serialized as in CSSOM (sections "Common Serializing
--- Idioms" and "Serializing Selectors") and CSS Syntax 3 (section 9.1). What would not read back as
--- the same components is written otherwise: the `*` before other simple selectors is kept, and so are
--- U+0000 and the sign of a negative zero.
+-- The text that a selector is printed as: it is serialized as in CSSOM (sections "Common
+-- Serializing Idioms" and "Serializing Selectors") and CSS Syntax 3 (section 9.1). What would not
+-- read back as the same components is written otherwise: the `*` before other simple selectors is
+-- kept, and so are U+0000, the sign of a negative zero, and the case of letters in names.
 use Rattle.std.specs.Prelude.{ℕ, Bool, false, not, ◌&&◌, ◌||◌, ◌==◌, if◌then◌else◌, List, [], ◌∷◌, ◌++◌, codes, Option, Some, None}
 use Rattle.std.specs.Fmt.{decimal, digits}
 use Rattle.std.specs.List.{flat_map}
@@ -28,8 +28,8 @@ abbrev pub is_kept : Option ℕ → ℕ → Bool
 is_kept None b = is_name_byte b
 is_kept (Some quote) b = not (b == quote || b == backslash || is_control b)
 
--- "escape a character as code point": a backslash, the number in lower-case hexadecimal digits and a
--- blank
+-- "escape a character as code point": a backslash, the number in lower-case hexadecimal digits and
+-- a blank
 abbrev pub code_point_text : ℕ → List ℕ
 code_point_text b = codes "\\" ++ digits 16 false b ++ codes " "
 

@@ -88,4 +88,5 @@ BeginsPlain (part ∷ parts) = part.combinator ≡ Descendant
 -- A selector that some text reads as.
 abbrev pub IsWellFormed : Selector → Type 0
 IsWellFormed s =
-    BeginsPlain s.parts × AreParts (is_some s.pseudo_element) s.parts × ForSome s.pseudo_element IsName
+    BeginsPlain s.parts × AreParts (is_some s.pseudo_element) s.parts
+    × ForSome s.pseudo_element IsName

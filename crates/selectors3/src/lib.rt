@@ -3,8 +3,10 @@
 //!
 //! `Selector3::parse` and `parse_list` read a text as `specs/Grammar` says, or report why and where it
 //! is refused. Names and strings are what their escapes spell. A selector can also be made of its
-//! components. It has a specificity, and `matches` is true exactly if there is a placement: an element
-//! for each compound selector, related as the combinators say. An element is any type with the trait
+//! components. It prints as CSSOM serializes it, and one that was read reads back from that text.
+//!
+//! A selector has a specificity, and `matches` is true exactly if there is a placement: an element for
+//! each compound selector, related as the combinators say. An element is any type with the trait
 //! `Element3`.
 //!
 //! Namespaces, and lists within the lists of `:not()`, `:is()` and `:where()` are not read.

@@ -49,7 +49,8 @@ fn minus(is_negative: bool) -> &'static str
 
 /// Writes a number with its sign, if that is a minus.
 fn write_signed<W: fmt::Write>(f: &mut fmt::Formatter<W>, number: Signed) -> fmt::Result
-    ensures { WritesStyledOnOk W.write_str_gives f.old result (signed_text (signed_of number)) f.new }
+    ensures { WritesStyledOnOk W.write_str_gives f.old result
+        (signed_text (signed_of number)) f.new }
 {
     f.write_str(minus(number.is_negative))?;
     write_number(f, number.size)
@@ -81,7 +82,8 @@ fn plus(is_negative: bool) -> &'static str
 
 /// Writes B after `An`.
 fn write_offset<W: fmt::Write>(f: &mut fmt::Formatter<W>, offset: Signed) -> fmt::Result
-    ensures { WritesStyledOnOk W.write_str_gives f.old result (offset_text (signed_of offset)) f.new }
+    ensures { WritesStyledOnOk W.write_str_gives f.old result
+        (offset_text (signed_of offset)) f.new }
 {
     if is_zero(offset) {
         return Ok(());
@@ -167,8 +169,8 @@ fn flag(ignores_case: bool) -> &'static str
 /// Writes what follows the name of an attribute.
 fn write_test<W: fmt::Write>(f: &mut fmt::Formatter<W>, test: &AttributeTest) -> fmt::Result
     ensures { WritesStyledOnOk W.write_str_gives f.old result
-        (comparison_text (comparison_of test.now.comparison) ++ string_text (cow_str_bytes test.now.text)
-        ++ flag_text test.now.ignores_case) f.new }
+        (comparison_text (comparison_of test.now.comparison)
+        ++ string_text (cow_str_bytes test.now.text) ++ flag_text test.now.ignores_case) f.new }
 {
     f.write_str(operator(test.comparison))?;
     write_string(f, test.text.as_str())?;
@@ -222,8 +224,9 @@ fn write_has<W: fmt::Write>(f: &mut fmt::Formatter<W>, name: &str) -> fmt::Resul
 fn write_attribute<W: fmt::Write>(f: &mut fmt::Formatter<W>, test: &AttributeTest) -> fmt::Result
     ensures { WritesStyledOnOk W.write_str_gives f.old result
         (codes "[" ++ identifier_text (cow_str_bytes test.now.name)
-        ++ comparison_text (comparison_of test.now.comparison) ++ string_text (cow_str_bytes test.now.text)
-        ++ flag_text test.now.ignores_case ++ codes "]") f.new }
+        ++ comparison_text (comparison_of test.now.comparison)
+        ++ string_text (cow_str_bytes test.now.text) ++ flag_text test.now.ignores_case
+        ++ codes "]") f.new }
 {
     write_named(f, "[", test.name.as_str())?;
     write_test(f, test)?;
@@ -233,7 +236,8 @@ fn write_attribute<W: fmt::Write>(f: &mut fmt::Formatter<W>, test: &AttributeTes
 /// Writes `:lang(..)`.
 fn write_lang<W: fmt::Write>(f: &mut fmt::Formatter<W>, ranges: &[CowStr]) -> fmt::Result
     ensures { WritesStyledOnOk W.write_str_gives f.old result
-        (function_text (codes ":lang(") (list_text string_text (map cow_str_bytes ranges.now))) f.new }
+        (function_text (codes ":lang(")
+        (list_text string_text (map cow_str_bytes ranges.now))) f.new }
 {
     f.write_str(":lang(")?;
     write_languages(f, ranges)?;
@@ -389,8 +393,10 @@ fn write_pseudo_element<W: fmt::Write>(f: &mut fmt::Formatter<W>, name: Option<&
     }
 }
 
-/// Prints the selector as CSSOM serializes it, but with each `*` that it has, so that a selector that
-/// was read reads back as the same components. The formatter's width, fill and flags change nothing.
+/// Prints the selector as CSSOM serializes it ("serialize a selector"), but with each `*` that it
+/// has, so that a selector that was read reads back as the same components. A name is written with
+/// the escapes that it needs, and a value as a string. The formatter's width, fill and flags change
+/// nothing.
 impl<'a> fmt::Display for Selector3<'a> {
     ghost use Rattle.std.specs.Prelude.{Some};
     ghost use Rattle.selectors3.specs.Printing.{selector_text};

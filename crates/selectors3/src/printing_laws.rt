@@ -6,10 +6,11 @@ ghost use Rattle.selectors3.specs.Printing.{selector_text};
 ghost use Rattle.selectors3.specs.Readings.{got};
 ghost use Rattle.selectors3.specs.WellFormed.{IsWellFormed};
 
-/// A selector that was read from a text reads back from the text that it is printed as. The selectors
-/// that are read are the well-formed ones.
+/// A selector that was read from a text reads back from the text that it is printed as. The
+/// well-formed selectors are those that some text reads as.
 pub fn printing_law()
-    ensures read_again { (text rest : List ℕ) (s : Selector) → selector text ≡ got s rest
+    ensures read_again { (text rest : List ℕ) (s : Selector)
+        → selector text ≡ got s rest
         → selector (selector_text s) ≡ got s [] }
     ensures well_formed { (text rest : List ℕ) (s : Selector) → selector text ≡ got s rest
         → IsWellFormed s }

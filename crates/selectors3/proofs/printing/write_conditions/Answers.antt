@@ -12,7 +12,8 @@ pub loop-condition-preserved : goal.loop-condition-preserved
 loop-condition-preserved g c = λ plain.
     let so_far = c.loop-condition.invariant plain in
     let within : c.loop-condition.condition-index < length c.args.conditions.now = omega arith in
-    styled_step _ (λ x. condition_text (condition_of x)) _ _ _ _ _ _ within c.condition-item.is so_far
+    styled_step _ (λ x. condition_text (condition_of x)) _ _ _ _ _ _ within
+    c.condition-item.is so_far
     (c.write_condition.ensures so_far.flush (search rules))
 
 pub returns : goal.returns

@@ -14,8 +14,10 @@ loop-compound-preserved g c = λ plain.
     let so_far = c.loop-compound.invariant plain in
     let within : c.loop-compound.compound-index < length c.args.compounds.now = omega arith in
     let comma = c.in_ok-write_str.ensures.styled so_far.flush (refl {a = true}) in
-    styled_step _ (λ x. further_text compound_text (compound_of x)) _ _ _ _ _ _ within c.compound-item.is so_far
-    (styled_two _ _ _ _ (codes ", ") _ _ comma (c.write_compound.ensures comma.flush (search rules)) refl)
+    styled_step _ (λ x. further_text compound_text (compound_of x)) _ _ _ _ _ _ within
+    c.compound-item.is so_far
+    (styled_two _ _ _ _ (codes ", ") _ _ comma
+    (c.write_compound.ensures comma.flush (search rules)) refl)
 
 pub returns : goal.returns
 returns g c = λ plain ok. has_written_styled_of_eq _ _ _ _ _

@@ -16,7 +16,9 @@ loop-part-preserved g c = λ plain.
     let within : c.loop-part.part-index < length c.args.parts.now = omega arith in
     let sign = c.in_ok-write_str.ensures.styled so_far.flush (refl {a = true}) in
     styled_step _ (λ x. part_text (part_of x)) _ _ _ _ _ _ within c.part-item.is so_far
-    (styled_two _ _ _ _ _ _ _ sign (c.write_conditions.ensures sign.flush (search rules)) (both c.before-in-loop-part.ensures (ap (λ l. flat_map condition_text (map condition_of l)) c.as_slice.ensures.value)))
+    (styled_two _ _ _ _ _ _ _ sign (c.write_conditions.ensures sign.flush (search rules))
+    (both c.before-in-loop-part.ensures
+    (ap (λ l. flat_map condition_text (map condition_of l)) c.as_slice.ensures.value)))
 
 pub returns : goal.returns
 returns g c = λ plain ok. has_written_styled_of_eq _ _ _ _ _
