@@ -24,11 +24,11 @@ const TEXTS: [&str; 9] = [
     "[class=>a]",
 ];
 
-/// Prints the selector's specificity and the numbers of the items that it matches.
-fn show(rt: &impl Print, text: &str, selector: &Selector3<'_>) -> io::Result<()> {
+/// Prints the selector, its specificity and the numbers of the items that it matches.
+fn show(rt: &impl Print, selector: &Selector3<'_>) -> io::Result<()> {
     let counts = selector.specificity();
     print!(rt;
-        "{text} ({}, {}, {}):",
+        "{selector} ({}, {}, {}):",
         counts.ids, counts.classes, counts.names
     )?;
     for index in 0..CLASSES.len() {
@@ -42,7 +42,7 @@ fn show(rt: &impl Print, text: &str, selector: &Selector3<'_>) -> io::Result<()>
 fn main(rt: HostRuntime) -> io::Result<()> {
     for text in TEXTS {
         match Selector3::parse(rt.alloc(), text) {
-            Ok(selector) => show(&rt, text, &selector)?,
+            Ok(selector) => show(&rt, &selector)?,
             Err(refusal) => println!(rt; "{}: {refusal}", refusal.position_in(text))?,
         }
     }
