@@ -2,3 +2,4 @@ pub mod Sizes
 pub mod SheetSteps
 pub mod PlaceLemmas
 mod SheetRuleLemmas
+mod HeldLemmas

@@ -5,7 +5,7 @@ use Rattle.std.specs.Prelude.{option_to_list}
 use Rattle.std.specs.List.{cons_option}
 use Rattle.std.specs.List.Sorted.{IsPermutation, IsSortedBy, IsStableBy}
 use Rattle.std.proofs.lemmas.Cmp.{nat_list_cmp_total}
-use Rattle.std.proofs.lemmas.List.{append_assoc, append-nil}
+use Rattle.std.proofs.lemmas.List.{append_assoc}
 use Rattle.std.proofs.lemmas.List.Sorted.{ranks_by}
 use Rattle.std.proofs.lemmas.List.Sums.{sum_by-append}
 use Rattle.simplecss_text.specs.Ranks.{ordered_by}
@@ -25,9 +25,12 @@ pub record Gathering (before after : List SheetRuleText) (had left : ℕ)
   pub rules : after ++ come ≡ before ++ all
   pub room : had + declarations_in come ≡ left + declarations_in all
 
-pub gathering-none : (before : List SheetRuleText) (had : ℕ) (all : List SheetRuleText)
-    → Gathering before before had had all all
-gathering-none before had all = record { rules = refl; room = refl }
+pub gathering-none : (after : List SheetRuleText) (had : ℕ) (come all : List SheetRuleText)
+    → after ≡ [] → come ≡ all → Gathering [] after had had come all
+gathering-none after had come all e f = record {
+  rules = ap (λ l. l ++ come) e ∙ f;
+  room = ap (λ (l : List SheetRuleText). had + declarations_in l) f;
+}
 
 module _ (before after : List SheetRuleText) (had left : ℕ) (more come all : List SheetRuleText) where
   pub gathering-more : (after' : List SheetRuleText) (left' : ℕ) → after' ≡ after ++ more
@@ -47,13 +50,6 @@ module _ (before after : List SheetRuleText) (had left : ℕ) (more come all : L
       let sums = sum_by-append (λ (rule : SheetRuleText). declaration_count rule.block) more come in
       let old = g.room in
       omega arith
-
-pub gathering-all : (before after : List SheetRuleText) (had left : ℕ) (all : List SheetRuleText)
-    → Gathering before after had left [] all
-    → (after ≡ before ++ all) × (left + declarations_in all ≡ had)
-gathering-all before after had left all g =
-    let old = g.room in
-    (sym (append-nil after) ∙ g.rules, omega arith)
 
 pub cons-option : {X : Type 0} (o : Option X) (xs : List X)
     → cons_option o xs ≡ option_to_list o ++ xs

@@ -11,7 +11,7 @@ use Rattle.css_sheet.specs.declared.state.Level.{Level}
 use Rattle.css_sheet.specs.declared.state.SheetReader.{SheetReader}
 use Rattle.css_sheet.specs.declared.reader.Step.{Step}
 use Rattle.css_sheet.specs.declared.reader.Step.TheVariants as steps
-use Rattle.css_sheet.specs.ReaderViews.{LevelText, level_of, condition_at, is_some_open, still, size_after, Steps, Since, moves_left}
+use Rattle.css_sheet.specs.ReaderViews.{LevelText, level_of, levels_of, left_of, end_of, is_inside, condition_at, is_some_open, still, size_after, Leaves, Steps}
 use Rattle.css_sheet.proofs.Sizes.{next-fits}
 
 -- in a block, if a group rule is open
@@ -253,42 +253,56 @@ is_open_by (l ∷ more) len t e h = by (len == 0) refl
     by true f = absurd (omega (arith, h, eqb-true len 0 f))
     by false f = rw (e, f) refl
 
-pub leave-some : (before after : List Level) (level : Level) (end : ℕ) (text : List ℕ)
-    → before ≡ after ++ level ∷ [] → length before ≤ 64
-    → next_statement (is_some_open (texts before)) text ≡ None
-    → (still (texts after) 64 false [] level.after_end level.after.now
-    ≡ still (texts before) 64 false [] end text)
-    × (size_after (texts after) + length level.after.now < size_after (texts before) + length text)
-leave-some before after level end text e h none =
-    let l = level_of level in
-    let all : texts before ≡ texts after ++ l ∷ [] = ap texts e ∙ map-last level_of after level in
-    let few : length (texts after) < 64 =
-    omega (
-      arith,
-      h,
-      ap length e,
-      length-append after (level ∷ []),
-      length-map level_of after,
-    ) in
+leave-some : (before after : List LevelText) (l : LevelText) (end : ℕ) (text : List ℕ)
+    → before ≡ after ++ l ∷ [] → length before ≤ 64
+    → next_statement (is_some_open before) text ≡ None
+    → (still after 64 false [] l.after_end l.after ≡ still before 64 false [] end text)
+    × (size_after after + length l.after < size_after before + length text)
+leave-some before after l end text e h none =
+    let few : length after < 64 = omega (arith, h, ap length e, length-append after (l ∷ [])) in
     let at_end : next_statement true text ≡ None =
-    ap (λ (b : Bool). next_statement b text)
-    (sym (ap is_some_open all ∙ open-last (texts after) l)) ∙ none in
-    let size : size_after (texts before) ≡ size_after (texts after) + suc (length level.after.now) =
-    ap size_after all ∙ size-last (texts after) l in (
-      sym (ap (λ (ls : List LevelText). still ls 64 false [] end text) all
-          ∙ still-leave (texts after) l 64 false [] end text few at_end),
+    ap (λ (b : Bool). next_statement b text) (sym (ap is_some_open e ∙ open-last after l)) ∙ none in
+    let size : size_after before ≡ size_after after + suc (length l.after) =
+    ap size_after e ∙ size-last after l in (
+      sym (ap (λ (ls : List LevelText). still ls 64 false [] end text) e
+          ∙ still-leave after l 64 false [] end text few at_end),
       omega (arith, size),
     )
 
-pub leave-none : (before : List Level) (end : ℕ) (text : List ℕ) → length before ≡ 0
-    → next_statement (is_some_open (texts before)) text ≡ None
-    → still (texts before) 64 false [] end text ≡ []
-leave-none [] end text h none = still-ends 64 false [] end text none
-leave-none (l ∷ more) end text h none = absurd (omega arith)
+leave-none : (before : List LevelText) (end : ℕ) (text : List ℕ) → before ≡ []
+    → next_statement (is_some_open before) text ≡ None
+    → still before 64 false [] end text ≡ []
+leave-none before end text e none =
+    ap (λ (ls : List LevelText). still ls 64 false [] end text) e
+    ∙ still-ends 64 false [] end text
+    (ap (λ (ls : List LevelText). next_statement (is_some_open ls) text) (sym e) ∙ none)
 
-pub no_levels : (before after : List Level) → length before ≡ 0 → before ≡ after ++ []
-    → after ≡ before
-no_levels before after h e = sym (e ∙ append-nil after)
+-- leaving a group rule at its end is a step
+pub leaves-step : (before : SheetReader) (step : Step) (after : SheetReader)
+    → length (levels_of before) ≤ 64
+    → next_statement (is_inside before) (left_of before) ≡ None → Leaves before step after
+    → Steps before step after
+leaves-step before (steps.Found part) after few none h = absurd h
+leaves-step before (steps.Entered level) after few none h = absurd h
+leaves-step before steps.Left after few none h =
+    let l = h.level in
+    let s = leave-some (levels_of before) (levels_of after) l (end_of before) (left_of before)
+    h.levels few none in (
+      ap (λ (end : ℕ). still (levels_of after) 64 false [] end (left_of after)) h.ends
+          ∙ ap (λ (text : List ℕ). still (levels_of after) 64 false [] l.after_end text) h.text
+          ∙ s.0,
+      h,
+      omega (arith, s.1, ap length h.text),
+    )
+leaves-step before steps.Ended after few none h =
+    let nothing = leave-none (levels_of before) (end_of before) (left_of before) h.0 none in (
+      nothing,
+      ap (λ (ls : List LevelText). still ls 64 false [] (end_of after) (left_of after))
+          (h.1 ∙ sym h.0)
+          ∙ ap (λ (text : List ℕ). still (levels_of before) 64 false [] (end_of after) text) h.2
+          ∙ ap (λ (end : ℕ). still (levels_of before) 64 false [] end (left_of before)) h.3
+          ∙ nothing,
+    )
 
 -- where a statement of the innermost text is
 place-open : (levels : List Level) (end : ℕ) (text : List ℕ) (part : SheetText) (places : PlacesText)
@@ -359,24 +373,3 @@ pub levels-conditions : (levels : List Level)
 levels-conditions [] = refl
 levels-conditions (l ∷ more) =
     ap (λ (cs : List ConditionText). condition_at (level_of l) ∷ cs) (levels-conditions more)
-
--- ---- steps one after another
-
-pub since-step : (before : SheetReader) (step : Step) (after : SheetReader)
-    → Steps before step after
-    → Since before step after
-since-step before (steps.Found part) after h = h
-since-step before steps.Moved after h = h.0
-since-step before steps.Ended after h = h
-
-pub since-then : (first middle : SheetReader) (step : Step) (last : SheetReader)
-    → Since first steps.Moved middle → Steps middle step last → Since first step last
-since-then first middle (steps.Found part) last h k = sym h ∙ k
-since-then first middle steps.Moved last h k = k.0 ∙ h
-since-then first middle steps.Ended last h k = (sym h ∙ k.0, k.1)
-
-pub moves-less : (middle : SheetReader) (step : Step) (last : SheetReader) → Steps middle step last
-    → moves_left step last < moves_left steps.Moved middle
-moves-less middle (steps.Found part) last k = omega arith
-moves-less middle steps.Moved last k = omega (arith, k.1)
-moves-less middle steps.Ended last k = omega arith

@@ -95,22 +95,52 @@ size_after (l ∷ more) = suc (length l.after) + size_after more
 abbrev pub size_of : SheetReader → ℕ
 size_of r = size_after (levels_of r) + length (left_of r)
 
--- A step read the first of the items that were to come; or it moved, and the same are to come; or
--- it ended, and none is.
+-- The innermost group rule was left, and what is after it is left of the innermost text.
+pub record LeavesOne (before after : SheetReader) : Type 0 where
+  pub level : LevelText
+  pub levels : levels_of before ≡ levels_of after ++ level ∷ []
+  pub text : left_of after ≡ level.after
+  pub ends : end_of after ≡ level.after_end
+
+-- A call left the innermost group rule, or none was open, and then nothing changed.
+abbrev pub Leaves : SheetReader → Step → SheetReader → Type 0
+Leaves before (steps.Found part) after = ⊥
+Leaves before (steps.Entered level) after = ⊥
+Leaves before steps.Left after = LeavesOne before after
+Leaves before steps.Ended after =
+    (levels_of before ≡ []) × (levels_of after ≡ []) × (left_of after ≡ left_of before)
+    × (end_of after ≡ end_of before)
+
+-- A step read the first of the items that were to come; or it entered a group rule or left one, and
+-- the same are to come; or it ended, and none is.
 abbrev pub Steps : SheetReader → Step → SheetReader → Type 0
-Steps before (steps.Found part) after = to_come before ≡ item_of after part ∷ to_come after
-Steps before steps.Moved after =
-    (to_come after ≡ to_come before) × (size_of after < size_of before)
+Steps before (steps.Found part) after =
+    (to_come before ≡ item_of after part ∷ to_come after) × (levels_of after ≡ levels_of before)
+    × (size_of after < size_of before)
+Steps before (steps.Entered level) after =
+    (to_come after ≡ to_come before) × (levels_of after ≡ levels_of before ++ level_of level ∷ [])
+    × (size_of after < size_of before)
+Steps before steps.Left after =
+    (to_come after ≡ to_come before) × LeavesOne before after × (size_of after < size_of before)
 Steps before steps.Ended after = (to_come before ≡ []) × (to_come after ≡ [])
 
--- the same of several steps, of which all but the last moved
+-- the same of several steps, of which all but the last entered group rules or left them
 abbrev pub Since : SheetReader → Step → SheetReader → Type 0
 Since before (steps.Found part) after = to_come before ≡ item_of after part ∷ to_come after
-Since before steps.Moved after = to_come after ≡ to_come before
+Since before (steps.Entered level) after = to_come after ≡ to_come before
+Since before steps.Left after = to_come after ≡ to_come before
 Since before steps.Ended after = (to_come before ≡ []) × (to_come after ≡ [])
 
 -- more than the number of steps that are left after this one
 abbrev pub moves_left : Step → SheetReader → ℕ
 moves_left (steps.Found part) r = 0
-moves_left steps.Moved r = suc (size_of r)
+moves_left (steps.Entered level) r = suc (size_of r)
+moves_left steps.Left r = suc (size_of r)
 moves_left steps.Ended r = 0
+
+-- each step but the last leaves less
+abbrev pub Shrinks : SheetReader → Step → SheetReader → Type 0
+Shrinks before (steps.Found part) after = size_of after < size_of before
+Shrinks before (steps.Entered level) after = size_of after < size_of before
+Shrinks before steps.Left after = size_of after < size_of before
+Shrinks before steps.Ended after = Unit {0}

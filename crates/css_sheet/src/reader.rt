@@ -1,11 +1,11 @@
 //! The reader of sheets.
-ghost use Rattle.std.specs.Prelude.{◌≡◌, ◌≤◌, ◌<◌, ◌++◌, ◌∷◌, [], None, not, map, IfOk, OnOk, length};
-ghost use Rattle.std.specs.Prelude.{vec_len};
-ghost use Rattle.css_syntax.specs.Statements.{next_statement};
+ghost use Rattle.std.specs.Prelude.{◌≡◌, ◌≤◌, ◌++◌, ◌∷◌, [], ℕ, Bool, List, true, map, IfOk, length};
 ghost use Rattle.css_sheet.specs.SheetItems.{sheet_items};
-ghost use Rattle.css_sheet.specs.ReaderViews.{level_of, levels_of, left_of, is_inside, to_come};
-ghost use Rattle.css_sheet.specs.ReaderViews.{conditions_of, condition_at, GivesItem, Steps};
-ghost use Rattle.css_sheet.specs.ReaderViews.{end_of, places_now};
+ghost use Rattle.css_sheet.specs.ReaderViews.{level_of, to_come};
+ghost use Rattle.css_sheet.specs.ReaderViews.{conditions_of, condition_at, GivesItem, Leaves, Steps};
+ghost use Rattle.css_sheet.specs.ReaderViews.{end_of, places_now, Shrinks};
+ghost use Rattle.css_sheet.specs.SheetOrder.{all_hold};
+ghost use Rattle.css_sheet.specs.SheetRuleViews.{Answers, StepsWhere};
 ghost use Rattle.css_sheet.specs.Places.{prelude_in, block_length, places_by, places_of};
 ghost use Rattle.css_syntax.specs.Views.{statement_of};
 
@@ -21,11 +21,13 @@ const DEEPEST: usize = 64;
 
 /// What a step of the reader does.
 #[derive(Clone, Copy)]
-enum Step<'a> {
+pub(crate) enum Step<'a> {
     /// It read an item.
     Found(SheetPart<'a>),
-    /// It entered a group rule or left one.
-    Moved,
+    /// It entered this group rule.
+    Entered(Level<'a>),
+    /// It left a group rule.
+    Left,
     /// Nothing is left.
     Ended,
 }
@@ -59,7 +61,8 @@ fn block_len(statement: &Statement<'_>) -> usize
 impl<'a> SheetReader<'a> {
     /// Returns a reader at the start of a sheet. Allocates nothing.
     pub fn new(alloc: Global, text: &'a str) -> SheetReader<'a>
-        ensures { to_come result ≡ sheet_items text.now }
+        ensures items { to_come result ≡ sheet_items text.now }
+        ensures levels { conditions_of result ≡ [] }
     {
         SheetReader {
             levels: Vec::new(alloc),
@@ -106,16 +109,15 @@ impl<'a> SheetReader<'a> {
         }
     }
 
-    /// Leaves the innermost group rule, at its end.
+    /// Leaves the innermost group rule, whatever is left of it.
     fn leave(&mut self) -> Step<'a>
-        requires { next_statement (is_inside self.old) (left_of self.old) ≡ None }
-        ensures { Steps self.old result self.new }
+        ensures { Leaves self.old result self.new }
     {
         match self.levels.pop() {
             Some(level) => {
                 self.rest = level.after;
                 self.end = level.after_end;
-                Step::Moved
+                Step::Left
             }
             None => Step::Ended,
         }
@@ -131,16 +133,17 @@ impl<'a> SheetReader<'a> {
         let places = self.find(&found);
         match group_of(&found.part.statement) {
             Some(group) if self.levels.len() < DEEPEST => {
-                self.levels.push(Level {
+                let level = Level {
                     name: group.name,
                     prelude: group.prelude,
                     after: found.rest,
                     after_end: self.end,
                     places,
-                })?;
+                };
+                self.levels.push(level)?;
                 self.rest = group.text;
                 self.end = places.block + group.text.len();
-                Ok(Step::Moved)
+                Ok(Step::Entered(level))
             }
             _ => {
                 self.rest = found.rest;
@@ -150,13 +153,32 @@ impl<'a> SheetReader<'a> {
         }
     }
 
+    /// Takes a step, and leaves at once a group rule that does not hold. Each is asked about once, by
+    /// its name and its prelude.
+    pub(crate) fn step_where<C: Fn(&str, &str) -> bool>(
+        &mut self,
+        holds: &C,
+    ) -> Result<Step<'a>, AllocError>
+        requires { C.IsAlwaysCallable holds.now }
+        ensures size { IfOk result (λ step. Shrinks self.old step self.new) }
+        ensures rules { (answers : List ℕ → List ℕ → Bool) → Answers (C.post holds.now) answers
+            → all_hold answers (conditions_of self.old) ≡ true
+            → IfOk result (λ step. StepsWhere answers self.old step self.new) }
+    {
+        let step = self.step()?;
+        match step {
+            Step::Entered(level) if !holds(level.name, level.prelude) => Ok(self.leave()),
+            _ => Ok(step),
+        }
+    }
+
     /// Reads the next item: a statement that is no group rule. Returns `None` at the end of the
     /// sheet. Fails only if an allocation fails; after an error the reader is of no use.
     pub fn read_next(&mut self) -> Result<Option<SheetPart<'a>>, AllocError>
         ensures { IfOk result (λ item. GivesItem self.old item self.new) }
     {
         let mut step = self.step()?;
-        'moves: while matches!(step, Step::Moved) {
+        'moves: while matches!(step, Step::Entered(_) | Step::Left) {
             step = self.step()?;
         }
         match step {

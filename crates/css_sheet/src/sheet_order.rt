@@ -1,32 +1,16 @@
 //! The rules of a sheet in the order of the cascade.
 ghost use Rattle.std.specs.Prelude.{◌≡◌, ◌≤◌, ◌<◌, ℕ, Bool, List, IfErr, IfOk, OnOk, map};
-ghost use Rattle.css_sheet.specs.ReaderViews.{level_of, condition_at};
-ghost use Rattle.css_sheet.specs.SheetOrder.{all_hold as all_hold_by, cascade_rules, source_rules};
+ghost use Rattle.css_sheet.specs.SheetOrder.{cascade_rules, source_rules};
 ghost use Rattle.css_sheet.specs.SheetOrder.{declarations_in, rule_counts, weight};
 ghost use Rattle.css_sheet.specs.SheetRuleViews.{Answers, GathersAll, sheet_rule_of};
 ghost use Rattle.css_sheet.specs.declared.sheet_error.SheetError.TheVariants.{TooManyDeclarations};
 
 use crate::gathering::Gathered;
+use crate::reader::Step;
 use crate::sheet_error::SheetError;
 use crate::sheet_rules::SheetRule;
-use crate::state::{Level, SheetReader};
+use crate::state::SheetReader;
 use std::alloc::Global;
-
-/// Whether all of these group rules hold.
-fn all_hold<C: Fn(&str, &str) -> bool>(levels: &[Level<'_>], holds: &C) -> bool
-    requires { C.IsAlwaysCallable holds.now }
-    ensures { (answers : List ℕ → List ℕ → Bool) → Answers (C.post holds.now) answers
-        → result ≡ all_hold_by answers (map (λ level. condition_at (level_of level)) levels.now) }
-{
-    let mut rest = levels;
-    'levels: while let [level, after @ ..] = rest {
-        if !holds(level.name, level.prelude) {
-            return false;
-        }
-        rest = after;
-    }
-    true
-}
 
 /// Reads the rules of a sheet, as they stand there.
 fn gather<'a, C: Fn(&str, &str) -> bool>(
@@ -44,12 +28,13 @@ fn gather<'a, C: Fn(&str, &str) -> bool>(
         left: most,
     };
     let mut reader = SheetReader::new(alloc, text);
-    'items: while let Some(part) = reader.read_next()? {
-        if all_hold(reader.levels(), holds) {
-            gathered.push_statement(alloc, &part.statement)?;
+    'steps: loop {
+        match reader.step_where(holds)? {
+            Step::Found(part) => gathered.push_statement(alloc, &part.statement)?,
+            Step::Entered(_) | Step::Left => {}
+            Step::Ended => return Ok(gathered),
         }
     }
-    Ok(gathered)
 }
 
 /// Reads the style rules of a sheet, in the order of the cascade: by specificity, and as they stand
@@ -57,9 +42,10 @@ fn gather<'a, C: Fn(&str, &str) -> bool>(
 ///
 /// Of a rule set there is one rule for each selector that is one of level 3. A rule set with a part
 /// that is no selector, or without a declaration, has none. A rule in group rules such as `@media`
-/// is there if all of them hold: `holds` is asked about the name of each, without the `@`, and its
-/// prelude, again for each statement in it. So layers are conditions, and in what order they come
-/// makes no difference; nor does `!important`.
+/// is there if all of them hold: `holds` is asked once about each, by its name without the `@` and
+/// its prelude, and about none in one that does not hold. In more than 64 group rules no rule is
+/// read. A layer is a condition like others: the order of layers makes no difference, nor does
+/// `!important`.
 ///
 /// Fails if the rules hold more than `most` declarations, or if an allocation fails. The
 /// declarations of a rule set count once for each of its rules, though none is copied.

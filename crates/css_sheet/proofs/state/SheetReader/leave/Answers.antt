@@ -1,25 +1,23 @@
-use Rattle.std.proofs.Common.{◌≡◌, ◌≤◌, ◌∙◌, ap, arith, length, List, [], false}
-use Rattle.css_sheet.specs.declared.state.Level.{Level}
-use Rattle.css_sheet.specs.ReaderViews.{still}
-use Rattle.css_sheet.proofs.SheetSteps.{texts, leave-some, leave-none, no_levels}
+use Rattle.std.proofs.Common.{◌≡◌, ◌∙◌, sym, ap, arith, refl, length}
+use Rattle.std.proofs.lemmas.List.{nil_from_length, append-nil}
+use Rattle.css_sheet.specs.ReaderViews.{level_of}
+use Rattle.css_sheet.proofs.SheetSteps.{texts, map-last}
 use Rattle.css_sheet.proofs.state.SheetReader.leave.Goals as goal
 
 pub returns-in-Some : goal.returns-in-Some
 returns-in-Some c =
-    let old = c.args.self.now in
-    let few : length old.levels.items ≤ 64 = omega (arith, old.few, old.levels.ok.0) in
-    leave-some old.levels.items c.pop.new.self.items c.in-Some.level old.end old.rest.now
-    c.in-Some.ensures.items few c.requires
+    let level = c.in-Some.level in
+    record {
+      level = level_of level;
+      levels = ap texts c.in-Some.ensures.items ∙ map-last level_of c.pop.new.self.items level;
+      text = refl;
+      ends = refl;
+    }
 
 pub returns-in-None : goal.returns-in-None
 returns-in-None c =
-    let old = c.args.self.now in
-    let none : length old.levels.items ≡ 0 =
-    omega (arith, c.in-None.ensures.cases.0, old.levels.ok.0) in
-    let first : still (texts old.levels.items) 64 false [] old.end old.rest.now ≡ [] =
-    leave-none old.levels.items old.end old.rest.now none c.requires in
-    let same : c.pop.new.self.items ≡ old.levels.items =
-    no_levels old.levels.items c.pop.new.self.items none c.in-None.ensures.items in (
-      first,
-      ap (λ (ls : List Level). still (texts ls) 64 false [] old.end old.rest.now) same ∙ first,
-    )
+    let old = c.args.self.now.levels.items in
+    let none : length old ≡ 0 = omega (arith, c.in-None.ensures.cases.0, c.args.self.now.levels.ok.0) in
+    let same : c.pop.new.self.items ≡ old =
+    sym (c.in-None.ensures.items ∙ append-nil c.pop.new.self.items) in
+    (ap texts (nil_from_length old none), ap texts (same ∙ nil_from_length old none), refl, refl)
