@@ -1,25 +1,28 @@
 -- Slots of texts, of which one is joined after another.
 -- Serves `index::texts::Texts`.
-use Rattle.std.proofs.Common.{◌≡◌, ◌≢◌, ℕ, ◌<◌, ◌⊎◌, inl, inr, List, [], ◌∷◌, ◌++◌, Bool, true, false, cond, Option, None, Some, length, map, get_or, refl, sym, ap, ◌∙◌, subst, arith, Bor}
+use Rattle.std.proofs.Common.{◌≡◌, ◌≢◌, ℕ, ◌<◌, ◌⊎◌, inl, inr, List, [], ◌∷◌, ◌++◌, Bool, true, false, cond, Option, None, Some, length, map, get_or, refl, sym, ap, ◌∙◌, subst, arith, Bor, ◌*◌, ◌/◌, ◌%◌, ◌^◌, ◌-◌}
 use Rattle.std.specs.List.{Contains, All}
 use Rattle.std.specs.BTreeMap.{BTreeMap, get_by, is_at, UpdatesBy}
 use Rattle.std.specs.Cmp.Lexicographic.{slice_cmp}
 use Rattle.std.specs.Map.{lookup}
 use Rattle.std.specs.Map.Iter.{deref_pair}
 use Rattle.std.specs.Ordering.{nat_cmp}
+use Rattle.std.specs.Int.Bits.{bit_or}
 use Rattle.std.specs.Prelude.{bytes_eq, slice_set, replicate}
 use Rattle.std.proofs.lemmas.Bool.{false≢true}
 use Rattle.std.proofs.lemmas.List.{get_or-set_same, get_or-set_other, length-set, length-replicate, get_or-replicate}
 use Rattle.std.proofs.lemmas.List.Elements.{Contains-append_left, Contains-append_right, Contains-append_cases}
 use Rattle.std.proofs.lemmas.Map.Text.{is_eq-slice_cmp}
 use Rattle.std.proofs.lemmas.Slice.Eq.{bytes_eq-Decides}
-use Rattle.std.proofs.Math.Nat.{mod-lt}
+use Rattle.std.proofs.lemmas.Nat.{and_le_r}
 use Rattle.simplecss.proofs.Adding.{contains_none, contains_one}
 use Rattle.simplecss.proofs.LastIndices.{changed_text}
 use Rattle.simplecss.proofs.ReadIndices.{Read, found, got}
 use Rattle.simplecss.specs.declared.index.texts.Slot.{Slot}
 use Rattle.simplecss.specs.declared.index.texts.Slot.TheVariants.{Empty, One, Several}
-use Rattle.simplecss.specs.internal.TextIndices.{index_for_text, place_of, slot_of, IsOne, IsJoined, IsPut, AreTold}
+use Rattle.simplecss_selector.specs.KeyBits.{number_from, Covers, covers}
+use Rattle.simplecss_selector.proofs.KeyBitLemmas.{covers_left, covers_right, covers_more, covers_test}
+use Rattle.simplecss.specs.internal.TextIndices.{index_for_text, place_of, slot_of, mark_of, IsOne, IsJoined, IsPut, AreTold, AreMarked}
 
 -- what a slot says of a text with this index
 abbrev IsTold : Slot → List ℕ → Option ℕ → Type 0
@@ -99,6 +102,12 @@ joined_other (One known at) new text other index found (inr is) apart told =
     several new other found is
 joined_other Several new text other index found is apart told = several new other found is
 
+-- a place is among the slots
+place_within : (count : ℕ) (text : List ℕ) → 0 < count → place_of count text < count
+place_within count text some =
+    let most = and_le_r (number_from 0 text * 11400714819323198485 % 2 ^ 64 / 2 ^ 32) (count - 1) in
+    omega (arith, some, most)
+
 same_or_other : (i j : ℕ) → (i ≡ j) ⊎ (i ≢ j)
 same_or_other i j = grind arith
 
@@ -111,7 +120,7 @@ module _ (old new : List Slot) (text : List ℕ) (index : ℕ) (before after : L
   place = place_of (length old) text
 
   within : place < length old
-  within = mod-lt _ there
+  within = place_within (length old) text there
 
   size : length new ≡ length old
   size = ap length is.1 ∙ length-set old place is.0
@@ -196,7 +205,7 @@ none_told slots count is some text = (
     empty =
         ap (λ xs. get_or xs (place_of (length slots) text) Several) is
         ∙ get_or-replicate count (place_of (length slots) text) Empty Several
-        (subst (λ n. place_of n text < count) (sym size) (mod-lt _ some))
+        (subst (λ n. place_of n text < count) (sym size) (place_within count text some))
 
 -- slots stay as many
 pub still_some : (old new : List Slot) (text : List ℕ) (index : ℕ) → 0 < length old
@@ -302,3 +311,24 @@ module _ (old new : BTreeMap (Bor (List ℕ)) ℕ) (index : ℕ) (text : List �
       → index_for_text new other ≡ index_for_text old other
   changed_others other apart = elim (changed_text old new index text other updates)
       [ inl h ↦ absurd (apart h.0) | inr h ↦ h.1 ]
+
+  -- and its mark is added
+  pub changed_marks : (bits : ℕ) → AreMarked bits (index_for_text old)
+      → AreMarked (bit_or bits (mark_of text)) (index_for_text new)
+  changed_marks bits marked other at is =
+      elim (changed_text old new index text other updates) [
+        | inl h ↦ subst (λ t. Covers (bit_or bits (mark_of text)) (mark_of t)) h.0
+            (covers_right bits (mark_of text))
+        | inr h ↦ covers_more (bit_or bits (mark_of text)) bits (mark_of other)
+            (covers_left bits (mark_of text)) (marked other at (sym h.1 ∙ is))
+      ]
+
+-- a text without a mark has no index
+pub unmarked_none : (marks : ℕ) (index_of : List ℕ → Option ℕ) (text : List ℕ)
+    → AreMarked marks index_of → covers marks (mark_of text) ≡ false → index_of text ≡ None
+unmarked_none marks index_of text marked not = at (index_of text) refl
+  where
+    at : (r : Option ℕ) → index_of text ≡ r → r ≡ None
+    at None is = refl
+    at (Some index) is = absurd (false≢true
+        (sym not ∙ covers_test marks (mark_of text) (marked text index is)))

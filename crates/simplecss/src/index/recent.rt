@@ -4,6 +4,7 @@ ghost use Rattle.std.specs.Option.{option_map};
 ghost use Rattle.simplecss.specs.Recents.{IsFound};
 
 use super::rule_index::RuleIndex;
+use super::texts::word_of;
 use std::alloc::{AllocError, Global};
 use std::marker::Model;
 use std::snapshot::Snapshot;
@@ -92,17 +93,6 @@ impl<'a> Model for Recent<'a> {
     ghost view = { λ recent. recent.index.value };
 
     ghost invariant = { λ recent. All (IsSlotOf recent.index.value) recent.slots.items };
-}
-
-/// Returns a number for a text, by its length and its first byte.
-#[inline(always)]
-fn word_of(text: &str) -> usize
-    ensures { result < 64 }
-{
-    match text.as_bytes() {
-        [] => 0,
-        [first, ..] => (text.len() + usize::from(*first) * 7) % 64,
-    }
 }
 
 /// Returns the number of the slot for a name and a class value.

@@ -3,12 +3,15 @@ ghost use Rattle.std.specs.Prelude.{◌≡◌, ◌<◌, ℕ, List, length, IfOk,
 ghost use Rattle.std.specs.BTreeMap.{UpdatesBy};
 ghost use Rattle.std.specs.Cmp.Lexicographic.{slice_cmp};
 ghost use Rattle.std.specs.Ordering.{nat_cmp};
-ghost use Rattle.simplecss.specs.internal.TextIndices.{index_for_text, place_of, slot_of};
-ghost use Rattle.simplecss.specs.internal.TextIndices.{IsJoined, IsPut, AreTold};
-ghost use Rattle.simplecss_selector.specs.KeyBits.{number_from};
+ghost use Rattle.simplecss.specs.internal.TextIndices.{index_for_text, place_of, slot_of, mark_of};
+ghost use Rattle.simplecss.specs.internal.TextIndices.{word_of, IsJoined, IsPut, AreTold, AreMarked};
+ghost use Rattle.simplecss_selector.specs.KeyBits.{number_from, covers};
 
 use std::alloc::{AllocError, Global};
 use std::collections::BTreeMap;
+
+/// How many slots a table has at first.
+const FEWEST: usize = 32;
 
 /// What a table says of the texts that lead to a slot of it.
 #[derive(Clone, Copy, Debug, Drop)]
@@ -29,7 +32,30 @@ pub(crate) struct Texts<'a> {
     pub(crate) indices: BTreeMap<&'a str, usize>,
     /// What the map says, by the places of the texts; without slots, nothing.
     slots: Vec<Slot<'a>>,
+    /// The marks of the texts. Most texts without an index have none of them, and cost no more.
+    marks: u64,
     ghost told: { AreTold slots.items (index_for_text indices) },
+    ghost marked: { AreMarked marks (index_for_text indices) },
+}
+
+/// Returns a number for a text, by its length and its first byte.
+#[inline(always)]
+pub(crate) fn word_of(text: &str) -> usize
+    ensures value { result ≡ word_of text.now }
+    ensures within { result < 64 }
+{
+    match text.as_bytes() {
+        [] => 0,
+        [first, ..] => (text.len() + usize::from(*first) * 7) % 64,
+    }
+}
+
+/// Returns one of 64 bits for a text. Equal texts have the same bit; different texts may share one.
+#[inline(always)]
+fn mark_of(text: &str) -> u64
+    ensures { result ≡ mark_of text.now }
+{
+    1 << word_of(text)
 }
 
 /// Returns a number for a text.
@@ -51,7 +77,7 @@ fn place_of(text: &str, count: usize) -> usize
     ensures value { result ≡ place_of count text.now }
     ensures within { result < count }
 {
-    (number_of(text).wrapping_mul(0x9E37_79B9_7F4A_7C15) >> 32) % count
+    (number_of(text).wrapping_mul(0x9E37_79B9_7F4A_7C15) >> 32) & (count - 1)
 }
 
 /// Returns what becomes of a slot when a text of it gets an index.
@@ -104,7 +130,16 @@ impl<'a> Texts<'a> {
         Texts {
             indices: BTreeMap::new(alloc),
             slots: Vec::new(alloc),
+            marks: 0,
         }
+    }
+
+    /// Whether the text may have an index, by its mark.
+    #[inline(always)]
+    fn is_marked(&self, text: &str) -> bool
+        ensures { result ≡ covers self.now.marks (mark_of text.now) }
+    {
+        self.marks | mark_of(text) == self.marks
     }
 
     /// Returns the slot of a text.
@@ -124,6 +159,9 @@ impl<'a> Texts<'a> {
     pub(crate) fn get(&self, text: &str) -> Option<usize>
         ensures { result ≡ index_for_text self.now.indices text.now }
     {
+        if !self.is_marked(text) {
+            return None;
+        }
         match self.slot(text) {
             Slot::Empty => None,
             Slot::One(known, index) => { if known == text { Some(index) } else { None } }
@@ -143,10 +181,11 @@ impl<'a> Texts<'a> {
             (Some index)) }
     {
         let known = self.indices.insert(text, index)?;
-        let count = self.indices.len();
-        if count >= self.slots.len() / 3 {
+        self.marks |= mark_of(text);
+        let count = self.slots.len();
+        if self.indices.len() >= count / 3 {
             let alloc = *self.slots.allocator();
-            self.slots = slots_of(alloc, &self.indices, count.saturating_mul(8).max(1));
+            self.slots = slots_of(alloc, &self.indices, count.saturating_mul(2).max(FEWEST));
         } else {
             put(&mut self.slots, text, index);
         }
