@@ -181,6 +181,14 @@ module _ {V S : Type 0} (f : V → List S) (IsMet : List S → Type 0) (vs : Lis
     keeps_unmet h =
         keep_no Met indices now kept i (get_or now i 0) before lt still (λ x. h (subst IsMet at x))
 
+    -- what is so of each index of the list is so of the one that is read
+    pub read_met : (IsKnown : ℕ → Type 0)
+        → ((index : ℕ) → Contains indices index → IsKnown index → Met index)
+        → IsKnown (get_or now i 0) → IsMet (f (get_or vs (get_or now i 0) v))
+    read_met IsKnown all known =
+        subst IsMet at (all (get_or now i 0)
+        (subst (Contains indices) (sym here) (Contains-get_or indices i 0 lt)) known)
+
     -- and it was tested
     pub tested_more : (cost : List S → ℕ) (old tests new : ℕ)
         → tests ≤ old + sum_by (λ index. cost (get_or (map f vs) index [])) (take i indices)

@@ -26,4 +26,5 @@ pub mod Reports
 pub mod NeededNumbers
 pub mod Counting
 pub mod OpenPathLemmas
+pub mod OnlyKeyLemmas
 pub mod PlaceLemmas

@@ -310,6 +310,13 @@ open_is numbers keys listed needed selector r all are h =
     (same ∙ e)))
 
 -- what a link has is needed by its selector
+-- the selector of a link at an index
+pub link_selector : (links : List Link) (index : ℕ) (link : Link) → index < length links
+    → selector_at (selectors_of links) index ≡ (get_or links index link).selector.value
+link_selector [] index link lt = absurd (omega (arith, lt))
+link_selector (x ∷ xs) zero link lt = refl
+link_selector (x ∷ xs) (suc index) link lt = link_selector xs index link (omega (arith, lt))
+
 pub link_needs : (needed : NeededKeys) (links : List Link) (selectors : List (List Component))
     (index : ℕ) (link : Link) → AreNeeded needed links → selectors_of links ≡ selectors
     → index < length links → link ≡ get_or links index link
@@ -317,19 +324,13 @@ pub link_needs : (needed : NeededKeys) (links : List Link) (selectors : List (Li
     (ancestor_keys (selector_at selectors index))
 link_needs needed links selectors index link are is lt read =
     let selector : link.selector.value ≡ selector_at selectors index =
-    ap (λ l. l.selector.value) read ∙ sym (mapped links index link lt)
+    ap (λ l. l.selector.value) read ∙ sym (link_selector links index link lt)
     ∙ ap (λ ss. selector_at ss index) is in
     subst (λ keys. AreNumbersOf keys link.needed.items (ancestor_keys (selector_at selectors index)))
     (are.keys ∙ ap needed_keys is)
     (subst (λ s. AreNumbersOf (keys_of needed) link.needed.items (ancestor_keys s)) selector
     (subst (λ l. AreNumbersOf (keys_of needed) l.needed.items (ancestor_keys l.selector.value))
     (sym read) (are.have index link lt)))
-  where
-    mapped : (ls : List Link) (k : ℕ) (l : Link) → k < length ls
-        → selector_at (selectors_of ls) k ≡ (get_or ls k l).selector.value
-    mapped [] k l lt = absurd (omega (arith, lt))
-    mapped (x ∷ xs) zero l lt = refl
-    mapped (x ∷ xs) (suc k) l lt = mapped xs k l (omega (arith, lt))
 
 -- an index after the last has no selector, and needs nothing
 pub none_open : (links : List Link) (selectors : List (List Component)) (keys : List Key)

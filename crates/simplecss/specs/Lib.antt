@@ -17,6 +17,7 @@ pub use Rattle.simplecss_declaration.specs.ValueStarts
 pub use Rattle.simplecss_selector.specs.OperatorViews
 pub use Rattle.simplecss_selector.specs.TokenViews
 pub use Rattle.simplecss_selector.specs.Keys
+pub use Rattle.simplecss_selector.specs.Exact
 pub use Rattle.simplecss_selector.specs.KeyViews
 pub use Rattle.simplecss_selector.specs.KeyBits
 pub use Rattle.simplecss_selector.specs.AncestorKeys

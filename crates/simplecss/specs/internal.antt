@@ -6,4 +6,5 @@ pub mod SharedBlocks
 pub mod TextIndices
 pub mod LastByWanted
 pub mod NeededKeys
+pub mod OnlyKeys
 pub mod Counted

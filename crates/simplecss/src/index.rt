@@ -7,6 +7,7 @@ mod last_by_wanted;
 pub mod laws;
 mod link;
 mod needed_keys;
+mod only_key;
 mod open_keys;
 mod open_path;
 mod recent;

@@ -28,8 +28,8 @@ pub use place::Place;
 pub use sheet::{Reading, Rule, SheetError, Statement, StatementReader, StyleSheet, find_skipped};
 pub use simplecss_declaration::{Declaration, DeclarationTokenizer};
 pub use simplecss_selector::{
-    AttributeOperator, Element, Key, Keyed, ListRefusal, PseudoClass, Selector, SelectorToken,
-    SelectorTokenizer, Tests, Warnings, refused_pos,
+    AttributeOperator, Element, Exact, Key, Keyed, ListRefusal, PseudoClass, Selector,
+    SelectorToken, SelectorTokenizer, Tests, Warnings, refused_pos,
 };
 pub use simplecss_text::report::{Kept, Refusal, Report, Silent, Skipped, Why};
 pub use simplecss_text::{Error, TextPos, stream};

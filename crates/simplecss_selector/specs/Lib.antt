@@ -13,6 +13,7 @@ pub mod EqualityLaws
 pub mod TokenViews
 pub mod SelectorTokenizers
 pub mod Keys
+pub mod Exact
 pub mod KeyViews
 pub mod Wanted
 pub mod WantedViews

@@ -1,11 +1,12 @@
 -- The numbers of the keys that selectors need of ancestors.
-use Rattle.std.specs.Prelude.{◌≡◌, ◌<◌, ℕ, List, Some, length, map}
+use Rattle.std.specs.Prelude.{◌≡◌, ◌<◌, ℕ, List, Some, IsTrue, length, map}
 use Rattle.std.specs.List.{All}
 use Rattle.simplecss_selector.specs.AncestorKeys.{ancestor_keys}
 use Rattle.simplecss_selector.specs.Keys.{Key}
 use Rattle.simplecss_selector.specs.KeyViews.{key_value}
 use Rattle.simplecss.specs.OpenPaths.{numbered, needed_keys}
 use Rattle.simplecss.specs.internal.LastByKey.{last_for}
+use Rattle.simplecss.specs.internal.OnlyKeys.{IsOnlyKey}
 use Rattle.simplecss.specs.internal.Chains.{selectors_of, AreChained}
 use Rattle.simplecss.specs.declared.index.last_by_key.LastByKey.{LastByKey}
 use Rattle.simplecss.specs.declared.index.last_by_wanted.LastByWanted.{LastByWanted}
@@ -39,7 +40,13 @@ pub record AreNeeded (needed : NeededKeys) (links : List Link) : Type 0 where
   pub have : All (λ link. AreNumbersOf (keys_of needed) link.needed.items
       (ancestor_keys link.selector.value)) links
 
--- the links of an index: they are in chains, and have the numbers of the keys that they need
+-- of each link that says so the selector requires nothing but its key
+abbrev pub AreOnly : List Link → Type 0
+AreOnly links = All (λ link. IsTrue link.is_only_key → IsOnlyKey link.selector.value) links
+
+-- the links of an index: they are in chains, have the numbers of the keys that they need, and say of
+-- which selectors nothing but the key is required
 pub record AreIndexed (lasts : LastByWanted) (needed : NeededKeys) (links : List Link) : Type 0 where
   pub chained : AreChained lasts links
   pub numbered : AreNeeded needed links
+  pub only : AreOnly links

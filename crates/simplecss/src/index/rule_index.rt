@@ -1,12 +1,14 @@
 //! An index of rules by the keys of their selectors.
 ghost use Rattle.std.specs.Prelude.{◌≡◌, ℕ, ◌+◌, ◌<◌, ◌≤◌, ◌∷◌, ◌++◌, [], IfOk, OnOk};
-ghost use Rattle.std.specs.Prelude.{◌↔◌, All, Contains, IsTrue, OnErr, length, map};
+ghost use Rattle.std.specs.Prelude.{◌↔◌, All, Contains, IsTrue, IfSome, OnErr, length, map};
 ghost use Rattle.std.specs.List.{sum_by};
 ghost use Rattle.std.specs.Option.{option_map};
 ghost use Rattle.simplecss_selector.specs.KeyBits.{CoversAncestors};
+ghost use Rattle.simplecss_selector.specs.Exact.{ReportsOnlyKeys};
 ghost use Rattle.simplecss_selector.specs.Wanted.{Near, IsNear};
 ghost use Rattle.simplecss.specs.internal.Chains.{selectors_of, IsLastBefore, AreChained};
-ghost use Rattle.simplecss.specs.internal.NeededKeys.{AreNeeded};
+ghost use Rattle.simplecss.specs.internal.NeededKeys.{AreNeeded, AreOnly};
+ghost use Rattle.simplecss.specs.internal.OnlyKeys.{IsOnlyKey};
 ghost use Rattle.simplecss.specs.OpenPaths.{needed_keys, are_open, is_kept, open_for, IsOpenTo};
 ghost use Rattle.simplecss.specs.SelectorIndices.{key_at, selector_at};
 ghost use Rattle.simplecss.specs.Matching.{AreMatches, most_tests, is_covered, tested_for};
@@ -19,7 +21,7 @@ use super::needed_keys::NeededKeys;
 use super::open_path::OpenPath;
 use super::recent::Recent;
 use crate::HasSelector;
-use simplecss_selector::{Keyed, Tests};
+use simplecss_selector::{Exact, Keyed, Tests};
 use std::alloc::{AllocError, Global};
 use std::marker::Model;
 
@@ -36,8 +38,10 @@ fn push_links<'a, T: HasSelector<'a>>(
 ) -> Result<(), AllocError>
     requires chained { AreChained lasts.old links.old.items }
     requires needed { AreNeeded needed.old links.old.items }
+    requires only { AreOnly links.old.items }
     ensures chained { OnOk result (AreChained lasts.new links.new.items) }
     ensures needed { OnOk result (AreNeeded needed.new links.new.items) }
+    ensures only { OnOk result (AreOnly links.new.items) }
     ensures selectors { OnOk result (selectors_of links.new.items
         ≡ selectors_of links.old.items ++ map T.selector_in rules.now) }
 {
@@ -47,8 +51,9 @@ fn push_links<'a, T: HasSelector<'a>>(
         keys.clear();
         selector.push_ancestor_keys(&mut keys)?;
         let numbers = needed.numbers_of(alloc, &keys)?;
-        let earlier = lasts.replace(selector.wanted(), links.len())?;
-        links.push(Link::new(earlier, numbers, selector))?;
+        let wanted = selector.wanted();
+        let earlier = lasts.replace(wanted, links.len())?;
+        links.push(Link::new(earlier, numbers, selector, wanted))?;
     }
     Ok(())
 }
@@ -158,6 +163,17 @@ impl<'a> RuleIndex<'a> {
         }
     }
 
+    /// Whether the rule at this index requires nothing but its key.
+    #[inline(always)]
+    pub(crate) fn is_only_key(&self, index: usize) -> bool
+        ensures { IsTrue result → IsOnlyKey (selector_at self.now index) }
+    {
+        match self.links.get(index) {
+            Some(link) => link.is_only_key,
+            None => false,
+        }
+    }
+
     /// Whether a path, if there is one, keeps the rule at this index: open elements report each key
     /// that it needs of an element's ancestors.
     #[inline(always)]
@@ -236,7 +252,34 @@ impl<'a> RuleIndex<'a> {
             (AreMatches E.tree (E.node element.now) self.now indices.new.items) }
         ensures err { OnErr result (indices.new.items ≡ []) }
     {
-        self.matching_open_counted(rules, element, path, indices, &mut Tests::new())
+        self.matching_path(rules, element, path, None, indices, &mut Tests::new())
+    }
+
+    /// Does what [`RuleIndex::matching_open`] does for an element that reports no more than it
+    /// matches. A rule that requires nothing but its key is not tested.
+    pub fn matching_exact<T: HasSelector<'a>, E: Exact>(
+        &self,
+        rules: &[T],
+        element: &E,
+        path: &OpenPath<'_>,
+        indices: &mut Vec<usize>,
+    ) -> Result<(), AllocError>
+        requires index { self.now ≡ map T.selector_in rules.now }
+        requires path { path.now.selectors ≡ self.now }
+        requires open { IsOpenTo E.tree E.node E.reported path.now
+            (E.tree.parent (E.node element.now)) }
+        ensures matches { OnOk result
+            (AreMatches E.tree (E.node element.now) self.now indices.new.items) }
+        ensures err { OnErr result (indices.new.items ≡ []) }
+    {
+        self.matching_path(
+            rules,
+            element,
+            path,
+            Some(self),
+            indices,
+            &mut Tests::new(),
+        )
     }
 
     /// `matching_open`, with a count of the tests that were made.
@@ -262,11 +305,41 @@ impl<'a> RuleIndex<'a> {
         ensures err { OnErr result (indices.new.items ≡ []) }
         ensures untested { OnErr result (tests.new ≡ tests.old) }
     {
+        self.matching_path(rules, element, path, None, indices, tests)
+    }
+
+    /// `matching_open_counted`, and with the index itself `matching_exact`.
+    #[inline(always)]
+    fn matching_path<T: HasSelector<'a>, E: Keyed>(
+        &self,
+        rules: &[T],
+        element: &E,
+        path: &OpenPath<'_>,
+        known: Option<&RuleIndex<'_>>,
+        indices: &mut Vec<usize>,
+        tests: &mut Tests,
+    ) -> Result<(), AllocError>
+        requires index { self.now ≡ map T.selector_in rules.now }
+        requires path { path.now.selectors ≡ self.now }
+        requires open { IsOpenTo E.tree E.node E.reported path.now
+            (E.tree.parent (E.node element.now)) }
+        requires known { IfSome known (λ i. (i.now ≡ self.now)
+            × ReportsOnlyKeys E.tree (E.node element.now) (E.reported element.now)) }
+        ensures matches { OnOk result
+            (AreMatches E.tree (E.node element.now) self.now indices.new.items) }
+        ensures tests { OnOk result ((near : Near)
+            × IsNear E.tree E.node E.reported element.now near
+            × (tests.old + length (open_for near path.now) ≤ tests.new)
+            × (tests.new ≤ tests.old + sum_by (most_tests E.tree (E.node element.now))
+            (open_for near path.now))) }
+        ensures err { OnErr result (indices.new.items ≡ []) }
+        ensures untested { OnErr result (tests.new ≡ tests.old) }
+    {
         if let Err(error) = candidates_open(self, element, path, indices) {
             indices.clear();
             return Err(error);
         }
-        let kept = keep_matching(rules, element, indices, tests);
+        let kept = keep_matching(rules, element, known, indices, tests);
         indices.truncate(kept);
         Ok(())
     }
@@ -300,7 +373,7 @@ impl<'a> RuleIndex<'a> {
             indices.clear();
             return Err(error);
         }
-        let kept = keep_matching(rules, element, indices, tests);
+        let kept = keep_matching(rules, element, None, indices, tests);
         indices.truncate(kept);
         Ok(())
     }

@@ -8,7 +8,7 @@ use Rattle.simplecss.specs.Matching.{most_tests}
 use Rattle.simplecss.specs.SelectorIndices.{selector_at}
 use Rattle.simplecss.proofs.Keeping.{Keeps, Met, keep_none, keeps_met, keeps_unmet, keep_all, tested_more}
 use Rattle.simplecss.proofs.index.keep.keep_matching.Goals as goal
-use Rattle.simplecss.proofs.index.keep.keep_matching.Goals.{then-matches_counted, else-matches_counted}
+use Rattle.simplecss.proofs.index.keep.keep_matching.Goals.{then-is_match, else-is_match}
 
 pub indices-init : goal.indices-init
 indices-init g c =
@@ -26,26 +26,26 @@ indices-preserved g c =
     let lt : c.indices.i < length indices = c.indices-test.true in
     let same : length c.indices.indices ≡ length indices = c.indices.auto.indices in
     let before = c.indices.invariant.keeps in
-    let chosen = c.selector.ensures ∙ ap g.T.HasSelector.selector_in c.index-rules-index.is in
-    let keeps : Keeps (Met g.T.HasSelector.selector_in IsMet rules) indices c.if-matches_counted.indices
-    c.if-matches_counted.kept (c.indices.i + 1) = elim c.if-matches_counted.branch [
-      | then-matches_counted w ↦ rw (w.indices-is, w.kept-is) (keeps_met g.T.HasSelector.selector_in
+    let chosen = ap g.T.HasSelector.selector_in c.index-rules-index.is in
+    let keeps : Keeps (Met g.T.HasSelector.selector_in IsMet rules) indices c.if-is_match.indices
+    c.if-is_match.kept (c.indices.i + 1) = elim c.if-is_match.branch [
+      | then-is_match w ↦ rw (w.indices-is, w.kept-is) (keeps_met g.T.HasSelector.selector_in
           IsMet rules indices c.indices.indices c.indices.kept c.indices.i v before lt
           c.requires.within c.requires.ascending same
-          (subst IsMet chosen (w.if-matches_counted.ensures.answer.0 refl)))
-      | else-matches_counted w ↦ rw (w.indices-is, w.kept-is) (keeps_unmet g.T.HasSelector.selector_in
+          (subst IsMet chosen (w.if-is_match.ensures.answer.0 refl)))
+      | else-is_match w ↦ rw (w.indices-is, w.kept-is) (keeps_unmet g.T.HasSelector.selector_in
           IsMet rules indices c.indices.indices c.indices.kept c.indices.i v before lt
           c.requires.within (λ h. false≢true
-          (w.if-matches_counted.ensures.answer.1 (subst IsMet (sym chosen) h))))
+          (w.if-is_match.ensures.answer.1 (subst IsMet (sym chosen) h))))
     ] in
     record {
       keeps = keeps;
-      least = omega (arith, c.indices.invariant.least, c.matches_counted.ensures.at_least_one);
+      least = omega (arith, c.indices.invariant.least, c.is_match.ensures.at_least_one);
       tested = tested_more g.T.HasSelector.selector_in IsMet rules indices c.indices.indices
           c.indices.kept c.indices.i v before lt c.requires.within cost c.args.tests.now
-          c.indices.tests c.matches_counted.new.tests c.indices.invariant.tested
-          (subst (λ (s : List Component). c.matches_counted.new.tests ≤ c.indices.tests + cost s)
-          chosen c.matches_counted.ensures.at_most_by_stretches);
+          c.indices.tests c.is_match.new.tests c.indices.invariant.tested
+          (subst (λ (s : List Component). c.is_match.new.tests ≤ c.indices.tests + cost s)
+          chosen c.is_match.ensures.at_most);
     }
 
 pub returns-clause-exactly : goal.returns-clause-exactly

@@ -9,6 +9,7 @@ use Rattle.simplecss.specs.OpenPaths.{add_key}
 use Rattle.simplecss.specs.internal.NeededKeys.{keys_of, AreNumbersOf}
 use Rattle.simplecss.proofs.Chaining.{link_more}
 use Rattle.simplecss.proofs.NeededNumbers.{needed_push}
+use Rattle.simplecss.proofs.OnlyKeyLemmas.{only_push}
 use Rattle.simplecss.proofs.index.rule_index.push_links.Goals as goal
 
 pub loop-rule-preserved : goal.loop-rule-preserved
@@ -25,8 +26,8 @@ loop-rule-preserved g c =
     let index : c.len.result ≡ length links.items = omega (arith, c.len.ensures, links.ok.0) in
     let linked =
     link_more c.loop-rule.lasts c.replace.new.self links.items c.push.new.self.items c.new.result
-    c.len.result c.in_ok-earlier.earlier c.selector-selector.result.now (wanted_value c.wanted.result)
-    c.loop-rule.invariant.chained index c.wanted.ensures c.in_ok-earlier.ensures.known
+    c.len.result c.in_ok-earlier.earlier c.selector-selector.result.now (wanted_value c.wanted-wanted.result)
+    c.loop-rule.invariant.chained index c.wanted-wanted.ensures c.in_ok-earlier.ensures.known
     c.in_ok-earlier.ensures.taken c.new.ensures.earlier c.new.ensures.selector
     c.in_ok-push.ensures.items in
     let selector = c.selector-selector.result.now in
@@ -44,6 +45,8 @@ loop-rule-preserved g c =
           (subst (AreNumbersOf (keys_of c.numbers_of.new.self) c.in_ok-numbers.numbers.items) keys
           c.in_ok-numbers.ensures.numbers))
           c.new.ensures.selector c.in_ok-push.ensures.items;
+      only = only_push links.items c.push.new.self.items c.new.result selector c.loop-rule.invariant.only
+          c.new.ensures.selector c.new.ensures.only c.in_ok-push.ensures.items;
       selectors =
           linked.1 ∙ ap (λ ss. ss ++ c.selector-selector.result.now ∷ []) c.loop-rule.invariant.selectors
           ∙ append_assoc old (map g.T.HasSelector.selector_in (take i rules))

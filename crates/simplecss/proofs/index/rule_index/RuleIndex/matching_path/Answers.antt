@@ -1,4 +1,4 @@
-use Rattle.std.proofs.Common.{◌≡◌, ◌+◌, ◌<◌, ◌≤◌, ◌↔◌, ℕ, length, map, take, ap, sym, ◌∙◌, subst, refl}
+use Rattle.std.proofs.Common.{◌≡◌, ◌+◌, ◌<◌, ◌≤◌, ◌↔◌, ℕ, List, length, map, take, ap, sym, ◌∙◌, subst, refl}
 use Rattle.std.specs.List.{All, Contains, sum_by}
 use Rattle.std.specs.List.Sorted.{IsStrictlyIncreasing}
 use Rattle.std.proofs.lemmas.List.{length-map}
@@ -9,8 +9,10 @@ use Rattle.simplecss.specs.SelectorIndices.{selector_at}
 use Rattle.simplecss.proofs.Candidates.{kept_matches, kept_for, kept_within, sum_of_kept, number_of_kept}
 use Rattle.simplecss.specs.OpenPaths.{needed_keys, are_open, AreOpened}
 use Rattle.simplecss.proofs.OpenPathLemmas.{index_placed}
+use Rattle.simplecss_text.specs.Components.{Component}
+use Rattle.simplecss.proofs.OnlyKeyLemmas.{known_of, known_placed}
 use Rattle.simplecss.proofs.Keeping.{written_back}
-use Rattle.simplecss.proofs.index.rule_index.RuleIndex.matching_open_counted.Goals as goal
+use Rattle.simplecss.proofs.index.rule_index.RuleIndex.matching_path.Goals as goal
 
 pub keep_matching-kept-requires : goal.keep_matching-kept-requires
 keep_matching-kept-requires g c =
@@ -23,8 +25,20 @@ keep_matching-kept-requires g c =
       (
         subst IsStrictlyIncreasing (sym c.deref_mut.ensures.value)
             c.in_default.ensures.2.ascending,
+        (
         rw c.deref_mut.ensures.value
             (subst (λ n. All (λ index. index < n) c.candidates_open.new.indices.items) same within),
+        λ index there known.
+            let self : List (List Component) = c.args.self.now in
+            let h = known_of (λ i. i.now) c.args.known self _ c.requires.known index known in
+            subst (λ ss. HasPlacement g.E.Element.tree (selector_at ss index)
+            (g.E.Element.node c.args.element.now)) c.requires.index
+            (known_placed g.E.Element.tree g.E.Element.node g.E.Keyed.reported c.args.element.now
+            c.in_default.ensures.0 c.in_default.ensures.1 h.0
+            (are_open (needed_keys c.args.self.now) c.args.path.now.listed)
+            c.args.self.now c.candidates_open.new.indices.items c.in_default.ensures.2 index
+            (subst (λ xs. Contains xs index) c.deref_mut.ensures.value there) h.1),
+        ),
       ),
     )
 

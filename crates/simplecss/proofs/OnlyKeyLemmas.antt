@@ -1,0 +1,171 @@
+-- A selector that requires nothing but its key matches whatever has the key.
+-- Serves `index::keep::keep_matching` and `RuleIndex::matching_exact`.
+use Rattle.std.proofs.Common.{◌≡◌, ℕ, ◌+◌, ◌*◌, ◌<◌, ◌≤◌, List, [], ◌∷◌, ◌++◌, Option, Some, None, Bool, true, false, IsTrue, length, get_or, refl, sym, ap, ◌∙◌, subst, arith}
+use Rattle.std.specs.List.{Contains}
+use Rattle.std.proofs.lemmas.List.Elements.{All-push}
+use Rattle.std.specs.Option.{option_map}
+use Rattle.std.specs.Prelude.{bytes_eq, codes, ◌&&◌, IfSome, max}
+use Rattle.std.proofs.lemmas.Bool.{false≢true}
+use Rattle.std.proofs.lemmas.Slice.Eq.{bytes_eq-Decides}
+use Rattle.simplecss_text.specs.Components.{Component, Compound, Subselector, Operator, Combinator}
+use Rattle.simplecss_text.specs.Components.Subselector.{attribute, pseudo_class}
+use Rattle.simplecss_text.specs.Components.Operator.{exists, equals, has_word, begins_with}
+use Rattle.simplecss_text.specs.Components.Combinator.{none, descendant, child, adjacent}
+use Rattle.simplecss_selector.specs.Exact.{ReportsOnlyKeys}
+use Rattle.simplecss_selector.specs.Keys.{Key, Reported, HasKey, reports_key}
+use Rattle.simplecss_selector.specs.Keys.Key.{by_id, by_class, by_name, by_attribute, by_nothing}
+use Rattle.simplecss_selector.specs.Placements.{IsAncestor, HasName, Holds, Meets, Relates, HasPlacement, joined_length, longest_stretch}
+use Rattle.simplecss_selector.specs.Placements.IsAncestor.{is_parent, is_further}
+use Rattle.simplecss_selector.specs.Trees.{Tree}
+use Rattle.simplecss_selector.specs.Wanted.{Near, IsNear, reports_wanted}
+use Rattle.simplecss.specs.internal.OnlyKeys.{only_tree, only_has, IsOnlyKey, IsKnown}
+use Rattle.simplecss.specs.internal.NeededKeys.{AreOnly}
+use Rattle.simplecss.specs.internal.Chains.{selectors_of}
+use Rattle.simplecss.specs.declared.index.link.Link.{Link}
+use Rattle.simplecss.proofs.OpenPathLemmas.{link_selector}
+use Rattle.simplecss.specs.Matching.{AreKept, most_tests}
+use Rattle.simplecss.specs.SelectorIndices.{selector_at, key_at}
+
+no_ancestor : (m x : Key) → IsAncestor only_tree m x → ⊥
+no_ancestor m x (is_parent e) = absurd (cc)
+no_ancestor m x (is_further e above) = absurd (cc)
+
+-- a node that has only a key has no relative
+no_relative : (c : Combinator) (m x : Key) → Relates only_tree c m x → ⊥
+no_relative none m x h = h
+no_relative descendant m x h = no_ancestor m x h
+no_relative child m x h = absurd (cc)
+no_relative adjacent m x h = absurd (cc)
+
+module _ {Node : Type 0} (tree : Tree Node) (n : Node) where
+  name_met : (key : Key) (name : Option (List ℕ)) → HasName only_tree key name → HasKey tree n key
+      → HasName tree n name
+  name_met key None h has = tt
+  name_met (by_id text) (Some name) h has = absurd (false≢true h)
+  name_met (by_class word) (Some name) h has = absurd (false≢true h)
+  name_met (by_name known) (Some name) h has =
+      subst (λ x. IsTrue (tree.is_named n x)) ((bytes_eq-Decides known name).0 h) has
+  name_met (by_attribute known) (Some name) h has = absurd (false≢true h)
+  name_met by_nothing (Some name) h has = absurd (false≢true h)
+
+  same_held : (back : List ℕ → Operator) (known other name key : List ℕ)
+      → IsTrue (bytes_eq known other && bytes_eq name key)
+      → IsTrue (tree.has_attribute n key (back known))
+      → IsTrue (tree.has_attribute n name (back other))
+  same_held back known other name key h has =
+      at (bytes_eq known other) refl (bytes_eq name key) refl h
+    where
+      at : (a : Bool) → bytes_eq known other ≡ a → (b : Bool) → bytes_eq name key ≡ b
+          → IsTrue (a && b) → IsTrue (tree.has_attribute n name (back other))
+      at false e b f g = absurd (false≢true g)
+      at true e false f g = absurd (false≢true g)
+      at true e true f g =
+          subst (λ x. IsTrue (tree.has_attribute n x (back other)))
+          (sym ((bytes_eq-Decides name key).0 f))
+          (subst (λ t. IsTrue (tree.has_attribute n key (back t)))
+          ((bytes_eq-Decides known other).0 e) has)
+
+  attribute_met : (key : Key) (name : List ℕ) (operator : Operator)
+      → IsTrue (only_has key name operator) → HasKey tree n key
+      → IsTrue (tree.has_attribute n name operator)
+  attribute_met (by_id text) name exists h has = absurd (false≢true h)
+  attribute_met (by_id text) name (equals other) h has =
+      same_held equals text other name (codes "id") h has
+  attribute_met (by_id text) name (has_word other) h has = absurd (false≢true h)
+  attribute_met (by_id text) name (begins_with other) h has = absurd (false≢true h)
+  attribute_met (by_class word) name exists h has = absurd (false≢true h)
+  attribute_met (by_class word) name (equals other) h has = absurd (false≢true h)
+  attribute_met (by_class word) name (has_word other) h has =
+      same_held has_word word other name (codes "class") h has
+  attribute_met (by_class word) name (begins_with other) h has = absurd (false≢true h)
+  attribute_met (by_name known) name operator h has = absurd (false≢true h)
+  attribute_met (by_attribute known) name operator h has = absurd (false≢true h)
+  attribute_met by_nothing name operator h has = absurd (false≢true h)
+
+  holds_met : (key : Key) (s : Subselector) → Holds only_tree key s → HasKey tree n key
+      → Holds tree n s
+  holds_met key (attribute name operator) h has = attribute_met key name operator h has
+  holds_met key (pseudo_class class) h has = absurd (false≢true h)
+
+  meets_met : (key : Key) (compound : Compound) → Meets only_tree key compound
+      → HasKey tree n key → Meets tree n compound
+  meets_met key compound h has = (
+    name_met key compound.name h.0 has,
+    λ k d l. holds_met key (get_or compound.subselectors k d) (h.1 k d l) has,
+  )
+
+  -- what matches a node that has only the key matches one that has the key
+  pub only_placed : (key : Key) (cs : List Component) → HasPlacement only_tree cs key
+      → HasKey tree n key → HasPlacement tree cs n
+  only_placed key [] (nodes, h) has = absurd h
+  only_placed key (c ∷ cs) ([], h) has = absurd h
+  only_placed key (c ∷ []) (m ∷ [], (met, is)) has = (
+    n ∷ [],
+    (meets_met key c.compound (subst (λ k. Meets only_tree k c.compound) is met) has, refl),
+  )
+  only_placed key (c ∷ []) (m ∷ x ∷ xs, h) has = absurd h.1
+  only_placed key (c ∷ d ∷ cs) (m ∷ [], h) has = absurd h.1
+  only_placed key (c ∷ d ∷ cs) (m ∷ x ∷ xs, h) has = absurd (no_relative d.combinator m x h.1.0)
+
+-- of the selectors whose key is reported, those that require nothing but the key match an element
+-- that reports only keys that it has
+pub known_placed : {Node Self : Type 0} (tree : Tree Node) (node : Self → Node)
+    (reported : Self → Reported) (element : Self) (near : Near)
+    → IsNear tree node reported element near
+    → ReportsOnlyKeys tree (node element) (reported element)
+    → (keeps : List Component → Bool) (selectors : List (List Component)) (indices : List ℕ)
+    → AreKept near keeps selectors indices → (index : ℕ) → Contains indices index
+    → IsOnlyKey (selector_at selectors index) → HasPlacement tree (selector_at selectors index) (node element)
+known_placed tree node reported element near is only keeps selectors indices kept index there known =
+    only_placed tree (node element) known.0 (selector_at selectors index) known.2
+    (only known.0 (subst (λ r. IsTrue (reports_key r known.0)) is.own
+    (subst (λ w. IsTrue (reports_wanted near w)) known.1
+    (first (reports_wanted near (key_at selectors index)) (keeps (selector_at selectors index))
+    ((kept.exactly index).0 there).1))))
+  where
+    first : (a b : Bool) → IsTrue (a && b) → IsTrue a
+    first true b h = refl
+    first false b h = absurd (false≢true h)
+
+-- what an index knows, where it is of these selectors
+pub known_of : {X : Type 0} (f : X → List (List Component)) (known : Option X)
+    (selectors : List (List Component)) (A : Type 0) → IfSome known (λ i. (f i ≡ selectors) × A)
+    → (index : ℕ) → IsKnown (option_map f known) index
+    → A × IsOnlyKey (selector_at selectors index)
+known_of f None selectors A h index k = absurd k
+known_of f (Some i) selectors A h index k =
+    (h.1, subst (λ ss. IsOnlyKey (selector_at ss index)) h.0 k)
+
+-- what matches counts as one test at least
+pub some_test : {Node : Type 0} (tree : Tree Node) (n : Node) (cs : List Component)
+    → HasPlacement tree cs n → 1 ≤ most_tests tree n cs
+some_test tree n [] (nodes, h) = absurd h
+some_test tree n (c ∷ cs) h =
+    product (longest_stretch (c ∷ cs)) (tree.depth n)
+    (greater (joined_length cs) (longest_stretch cs))
+  where
+    product : (a b : ℕ) → 1 ≤ a → 1 ≤ a * (b + 1)
+    product a b h = omega (arith, h)
+
+    greater : (a b : ℕ) → 1 ≤ max (a + 1) b
+    greater a b = grind arith
+
+-- a link after others, of a selector
+pub only_push : (links more : List Link) (link : Link) (s : List Component) → AreOnly links
+    → link.selector.value ≡ s → (IsTrue link.is_only_key → IsOnlyKey s) → more ≡ links ++ link ∷ []
+    → AreOnly more
+only_push links more link s are is only e =
+    subst AreOnly (sym e) (All-push (λ l. IsTrue l.is_only_key → IsOnlyKey l.selector.value)
+    links link are (λ h. subst IsOnlyKey (sym is) (only h)))
+
+-- the selector of a link that says so
+pub only_at : (links : List Link) (selectors : List (List Component)) (index : ℕ) (link : Link)
+    → AreOnly links → selectors_of links ≡ selectors → index < length links
+    → link ≡ get_or links index link → IsTrue link.is_only_key
+    → IsOnlyKey (selector_at selectors index)
+only_at links selectors index link are is lt read h =
+    let selector : link.selector.value ≡ selector_at selectors index =
+    ap (λ l. l.selector.value) read ∙ sym (link_selector links index link lt)
+    ∙ ap (λ ss. selector_at ss index) is in
+    subst IsOnlyKey selector (subst (λ l. IsTrue l.is_only_key → IsOnlyKey l.selector.value)
+    (sym read) (are index link lt) h)
