@@ -98,7 +98,7 @@ impl<'a> Walk<'a> {
         self.move_to(index, page, element)?;
         let node = page.node(element).unwrap();
         if self.place == page.parent(element) {
-            return index.matching_open(rules, &node, &self.path, indices);
+            return index.matching_exact(rules, &node, &self.path, indices);
         }
         index.matching(rules, &node, indices)
     }

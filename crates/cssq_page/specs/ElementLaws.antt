@@ -7,10 +7,12 @@ use Rattle.std.specs.Option.{option_map, option_map_or}
 use Rattle.std.proofs.lemmas.Bool.Decides.{nat_tests}
 use Rattle.std.proofs.lemmas.List.{get_or-take}
 use Rattle.std.proofs.lemmas.Grind.{common_steps}
+use Rattle.simplecss_selector.specs.Exact.{ReportsOnlyKeys}
 use Rattle.simplecss_selector.specs.Keys.{ReportsKeys}
 use Rattle.simplecss_selector.specs.Keys.Key.{by_id, by_class, by_name, by_attribute, by_nothing}
 use Rattle.simplecss_selector.specs.Operators.{is_satisfied}
 use Rattle.simplecss_text.specs.Components.{Operator}
+use Rattle.simplecss_text.specs.Components.Operator.{exists}
 use Rattle.simplecss_selector.specs.Trees.{DepthCountsAncestors, SiblingsShareParent}
 use Rattle.cssq_page.specs.ParentsAndSiblings.{depths_of, last_index, parent_index, nearest_index, previous_index}
 use Rattle.cssq_page.specs.PageNodes.{Spot, spot, parent_of, ancestors_within, ancestor_count, page_tree, reported_of, attribute_at}
@@ -112,3 +114,15 @@ keys_reported s (by_class word) h = h
 keys_reported s (by_name name) h = h
 keys_reported s (by_attribute name) (o, h) = value_there (attribute_at s.rows s.index name) o h
 keys_reported s by_nothing h = h
+
+there_value : (r : Option (List ℕ)) → IsTrue (is_some r)
+    → (o : Operator) × IsTrue (option_map_or (is_satisfied o) r false)
+there_value None h = absurd (cc)
+there_value (Some v) h = (exists, refl)
+
+pub only_keys_reported : (s : Spot) → ReportsOnlyKeys page_tree s (reported_of s)
+only_keys_reported s (by_id text) h = h
+only_keys_reported s (by_class word) h = h
+only_keys_reported s (by_name name) h = h
+only_keys_reported s (by_attribute name) h = there_value (attribute_at s.rows s.index name) h
+only_keys_reported s by_nothing h = h

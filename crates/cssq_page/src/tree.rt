@@ -2,6 +2,7 @@
 
 ghost use Rattle.std.specs.Prelude.{◌≡◌, ◌∷◌, ◌++◌, ◌+◌, ◌<◌, ◌≤◌, ◌==◌, [], length, take, nat_le, map};
 ghost use Rattle.std.specs.Prelude.{IfSome, IfOk, IfErr, Ok, MatchOption, MatchResult, is_some, Some, IsTrue};
+ghost use Rattle.std.specs.Prelude.{None};
 ghost use Rattle.std.specs.Prelude.{option_map, codes};
 ghost use Rattle.std.specs.List.{list_all, slice_get, position_or_len};
 ghost use Rattle.std.specs.Str.{IsCharBoundary};
@@ -22,7 +23,7 @@ ghost use Rattle.cssq_page.specs.internal.Spans.{AreValues, IsCut, text_in};
 mod entry;
 
 use entry::{Entry, Values};
-use simplecss_selector::{AttributeOperator, Element, Keyed, PseudoClass};
+use simplecss_selector::{AttributeOperator, Element, Exact, Keyed, PseudoClass};
 use std::alloc::{AllocError, Global};
 use std::collections::BTreeSet;
 use std::marker::Model;
@@ -270,11 +271,18 @@ fn attribute_of(field: &str) -> (&str, &str)
 }
 
 /// Reads the attribute fields of a line, and compares each key with those before it, unless the
-/// fields are known to be sound.
-fn read_each(number: usize, all: &str, are_sound: bool) -> Result<Values, TreeFault>
+/// fields are known to be sound. Returns `None` if they are more than the limit, if there is one.
+fn read_each(
+    number: usize,
+    all: &str,
+    are_sound: bool,
+    limit: Option<usize>,
+) -> Result<Option<Values>, TreeFault>
     requires { IsTrue are_sound → field_faults number (fields_of all.now) ≡ [] }
-    ensures sound { IfOk result (λ values. (field_faults number (fields_of all.now) ≡ [])
-        × AreValues all.now (fields_of all.now) values) }
+    ensures sound { IfOk result (λ read. IfSome read (λ values.
+        (field_faults number (fields_of all.now) ≡ [])
+        × AreValues all.now (fields_of all.now) values)) }
+    ensures all { limit ≡ None → IfOk result (λ read. IsTrue (is_some read)) }
     ensures fault { IfErr result
         (λ fault. Some fault ≡ slice_get (field_faults number (fields_of all.now)) 0) }
 {
@@ -283,6 +291,9 @@ fn read_each(number: usize, all: &str, are_sound: bool) -> Result<Values, TreeFa
     let mut count = 0;
     let mut seen = 0;
     while let Some(text) = rest {
+        if limit.is_some_and(|most| count >= most) {
+            return Ok(None);
+        }
         let (field, others) = cut_field(text);
         let Some((key, value)) = cut_attribute(field) else {
             return Err(TreeFault::NoEquals(number));
@@ -296,7 +307,7 @@ fn read_each(number: usize, all: &str, are_sound: bool) -> Result<Values, TreeFa
         seen |= mark_of(key);
         rest = others;
     }
-    Ok(values)
+    Ok(Some(values))
 }
 
 /// The first fault of the attribute fields of a line, with the keys in a set. Its time grows with
@@ -324,17 +335,16 @@ fn first_fault_by_set(
     Ok(None)
 }
 
-/// How many TABs the bytes have.
-#[inline(always)]
-fn tab_count(bytes: &[u8]) -> usize {
-    bytes.iter().filter(|b| **b == b'\t').count()
-}
-
-/// Whether there are too many fields for comparing their keys in pairs. A text that is shorter than
-/// three bytes for each has fewer of them, or a key twice.
-#[inline(always)]
-fn are_many(all: &str) -> bool {
-    all.len() >= 3 * FEW && tab_count(all.as_bytes()) >= FEW
+/// Reads all attribute fields of a line, as [`read_each`] does without a limit.
+fn read_all(number: usize, all: &str, are_sound: bool) -> Result<Values, TreeFault>
+    requires { IsTrue are_sound → field_faults number (fields_of all.now) ≡ [] }
+    ensures sound { IfOk result (λ values. (field_faults number (fields_of all.now) ≡ [])
+        × AreValues all.now (fields_of all.now) values) }
+    ensures fault { IfErr result
+        (λ fault. Some fault ≡ slice_get (field_faults number (fields_of all.now)) 0) }
+{
+    let values = read_each(number, all, are_sound, None)?;
+    Ok(values.unwrap())
 }
 
 /// Reads many attribute fields of a line. If memory for a set of their keys is refused, they are
@@ -347,8 +357,8 @@ fn read_many(alloc: Global, number: usize, all: &str) -> Result<Values, TreeFaul
 {
     match first_fault_by_set(alloc, number, all) {
         Ok(Some(fault)) => Err(fault),
-        Ok(None) => read_each(number, all, true),
-        Err(_) => match read_each(number, all, false) {
+        Ok(None) => read_all(number, all, true),
+        Err(_) => match read_all(number, all, false) {
             Ok(_) => Err(TreeFault::Memory(number)),
             Err(fault) => Err(fault),
         },
@@ -364,8 +374,10 @@ fn read_fields(alloc: Global, number: usize, fields: Option<&str>) -> Result<Val
 {
     match fields {
         None => Ok(Values::none()),
-        Some(all) if are_many(all) => read_many(alloc, number, all),
-        Some(all) => read_each(number, all, false),
+        Some(all) => match read_each(number, all, false, Some(FEW))? {
+            Some(values) => Ok(values),
+            None => read_many(alloc, number, all),
+        },
     }
 }
 
@@ -718,4 +730,11 @@ impl<'p, 't> Keyed for Node<'p, 't> {
     fn has_attribute(&self, name: &str) -> bool {
         self.page.has_attribute(self.index, name)
     }
+}
+
+/// Names and values are reported as they are compared.
+impl<'p, 't> Exact for Node<'p, 't> {
+    ghost use Rattle.cssq_page.specs.ElementLaws.{only_keys_reported};
+
+    ghost exact_law = { only_keys_reported };
 }

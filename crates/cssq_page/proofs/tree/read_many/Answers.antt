@@ -7,13 +7,13 @@ pub returns-in-Ok-Some-clause-fault : goal.returns-in-Ok-Some-clause-fault
 returns-in-Ok-Some-clause-fault c = fields_reported c.args.number (fields_of c.args.all.now)
     c.in-Ok-Some.fault (sym c.in-Ok-Some.field-0-is ∙ c.in-Ok-Some.ensures)
 
-pub read_each-requires : goal.read_each-requires
-read_each-requires c _ = no_first _ (sym c.in-Ok-None.field-0-is ∙ c.in-Ok-None.ensures)
+pub read_all-requires : goal.read_all-requires
+read_all-requires c _ = no_first _ (sym c.in-Ok-None.field-0-is ∙ c.in-Ok-None.ensures)
 
 pub returns-in-Ok-None-clause-fault : goal.returns-in-Ok-None-clause-fault
 returns-in-Ok-None-clause-fault c = each_reported c.args.number
-    (fields_of c.args.all.now) c.read_each.result c.read_each.ensures.fault
+    (fields_of c.args.all.now) c.read_all.result c.read_all.ensures.fault
 
-pub returns-in-Err-read_each-clause-fault : goal.returns-in-Err-read_each-clause-fault
-returns-in-Err-read_each-clause-fault c = fields_reported c.args.number
-    (fields_of c.args.all.now) c.in-Err-read_each.fault c.in-Err-read_each.ensures.fault
+pub returns-in-Err-read_all-clause-fault : goal.returns-in-Err-read_all-clause-fault
+returns-in-Err-read_all-clause-fault c = fields_reported c.args.number
+    (fields_of c.args.all.now) c.in-Err-read_all.fault c.in-Err-read_all.ensures.fault
