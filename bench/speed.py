@@ -1,16 +1,18 @@
-"""Measures the built program on a real style sheet and a real page, beside other programs of the same commands.
+"""Measures the built program on a real style sheet, on a real page and on made ones, beside other programs of the same commands.
 
     speed.py PROGRAM [OTHER] [--matcher MATCHER] [--out FOLDER] [--runs N] [--quick]
 
-PROGRAM is the built `cssq`. OTHER and MATCHER, if given, are run on the same files, one run of each after another; their standard
-output must be the same. MATCHER is run for the rows of `match` only. OTHER is called the Rust crate, and MATCHER Servo's crates.
-The style sheet is bootstrap.css of Debian's libjs-bootstrap4 and the page that of developers-reference, fetched by
-`apt-get download` into FOLDER (cssq-speed in the temporary folder) once; if that fails, both are made here, and the table
+PROGRAM is the built `cssq`. OTHER and MATCHER, if given, are run on the same files, one run of each after another. OTHER is called
+the Rust crate, and MATCHER Servo's crates. Their standard output must be the same, but MATCHER's of `sheet`, since Servo's crates
+keep other rules. The style sheet is bootstrap.css of Debian's libjs-bootstrap4 and the page that of developers-reference, fetched
+by `apt-get download` into FOLDER (cssq-speed in the temporary folder) once; if that fails, both are made here, and the table
 says so. FOLDER is outside the repository: packages have links, which the toolchain refuses there.
 
 Prints a table, and writes it with a picture to FOLDER: speed.md and speed.svg. Each time is the least of N runs of the whole
-process, in milliseconds of processor time.
+process, in milliseconds of processor time, and each memory the most of them, in megabytes.
 """
+from __future__ import annotations
+
 import argparse
 import glob
 import html.parser
@@ -20,32 +22,80 @@ import subprocess
 import sys
 import tempfile
 import time
-
-parser = argparse.ArgumentParser()
-parser.add_argument("program")
-parser.add_argument("other", nargs="?")
-parser.add_argument("--matcher")
-parser.add_argument("--out", default=os.path.join(tempfile.gettempdir(), "cssq-speed"))
-parser.add_argument("--runs", type=int, default=7)
-parser.add_argument("--quick", action="store_true", help="only small inputs")
-words = parser.parse_args()
-program = os.path.abspath(words.program)
-others = [("the Rust crate", "#c04a17", words.other, ("sheet", "match", "style")), ("Servo's crates", "#2c8a3a", words.matcher, ("match",))]
-others = [(name, colour, os.path.abspath(path), commands) for name, colour, path, commands in others if path]
-os.makedirs(words.out, exist_ok=True)
+from dataclasses import dataclass, field
+from math import ceil, floor, log10
+from typing import Callable, Iterable, Iterator, List, Optional, Sequence, Tuple
 
 VOID = {"area", "base", "br", "col", "embed", "hr", "img", "input", "link", "meta", "source", "track", "wbr"}
+# As the script `cssq` sets it; and Servo's program reports what is skipped, as `cssq` does.
+ENVIRONMENT = {**os.environ, "GLIBC_TUNABLES": "glibc.malloc.hugetlb=1", "PEER_WARN": "1"}
+# After this many seconds a row has no more than three runs.
+PATIENCE = 8.0
+
+
+@dataclass(frozen=True)
+class Program:
+    """A program, and of which commands its output must be that of the first."""
+
+    name: str
+    colour: str
+    path: str
+    commands: Tuple[str, ...]
+    compared: Tuple[str, ...]
+
+
+@dataclass(frozen=True)
+class Cost:
+    """Processor time in milliseconds, and the most resident memory in megabytes."""
+
+    time: float
+    memory: float
+
+
+@dataclass(frozen=True)
+class Row:
+    """What was run, its size, and what it cost each program that ran it."""
+
+    what: str
+    size: int
+    costs: List[Optional[Cost]]
+
+
+@dataclass
+class Bench:
+    """The programs, where files are put, and the rows so far."""
+
+    programs: List[Program]
+    folder: str
+    runs: int
+    rows: List[Row] = field(default_factory=list)
+
+    def put(self, name: str, text: str) -> str:
+        """Writes a file and returns its path."""
+        path = os.path.join(self.folder, name)
+        with open(path, "w", encoding="utf-8") as file:
+            file.write(text)
+        return path
+
+    def run(self, what: str, size: int, words: Sequence[str], leave_out: Sequence[str] = ()) -> Row:
+        """Runs a command by each program that has it and is not left out, and adds a row."""
+        chosen = [it if words[0] in it.commands and it.name not in leave_out else None for it in self.programs]
+        row = Row(what, size, least(chosen, words, self.runs))
+        self.rows.append(row)
+        print(f"{what:52}" + "".join(f" {it.time:10.1f} {it.memory:7.1f}" if it else " " * 19 for it in row.costs), flush=True)
+        return row
 
 
 class Elements(html.parser.HTMLParser):
     """The elements of a page as lines: depth, name and attributes."""
 
-    def __init__(self):
+    def __init__(self) -> None:
         super().__init__()
-        self.open = []
-        self.lines = []
+        self.open: List[str] = []
+        self.lines: List[str] = []
 
-    def handle_starttag(self, tag, attrs):
+    def handle_starttag(self, tag: str, attrs: List[Tuple[str, Optional[str]]]) -> None:
+        """Adds a line."""
         fields = [str(len(self.open)), tag]
         for key, value in dict(attrs).items():
             fields.append(f"{key}={value or ''}".translate({9: " ", 10: " ", 13: " "}))
@@ -53,95 +103,100 @@ class Elements(html.parser.HTMLParser):
         if tag not in VOID:
             self.open.append(tag)
 
-    def handle_endtag(self, tag):
+    def handle_endtag(self, tag: str) -> None:
+        """Closes the elements up to this one, if it is open."""
         if tag in self.open:
             while self.open.pop() != tag:
                 pass
 
 
-def fetched(package, name):
-    """A file of a Debian package, or none."""
-    folder = os.path.join(words.out, package)
-    if not os.path.isdir(folder):
+def fetched(folder: str, package: str, name: str) -> Optional[str]:
+    """Returns a file of a Debian package, or none."""
+    unpacked = os.path.join(folder, package)
+    if not os.path.isdir(unpacked):
         try:
-            subprocess.run(["apt-get", "download", package], cwd=words.out, check=True, capture_output=True, timeout=120)
-            archive = glob.glob(os.path.join(words.out, package + "_*.deb"))[0]
-            subprocess.run(["dpkg-deb", "-x", archive, folder], check=True, capture_output=True)
+            subprocess.run(["apt-get", "download", package], cwd=folder, check=True, capture_output=True, timeout=120)
+            archive = glob.glob(os.path.join(folder, package + "_*.deb"))[0]
+            subprocess.run(["dpkg-deb", "-x", archive, unpacked], check=True, capture_output=True)
         except (subprocess.SubprocessError, OSError, IndexError):
             return None
-    found = sorted(glob.glob(os.path.join(folder, "usr", "share", "**", name), recursive=True))
+    found = sorted(glob.glob(os.path.join(unpacked, "usr", "share", "**", name), recursive=True))
     if not found:
         return None
     with open(found[0], encoding="utf-8") as file:
         return file.read()
 
 
-def made_sheet(count):
-    """A sheet in the usual shape: classes of components, states and elements within them."""
-    rules = []
+def made_sheet(count: int) -> str:
+    """Returns a sheet in the usual shape: classes of components, states and elements within them."""
+    made = []
     for i in range(count):
         a, b = f"c{i % 97}", f"d{i % 61}"
         head = [f".{a}-{i % 7}", f".{a} .{b}", f".{a}:hover, .{a}:focus", f"p > a.{b}", f"#x{i % 31} {b}", f"table.{a} > tr"][i % 6]
-        rules.append(f"{head} {{\n  color: #{i % 4096:03x};\n  margin: {i % 9}px 0;\n}}\n")
-    return "".join(rules)
+        made.append(f"{head} {{\n  color: #{i % 4096:03x};\n  margin: {i % 9}px 0;\n}}\n")
+    return "".join(made)
 
 
-def made_tree(count):
-    """A page of about that many lines: sections of paragraphs with links."""
+def made_tree(count: int) -> str:
+    """Returns a page of about that many lines: sections of paragraphs with links."""
     lines = ["0\thtml", "1\tbody"]
     for i in range((count - 2) // 4):
         lines.append(f"2\tdiv\tclass=c{i % 97} d{i % 61}" + (f"\tid=x{i}" if i % 5 == 0 else ""))
         lines.append(f"3\tp\tclass=c{i % 97}-{i % 7}")
         lines.append(f"4\ta\thref=#x{i}\tclass=d{i % 61}")
         lines.append("3\ttable")
-    return lines
+    return tree_of(lines)
 
 
-def rules(count, selector):
-    """`count` rules, each with its number in the selector."""
+def rules(count: int, selector: str) -> str:
+    """Returns `count` rules, each with its number in the selector."""
     return "".join(selector.format(i) + " { b:c }\n" for i in range(count))
 
 
-def tree_of(lines):
+def tree_of(lines: Iterable[str]) -> str:
+    """Returns the text of a page."""
     return "\n".join(lines) + "\n"
 
 
-def below(ancestors, count):
-    """Leaves under as many ancestors, each with four classes of its own."""
+def below(ancestors: int, count: int) -> str:
+    """Returns leaves under as many ancestors, each with four classes of its own."""
     path = [f"{i}\tdiv\tclass=a{i}w a{i}x a{i}y a{i}z" for i in range(ancestors)]
     return tree_of(path + [f"{ancestors}\tp\tclass=leaf"] * count)
 
 
-def children(words_of_parent, count):
-    """Children of a parent of so many words."""
+def children(words_of_parent: int, count: int) -> str:
+    """Returns children of a parent of so many words."""
     words_of_it = " ".join(f"w{i}" for i in range(words_of_parent))
     return tree_of([f"0\tr\tclass={words_of_it}"] + ["1\ta"] * count)
 
 
-def utilities(count):
-    """Elements with 8 of 400 classes, each of which sets one thing, in boxes of eight."""
-    chosen = lambda i: " ".join(f"u-{(i * 37 + 53 * k * k + 11 * k) % 400}" for k in range(8))
-    return tree_of(f"{min(i, 1 if i % 8 == 1 else 2)}\tdiv\tclass={chosen(i)}" for i in range(count))
+def utilities(count: int) -> str:
+    """Returns elements with 8 of 400 classes, each of which sets one thing, in boxes of eight."""
+    lines = []
+    for i in range(count):
+        chosen = " ".join(f"u-{(i * 37 + 53 * k * k + 11 * k) % 400}" for k in range(8))
+        lines.append(f"{min(i, 1 if i % 8 == 1 else 2)}\tdiv\tclass={chosen}")
+    return tree_of(lines)
 
 
-def utility_sheet(count):
-    """Rules of a sheet of utility classes: alone, in a state, and within another."""
+def utility_sheet(count: int) -> str:
+    """Returns rules of a sheet of utility classes: alone, in a state, and within another."""
     shapes = [".u-{0}", ".u-{0}:hover", ".u-{1} .u-{0}", ".u-{0} > p", ".u-{0}.u-{1}"]
     return "".join(shapes[i % 5].format(i % 400, i * 7 % 400) + " { b:c }\n" for i in range(count))
 
 
-def chains(count, length):
-    """Chains of elements, each in the one before."""
+def chains(count: int, length: int) -> str:
+    """Returns chains of elements, each in the one before."""
     return tree_of(f"{i}\tdiv\tclass=c{i % 97}" for _ in range(count) for i in range(length))
 
 
-def classed(count):
-    """Elements with one of 1,000 classes."""
+def classed(count: int) -> str:
+    """Returns elements with one of 1,000 classes."""
     return tree_of(["0\tbody"] + [f"1\tp\tclass=k{i * 7 % 1000}" for i in range(count)])
 
 
-def drawing(count):
-    """The paths of a drawing, in groups, with attributes of usual lengths."""
+def drawing(count: int) -> str:
+    """Returns the paths of a drawing, in groups, with attributes of usual lengths."""
     lines = ["0\tsvg\tviewBox=0 0 900 900"]
     for i in range(count):
         if i % 40 == 0:
@@ -151,139 +206,162 @@ def drawing(count):
     return tree_of(lines)
 
 
-def long_values(count):
-    """Elements with a value of 1,000 bytes before four other attributes."""
+def long_values(count: int) -> str:
+    """Returns elements with a value of 1,000 bytes before four other attributes."""
     return tree_of(["0\tsvg"] + ["1\tpath\td=" + "M0 0L9 9z " * 100 + "\tfill=red\tstroke=none\tx=1\ty=2"] * count)
 
 
-def put(name, text):
-    path = os.path.join(words.out, name)
-    with open(path, "w", encoding="utf-8") as file:
-        file.write(text)
-    return path
-
-
-def timed(binary, args):
-    """The processor time of a run, and its output."""
+def measured(path: str, words: Sequence[str]) -> Tuple[Cost, bytes]:
+    """Runs a program once, and returns its cost and its output."""
     with tempfile.TemporaryFile() as output, open(os.devnull, "r+b") as null:
-        child = subprocess.Popen([binary, *args], stdin=null, stdout=output, stderr=null)
+        child = subprocess.Popen([path, *words], stdin=null, stdout=output, stderr=null, env=ENVIRONMENT)
         _, status, usage = os.wait4(child.pid, 0)
         child.returncode = os.waitstatus_to_exitcode(status)
         if child.returncode != 0:
-            sys.exit(f"{binary} ends with {child.returncode} at {args}")
+            sys.exit(f"{path} ends with {child.returncode} at {words}")
         output.seek(0)
-        return 1000 * (usage.ru_utime + usage.ru_stime), output.read()
+        return Cost(1000 * (usage.ru_utime + usage.ru_stime), usage.ru_maxrss / 1024), output.read()
 
 
-def compared(args, runs):
-    """The least time of each program that has the command, one run of each after another, and None for one that has not."""
-    programs = [program, *(path if args[0] in commands else None for _, _, path, commands in others)]
-    best = [path and float("inf") for path in programs]
-    for _ in range(runs):
-        answer = None
-        for number, path in enumerate(programs):
-            if not path:
+def lesser(old: Optional[Cost], new: Cost) -> Cost:
+    """Returns the lesser time, and the greater memory."""
+    return Cost(min(old.time, new.time), max(old.memory, new.memory)) if old else new
+
+
+def least(programs: Sequence[Optional[Program]], words: Sequence[str], runs: int) -> List[Optional[Cost]]:
+    """Returns the least cost by each program, one run of each after another. Their output must be the same."""
+    costs: List[Optional[Cost]] = [None] * len(programs)
+    begun = time.monotonic()
+    for number in range(runs):
+        first: Optional[bytes] = None
+        for place, program in enumerate(programs):
+            if not program:
                 continue
-            spent, output = timed(path, args)
-            best[number] = min(best[number], spent)
-            if answer not in (None, output):
-                sys.exit(f"{path} answers otherwise to {args}")
-            answer = output
-    return best
+            cost, output = measured(program.path, words)
+            costs[place] = lesser(costs[place], cost)
+            if first is not None and words[0] in program.compared and output != first:
+                sys.exit(f"{program.path} answers otherwise to {words}")
+            first = output if place == 0 else first
+        if number >= 2 and time.monotonic() - begun > PATIENCE:
+            break
+    return costs
 
 
-css = fetched("libjs-bootstrap4", "bootstrap.css")
-page = fetched("developers-reference", "developers-reference.html")
-source = "bootstrap.css of Debian's libjs-bootstrap4, and the page developers-reference.html of Debian"
-if css and page:
-    elements = Elements()
-    elements.feed(page)
-    tree = elements.lines
-else:
-    source = "a sheet and a page that this script makes"
-    css, tree = made_sheet(1400), made_tree(8400)
-
-rows = []
-curves = {"reading": [], "matching": []}
+def read_sheets(bench: Bench, css: str, is_quick: bool) -> None:
+    """Reads the sheet, and texts of it several times."""
+    for times in (1, 2, 4) if is_quick else (1, 2, 4, 8, 16):
+        path = bench.put(f"sheet{times}.css", css * times)
+        size = os.path.getsize(path)
+        # The time of the Rust crate grows as the square of the size.
+        bench.run(f"sheet: {size / 1e6:.1f} MB", size, ["sheet", path], ["the Rust crate"] if times > 4 else [])
 
 
-def row(what, args, runs=words.runs):
-    best = compared(args, runs)
-    rows.append((what, best))
-    print(f"{what:44}" + "".join(f" {b:12.1f} ms" if b else " " * 16 for b in best), flush=True)
-    return best
+def match_parts(bench: Bench, css: str, tree: List[str], is_quick: bool) -> None:
+    """Matches the sheet with parts of the page, and with the page several times."""
+    sheet = bench.put("sheet.css", css)
+    parts = [tree[: len(tree) // part] for part in (8, 4, 2, 1)]
+    if not is_quick:
+        parts += [tree * 4, tree * 40]
+    for lines in parts:
+        path = bench.put("part.tree", tree_of(lines))
+        leave_out = ["the Rust crate"] if len(lines) > 4 * len(tree) else []
+        bench.run(f"match: {len(lines):,} elements", len(lines), ["match", sheet, path], leave_out)
 
 
-print(f"{'':44}" + "".join(f" {name:>15}" for name in ["cssq", *(name for name, _, _, _ in others)]))
-sheet = put("sheet.css", css)
-for times in (1, 2, 4) if words.quick else (1, 2, 4, 8, 16):
-    path = put(f"sheet{times}.css", css * times)
-    size = os.path.getsize(path)
-    # A program whose time grows as the square of the size is not waited for.
-    runs = words.runs if times < 8 else 3
-    curves["reading"].append((size, *row(f"sheet: {size / 1e6:.1f} MB", ["sheet", path], runs)))
-for part in (8, 4, 2, 1):
-    lines = tree[: len(tree) // part]
-    path = put(f"tree{part}.tree", "\n".join(lines) + "\n")
-    curves["matching"].append((len(lines), *row(f"match: {len(lines):,} elements", ["match", sheet, path])))
-if not words.quick:
-    path = put("twice.tree", "\n".join(tree * 4) + "\n")
-    curves["matching"].append((4 * len(tree), *row(f"match: {4 * len(tree):,} elements", ["match", sheet, path], 3)))
-    whole = put("tree1.tree", "\n".join(tree) + "\n")
-    row("match: 20,000 rule sets on the page", ["match", put("many.css", made_sheet(20_000)), whole], 3)
-    long = put("long.tree", "\n".join(made_tree(300_000)) + "\n")
-    row("match: 10 rule sets on 300,000 elements", ["match", put("few.css", made_sheet(10)), long], 3)
-    row("match: an empty sheet on 300,000 elements", ["match", put("empty.css", ""), long], 3)
-    row("style: color on the page", ["style", sheet, whole, "color"], 3)
-    leaf = put("leaf.css", rules(200, ".q{0} .leaf"))
-    states = put("drawing.css", "path { b:c }\n[fill] { b:c }\ng > path { b:c }\n#g40 path { b:c }\n")
-    deep = put("deep.css", rules(97, ".x{0} .c{0}") + ".c1 .c5 { b:c }\n")
-    for what, css, tree in [
-        ("200 rules on 2,000 leaves under 50 ancestors", leaf, below(50, 2_000)),
-        ("200 rules on 300 leaves under 500 ancestors", leaf, below(500, 300)),
-        ("utility classes, 1,800 rules on 8,000 elements", put("utility.css", utility_sheet(1_800)), utilities(8_000)),
-        ("children of a parent of 1,000 words", put("children.css", rules(20, ".x{0} > *")), children(1_000, 300_000)),
-        ("1,000 classes on 20,000 elements", put("classes.css", rules(1_000, ".k{0}")), classed(20_000)),
-        ("40 chains of 500 elements", deep, chains(40, 500)),
-        ("a chain of 20,000 elements", deep, chains(1, 20_000)),
-        ("a drawing of 18,401 elements", states, drawing(17_952)),
-        ("values of 1,000 bytes, 2,000 elements", states, long_values(2_000)),
-    ]:
-        row(f"match: {what}", ["match", css, put("made.tree", tree)], words.runs)
+def made_pages(tree: List[str]) -> Iterator[Tuple[str, str, Callable[[], str]]]:
+    """Returns what pages of other kinds are, their sheets, and what makes them."""
+    states = "path { b:c }\n[fill] { b:c }\ng > path { b:c }\n#g40 path { b:c }\n"
+    leaf, deep = rules(200, ".q{0} .leaf"), rules(97, ".x{0} .c{0}") + ".c1 .c5 { b:c }\n"
+    yield "20,000 rule sets on the page", made_sheet(20_000), lambda: tree_of(tree)
+    yield "10 rule sets on 300,000 elements", made_sheet(10), lambda: made_tree(300_000)
+    yield "an empty sheet on 300,000 elements", "", lambda: made_tree(300_000)
+    yield "200 rules on 2,000 leaves under 50 ancestors", leaf, lambda: below(50, 2_000)
+    yield "200 rules on 300 leaves under 500 ancestors", leaf, lambda: below(500, 300)
+    yield "utility classes, 1,800 rules on 8,000 elements", utility_sheet(1_800), lambda: utilities(8_000)
+    yield "children of a parent of 1,000 words", rules(20, ".x{0} > *"), lambda: children(1_000, 300_000)
+    yield "1,000 classes on 20,000 elements", rules(1_000, ".k{0}"), lambda: classed(20_000)
+    yield "40 chains of 500 elements", deep, lambda: chains(40, 500)
+    yield "a chain of 20,000 elements", deep, lambda: chains(1, 20_000)
+    yield "a drawing of 18,401 elements", states, lambda: drawing(17_952)
+    yield "values of 1,000 bytes, 2,000 elements", states, lambda: long_values(2_000)
 
 
-def picture():
-    """Both curves on double logarithmic scales, as SVG."""
-    from math import floor, log10, ceil
-
-    panels = [("reading", "bytes of the style sheet", curves["reading"]), ("matching", "elements of the page", curves["matching"])]
-    parts = ['<svg xmlns="http://www.w3.org/2000/svg" width="860" height="360" font-family="sans-serif" font-size="12">', '<rect width="860" height="360" fill="white"/>']
-    for number, (title, label, points) in enumerate(panels):
-        left, top, width, height = 60 + 430 * number, 40, 340, 260
-        xs = [p[0] for p in points]
-        ys = [y for p in points for y in p[1:] if y]
-        x0, x1 = floor(log10(min(xs)) * 2) / 2, ceil(log10(max(xs)) * 2) / 2
-        y0, y1 = floor(log10(min(ys))), ceil(log10(max(ys)))
-        x_of = lambda x: left + width * (log10(x) - x0) / (x1 - x0)
-        y_of = lambda y: top + height * (1 - (log10(y) - y0) / (y1 - y0))
-        parts.append(f'<text x="{left}" y="{top - 16}" font-size="14">{title}: milliseconds against {label}</text>')
-        parts.append(f'<rect x="{left}" y="{top}" width="{width}" height="{height}" fill="none" stroke="#888"/>')
-        for power in range(y0, y1 + 1):
-            y = y_of(10**power)
-            parts.append(f'<line x1="{left}" x2="{left + width}" y1="{y:.1f}" y2="{y:.1f}" stroke="#ddd"/><text x="{left - 6}" y="{y + 4:.1f}" text-anchor="end">{10**power:g}</text>')
-        for x in xs:
-            parts.append(f'<line x1="{x_of(x):.1f}" x2="{x_of(x):.1f}" y1="{top}" y2="{top + height}" stroke="#eee"/><text x="{x_of(x):.1f}" y="{top + height + 16}" text-anchor="middle">{x / 1e6:.1f}M</text>' if x >= 1e5 else f'<line x1="{x_of(x):.1f}" x2="{x_of(x):.1f}" y1="{top}" y2="{top + height}" stroke="#eee"/><text x="{x_of(x):.1f}" y="{top + height + 16}" text-anchor="middle">{x / 1e3:.0f}k</text>')
-        for which, (name, colour) in enumerate([("cssq", "#1764c0"), *((name, colour) for name, colour, _, _ in others)], 1):
-            line = [(x_of(p[0]), y_of(p[which])) for p in points if p[which]]
-            if line:
-                parts.append(f'<polyline fill="none" stroke="{colour}" stroke-width="2" points="{" ".join(f"{x:.1f},{y:.1f}" for x, y in line)}"/>')
-                parts += [f'<circle cx="{x:.1f}" cy="{y:.1f}" r="3" fill="{colour}"/>' for x, y in line]
-                parts.append(f'<text x="{line[-1][0] - 6:.1f}" y="{line[-1][1] - 8:.1f}" text-anchor="end" fill="{colour}">{name}</text>')
-    parts.append("</svg>")
-    return "\n".join(parts) + "\n"
+def match_made(bench: Bench, css: str, tree: List[str]) -> None:
+    """Matches pages of other kinds, and says which declarations win on the page."""
+    for what, text, page in made_pages(tree):
+        sheet, path = bench.put("made.css", text), bench.put("made.tree", page())
+        leave_out = ["the Rust crate"] if what.startswith("20,000") else []
+        bench.run(f"match: {what}", 0, ["match", sheet, path], leave_out)
+    bench.run("style: color on the page", 0, ["style", bench.put("sheet.css", css), bench.put("page.tree", tree_of(tree)), "color"])
 
 
-def processor():
+@dataclass(frozen=True)
+class Panel:
+    """A curve for each program on double logarithmic scales."""
+
+    title: str
+    label: str
+    rows: List[Row]
+    left: int
+
+    def span(self, values: Sequence[float], steps: int) -> Tuple[float, float]:
+        """Returns the powers of ten around the values, in so many steps each."""
+        return floor(log10(min(values)) * steps) / steps, ceil(log10(max(values)) * steps) / steps
+
+    def scales(self) -> Tuple[Callable[[float], float], Callable[[float], float], range]:
+        """Returns where a size and a time are, and the powers of ten of the times."""
+        times = [cost.time for row in self.rows for cost in row.costs if cost]
+        x0, x1 = self.span([row.size for row in self.rows], 2)
+        y0, y1 = self.span(times, 1)
+        return (
+            lambda x: self.left + 340 * (log10(x) - x0) / (x1 - x0),
+            lambda y: 40 + 260 * (1 - (log10(y) - y0) / (y1 - y0)),
+            range(int(y0), int(y1) + 1),
+        )
+
+    def frame(self) -> Iterator[str]:
+        """Returns the title, the frame and the lines of the scales."""
+        x_of, y_of, powers = self.scales()
+        left = self.left
+        yield f'<text x="{left}" y="24" font-size="14">{self.title}: milliseconds against {self.label}</text>'
+        yield f'<rect x="{left}" y="40" width="340" height="260" fill="none" stroke="#888"/>'
+        for power in powers:
+            y = y_of(10.0**power)
+            yield f'<line x1="{left}" x2="{left + 340}" y1="{y:.1f}" y2="{y:.1f}" stroke="#ddd"/>'
+            yield f'<text x="{left - 6}" y="{y + 4:.1f}" text-anchor="end">{10.0**power:g}</text>'
+        for row in self.rows:
+            x = x_of(row.size)
+            name = f"{row.size / 1e6:.1f}M" if row.size >= 1e5 else f"{row.size / 1e3:.0f}k"
+            yield f'<line x1="{x:.1f}" x2="{x:.1f}" y1="40" y2="300" stroke="#eee"/>'
+            yield f'<text x="{x:.1f}" y="316" text-anchor="middle">{name}</text>'
+
+    def curve(self, place: int, program: Program) -> Iterator[str]:
+        """Returns the curve of a program."""
+        x_of, y_of, _ = self.scales()
+        line = [(x_of(row.size), y_of(cost.time)) for row in self.rows for cost in [row.costs[place]] if cost]
+        if line:
+            points = " ".join(f"{x:.1f},{y:.1f}" for x, y in line)
+            yield f'<polyline fill="none" stroke="{program.colour}" stroke-width="2" points="{points}"/>'
+            yield from (f'<circle cx="{x:.1f}" cy="{y:.1f}" r="3" fill="{program.colour}"/>' for x, y in line)
+            x, y = line[-1]
+            yield f'<text x="{x - 6:.1f}" y="{y - 8:.1f}" text-anchor="end" fill="{program.colour}">{program.name}</text>'
+
+
+def picture(bench: Bench) -> str:
+    """Returns the curves of reading and matching, as SVG."""
+    sized = [row for row in bench.rows if row.size]
+    parts = ['<svg xmlns="http://www.w3.org/2000/svg" width="860" height="360" font-family="sans-serif" font-size="12">',
+             '<rect width="860" height="360" fill="white"/>']
+    for number, (title, label, kind) in enumerate((("reading", "bytes of the style sheet", "sheet"), ("matching", "elements of the page", "match"))):
+        panel = Panel(title, label, [row for row in sized if row.what.startswith(kind)], 60 + 430 * number)
+        parts += panel.frame()
+        for place, program in enumerate(bench.programs):
+            parts += panel.curve(place, program)
+    return "\n".join([*parts, "</svg>"]) + "\n"
+
+
+def processor() -> str:
+    """Returns the name of the processor."""
     try:
         with open("/proc/cpuinfo", encoding="utf-8") as file:
             return next(line.split(":")[1].strip() for line in file if line.startswith("model name"))
@@ -291,13 +369,61 @@ def processor():
         return platform.machine()
 
 
-table = [f"Machine: {processor()}, {os.cpu_count()} processors. Date: {time.strftime('%Y-%m-%d')}. Texts: {source}.", ""]
-names = [name for name, _, _, _ in others]
-table.append("| | `cssq`, ms |" + "".join(f" {name}, ms | times |" for name in names))
-table.append("|---|---|" + "---|---|" * len(names))
-for what, best in rows:
-    ours = best[0]
-    table.append(f"| {what} | {ours:.1f} |" + "".join(f" {b:.1f} | {b / ours:.2f} |" if b else " | |" for b in best[1:]))
-put("speed.md", "\n".join(table) + "\n")
-put("speed.svg", picture())
-print(f"written: {os.path.join(words.out, 'speed.md')} and speed.svg")
+def cells(own: Cost, cost: Optional[Cost]) -> str:
+    """Returns the time and memory of a program, and the ratio of the first program's time to it."""
+    return f" {cost.time:.1f} | {cost.memory:.1f} | {own.time / cost.time:.2f} |" if cost else " | | |"
+
+
+def table(bench: Bench, source: str) -> str:
+    """Returns the rows as a table of Markdown."""
+    rivals = bench.programs[1:]
+    lines = [f"Machine: {processor()}, {os.cpu_count()} processors. Date: {time.strftime('%Y-%m-%d')}. Texts: {source}.", "",
+             "| | `cssq`, ms | MB |" + "".join(f" {it.name}, ms | MB | ratio |" for it in rivals),
+             "|---|---|---|" + "---|---|---|" * len(rivals)]
+    for row in bench.rows:
+        own = row.costs[0]
+        if own:
+            lines.append(f"| {row.what} | {own.time:.1f} | {own.memory:.1f} |" + "".join(cells(own, it) for it in row.costs[1:]))
+    return "\n".join(lines) + "\n"
+
+
+def programs_of(words: argparse.Namespace) -> List[Program]:
+    """Returns the program and the others that were named."""
+    every = ("sheet", "match", "style")
+    named = [("cssq", "#1764c0", words.program, every, every), ("the Rust crate", "#c04a17", words.other, every, every),
+             ("Servo's crates", "#2c8a3a", words.matcher, ("sheet", "match"), ("match",))]
+    return [Program(name, colour, os.path.abspath(path), commands, compared) for name, colour, path, commands, compared in named if path]
+
+
+def main() -> None:
+    """Makes all rows, the table and the picture."""
+    parser = argparse.ArgumentParser()
+    parser.add_argument("program")
+    parser.add_argument("other", nargs="?")
+    parser.add_argument("--matcher")
+    parser.add_argument("--out", default=os.path.join(tempfile.gettempdir(), "cssq-speed"))
+    parser.add_argument("--runs", type=int, default=9)
+    parser.add_argument("--quick", action="store_true", help="only small inputs")
+    words = parser.parse_args()
+    os.makedirs(words.out, exist_ok=True)
+    bench = Bench(programs_of(words), words.out, words.runs)
+    css, page = fetched(words.out, "libjs-bootstrap4", "bootstrap.css"), fetched(words.out, "developers-reference", "developers-reference.html")
+    source = "bootstrap.css of Debian's libjs-bootstrap4, and the page developers-reference.html of Debian"
+    elements = Elements()
+    if css and page:
+        elements.feed(page)
+    else:
+        source = "a sheet and a page that this script makes"
+        css, elements.lines = made_sheet(1400), made_tree(8400).splitlines()
+    print(f"{'milliseconds and megabytes':52}" + "".join(f" {it.name:>18}" for it in bench.programs))
+    read_sheets(bench, css, words.quick)
+    match_parts(bench, css, elements.lines, words.quick)
+    if not words.quick:
+        match_made(bench, css, elements.lines)
+    bench.put("speed.md", table(bench, source))
+    bench.put("speed.svg", picture(bench))
+    print(f"written: {os.path.join(words.out, 'speed.md')} and speed.svg")
+
+
+if __name__ == "__main__":
+    main()

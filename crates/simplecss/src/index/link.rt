@@ -35,7 +35,7 @@ impl<'a> Link<'a> {
         selector: &Selector<'a>,
         wanted: Wanted<'a>,
     ) -> Link<'a>
-        requires { wanted_value wanted.entry ≡ wanted_of selector.now }
+        requires { wanted_value wanted ≡ wanted_of selector.now }
         ensures earlier { result.earlier ≡ earlier }
         ensures needed { result.needed ≡ needed }
         ensures selector { result.selector.value ≡ selector.now }

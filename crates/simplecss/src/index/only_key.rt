@@ -49,7 +49,8 @@ impl<'a> Element for OnlyKey<'a> {
     #[inline(always)]
     fn attribute_matches(&self, local_name: &str, operator: AttributeOperator<'_>) -> bool {
         match (self.key, operator) {
-            (Key::Id(text), AttributeOperator::Matches(other)) => text == other && local_name == "id",
+            (Key::Id(text), AttributeOperator::Matches(other)) => text == other
+                && local_name == "id",
             (Key::Class(word), AttributeOperator::Contains(other)) => {
                 word == other && local_name == "class"
             }
@@ -66,7 +67,7 @@ impl<'a> Element for OnlyKey<'a> {
 /// Whether the selector, by which this is wanted, requires nothing but its key, which the element
 /// must have. If so, it matches each element that has the key.
 pub(crate) fn is_only_key(selector: &Selector<'_>, wanted: Wanted<'_>) -> bool
-    requires { wanted_value wanted.entry ≡ wanted_of selector.now }
+    requires { wanted_value wanted ≡ wanted_of selector.now }
     ensures { IsTrue result → IsOnlyKey selector.now }
 {
     match wanted {

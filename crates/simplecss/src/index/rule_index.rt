@@ -272,43 +272,11 @@ impl<'a> RuleIndex<'a> {
             (AreMatches E.tree (E.node element.now) self.now indices.new.items) }
         ensures err { OnErr result (indices.new.items ≡ []) }
     {
-        self.matching_path(
-            rules,
-            element,
-            path,
-            Some(self),
-            indices,
-            &mut Tests::new(),
-        )
+        self.matching_path(rules, element, path, Some(self), indices, &mut Tests::new())
     }
 
-    /// `matching_open`, with a count of the tests that were made.
-    fn matching_open_counted<T: HasSelector<'a>, E: Keyed>(
-        &self,
-        rules: &[T],
-        element: &E,
-        path: &OpenPath<'_>,
-        indices: &mut Vec<usize>,
-        tests: &mut Tests,
-    ) -> Result<(), AllocError>
-        requires index { self.now ≡ map T.selector_in rules.now }
-        requires path { path.now.selectors ≡ self.now }
-        requires open { IsOpenTo E.tree E.node E.reported path.now
-            (E.tree.parent (E.node element.now)) }
-        ensures matches { OnOk result
-            (AreMatches E.tree (E.node element.now) self.now indices.new.items) }
-        ensures tests { OnOk result ((near : Near)
-            × IsNear E.tree E.node E.reported element.now near
-            × (tests.old + length (open_for near path.now) ≤ tests.new)
-            × (tests.new ≤ tests.old + sum_by (most_tests E.tree (E.node element.now))
-            (open_for near path.now))) }
-        ensures err { OnErr result (indices.new.items ≡ []) }
-        ensures untested { OnErr result (tests.new ≡ tests.old) }
-    {
-        self.matching_path(rules, element, path, None, indices, tests)
-    }
-
-    /// `matching_open_counted`, and with the index itself `matching_exact`.
+    /// `matching_open`, and with the index itself `matching_exact`, with a count of the tests that were
+    /// made.
     #[inline(always)]
     fn matching_path<T: HasSelector<'a>, E: Keyed>(
         &self,

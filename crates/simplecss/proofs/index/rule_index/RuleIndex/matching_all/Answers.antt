@@ -22,9 +22,9 @@ keep_matching-kept-requires g c =
         subst IsStrictlyIncreasing (sym c.deref_mut.ensures.value)
             c.in_default.ensures.found.4.ascending,
         (
-        rw c.deref_mut.ensures.value
-            (subst (λ n. All (λ index. index < n) c.candidates.new.indices.items) same within),
-        λ index there known. absurd known,
+          rw c.deref_mut.ensures.value
+              (subst (λ n. All (λ index. index < n) c.candidates.new.indices.items) same within),
+          λ index there known. absurd known,
         ),
       ),
     )

@@ -26,18 +26,18 @@ keep_matching-kept-requires g c =
         subst IsStrictlyIncreasing (sym c.deref_mut.ensures.value)
             c.in_default.ensures.2.ascending,
         (
-        rw c.deref_mut.ensures.value
-            (subst (λ n. All (λ index. index < n) c.candidates_open.new.indices.items) same within),
-        λ index there known.
-            let self : List (List Component) = c.args.self.now in
-            let h = known_of (λ i. i.now) c.args.known self _ c.requires.known index known in
-            subst (λ ss. HasPlacement g.E.Element.tree (selector_at ss index)
-            (g.E.Element.node c.args.element.now)) c.requires.index
-            (known_placed g.E.Element.tree g.E.Element.node g.E.Keyed.reported c.args.element.now
-            c.in_default.ensures.0 c.in_default.ensures.1 h.0
-            (are_open (needed_keys c.args.self.now) c.args.path.now.listed)
-            c.args.self.now c.candidates_open.new.indices.items c.in_default.ensures.2 index
-            (subst (λ xs. Contains xs index) c.deref_mut.ensures.value there) h.1),
+          rw c.deref_mut.ensures.value
+              (subst (λ n. All (λ index. index < n) c.candidates_open.new.indices.items) same within),
+          λ index there known.
+              let self : List (List Component) = c.args.self.now in
+              let h = known_of (λ i. i.now) c.args.known self _ c.requires.known index known in
+              subst (λ ss. HasPlacement g.E.Element.tree (selector_at ss index)
+              (g.E.Element.node c.args.element.now)) c.requires.index
+              (known_placed g.E.Element.tree g.E.Element.node g.E.Keyed.reported c.args.element.now
+              c.in_default.ensures.0 c.in_default.ensures.1 h.0
+              (are_open (needed_keys c.args.self.now) c.args.path.now.listed)
+              c.args.self.now c.candidates_open.new.indices.items c.in_default.ensures.2 index
+              (subst (λ xs. Contains xs index) c.deref_mut.ensures.value there) h.1),
         ),
       ),
     )
