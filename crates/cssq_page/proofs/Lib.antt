@@ -8,6 +8,5 @@ pub mod Linked
 pub mod LineJoins
 pub mod Attributes
 pub mod PageLines
-pub mod AboveLines
 pub mod Marking
 pub mod FirstBytes

@@ -14,7 +14,6 @@ ghost use Rattle.cssq_page.specs.TreeText.{tree_of, IsFaultOf};
 ghost use Rattle.cssq_page.specs.ParentsAndSiblings.{depths_of, last_index, parent_index};
 ghost use Rattle.cssq_page.specs.ParentsAndSiblings.{previous_index};
 ghost use Rattle.cssq_page.specs.PageNodes.{spot, name_at, attribute_at, value_in, page_tree};
-ghost use Rattle.simplecss_selector.specs.KeyBits.{CoversAncestors};
 ghost use Rattle.cssq_page.specs.internal.EntryLines.{depths, AreLinked, IsReportedFor, Says};
 ghost use Rattle.cssq_page.specs.internal.EntryLines.{IsAdded};
 ghost use Rattle.cssq_page.specs.internal.Marks.{mark_of, AreMarked};
@@ -82,8 +81,6 @@ struct Line<'t> {
     parent: Option<usize>,
     /// The index of the previous sibling, if there is one.
     previous: Option<usize>,
-    /// Bits that cover the keys of the ancestors.
-    above: u64,
 }
 
 /// How many attribute fields are compared in pairs.
@@ -374,9 +371,10 @@ fn read_fields(alloc: Global, number: usize, fields: Option<&str>) -> Result<Val
 {
     match fields {
         None => Ok(Values::none()),
-        Some(all) => match read_each(number, all, false, Some(FEW))? {
-            Some(values) => Ok(values),
-            None => read_many(alloc, number, all),
+        Some(all) => match read_each(number, all, false, Some(FEW)) {
+            Ok(Some(values)) => Ok(values),
+            Ok(None) => read_many(alloc, number, all),
+            Err(fault) => Err(fault),
         },
     }
 }
@@ -447,7 +445,6 @@ fn link<'t>(lines: &[Line<'t>], entry: Entry<'t>) -> Line<'t>
             entry,
             parent: None,
             previous: None,
-            above: 0,
         },
         Some(i) => {
             let near = lines[i];
@@ -456,14 +453,12 @@ fn link<'t>(lines: &[Line<'t>], entry: Entry<'t>) -> Line<'t>
                     entry,
                     parent: near.parent,
                     previous: Some(i),
-                    above: near.above,
                 }
             } else {
                 Line {
                     entry,
                     parent: Some(i),
                     previous: None,
-                    above: near.above | near.entry.bits(),
                 }
             }
         }
@@ -569,15 +564,6 @@ impl<'t> Page<'t> {
         ensures within { IfSome result (λ previous. previous < length self.now) }
     {
         self.lines[index].previous
-    }
-
-    /// Bits that cover the keys of the ancestors of the element at an index.
-    #[inline(always)]
-    fn above(&self, index: usize) -> u64
-        requires { index < length self.now }
-        ensures { CoversAncestors page_tree (spot self.now index) result }
-    {
-        self.lines[index].above
     }
 
     /// The name of the element at an index.
@@ -720,11 +706,6 @@ impl<'p, 't> Keyed for Node<'p, 't> {
     #[inline(always)]
     fn class_value(&self) -> Option<&str> {
         self.page.class(self.index)
-    }
-
-    #[inline(always)]
-    fn ancestor_bits(&self) -> u64 {
-        self.page.above(self.index)
     }
 
     fn has_attribute(&self, name: &str) -> bool {

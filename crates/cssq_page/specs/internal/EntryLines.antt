@@ -1,14 +1,11 @@
 -- The lines that a page keeps, and their relations.
-use Rattle.std.specs.Prelude.{◌≡◌, ℕ, ◌+◌, ◌≤◌, List, [], ◌∷◌, ◌++◌, length, map, Some, codes}
+use Rattle.std.specs.Prelude.{◌≡◌, ℕ, ◌+◌, ◌≤◌, List, [], ◌∷◌, ◌++◌, length, map, Some}
 use Rattle.std.specs.List.{slice_get}
-use Rattle.simplecss_selector.specs.KeyBits.{Covers, CoversReported}
-use Rattle.simplecss_selector.specs.Keys.{Reported}
 use Rattle.cssq_page.specs.declared.tree.entry.Entry.{Entry}
 use Rattle.cssq_page.specs.declared.tree.Line.{Line}
 use Rattle.cssq_page.specs.declared.tree.TreeFault.{TreeFault}
 use Rattle.cssq_page.specs.declared.tree.TreeFault.TheVariants.{BadDepth, EmptyName, NoEquals, RepeatedKey, Memory}
 use Rattle.cssq_page.specs.TreeText.{Row, fields_of, row_of, faults_of_line}
-use Rattle.cssq_page.specs.PageNodes.{value_in}
 use Rattle.cssq_page.specs.internal.Spans.{name_in, attributes_in}
 use Rattle.cssq_page.specs.ParentsAndSiblings.{parent_index, previous_index}
 
@@ -25,28 +22,11 @@ rows lines = map (λ l. row l.entry) lines
 abbrev pub depths : List Line → List ℕ
 depths lines = map (λ l. l.entry.depth) lines
 
--- the bits cover the keys of the element of an entry
-abbrev pub CoversElement : ℕ → Entry → Type 0
-CoversElement bits e =
-    (reported : Reported) → reported.name ≡ name_in e.fields.now
-    → reported.id ≡ value_in (attributes_in e.fields.now) (codes "id")
-    → reported.class ≡ value_in (attributes_in e.fields.now) (codes "class")
-    → CoversReported bits reported
-
--- the bits that a line keeps for its ancestors cover those of its parent's ancestors, and the keys
--- of the parent
-abbrev pub CoversParent : List Line → Line → Type 0
-CoversParent lines l = (parent : ℕ) → l.parent ≡ Some parent
-    → (p : Line) × (slice_get lines parent ≡ Some p) × Covers l.above p.above
-    × CoversElement l.above p.entry
-
--- each line keeps the indices of its parent and of its previous sibling, and the bits of its
--- ancestors
+-- each line keeps the indices of its parent and of its previous sibling
 abbrev pub AreLinked : List Line → Type 0
 AreLinked lines =
     (i : ℕ) (l : Line) → slice_get lines i ≡ Some l
     → (l.parent ≡ parent_index (depths lines) i) × (l.previous ≡ previous_index (depths lines) i)
-    × CoversParent lines l
 
 -- ---- what the reader of a line reports
 

@@ -10,7 +10,6 @@ ghost use Rattle.cssq_page.specs.internal.Spans.{IsSpanOf, AreValues};
 ghost use Rattle.cssq_page.specs.PageNodes.{value_in};
 
 use super::{len_before, value_at};
-use simplecss_selector::element_bits;
 
 /// Replaces an offset or a length that 32 bits do not hold: the text is searched then.
 pub(crate) const FAR: u32 = u32::MAX;
@@ -148,8 +147,6 @@ pub(crate) struct Entry<'t> {
 }
 
 impl<'t> Entry<'t> {
-    ghost use Rattle.cssq_page.specs.internal.EntryLines.{CoversElement};
-
     /// What a line says whose fields were read.
     #[inline(always)]
     pub(crate) fn new(depth: usize, fields: &'t str, name_len: usize, values: Values) -> Entry<'t>
@@ -266,12 +263,5 @@ impl<'t> Entry<'t> {
             "id" => self.id.at != 0,
             _ => self.others && value_at(self.attributes(), key).is_some(),
         }
-    }
-
-    /// The bits of its keys.
-    pub(crate) fn bits(&self) -> u64
-        ensures { CoversElement result self.now }
-    {
-        element_bits(self.name(), self.id(), self.class())
     }
 }

@@ -1,6 +1,5 @@
-use Rattle.std.proofs.Common.{◌≡◌, ◌++◌, ◌∷◌, [], None, Some, sym, subst}
-use Rattle.std.specs.Int.Bits.{bit_or}
-use Rattle.cssq_page.specs.internal.EntryLines.{AreLinked, CoversElement}
+use Rattle.std.proofs.Common.{◌≡◌, ◌++◌, ◌∷◌, [], Some, sym, subst}
+use Rattle.cssq_page.specs.internal.EntryLines.{AreLinked}
 use Rattle.cssq_page.proofs.LineJoins.{link_none, link_lesser, link_equal}
 use Rattle.cssq_page.proofs.tree.link.Goals as goal
 
@@ -15,7 +14,6 @@ returns-then-near-entry-clause-linked c =
       entry = c.args.entry;
       parent = m.parent;
       previous = Some c.in-Some.i;
-      above = m.above;
     } ∷ [])) (sym is)
     (link_equal c.args.lines.now c.args.entry c.in-Some.i c.index-lines-i.result c.requires
     c.in-Some.ensures.within c.in-Some.ensures.value
@@ -23,14 +21,6 @@ returns-then-near-entry-clause-linked c =
 
 pub returns-else-near-entry-clause-linked : goal.returns-else-near-entry-clause-linked
 returns-else-near-entry-clause-linked c =
-    let is = c.index-lines-i.is in
-    let bits = c.bits.result in
-    subst (λ m. AreLinked (c.args.lines.now ++ record {
-      entry = c.args.entry;
-      parent = Some c.in-Some.i;
-      previous = None;
-      above = bit_or m.above bits;
-    } ∷ [])) (sym is)
-    (link_lesser c.args.lines.now c.args.entry c.in-Some.i c.index-lines-i.result bits c.requires
+    link_lesser c.args.lines.now c.args.entry c.in-Some.i c.index-lines-i.result c.requires
     c.in-Some.ensures.within c.in-Some.ensures.value (subst (λ m. m.entry.depth ≡ c.args.entry.depth
-    → ⊥) is c.if-near-entry.false) (subst (λ m. CoversElement bits m.entry) is c.bits.ensures))
+    → ⊥) c.index-lines-i.is c.if-near-entry.false)

@@ -1,7 +1,11 @@
-use Rattle.cssq_page.specs.TreeText.{fields_of}
-use Rattle.cssq_page.proofs.Fields.{each_reported}
+use Rattle.std.proofs.Common.{subst, sym}
+use Rattle.cssq_page.specs.TreeText.{field_faults, fields_in, fields_of}
+use Rattle.cssq_page.specs.internal.EntryLines.{IsReportedFor}
+use Rattle.cssq_page.proofs.Fields.{fields_reported}
 use Rattle.cssq_page.proofs.tree.read_fields.Goals as goal
 
-pub returns-in-Some-2-clause-fault : goal.returns-in-Some-2-clause-fault
-returns-in-Some-2-clause-fault c = rw c.in-Some-2.is (each_reported c.args.number
-    (fields_of c.in-Some-2.all.now) c.read_each.result c.read_each.ensures.fault)
+pub returns-in-Err-clause-fault : goal.returns-in-Err-clause-fault
+returns-in-Err-clause-fault c = subst (λ fields. IsReportedFor c.args.number
+    (field_faults c.args.number (fields_in fields)) c.in-Err.fault) (sym c.in-Some.is)
+    (fields_reported c.args.number (fields_of c.in-Some.all.now) c.in-Err.fault
+    c.in-Err.ensures.fault)

@@ -6,8 +6,8 @@ use Rattle.cssq_page.specs.PageNodes.{spot, page_tree}
 use Rattle.cssq.proofs.Walking.{none_match, at_parent, node_is, same_option}
 use Rattle.cssq.proofs.walk.Walk.matching.Goals as goal
 
-pub matching_open-requires : goal.matching_open-requires
-matching_open-requires c =
+pub matching_exact-requires : goal.matching_exact-requires
+matching_exact-requires c =
     let rows = c.args.page.now in
     let node = node_is rows c.args.element c.node.result c.unwrap-node.result c.unwrap-node.ensures
     c.node.ensures in
@@ -25,9 +25,9 @@ pub returns-then-eq-clause-matches : goal.returns-then-eq-clause-matches
 returns-then-eq-clause-matches c =
     let node = node_is c.args.page.now c.args.element c.node.result c.unwrap-node.result
     c.unwrap-node.ensures c.node.ensures in
-    on_ok_weaker c.matching_open.result
-    (subst (λ n. AreMatches page_tree n c.args.index.now c.matching_open.new.indices.items) node)
-    c.matching_open.ensures.matches
+    on_ok_weaker c.matching_exact.result
+    (subst (λ n. AreMatches page_tree n c.args.index.now c.matching_exact.new.indices.items) node)
+    c.matching_exact.ensures.matches
 
 pub returns-clause-matches : goal.returns-clause-matches
 returns-clause-matches c =

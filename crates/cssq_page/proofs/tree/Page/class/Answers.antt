@@ -1,5 +1,5 @@
-use Rattle.std.proofs.Common.{sym, ap, ◌∙◌}
-use Rattle.std.specs.Prelude.{codes, is_some}
+use Rattle.std.proofs.Common.{sym, ◌∙◌}
+use Rattle.std.specs.Prelude.{codes}
 use Rattle.cssq_page.proofs.Attributes.{attribute_first}
 use Rattle.cssq_page.proofs.tree.Page.class.Goals as goal
 
