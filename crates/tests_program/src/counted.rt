@@ -102,8 +102,4 @@ impl<'a, 'p, 't> Keyed for Counted<'a, 'p, 't> {
     fn has_attribute(&self, name: &str) -> bool {
         self.node.has_attribute(name)
     }
-
-    fn ancestor_bits(&self) -> u64 {
-        self.node.ancestor_bits()
-    }
 }

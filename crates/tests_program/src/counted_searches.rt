@@ -166,11 +166,6 @@ const INDEXED_RULES: &[(&str, (u64, u64))] = &[
     ("[q]{x:y} [r]{x:y} [q='2']{x:y}", (0, 2)),
     // A rule `x > *` or `x + *` is tested if the parent or the previous sibling has the key of `x`.
     (".n > *{x:y} .m > *{x:y} .s + *{x:y} .n + *{x:y}", (0, 2)),
-    // A rule is tested only if its ancestors may exist.
-    (
-        ".n p{x:y} .z p{x:y} .z > p{x:y} #n p{x:y} .z b + p{x:y}",
-        (1, 1),
-    ),
     // A rule without a key is tested for each element.
     ("*{x:y} :hover{x:y} .n *{x:y}", (0, 1)),
 ];
