@@ -395,7 +395,7 @@ SERIALIZED = (
     ":nth-child( 2n + 1 )", ":nth-child(+n)", ":nth-child(-n+3)", ":nth-child(0n+5)", ":nth-child(5)", ":nth-child(n)",
     ":nth-child(2n+0)", ":nth-child(-5)", ":nth-child(-n)", ":nth-last-child(-2n - 1)", ":nth-of-type(3n-1)",
     ":nth-last-of-type(1n+2)", ":not( .a )", ":not(.a,b)", ":is(*,a)", ":where( a , .b )", ":IS(a)", "a::before", "::before",
-    "a > ::after", "*::after", ":hover", ":not(*)", ":not(*.a)", "a/**/.b", "a /**/ b", "a,b , c", ":lang(en)",
+    "a > ::after", "*::after", ":hover", ":not(*)", ":not(*.a)", "a /**/ b", "a,b , c", ":lang(en)",
 )
 # A browser drops a `*` before other simple selectors, and writes a language range as it was written.
 DROPPED = re.compile(r'("(?:\\.|[^"\\])*"|\\.)|\*(?=[.#:\[])')
