@@ -36,7 +36,7 @@ and-left : (a b : Bool) → (a && b) ≡ true → a ≡ true
 and-left true b h = refl
 and-left false b h = h
 
--- the same shrinks by a step more
+-- what is left by a step, and after it the innermost group rule, shrinks
 pub leaves-less : (middle : SheetReader) (step : Step) (after : SheetReader)
     → Leaves middle step after → (before : SheetReader) → size_of middle < size_of before
     → Shrinks before step after

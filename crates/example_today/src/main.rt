@@ -7,8 +7,8 @@
 //! a list are its kind, its name, its value and its flags. What is skipped has its fault in place
 //! of a name, and its text. With `names` the escapes in the names of declarations are decoded. The
 //! fields of a rule set, which may be in group rules, are the preludes of these with a comma after
-//! each, why it is dropped, its prelude and its block; those of its selectors are the text, the text
-//! again if it is a selector of level 3, the name of the pseudo-element, and why the rule set is
+//! each, why it is dropped, its prelude and its block; those of its selectors are the text, the
+//! selector of level 3 that is read of it, the name of the pseudo-element, and why the rule set is
 //! dropped. With `order` the rules are printed in the order of the cascade, but for those in `@media
 //! print`: the text of the selector, the name of the pseudo-element and the block.
 #![tactic(auto)]
@@ -170,13 +170,13 @@ fn write_rules<W: Write>(alloc: Global, out: &mut W, text: &str) -> io::Result<(
 }
 
 /// Writes a selector of a rule set.
-fn write_selector<W: Write>(out: &mut W, one: &RuleSelector<'_>) -> io::Result<()> {
-    let read = match one.selector {
-        Some(_) => one.text,
-        None => "",
+fn write_selector<W: Write>(alloc: Global, out: &mut W, one: &RuleSelector<'_>) -> io::Result<()> {
+    let read = match &one.selector {
+        Some(selector) => format!(in alloc; "{selector}")?,
+        None => String::new(alloc),
     };
     let pseudo_element = one.pseudo_element.unwrap_or("");
-    write_fields(out, one.text, read, pseudo_element, "")
+    write_fields(out, one.text, read.as_str(), pseudo_element, "")
 }
 
 /// Writes the selectors of a rule set, or why it is dropped.
@@ -184,7 +184,7 @@ fn write_selectors_of<W: Write>(alloc: Global, out: &mut W, rule: &RuleSet<'_>) 
     match read_selectors(alloc, &rule.prelude) {
         Ok(Ok(selectors)) => {
             for one in &selectors {
-                write_selector(out, one)?;
+                write_selector(alloc, out, one)?;
             }
             Ok(())
         }
