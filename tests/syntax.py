@@ -402,7 +402,8 @@ def beside_soupsieve(today: str, counts: Counts, count: int) -> None:
     texts = random_texts(SELECTOR_PIECES, count, 3, ("",))
     read = [item[:2] for items in selectors_of(today, [text + "{}" for text in texts]) for item in items if item[1] and not item[2]]
     # (soupsieve refuses two blanks before a combinator.)
-    work = {"page": PAGE, "selectors": sorted({(re.sub(" +", " ", text), printed) for text, printed in read})}
+    pairs = {(re.sub(" +", " ", text), re.sub(" +", " ", printed)) for text, printed in read}
+    work = {"page": PAGE, "selectors": sorted(pairs)}
     reply = subprocess.run(["/usr/bin/python3", "-c", FINDS], input=json.dumps(work), stdout=subprocess.PIPE, text=True, check=True).stdout
     for (text, printed), equal in zip(work["selectors"], json.loads(reply)):
         counts.expect(equal, f"{text!r} finds others than {printed!r} in soupsieve")
