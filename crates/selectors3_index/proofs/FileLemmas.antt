@@ -216,3 +216,15 @@ found_more entries i d key t lt is =
         → map (λ x. x.1) (filter (λ x. is_same x.0 key) (entry_of e ∷ [])) ≡ cond b (e.rule ∷ []) []
     last true h = ap (λ b. map (λ x. x.1) (cond b (entry_of e ∷ []) [])) h
     last false h = ap (λ b. map (λ x. x.1) (cond b (entry_of e ∷ []) [])) h
+
+-- one more entry was looked at
+pub found_step : (old before after : List ℕ) (entries : List Entry) (i : ℕ) (d : Entry) (key : Key)
+    (t : Bool) → before ≡ old ++ found_by (map entry_of (take i entries)) key
+    → after ≡ before ++ cond t ((get_or entries i d).rule ∷ []) [] → i < length entries
+    → is_same (key_of (get_or entries i d).key) key ≡ t
+    → after ≡ old ++ found_by (map entry_of (take (i + 1) entries)) key
+found_step old before after entries i d key t known next lt is =
+    next ∙ ap (λ xs. xs ++ cond t ((get_or entries i d).rule ∷ []) []) known
+    ∙ append_assoc old (found_by (map entry_of (take i entries)) key)
+    (cond t ((get_or entries i d).rule ∷ []) [])
+    ∙ ap (λ xs. old ++ xs) (sym (found_more entries i d key t lt is))

@@ -7,7 +7,7 @@ use Rattle.selectors3_index.proofs.selector_index.SelectorIndex.push_words.Goals
 
 pub words-init : goal.words-init
 words-init g c =
-    (c.utf8.value, [], no_word_yet c.args.value.now, sym (append-nil c.args.indices.now.items))
+    (c.utf8.value, ([], no_word_yet c.args.value.now, sym (append-nil c.args.indices.now.items)))
 
 pub words-preserved : goal.words-preserved
 words-preserved g c =
@@ -16,13 +16,15 @@ words-preserved g c =
     let old = c.args.indices.now.items in
     let es = entries_of c.args.self.now in (
       search rules,
-      words ++ word ∷ [],
-      word_more c.args.value.now words word c.words.rest.now c.in-Some.after.now
-          c.words.invariant.1.1 c.in-Some.ensures.words,
-      c.in_ok-push_found.ensures
-          ∙ ap (λ xs. xs ++ found_by es (by_class word)) c.words.invariant.1.2
-          ∙ flat_map_more (found_by es) old (map by_class words) (by_class word)
-          ∙ ap (λ ks. old ++ found_by_any es ks) (sym (map-append by_class words (word ∷ []))),
+      (
+        words ++ word ∷ [],
+        word_more c.args.value.now words word c.words.rest.now c.in-Some.after.now
+            c.words.invariant.1.1 c.in-Some.ensures.words,
+        c.in_ok-push_found.ensures
+            ∙ ap (λ xs. xs ++ found_by es (by_class word)) c.words.invariant.1.2
+            ∙ flat_map_more (found_by es) old (map by_class words) (by_class word)
+            ∙ ap (λ ks. old ++ found_by_any es ks) (sym (map-append by_class words (word ∷ []))),
+      ),
     )
 
 pub returns : goal.returns
