@@ -15,7 +15,7 @@ use Rattle.selectors3.specs.Keys.{Key, keys_of}
 use Rattle.selectors3.specs.Keys.Key.{by_id, by_class, by_name, by_attribute, by_nothing}
 use Rattle.selectors3.specs.KeyViews.{key_of}
 use Rattle.selectors3_index.specs.declared.table.Entry.{Entry}
-use Rattle.selectors3_index.specs.internal.Filed.{is_same, number_from, number_of, place_of, entry_of, with_index, entries_from, entries_of, entries_at, AreFiledAt, AreFiled, found_by}
+use Rattle.selectors3_index.specs.internal.Filed.{is_same, number_from, number_of, place_of, entry_of, with_index, entries_from, entries_of, entries_at, AreFiled, found_by}
 
 entries_from-push : (n : ℕ) (ss : List Selector) (s : Selector)
     → entries_from n (ss ++ s ∷ []) ≡ entries_from n ss ++ with_index (n + length ss) (keys_of s)

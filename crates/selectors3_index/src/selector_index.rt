@@ -127,11 +127,7 @@ impl<'s, T: HasSelector3> SelectorIndex<'s, T> {
     }
 
     /// Appends the indices of the rules of which a key is reported.
-    fn push_keyed<E: Keyed3>(
-        &self,
-        element: &E,
-        indices: &mut Vec<usize>,
-    ) -> Result<(), AllocError>
+    fn push_keyed<E: Keyed3>(&self, element: &E, indices: &mut Vec<usize>) -> Result<(), AllocError>
         ensures { OnOk result ((keys : List KeyOf)
             × AreReported E.document (E.node element.now) (E.reported element.now) keys
             × (indices.new.items

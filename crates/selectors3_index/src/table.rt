@@ -76,11 +76,7 @@ pub(crate) fn place_of(key: &Key<'_>, count: usize) -> usize
 }
 
 /// Appends an entry for each key of a rule.
-fn enter<'s>(
-    keys: &[Key<'s>],
-    rule: usize,
-    entries: &mut Vec<Entry<'s>>,
-) -> Result<(), AllocError>
+fn enter<'s>(keys: &[Key<'s>], rule: usize, entries: &mut Vec<Entry<'s>>) -> Result<(), AllocError>
     ensures { OnOk result (map entry_of entries.new.items
         ≡ map entry_of entries.old.items ++ with_index rule (map key_of keys.now)) }
 {

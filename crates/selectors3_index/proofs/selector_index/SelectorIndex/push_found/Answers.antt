@@ -29,10 +29,10 @@ returns g c =
     let key = key_of c.args.key.now in
     c.loop-entry.invariant
     ∙ ap (λ xs. c.args.indices.now.items ++ xs) (
-        ap (λ es. found_by (map entry_of es) key)
-            (take_all c.loop-entry.entry-index c.deref-entry-items.result.now c.loop-entry-test.false
-            ∙ c.deref-entry-items.ensures.value)
-            ∙ found_there _ c.self.inside.buckets.items key c.place_of-place.result
-            c.index.result.now c.self.invariant (search rules) (search rules) c.index.ensures
-            ∙ ap (λ ss. found_by (entries_of ss) key) c.self.view_is
-      )
+    ap (λ es. found_by (map entry_of es) key)
+    (take_all c.loop-entry.entry-index c.deref-entry-items.result.now c.loop-entry-test.false
+    ∙ c.deref-entry-items.ensures.value)
+    ∙ found_there _ c.self.inside.buckets.items key c.place_of-place.result
+    c.index.result.now c.self.invariant (search rules) (search rules) c.index.ensures
+    ∙ ap (λ ss. found_by (entries_of ss) key) c.self.view_is
+    )

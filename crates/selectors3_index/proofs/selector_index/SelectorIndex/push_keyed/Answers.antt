@@ -1,6 +1,5 @@
 use Rattle.std.proofs.Common.{◌++◌, map, ap, ◌∙◌, subst}
 use Rattle.std.specs.Prelude.{codes}
-use Rattle.std.specs.Option.{option_map}
 use Rattle.selectors3.specs.Keys.Key.{by_class, by_attribute, by_name, by_nothing}
 use Rattle.selectors3_index.specs.internal.Filed.{AreClasses, entries_of, found_by, found_by_any, id_keys}
 use Rattle.selectors3_index.proofs.KeyedLemmas.{all_keys, reported_are, found_in_turn, on_ok}
