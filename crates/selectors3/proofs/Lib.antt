@@ -6,7 +6,7 @@ pub mod ItemLemmas
 pub mod GapLemmas
 pub mod EscapeLemmas
 pub mod PrintLemmas
-mod KeyLemmas
+pub mod KeyLemmas
 mod SpelledAgain
 mod NumbersAgain
 mod CompoundsAgain

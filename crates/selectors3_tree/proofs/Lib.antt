@@ -1,3 +1,4 @@
 mod Counting
 mod Grouping
 mod Numbering
+mod Reporting

@@ -3,3 +3,4 @@ pub mod GroupViews
 pub mod Keys
 pub mod Laws
 pub mod Pages
+pub mod Reports

@@ -5,6 +5,7 @@ ghost use Rattle.selectors3_tree.specs.Pages.{is_in_state};
 
 use crate::NumberedTree;
 use selectors3::Element3;
+use selectors3_index::Keyed3;
 use simplecss::{Element, PseudoClass};
 use simplecss_tree::Node;
 use std::marker::Model;
@@ -106,6 +107,28 @@ impl<'n, 'p, 't> Element3 for NumberedNode<'n, 'p, 't> {
 
     fn has_content(&self) -> bool {
         self.tree.has_content(self.index)
+    }
+}
+
+/// Reports the names of the element and of its attributes.
+impl<'n, 'p, 't> Keyed3 for NumberedNode<'n, 'p, 't> {
+    ghost use Rattle.selectors3_tree.specs.Reports.{reported_of, keys_reported};
+
+    ghost reported = { reported_of };
+
+    ghost reported_law = { keys_reported };
+
+    fn local_name(&self) -> &str {
+        self.tree.plain(self.index).name()
+    }
+
+    fn attribute_count(&self) -> usize {
+        self.tree.plain(self.index).attributes().len()
+    }
+
+    fn attribute_name(&self, index: usize) -> &str {
+        let attributes = self.tree.plain(self.index).attributes();
+        attributes[index].0
     }
 }
 

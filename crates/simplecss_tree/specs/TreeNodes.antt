@@ -37,6 +37,10 @@ value_in (attribute ∷ attributes) name =
 abbrev pub attribute_at : List Row → ℕ → List ℕ → Option (List ℕ)
 attribute_at rows i name = option_and_then (λ row. value_in row.attributes name) (slice_get rows i)
 
+-- the name and the value of each attribute of the element at an index
+abbrev pub attributes_at : List Row → ℕ → List (List ℕ × List ℕ)
+attributes_at rows i = option_map_or (λ row. row.attributes) (slice_get rows i) []
+
 -- the states of the element at an index
 abbrev pub states_at : List Row → ℕ → States
 states_at rows i = option_map_or (λ row. row.states) (slice_get rows i) no_states

@@ -55,7 +55,7 @@ pub(crate) fn value_in<'t>(attributes: &[(&'t str, &'t str)], name: &str) -> Opt
 }
 
 impl<'p, 't> Node<'p, 't> {
-    ghost use Rattle.simplecss_tree.specs.TreeNodes.{name_at, attribute_at};
+    ghost use Rattle.simplecss_tree.specs.TreeNodes.{name_at, attribute_at, attributes_at};
 
     /// Returns the index among the elements of the tree, in the order in which they were added.
     pub fn index(&self) -> usize
@@ -70,6 +70,13 @@ impl<'p, 't> Node<'p, 't> {
         ensures { result.now ≡ name_at self.now.0 self.now.1 }
     {
         self.tree.name(self.index)
+    }
+
+    /// Returns the name and the value of each attribute.
+    pub fn attributes(&self) -> &'p [(&'t str, &'t str)]
+        ensures { map attribute_of result.now ≡ attributes_at self.now.0 self.now.1 }
+    {
+        self.tree.attributes(self.index)
     }
 
     /// Returns the value of the first attribute with the name, if there is one.

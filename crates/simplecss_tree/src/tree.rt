@@ -1,5 +1,5 @@
 //! A tree that grows: each element comes after its parent and after its previous siblings.
-ghost use Rattle.std.specs.Prelude.{◌≡◌, ◌<◌, ◌≤◌, ◌++◌, ◌∷◌, ◌↔◌, [], length, IfSome, IfOk, IfErr};
+ghost use Rattle.std.specs.Prelude.{◌≡◌, ◌<◌, ◌≤◌, ◌++◌, ◌∷◌, ◌↔◌, [], length, IfSome, IfOk, IfErr, map};
 ghost use Rattle.std.specs.Prelude.{MatchOption, MatchResult, Err, OnOk, OnErr, false};
 ghost use Rattle.std.specs.Option.{option_map, option_map_or};
 ghost use Rattle.simplecss_tree.specs.declared.tree.TreeError.TheVariants.{NoElement, Memory};
@@ -244,7 +244,9 @@ impl<'t> Tree<'t> {
 impl<'t> Tree<'t> {
     ghost use Rattle.simplecss.specs.ListTrees.{parent_by, sibling_by};
     ghost use Rattle.simplecss_tree.specs.TreeNodes.{named_parent, named_previous, name_at};
-    ghost use Rattle.simplecss_tree.specs.TreeNodes.{attribute_at, states_at, language_at};
+    ghost use Rattle.simplecss_tree.specs.Rows.{attribute_of};
+    ghost use Rattle.simplecss_tree.specs.TreeNodes.{attribute_at, attributes_at};
+    ghost use Rattle.simplecss_tree.specs.TreeNodes.{states_at, language_at};
     ghost use Rattle.simplecss_tree.specs.TreeNodes.{is_in_language};
 
     /// Returns the index of the parent.
@@ -281,6 +283,14 @@ impl<'t> Tree<'t> {
         ensures { result.now ≡ name_at self.now index }
     {
         self.entries[index].name
+    }
+
+    /// Returns the name and the value of each attribute.
+    pub(crate) fn attributes(&self, index: usize) -> &[(&'t str, &'t str)]
+        requires { index < length self.now }
+        ensures { map attribute_of result.now ≡ attributes_at self.now index }
+    {
+        self.entries[index].attributes.as_slice()
     }
 
     /// Returns the value of the first attribute with the name, if there is one.

@@ -1,0 +1,5 @@
+mod FoundLemmas
+mod KeptLemmas
+mod KeyedLemmas
+mod WordLemmas
+mod FileLemmas

@@ -1,0 +1,8 @@
+use Rattle.std.proofs.Common.{◌≡◌, map, take}
+use Rattle.selectors3_index.specs.internal.Filed.{entry_of, entries_of}
+use Rattle.selectors3_index.proofs.table.entries_of.Given as goal
+
+-- the entries of the rules so far
+abbrev pub invariant-loop-rule : goal.invariant-loop-rule
+invariant-loop-rule g l =
+    map entry_of l.entries.items ≡ entries_of (map g.T.HasSelector3.selector_in (take l.rule l.rules))

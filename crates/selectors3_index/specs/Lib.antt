@@ -1,0 +1,3 @@
+pub mod Reported
+pub mod Found
+pub mod internal

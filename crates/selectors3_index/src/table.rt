@@ -1,0 +1,143 @@
+//! Keys of rules, filed by a number of each.
+ghost use Rattle.std.specs.Prelude.{◌≡◌, ◌<◌, ◌++◌, [], length, map, IfOk, OnOk};
+ghost use Rattle.selectors3.specs.KeyViews.{key_of};
+ghost use Rattle.selectors3_index.specs.internal.Filed.{is_same as is_same_key};
+ghost use Rattle.selectors3_index.specs.internal.Filed.{number_from as number_from_text};
+ghost use Rattle.selectors3_index.specs.internal.Filed.{number_of as number_of_key};
+ghost use Rattle.selectors3_index.specs.internal.Filed.{place_of as place_of_key, entry_of};
+ghost use Rattle.selectors3_index.specs.internal.Filed.{with_index, AreFiledAt, AreFiled};
+ghost use Rattle.selectors3_index.specs.internal.Filed.{entries_of as entries_of_selectors};
+
+use crate::HasSelector3;
+use selectors3::Key;
+use std::alloc::{AllocError, Global};
+
+/// A key of a rule.
+#[derive(Clone, Copy, Debug)]
+pub(crate) struct Entry<'s> {
+    /// The key.
+    pub(crate) key: Key<'s>,
+    /// The index of the rule.
+    pub(crate) rule: usize,
+}
+
+/// Whether the keys are of one kind and have the same text, but for the case of ASCII letters in
+/// names.
+#[inline(always)]
+pub(crate) fn is_same(one: &Key<'_>, other: &Key<'_>) -> bool
+    ensures { result ≡ is_same_key (key_of one.now) (key_of other.now) }
+{
+    match (one, other) {
+        (Key::Id(a), Key::Id(b)) => a == b,
+        (Key::Class(a), Key::Class(b)) => a == b,
+        (Key::Name(a), Key::Name(b)) => a.eq_ignore_ascii_case(b),
+        (Key::Attribute(a), Key::Attribute(b)) => a.eq_ignore_ascii_case(b),
+        (Key::Any, Key::Any) => true,
+        _ => false,
+    }
+}
+
+/// Returns a number for a text, counted from the number of a kind of key.
+#[inline(always)]
+fn number_from(kind: u64, text: &str) -> u64
+    ensures { result ≡ number_from_text kind text.now }
+{
+    let mut number = kind;
+    for byte in text.as_bytes() {
+        number = number
+            .wrapping_mul(37)
+            .wrapping_add(u64::from(byte.to_ascii_lowercase()));
+    }
+    number
+}
+
+/// Returns a number for a key.
+#[inline(always)]
+fn number_of(key: &Key<'_>) -> u64
+    ensures { result ≡ number_of_key (key_of key.now) }
+{
+    match key {
+        Key::Id(text) => number_from(1, text),
+        Key::Class(text) => number_from(2, text),
+        Key::Name(text) => number_from(3, text),
+        Key::Attribute(text) => number_from(4, text),
+        Key::Any => 0,
+    }
+}
+
+/// Returns the place of a key among so many.
+#[inline(always)]
+pub(crate) fn place_of(key: &Key<'_>, count: usize) -> usize
+    requires { 0 < count }
+    ensures value { result ≡ place_of_key count (key_of key.now) }
+    ensures within { result < count }
+{
+    (number_of(key).wrapping_mul(0x9E37_79B9_7F4A_7C15) >> 32) as usize % count
+}
+
+/// Appends an entry for each key of a rule.
+fn enter<'s>(keys: &[Key<'s>], rule: usize, entries: &mut Vec<Entry<'s>>) -> Result<(), AllocError>
+    ensures { OnOk result (map entry_of entries.new.items
+        ≡ map entry_of entries.old.items ++ with_index rule (map key_of keys.now)) }
+{
+    for key in keys {
+        entries.push(Entry { key: *key, rule })?;
+    }
+    Ok(())
+}
+
+/// Returns the keys of rules.
+fn entries_of<'s, T: HasSelector3>(
+    alloc: Global,
+    rules: &'s [T],
+) -> Result<Vec<Entry<'s>>, AllocError>
+    ensures { IfOk result (λ entries. map entry_of entries.items
+        ≡ entries_of_selectors (map T.selector_in rules.now)) }
+{
+    let mut entries = Vec::with_capacity(alloc, rules.len())?;
+    let mut keys = Vec::new(alloc);
+    for rule in 0..rules.len() {
+        keys.clear();
+        rules[rule].selector().push_keys(&mut keys)?;
+        enter(keys.as_slice(), rule, &mut entries)?;
+    }
+    Ok(entries)
+}
+
+/// Returns so many empty lists.
+fn empty_buckets<'s>(alloc: Global, count: usize) -> Result<Vec<Vec<Entry<'s>>>, AllocError>
+    ensures len { IfOk result (λ buckets. length buckets.items ≡ count) }
+    ensures none { IfOk result (λ buckets. AreFiledAt count [] buckets.items) }
+{
+    let mut buckets = Vec::with_capacity(alloc, count)?;
+    for place in 0..count {
+        buckets.push(Vec::new(alloc))?;
+    }
+    Ok(buckets)
+}
+
+/// Files entries, each at the place of its key.
+fn file<'s>(entries: &[Entry<'s>], buckets: &mut Vec<Vec<Entry<'s>>>) -> Result<(), AllocError>
+    requires { AreFiled [] buckets.old.items }
+    ensures { OnOk result (AreFiled (map entry_of entries.now) buckets.new.items) }
+{
+    for entry in entries {
+        let place = place_of(&entry.key, buckets.len());
+        buckets[place].push(*entry)?;
+    }
+    Ok(())
+}
+
+/// Returns the keys of rules, filed.
+pub(crate) fn filed<'s, T: HasSelector3>(
+    alloc: Global,
+    rules: &'s [T],
+) -> Result<Vec<Vec<Entry<'s>>>, AllocError>
+    ensures { IfOk result (λ buckets.
+        AreFiled (entries_of_selectors (map T.selector_in rules.now)) buckets.items) }
+{
+    let entries = entries_of(alloc, rules)?;
+    let mut buckets = empty_buckets(alloc, entries.len().saturating_mul(2).max(1))?;
+    file(entries.as_slice(), &mut buckets)?;
+    Ok(buckets)
+}
