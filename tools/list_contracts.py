@@ -60,8 +60,11 @@ CALLS = (
     ("today's sheets", "css_syntax/src"),
     ("today's selectors", "css_selectors/src"),
     ("which of them are read", "css_sheet/src/selectors.rt"),
+    ("rules of a sheet in order", "css_sheet/src/sheet_order.rt"),
     ("reading selectors of level 3", "selectors3/src/reading.rt"),
+    ("printing them", "selectors3/src/printing.rt"),
     ("matching them", "selectors3/src/matching.rt"),
+    ("an index of them", "selectors3_index/src/selector_index.rt"),
     ("matching with `~`", "sibling_matching/src"),
 )
 
