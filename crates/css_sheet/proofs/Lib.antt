@@ -3,3 +3,4 @@ pub mod SheetSteps
 pub mod PlaceLemmas
 mod SheetRuleLemmas
 mod HeldLemmas
+mod WinnerLemmas

@@ -7,3 +7,5 @@ pub mod RuleViews
 pub mod SheetOrder
 pub mod SheetMessages
 pub mod SheetRuleViews
+pub mod SheetWinners
+pub mod WinnerSteps

@@ -1,6 +1,9 @@
 //! Reads today's style sheets statement by statement, over `css_syntax`: the rule sets of a sheet
 //! and of the blocks of its group rules such as `@media`, in source order, each with the group
 //! rules that it is in. Whether the condition of a group rule holds is for the caller to decide.
+//!
+//! `read_sheet` returns the style rules in the order of the cascade, and `winning` the declaration
+//! of a property that wins on an element.
 #![tactic(auto)]
 
 mod gathering;
@@ -11,9 +14,11 @@ mod sheet_error;
 mod sheet_order;
 mod sheet_rules;
 mod state;
+mod winners;
 
 pub use selectors::{RuleSelector, read_listed, read_selectors};
 pub use sheet_error::SheetError;
 pub use sheet_order::read_sheet;
 pub use sheet_rules::SheetRule;
 pub use state::{Level, Places, SheetReader};
+pub use winners::winning;
