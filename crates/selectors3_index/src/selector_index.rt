@@ -16,7 +16,8 @@ use selectors3::Key;
 use std::alloc::{AllocError, Global};
 use std::marker::Model;
 
-/// An index of rules by the keys of their selectors.
+/// An index of rules by the keys of their selectors. It borrows the rules; a change of them needs a
+/// new index.
 #[derive(Drop)]
 pub struct SelectorIndex<'s, T: HasSelector3> {
     /// The rules.
@@ -49,7 +50,8 @@ fn sort_once(indices: &mut Vec<usize>)
 }
 
 impl<'s, T: HasSelector3> SelectorIndex<'s, T> {
-    /// Returns an index of the rules, which it borrows.
+    /// Returns an index of the rules, which it borrows. It holds an entry for each key of each rule.
+    /// Fails only if an allocation fails.
     pub fn new(alloc: Global, rules: &'s [T]) -> Result<SelectorIndex<'s, T>, AllocError>
         ensures { IfOk result (λ index. index ≡ map T.selector_in rules.now) }
     {
@@ -150,10 +152,11 @@ impl<'s, T: HasSelector3> SelectorIndex<'s, T> {
         }
     }
 
-    /// Finds the indices of the rules of which the element reports a key, in order: no others are
-    /// tested by [`SelectorIndex::matching`].
+    /// Finds the indices of the rules of which the element reports a key, in order. They are those
+    /// that [`SelectorIndex::matching`] tests.
     ///
-    /// The previous items of `indices` are dropped.
+    /// The previous items of `indices` are dropped. Only its growth allocates, and fails only if an
+    /// allocation fails; then no items are left.
     pub fn candidates<E: Keyed3>(
         &self,
         element: &E,
@@ -173,10 +176,11 @@ impl<'s, T: HasSelector3> SelectorIndex<'s, T> {
     }
 
     /// Finds the indices of the rules that match the element, in order: those that testing each
-    /// rule would find. Only [`SelectorIndex::candidates`] are tested.
+    /// rule would find. One with a pseudo-element matches none. Only the rules of
+    /// [`SelectorIndex::candidates`] are tested.
     ///
-    /// The previous items of `indices` are dropped. Only its growth allocates. Fails only if an
-    /// allocation fails.
+    /// The previous items of `indices` are dropped. Only its growth allocates, and fails only if an
+    /// allocation fails; then no items are left.
     pub fn matching<E: Keyed3>(
         &self,
         element: &E,
