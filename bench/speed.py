@@ -29,6 +29,8 @@ from typing import Callable, Iterable, Iterator, List, Optional, Sequence, Tuple
 VOID = {"area", "base", "br", "col", "embed", "hr", "img", "input", "link", "meta", "source", "track", "wbr"}
 # As the script `cssq` sets it; and Servo's program reports what is skipped, as `cssq` does.
 ENVIRONMENT = {**os.environ, "GLIBC_TUNABLES": "glibc.malloc.hugetlb=1", "PEER_WARN": "1"}
+# What takes the Rust crate a minute and more.
+SLOW = ("20,000 rule sets", "children of", "a chain")
 # After this many seconds a row has no more than three runs.
 PATIENCE = 8.0
 
@@ -290,7 +292,7 @@ def match_made(bench: Bench, css: str, tree: List[str]) -> None:
     """Matches pages of other kinds, and says which declarations win on the page."""
     for what, text, page in made_pages(tree):
         sheet, path = bench.put("made.css", text), bench.put("made.tree", page())
-        leave_out = ["the Rust crate"] if what.startswith("20,000") else []
+        leave_out = ["the Rust crate"] if what.startswith(SLOW) else []
         bench.run(f"match: {what}", 0, ["match", sheet, path], leave_out)
     bench.run("style: color on the page", 0, ["style", bench.put("sheet.css", css), bench.put("page.tree", tree_of(tree)), "color"])
 
@@ -371,19 +373,19 @@ def processor() -> str:
 
 def cells(own: Cost, cost: Optional[Cost]) -> str:
     """Returns the time and memory of a program, and the ratio of the first program's time to it."""
-    return f" {cost.time:.1f} | {cost.memory:.1f} | {own.time / cost.time:.2f} |" if cost else " | | |"
+    return f"{cost.time:.1f}|{cost.memory:.1f}|{own.time / cost.time:.2f}|" if cost else "|||"
 
 
 def table(bench: Bench, source: str) -> str:
     """Returns the rows as a table of Markdown."""
     rivals = bench.programs[1:]
     lines = [f"Machine: {processor()}, {os.cpu_count()} processors. Date: {time.strftime('%Y-%m-%d')}. Texts: {source}.", "",
-             "| | `cssq`, ms | MB |" + "".join(f" {it.name}, ms | MB | ratio |" for it in rivals),
+             "||`cssq`, ms|MB|" + "".join(f"{it.name}, ms|MB|ratio|" for it in rivals),
              "|---|---|---|" + "---|---|---|" * len(rivals)]
     for row in bench.rows:
         own = row.costs[0]
         if own:
-            lines.append(f"| {row.what} | {own.time:.1f} | {own.memory:.1f} |" + "".join(cells(own, it) for it in row.costs[1:]))
+            lines.append(f"|{row.what}|{own.time:.1f}|{own.memory:.1f}|" + "".join(cells(own, it) for it in row.costs[1:]))
     return "\n".join(lines) + "\n"
 
 
