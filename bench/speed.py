@@ -9,7 +9,8 @@ by `apt-get download` into FOLDER (cssq-speed in the temporary folder) once; if 
 says so. FOLDER is outside the repository: packages have links, which the toolchain refuses there.
 
 Prints a table, and writes it with a picture to FOLDER: speed.md and speed.svg. Each time is the least of N runs of the whole
-process, in milliseconds of processor time, and each memory the most of them, in megabytes.
+process, in milliseconds of processor time. The most resident memory, in megabytes, is that of one more run below GNU `time`, if it
+is there: of a process that Python starts the system reports no less than Python's own.
 """
 from __future__ import annotations
 
@@ -18,6 +19,7 @@ import glob
 import html.parser
 import os
 import platform
+import shutil
 import subprocess
 import sys
 import tempfile
@@ -29,6 +31,8 @@ from typing import Callable, Iterable, Iterator, List, Optional, Sequence, Tuple
 VOID = {"area", "base", "br", "col", "embed", "hr", "img", "input", "link", "meta", "source", "track", "wbr"}
 # As the script `cssq` sets it; and Servo's program reports what is skipped, as `cssq` does.
 ENVIRONMENT = {**os.environ, "GLIBC_TUNABLES": "glibc.malloc.hugetlb=1", "PEER_WARN": "1"}
+# What takes the Rust crate a minute and more.
+SLOW = ("20,000 rule sets", "children of", "a chain")
 # After this many seconds a row has no more than three runs.
 PATIENCE = 8.0
 
@@ -46,10 +50,10 @@ class Program:
 
 @dataclass(frozen=True)
 class Cost:
-    """Processor time in milliseconds, and the most resident memory in megabytes."""
+    """Processor time in milliseconds, and the most resident memory in megabytes, as text."""
 
     time: float
-    memory: float
+    memory: str
 
 
 @dataclass(frozen=True)
@@ -82,7 +86,7 @@ class Bench:
         chosen = [it if words[0] in it.commands and it.name not in leave_out else None for it in self.programs]
         row = Row(what, size, least(chosen, words, self.runs))
         self.rows.append(row)
-        print(f"{what:52}" + "".join(f" {it.time:10.1f} {it.memory:7.1f}" if it else " " * 19 for it in row.costs), flush=True)
+        print(f"{what:52}" + "".join(f" {it.time:10.1f} {it.memory:>7}" if it else " " * 19 for it in row.costs), flush=True)
         return row
 
 
@@ -211,8 +215,8 @@ def long_values(count: int) -> str:
     return tree_of(["0\tsvg"] + ["1\tpath\td=" + "M0 0L9 9z " * 100 + "\tfill=red\tstroke=none\tx=1\ty=2"] * count)
 
 
-def measured(path: str, words: Sequence[str]) -> Tuple[Cost, bytes]:
-    """Runs a program once, and returns its cost and its output."""
+def measured(path: str, words: Sequence[str]) -> Tuple[float, bytes]:
+    """Runs a program once, and returns its processor time and its output."""
     with tempfile.TemporaryFile() as output, open(os.devnull, "r+b") as null:
         child = subprocess.Popen([path, *words], stdin=null, stdout=output, stderr=null, env=ENVIRONMENT)
         _, status, usage = os.wait4(child.pid, 0)
@@ -220,31 +224,37 @@ def measured(path: str, words: Sequence[str]) -> Tuple[Cost, bytes]:
         if child.returncode != 0:
             sys.exit(f"{path} ends with {child.returncode} at {words}")
         output.seek(0)
-        return Cost(1000 * (usage.ru_utime + usage.ru_stime), usage.ru_maxrss / 1024), output.read()
+        return 1000 * (usage.ru_utime + usage.ru_stime), output.read()
 
 
-def lesser(old: Optional[Cost], new: Cost) -> Cost:
-    """Returns the lesser time, and the greater memory."""
-    return Cost(min(old.time, new.time), max(old.memory, new.memory)) if old else new
+def memory_of(path: str, words: Sequence[str]) -> str:
+    """Runs a program once, and returns its most resident memory, or nothing without GNU `time`."""
+    timer = shutil.which("time")
+    if not timer:
+        return ""
+    with tempfile.NamedTemporaryFile("r", encoding="utf-8") as report:
+        subprocess.run([timer, "-f", "%M", "-o", report.name, path, *words], check=True, stdin=subprocess.DEVNULL,
+                       stdout=subprocess.DEVNULL, stderr=subprocess.DEVNULL, env=ENVIRONMENT)
+        return f"{int(report.read()) / 1024:.1f}"
 
 
 def least(programs: Sequence[Optional[Program]], words: Sequence[str], runs: int) -> List[Optional[Cost]]:
     """Returns the least cost by each program, one run of each after another. Their output must be the same."""
-    costs: List[Optional[Cost]] = [None] * len(programs)
+    times = [float("inf")] * len(programs)
     begun = time.monotonic()
     for number in range(runs):
         first: Optional[bytes] = None
         for place, program in enumerate(programs):
             if not program:
                 continue
-            cost, output = measured(program.path, words)
-            costs[place] = lesser(costs[place], cost)
+            spent, output = measured(program.path, words)
+            times[place] = min(times[place], spent)
             if first is not None and words[0] in program.compared and output != first:
                 sys.exit(f"{program.path} answers otherwise to {words}")
             first = output if place == 0 else first
         if number >= 2 and time.monotonic() - begun > PATIENCE:
             break
-    return costs
+    return [Cost(spent, memory_of(it.path, words)) if it else None for it, spent in zip(programs, times)]
 
 
 def read_sheets(bench: Bench, css: str, is_quick: bool) -> None:
@@ -290,7 +300,7 @@ def match_made(bench: Bench, css: str, tree: List[str]) -> None:
     """Matches pages of other kinds, and says which declarations win on the page."""
     for what, text, page in made_pages(tree):
         sheet, path = bench.put("made.css", text), bench.put("made.tree", page())
-        leave_out = ["the Rust crate"] if what.startswith("20,000") else []
+        leave_out = ["the Rust crate"] if what.startswith(SLOW) else []
         bench.run(f"match: {what}", 0, ["match", sheet, path], leave_out)
     bench.run("style: color on the page", 0, ["style", bench.put("sheet.css", css), bench.put("page.tree", tree_of(tree)), "color"])
 
@@ -371,19 +381,19 @@ def processor() -> str:
 
 def cells(own: Cost, cost: Optional[Cost]) -> str:
     """Returns the time and memory of a program, and the ratio of the first program's time to it."""
-    return f" {cost.time:.1f} | {cost.memory:.1f} | {own.time / cost.time:.2f} |" if cost else " | | |"
+    return f"{cost.time:.1f}|{cost.memory}|{own.time / cost.time:.2f}|" if cost else "|||"
 
 
 def table(bench: Bench, source: str) -> str:
     """Returns the rows as a table of Markdown."""
     rivals = bench.programs[1:]
     lines = [f"Machine: {processor()}, {os.cpu_count()} processors. Date: {time.strftime('%Y-%m-%d')}. Texts: {source}.", "",
-             "| | `cssq`, ms | MB |" + "".join(f" {it.name}, ms | MB | ratio |" for it in rivals),
+             "||`cssq`, ms|MB|" + "".join(f"{it.name}, ms|MB|ratio|" for it in rivals),
              "|---|---|---|" + "---|---|---|" * len(rivals)]
     for row in bench.rows:
         own = row.costs[0]
         if own:
-            lines.append(f"| {row.what} | {own.time:.1f} | {own.memory:.1f} |" + "".join(cells(own, it) for it in row.costs[1:]))
+            lines.append(f"|{row.what}|{own.time:.1f}|{own.memory}|" + "".join(cells(own, it) for it in row.costs[1:]))
     return "\n".join(lines) + "\n"
 
 
