@@ -49,7 +49,8 @@ impl<'a> Selector3<'a> {
 
     /// Returns the compound selectors, from left to right.
     pub fn parts(&self) -> &[Part<'a>]
-        ensures { map part_of result.now ≡ self.now.parts }
+        ensures same { map part_of result.now ≡ self.now.parts }
+        ensures some { 0 < length result.now }
     {
         self.parts.as_slice()
     }
