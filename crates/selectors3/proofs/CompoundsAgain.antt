@@ -19,7 +19,7 @@ use Rattle.selectors3.specs.Components.Structure.{root, empty, first_child, last
 use Rattle.selectors3.specs.Components.Simple.{universal, type_name, id, class, has_attribute, attribute, structure, language, state}
 use Rattle.selectors3.specs.Components.Condition.{simple, negation, any_of, where_any}
 use Rattle.selectors3.specs.Readings.{Reading, got, refused, follow, give, ◌>>=◌, ◌>>◌, Step, item, none, as_item, with_first, go_on, items, items_up_to}
-use Rattle.selectors3.specs.Grammar.{gap, name, begins_name, begins_word, begins_compound, value, comparison, flag, flag_named, compared, by_comparison, attribute_selector, closing, progression, one_more, plain_structure, plain_pseudo, list_kind, function_named, numbered_by, next_range, range_after, language_ranges, functional, pseudo_class, begins_pseudo_element, type_selector, next_simple, after_type, some_of, compound, next_compound, after_gap, listed, compound_list, simple_item, with_argument, next_condition, after_type_name, some_or_element, conditions}
+use Rattle.selectors3.specs.Grammar.{gap, name, begins_name, begins_word, begins_compound, value, comparison, flag, flag_named, compared, by_comparison, attribute_selector, closing, progression, one_more, plain_structure, plain_pseudo, list_kind, function_named, numbered_by, next_range, range_after, language_ranges, functional, is_old_element, named_pseudo, pseudo_class, type_selector, next_simple, after_type, some_of, compound, next_compound, after_gap, listed, compound_list, simple_item, with_argument, next_condition, after_type_name, some_or_element, conditions}
 use Rattle.selectors3.specs.Printing.{identifier_text, string_text, progression_text, comparison_text, flag_text, structure_text, further_text, list_text, simple_text, compound_text, compounds_text, condition_text}
 use Rattle.selectors3.specs.WellFormed.{IsName, IsProgression, IsStructure, IsFurther, IsFirst, IsCompound, AreCompounds, IsFurtherCondition, IsFirstCondition, AreConditions}
 use Rattle.selectors3.proofs.SpelledAgain.{EndsName, name-again, begins-again, value-again, all_below, passes, either_fails}
@@ -319,37 +319,37 @@ pseudo_simple text n rest begins reads no_list =
     found (refused why after) = refl
 
     by : (t : Bool) (kind : Option ListKind) → (t && is_some kind) ≡ false
-        → as_item (λ c. c) (if t then with_argument (colon ∷ text) kind (function_named n)
-        (past_one rest)
-        else got (simple (plain_pseudo n (plain_structure n))) rest)
-        ≡ simple_item (as_item (λ s. s) (if t
-        then functional (colon ∷ text) (function_named n) (past_one rest)
-        else got (plain_pseudo n (plain_structure n)) rest))
+        → (if t then as_item (λ c. c) (with_argument (colon ∷ text) kind (function_named n)
+        (past_one rest))
+        else simple_item (named_pseudo n rest))
+        ≡ simple_item (if t
+        then as_item (λ s. s) (functional (colon ∷ text) (function_named n) (past_one rest))
+        else named_pseudo n rest)
     by false kind e = refl
     by true None e = found (functional (colon ∷ text) (function_named n) (past_one rest))
     by true (Some kind) e = absurd (cc)
 
 -- a pseudo-class that is only a name
-plain-again : (n rest : List ℕ) → IsName n → ends rest ≡ true
+plain-again : (n rest : List ℕ) → IsName n → is_old_element n ≡ false → ends rest ≡ true
     → next_simple (colon ∷ (identifier_text n ++ rest))
     ≡ item (plain_pseudo n (plain_structure n)) rest
 unfolding next_simple pseudo_class
-plain-again n rest some h =
+plain-again n rest some other h =
     let begins = named_text n rest some h in
     let one : starts colon (identifier_text n ++ rest) ≡ false =
     name_other colon (identifier_text n ++ rest) begins refl in
     let reads = name-again n rest some (ends_name rest h) in
     let stops = opens_none rest h in
-    rw (one, reads, stops) refl
+    rw (one, reads, stops, other) refl
 
-plain_condition : (n rest : List ℕ) → IsName n → ends rest ≡ true
+plain_condition : (n rest : List ℕ) → IsName n → is_old_element n ≡ false → ends rest ≡ true
     → next_condition (colon ∷ (identifier_text n ++ rest))
     ≡ item (simple (plain_pseudo n (plain_structure n))) rest
-plain_condition n rest some h =
+plain_condition n rest some other h =
     let stops = opens_none rest h in
     pseudo_simple (identifier_text n ++ rest) n rest (named_text n rest some h)
     (name-again n rest some (ends_name rest h)) (rw stops refl)
-    ∙ ap simple_item (plain-again n rest some h)
+    ∙ ap simple_item (plain-again n rest some other h)
 
 -- a functional pseudo-class, by what its argument is read as
 call_end : (argument : List ℕ) → EndsName (open_parenthesis ∷ argument)
@@ -450,12 +450,13 @@ abbrev pub ReadsBoth : Simple → List ℕ → List ℕ → Type 0
 ReadsBoth s text rest =
     (next_simple text ≡ item s rest) × (next_condition text ≡ item (simple s) rest)
 
-plain_both : (n rest : List ℕ) (s : Simple) → IsName n → ends rest ≡ true
+plain_both : (n rest : List ℕ) (s : Simple) → IsName n → is_old_element n ≡ false
+    → ends rest ≡ true
     → plain_pseudo n (plain_structure n) ≡ s
     → ReadsBoth s (colon ∷ (identifier_text n ++ rest)) rest
-plain_both n rest s some h is = (
-  plain-again n rest some h ∙ ap (λ x. item x rest) is,
-  plain_condition n rest some h ∙ ap (λ x. item (simple x) rest) is,
+plain_both n rest s some other h is = (
+  plain-again n rest some other h ∙ ap (λ x. item x rest) is,
+  plain_condition n rest some other h ∙ ap (λ x. item (simple x) rest) is,
 )
 
 numbered_both : (n rest : List ℕ) (kind : Numbering) (p : Progression) → IsName n
@@ -483,18 +484,18 @@ numbered_both n rest kind p some no_list is w = (
 
 structure_both : (s : Structure) (rest : List ℕ) → IsStructure s → ends rest ≡ true
     → ReadsBoth (structure s) (structure_text s ++ rest) rest
-structure_both root rest w h = plain_both (codes "root") rest _ (omega arith) h refl
-structure_both empty rest w h = plain_both (codes "empty") rest _ (omega arith) h refl
+structure_both root rest w h = plain_both (codes "root") rest _ (omega arith) refl h refl
+structure_both empty rest w h = plain_both (codes "empty") rest _ (omega arith) refl h refl
 structure_both first_child rest w h =
-    plain_both (codes "first-child") rest _ (omega arith) h refl
-structure_both last_child rest w h = plain_both (codes "last-child") rest _ (omega arith) h refl
-structure_both only_child rest w h = plain_both (codes "only-child") rest _ (omega arith) h refl
+    plain_both (codes "first-child") rest _ (omega arith) refl h refl
+structure_both last_child rest w h = plain_both (codes "last-child") rest _ (omega arith) refl h refl
+structure_both only_child rest w h = plain_both (codes "only-child") rest _ (omega arith) refl h refl
 structure_both first_of_type rest w h =
-    plain_both (codes "first-of-type") rest _ (omega arith) h refl
+    plain_both (codes "first-of-type") rest _ (omega arith) refl h refl
 structure_both last_of_type rest w h =
-    plain_both (codes "last-of-type") rest _ (omega arith) h refl
+    plain_both (codes "last-of-type") rest _ (omega arith) refl h refl
 structure_both only_of_type rest w h =
-    plain_both (codes "only-of-type") rest _ (omega arith) h refl
+    plain_both (codes "only-of-type") rest _ (omega arith) refl h refl
 structure_both (nth_child p) rest w h =
     numbered_both (codes "nth-child") rest OfChild p (omega arith) refl refl w
 structure_both (nth_last_child p) rest w h =
@@ -554,7 +555,7 @@ further-again (attribute n c v ignores) rest w h =
 further-again (structure s) rest w h = structure_both s rest w h
 further-again (language ranges) rest w h = language_both ranges rest w
 further-again (state n) rest w h =
-    plain_both n rest (state n) w.0 h (ap (plain_pseudo n) w.1)
+    plain_both n rest (state n) w.0 w.2 h (ap (plain_pseudo n) w.1)
 
 -- a further simple selector ends the one before it, and is no empty text
 further_starts : (s : Simple) (rest : List ℕ) → IsFurther s
@@ -936,7 +937,7 @@ module _ (conditions_after : List Condition) (rest : List ℕ)
       ap conditions joined
       ∙ ap (after_type_name text) (no_type_condition c after_first w)
       ∙ ap (some_or_element text) reads
-      ∙ by (begins_pseudo_element text)
+      ∙ by (starts colon text)
     where
       by : (t : Bool) → (if t then got (c ∷ conditions_after) rest
           else some_of (condition_text c ++ after_first) (got (c ∷ conditions_after) rest))
@@ -975,32 +976,26 @@ condition_begins (where_any compounds) rest w h = refl
 pub record Follows (before_element : Bool) (rest : List ℕ) : Type 0 where
   pub ended : ends rest ≡ true
   pub last : next_condition rest ≡ none
-  pub element : before_element ≡ true → begins_pseudo_element rest ≡ true
+  pub element : before_element ≡ true → starts colon rest ≡ true
 
 -- no compound selector is before a pseudo-element
 no_conditions : (rest : List ℕ) → next_condition rest ≡ none
-    → begins_pseudo_element rest ≡ true
+    → starts colon rest ≡ true
     → (conditions rest ≡ got [] rest) × (starts_by begins_compound rest ≡ true)
 unfolding conditions
 no_conditions [] stops h = absurd (cc)
-no_conditions (b ∷ rest) stops h = by (b == colon) refl h
-  where
-    by : (t : Bool) → (b == colon) ≡ t → (t && starts colon rest) ≡ true
-        → (conditions (b ∷ rest) ≡ got [] (b ∷ rest))
-        × (starts_by begins_compound (b ∷ rest) ≡ true)
-    by false e k = absurd (cc)
-    by true e k =
-        let is : b ≡ colon = eqb-true b colon e in
-        let untyped : type_selector (b ∷ rest) ≡ none =
-        no_type b rest (ap (λ (d : ℕ). d == asterisk) is) (ap (λ (d : ℕ). begins_name
-        (d ∷ rest)) is) in (
-          ap (after_type_name (b ∷ rest)) untyped
-              ∙ ap (some_or_element (b ∷ rest))
-              (items-again next_condition condition_text [] (b ∷ rest) stops)
-              ∙ ap (λ (t : Bool). if t then got [] (b ∷ rest)
-              else some_of (b ∷ rest) (got [] (b ∷ rest))) h,
-          ap begins_compound is,
-        )
+no_conditions (b ∷ rest) stops h =
+    let is : b ≡ colon = eqb-true b colon h in
+    let untyped : type_selector (b ∷ rest) ≡ none =
+    no_type b rest (ap (λ (d : ℕ). d == asterisk) is) (ap (λ (d : ℕ). begins_name
+    (d ∷ rest)) is) in (
+      ap (after_type_name (b ∷ rest)) untyped
+          ∙ ap (some_or_element (b ∷ rest))
+          (items-again next_condition condition_text [] (b ∷ rest) stops)
+          ∙ ap (λ (t : Bool). if t then got [] (b ∷ rest)
+          else some_of (b ∷ rest) (got [] (b ∷ rest))) h,
+      ap begins_compound is,
+    )
 
 pub conditions-again : (e : Bool) (cs : List Condition) (rest : List ℕ) → AreConditions e cs
     → Follows e rest → conditions (flat_map condition_text cs ++ rest) ≡ got cs rest

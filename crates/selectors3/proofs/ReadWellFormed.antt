@@ -9,7 +9,7 @@ use Rattle.std.proofs.lemmas.Str.{length-encode, len_utf8_bounds}
 use Rattle.std.proofs.lemmas.List.Elements.{All-nil, All-cons, All-head, All-tail}
 use Rattle.simplecss_text.specs.AsciiBytes.{asterisk, comma, full_stop, number_sign, open_bracket, backslash, close_bracket, close_parenthesis, colon, hyphen, open_parenthesis}
 use Rattle.simplecss_text.specs.AsciiBytes.{underscore}
-use Rattle.simplecss_text.specs.Bytes.{starts_by, starts, past_one, is_digit}
+use Rattle.simplecss_text.specs.Bytes.{starts_by, starts, past_one, past_byte, is_digit}
 use Rattle.simplecss_text.specs.Characters.{is_letter}
 use Rattle.simplecss_text.specs.Terms.{is_hex_digit}
 use Rattle.css_syntax.specs.Tokens.{is_newline, is_name_byte, begins_escape, hex_number, past_hex, past_one_space}
@@ -26,9 +26,9 @@ use Rattle.selectors3.specs.Components.Structure.{root, empty, first_child, last
 use Rattle.selectors3.specs.Components.Simple.{universal, type_name, id, class, has_attribute, attribute, structure, language, state}
 use Rattle.selectors3.specs.Components.Condition.{simple, negation, any_of, where_any}
 use Rattle.selectors3.specs.Spellings.{replacement, character, escape, spelled, spelled_up_to}
-use Rattle.selectors3.specs.Readings.{Reading, got, refused, Reader, follow, give, ◌>>=◌, ◌>>◌, Step, item, none, stop, as_item, with_first, go_on, items, items_up_to}
+use Rattle.selectors3.specs.Readings.{Reading, got, refused, Reader, follow, give, ◌>>=◌, ◌>>◌, Step, item, none, stop, step_after, as_item, with_first, go_on, items, items_up_to}
 use Rattle.selectors3.specs.declared.refusal.Why.TheVariants.{NoName, NoProgression}
-use Rattle.selectors3.specs.Grammar.{gap, name, begins_name, begins_word, begins_compound, value, comparison, flag, compared, by_comparison, attribute_selector, closing, progression, digits, with_digit, sign, is_sign, is_n, signed, stepping, offset_after, offset_or_none, with_offset, numbered, word_progression, one_more, is_word, plain_structure, plain_pseudo, list_kind, function_named, numbered_by, next_range, language_ranges, functional, pseudo_by, pseudo_class, begins_pseudo_element, type_selector, next_simple, after_type, some_of, compound, comma_compound, next_compound, after_gap, listed, compound_list, begins_pseudo_class, simple_item, with_argument, pseudo_condition, next_condition, after_type_name, some_or_element, conditions, first_sign, joined_by, signed_part, by_sign, part_after, next_part, pseudo_element, selector_with, at_end, parts, listed_selector, selector}
+use Rattle.selectors3.specs.Grammar.{gap, name, begins_name, begins_word, begins_compound, value, comparison, flag, compared, by_comparison, attribute_selector, closing, progression, digits, with_digit, sign, is_sign, is_n, signed, stepping, offset_after, offset_or_none, with_offset, numbered, word_progression, one_more, is_word, plain_structure, plain_pseudo, list_kind, function_named, numbered_by, next_range, language_ranges, functional, pseudo_by, is_old_element, named_pseudo, pseudo_class, type_selector, next_simple, after_type, some_of, compound, comma_compound, next_compound, after_gap, listed, compound_list, begins_pseudo_class, simple_item, with_argument, pseudo_condition, next_condition, after_type_name, some_or_element, conditions, first_sign, joined_by, signed_part, by_sign, part_after, next_part, pseudo_element, selector_with, at_end, parts, listed_selector, selector}
 use Rattle.selectors3.specs.WellFormed.{IsName, IsSize, IsProgression, IsStructure, IsFurther, IsFirst, IsCompound, AreCompounds, IsFurtherCondition, IsFirstCondition, AreConditions, AreParts, BeginsPlain, IsWellFormed}
 use Rattle.simplecss_text.proofs.bytes.GapLemmas.{no_gap-byte}
 use Rattle.selectors3.proofs.CompoundsAgain.{name_first}
@@ -50,6 +50,20 @@ followed : {A B : Type 0} (r : Reading A) (next : A → Reader B) (y : B) (rest 
 followed (got x mid) next y rest h =
     record { value = x; middle = mid; first = refl; second = h }
 followed (refused why mid) next y rest h = absurd (cc)
+
+-- an item that is found after a value was found after it
+record FoundAfter {A B : Type 0} (r : Reading A) (next : A → List ℕ → Step B) (y : B)
+    (rest : List ℕ) : Type 0 where
+  pub value : A
+  pub middle : List ℕ
+  pub first : r ≡ got value middle
+  pub second : next value middle ≡ item y rest
+
+found_after : {A B : Type 0} (r : Reading A) (next : A → List ℕ → Step B) (y : B) (rest : List ℕ)
+    → step_after r next ≡ item y rest → FoundAfter r next y rest
+found_after (got x mid) next y rest h =
+    record { value = x; middle = mid; first = refl; second = h }
+found_after (refused why mid) next y rest h = absurd (cc)
 
 -- an item is what was read
 record Made {A B : Type 0} (make : A → B) (r : Reading A) (y : B) (rest : List ℕ) : Type 0 where
@@ -420,31 +434,46 @@ plain_well n =
     (either_plain (is_word (codes "last-of-type") n) (Some last_of_type) _ tt
     (either_plain (is_word (codes "only-of-type") n) (Some only_of_type) None tt tt)))))))
 
-plain_pseudo_well : (n : List ℕ) → IsName n → IsFurther (plain_pseudo n (plain_structure n))
+plain_pseudo_well : (n : List ℕ) → IsName n → is_old_element n ≡ false
+    → IsFurther (plain_pseudo n (plain_structure n))
 unfolding PlainWell
-plain_pseudo_well n some = by (plain_structure n) refl (plain_well n)
+plain_pseudo_well n some other = by (plain_structure n) refl (plain_well n)
   where
     by : (o : Option Structure) → plain_structure n ≡ o → PlainWell o
         → IsFurther (plain_pseudo n o)
-    by None e w = (some, e)
+    by None e w = (some, e, other)
     by (Some s) e w = w
 
+named_pseudo_well : (n text : List ℕ) (s : Simple) (rest : List ℕ) → IsName n
+    → named_pseudo n text ≡ item s rest → IsFurther s
+named_pseudo_well n text s rest some h = by (is_old_element n) refl h
+  where
+    by : (t : Bool) → is_old_element n ≡ t
+        → (if t then none else item (plain_pseudo n (plain_structure n)) text) ≡ item s rest
+        → IsFurther s
+    by true e k = absurd (cc)
+    by false e k =
+        let is : plain_pseudo n (plain_structure n) ≡ s = cc in
+        subst IsFurther is (plain_pseudo_well n some e)
+
 pseudo_well : (opened n text : List ℕ) (s : Simple) (rest : List ℕ) → IsName n
-    → pseudo_by opened n text ≡ got s rest → IsFurther s
+    → pseudo_by opened n text ≡ item s rest → IsFurther s
 pseudo_well opened n text s rest some h = by (starts open_parenthesis text) h
   where
-    by : (t : Bool) → (if t then functional opened (function_named n) (past_one text)
-        else got (plain_pseudo n (plain_structure n)) text) ≡ got s rest → IsFurther s
-    by true k = functional_well opened (past_one text) (function_named n) s rest k
-    by false k =
-        let is : plain_pseudo n (plain_structure n) ≡ s = cc in
-        subst IsFurther is (plain_pseudo_well n some)
+    by : (t : Bool) → (if t
+        then as_item (λ s. s) (functional opened (function_named n) (past_one text))
+        else named_pseudo n text) ≡ item s rest → IsFurther s
+    by true k =
+        let m = made (λ x. x) (functional opened (function_named n) (past_one text)) s rest k in
+        subst IsFurther m.is
+        (functional_well opened (past_one text) (function_named n) m.value rest m.first)
+    by false k = named_pseudo_well n text s rest some k
 
 pseudo_class_well : (opened text : List ℕ) (s : Simple) (rest : List ℕ)
-    → pseudo_class opened text ≡ got s rest → IsFurther s
+    → pseudo_class opened text ≡ item s rest → IsFurther s
 unfolding pseudo_class
 pseudo_class_well opened text s rest h =
-    let f = followed (name text) (pseudo_by opened) s rest h in
+    let f = found_after (name text) (pseudo_by opened) s rest h in
     pseudo_well opened f.value f.middle s rest (name_well text f.value f.middle f.first) f.second
 
 next_simple_well : (text : List ℕ) (s : Simple) (rest : List ℕ)
@@ -464,16 +493,14 @@ next_simple_well (b ∷ text) s rest h =
     by : (c i o p : Bool) → (if c then as_item class (name text)
         else (if i then as_item id (name text)
         else (if o then as_item (λ s. s) (attribute_selector (b ∷ text) text)
-        else (if p then as_item (λ s. s) (pseudo_class (b ∷ text) text) else none))))
+        else (if p then pseudo_class (b ∷ text) text else none))))
         ≡ item s rest → IsFurther s
     by true i o p k = named class (λ n some. some) k
     by false true o p k = named id (λ n some. some) k
     by false false true p k =
         let m = made (λ x. x) (attribute_selector (b ∷ text) text) s rest k in
         subst IsFurther m.is (attribute_well (b ∷ text) text m.value rest m.first)
-    by false false false true k =
-        let m = made (λ x. x) (pseudo_class (b ∷ text) text) s rest k in
-        subst IsFurther m.is (pseudo_class_well (b ∷ text) text m.value rest m.first)
+    by false false false true k = pseudo_class_well (b ∷ text) text s rest k
     by false false false false k = absurd (cc)
 
 type_well : (text : List ℕ) (s : Simple) (rest : List ℕ) → type_selector text ≡ item s rest
@@ -602,32 +629,33 @@ next_condition_well : (text : List ℕ) (c : Condition) (rest : List ℕ)
 unfolding next_condition
 next_condition_well text c rest h = by (begins_pseudo_class text) h
   where
-    plain : (n t : List ℕ) → IsName n → (o : Bool)
-        → (if o then with_argument text (list_kind n) (function_named n) (past_one t)
-        else got (simple (plain_pseudo n (plain_structure n))) t) ≡ got c rest
-        → IsFurtherCondition c
-    plain n t some true k = argument_well text n (past_one t) (list_kind n) c rest k
-    plain n t some false k =
-        let is : simple (plain_pseudo n (plain_structure n)) ≡ c = cc in
-        subst IsFurtherCondition is (plain_pseudo_well n some)
-
-    other : (step : Step Simple) → next_simple text ≡ step → simple_item step ≡ item c rest
-        → IsFurtherCondition c
-    other (item s t) e k =
+    further : (step : Step Simple) → ((s : Simple) (t : List ℕ) → step ≡ item s t → IsFurther s)
+        → simple_item step ≡ item c rest → IsFurtherCondition c
+    further (item s t) well k =
         let is : simple s ≡ c = cc in
-        subst IsFurtherCondition is (next_simple_well text s t e)
-    other none e k = absurd (cc)
-    other (stop why t) e k = absurd (cc)
+        subst IsFurtherCondition is (well s t refl)
+    further none well k = absurd (cc)
+    further (stop why t) well k = absurd (cc)
 
-    by : (t : Bool) → (if t
-        then as_item (λ c. c) (follow (name (past_one text)) (pseudo_condition text))
+    after : (n t : List ℕ) → IsName n → (o : Bool)
+        → (if o
+        then as_item (λ c. c) (with_argument text (list_kind n) (function_named n) (past_one t))
+        else simple_item (named_pseudo n t)) ≡ item c rest → IsFurtherCondition c
+    after n t some true k =
+        let m = made (λ x. x) (with_argument text (list_kind n) (function_named n) (past_one t)) c
+        rest k in
+        subst IsFurtherCondition m.is
+        (argument_well text n (past_one t) (list_kind n) m.value rest m.first)
+    after n t some false k =
+        further (named_pseudo n t) (λ s u e. named_pseudo_well n t s u some e) k
+
+    by : (t : Bool) → (if t then step_after (name (past_one text)) (pseudo_condition text)
         else simple_item (next_simple text)) ≡ item c rest → IsFurtherCondition c
-    by false k = other (next_simple text) refl k
+    by false k = further (next_simple text) (next_simple_well text) k
     by true k =
-        let m = made (λ x. x) (follow (name (past_one text)) (pseudo_condition text)) c rest k in
-        let f = followed (name (past_one text)) (pseudo_condition text) m.value rest m.first in
-        plain f.value f.middle (name_well (past_one text) f.value f.middle f.first)
-        (starts open_parenthesis f.middle) (f.second ∙ ap (λ x. got x rest) m.is)
+        let f = found_after (name (past_one text)) (pseudo_condition text) c rest k in
+        after f.value f.middle (name_well (past_one text) f.value f.middle f.first)
+        (starts open_parenthesis f.middle) f.second
 
 first_of_condition : (c : Condition) → IsFurtherCondition c → IsFirstCondition c
 first_of_condition (simple s) w = first_of_further s w
@@ -638,7 +666,7 @@ first_of_condition (where_any compounds) w = w
 -- the conditions of a compound selector, of which there may be none before a pseudo-element
 abbrev Conditions : List Condition → List ℕ → Type 0
 Conditions cs rest =
-    AreConditions false cs ⊎ ((cs ≡ []) × (begins_pseudo_element rest ≡ true))
+    AreConditions false cs ⊎ ((cs ≡ []) × (starts colon rest ≡ true))
 
 conditions_well : (text : List ℕ) (cs : List Condition) (rest : List ℕ)
     → conditions text ≡ got cs rest → Conditions cs rest
@@ -654,14 +682,14 @@ conditions_well text cs rest h = by (type_selector text) refl h
         (w, all_items next_condition IsFurtherCondition next_condition_well t ds u e))
 
     some : (ds : List Condition) (u : List ℕ) → items next_condition text ≡ got ds u
-        → (t : Bool) → begins_pseudo_element text ≡ t
+        → (t : Bool) → starts colon text ≡ t
         → (if t then got ds u else some_of text (got ds u)) ≡ got cs rest → Conditions cs rest
     some [] u e false f k = absurd (cc)
     some [] u e true f k =
         let here : u ≡ text = nothing_read next_condition (length text) text u e in
         let none : [] ≡ cs = cc in
         let same : u ≡ rest = cc in
-        inr (sym none, ap begins_pseudo_element (sym same ∙ here) ∙ f)
+        inr (sym none, ap (starts colon) (sym same ∙ here) ∙ f)
     some (d ∷ ds) u e t f k =
         let is : d ∷ ds ≡ cs = both t k in
         let all = all_items next_condition IsFurtherCondition next_condition_well text
@@ -678,13 +706,13 @@ conditions_well text cs rest h = by (type_selector text) refl h
 
     alone : (r : Reading (List Condition)) → items next_condition text ≡ r
         → some_or_element text r ≡ got cs rest → Conditions cs rest
-    alone (refused why u) e k = refusal (begins_pseudo_element text) k
+    alone (refused why u) e k = refusal (starts colon text) k
       where
         refusal : (t : Bool) → (if t then refused why u else refused why u) ≡ got cs rest
             → Conditions cs rest
         refusal true k = absurd (cc)
         refusal false k = absurd (cc)
-    alone (got ds u) e k = some ds u e (begins_pseudo_element text) refl k
+    alone (got ds u) e k = some ds u e (starts colon text) refl k
 
     by : (step : Step Simple) → type_selector text ≡ step
         → after_type_name text step ≡ got cs rest → Conditions cs rest
@@ -731,17 +759,12 @@ part_well text p rest h = by (gap text) h
     by (got spaced t) k = sign_well spaced t (first_sign t) k
 
 -- no compound selector follows where a pseudo-element begins
-no_part_there : (text : List ℕ) → begins_pseudo_element text ≡ true → next_part text ≡ none
+no_part_there : (text : List ℕ) → starts colon text ≡ true → next_part text ≡ none
 unfolding next_part
 no_part_there [] h = absurd (cc)
-no_part_there (b ∷ text) h = by (b == colon) refl h
-  where
-    by : (t : Bool) → (b == colon) ≡ t → (t && starts colon text) ≡ true
-        → next_part (b ∷ text) ≡ none
-    by false e k = absurd (cc)
-    by true e k =
-        subst (λ (d : ℕ). next_part (d ∷ text) ≡ none) (sym (eqb-true b colon e))
-        (ap part_after (no_gap (colon ∷ text) (no_gap-byte colon text refl refl)))
+no_part_there (b ∷ text) h =
+    subst (λ (d : ℕ). next_part (d ∷ text) ≡ none) (sym (eqb-true b colon h))
+    (ap part_after (no_gap (colon ∷ text) (no_gap-byte colon text refl refl)))
 
 -- conditions of which there are some stay so before a pseudo-element
 any_conditions : (e : Bool) (cs : List Condition) → AreConditions false cs → AreConditions e cs
@@ -749,19 +772,19 @@ any_conditions e [] w = absurd (cc)
 any_conditions e (c ∷ cs) w = w
 
 last_well : (p : Part) (text : List ℕ) → Conditions p.conditions text
-    → AreConditions (begins_pseudo_element text && true) p.conditions
-last_well p text (inl w) = any_conditions (begins_pseudo_element text && true) p.conditions w
+    → AreConditions (starts colon text && true) p.conditions
+last_well p text (inl w) = any_conditions (starts colon text && true) p.conditions w
 last_well p text (inr w) =
-    subst (AreConditions (begins_pseudo_element text && true)) (sym w.0) (ap (λ t. t && true) w.1)
+    subst (AreConditions (starts colon text && true)) (sym w.0) (ap (λ t. t && true) w.1)
 
 parts_up_to : (n : ℕ) (p : Part) (text : List ℕ) (ps : List Part) (end : List ℕ)
     → Conditions p.conditions text → items_up_to n next_part text ≡ got ps end
-    → AreParts (begins_pseudo_element end) (p ∷ ps)
+    → AreParts (starts colon end) (p ∷ ps)
 parts_up_to zero p text ps end w h =
     let none : [] ≡ ps = cc in
     let same : text ≡ end = cc in
-    subst (λ (qs : List Part). AreParts (begins_pseudo_element end) (p ∷ qs)) none (
-      subst (λ (t : List ℕ). AreConditions (begins_pseudo_element t && true) p.conditions) same
+    subst (λ (qs : List Part). AreParts (starts colon end) (p ∷ qs)) none (
+      subst (λ (t : List ℕ). AreConditions (starts colon t && true) p.conditions) same
           (last_well p text w),
       tt,
     )
@@ -774,13 +797,13 @@ parts_up_to (suc n) p text ps end w h = by (next_part text) refl h (parts_up_to 
 
     by : (s : Step Part) → next_part text ≡ s → go_on text s (items_up_to n next_part) ≡ got ps end
         → ((q : Part) (t : List ℕ) (qs : List Part) (u : List ℕ) → Conditions q.conditions t
-        → items_up_to n next_part t ≡ got qs u → AreParts (begins_pseudo_element u) (q ∷ qs))
-        → AreParts (begins_pseudo_element end) (p ∷ ps)
+        → items_up_to n next_part t ≡ got qs u → AreParts (starts colon u) (q ∷ qs))
+        → AreParts (starts colon end) (p ∷ ps)
     by none e k more =
         let none : [] ≡ ps = cc in
         let same : text ≡ end = cc in
-        subst (λ (qs : List Part). AreParts (begins_pseudo_element end) (p ∷ qs)) none (
-          subst (λ (t : List ℕ). AreConditions (begins_pseudo_element t && true) p.conditions) same
+        subst (λ (qs : List Part). AreParts (starts colon end) (p ∷ qs)) none (
+          subst (λ (t : List ℕ). AreConditions (starts colon t && true) p.conditions) same
               (last_well p text w),
           tt,
         )
@@ -788,21 +811,21 @@ parts_up_to (suc n) p text ps end w h = by (next_part text) refl h (parts_up_to 
     by (item s t) e k more = found (items_up_to n next_part t) refl k
       where
         found : (r : Reading (List Part)) → items_up_to n next_part t ≡ r
-            → with_first s r ≡ got ps end → AreParts (begins_pseudo_element end) (p ∷ ps)
+            → with_first s r ≡ got ps end → AreParts (starts colon end) (p ∷ ps)
         found (refused why u) f g = absurd (cc)
         found (got qs u) f g =
             let is : s ∷ qs ≡ ps = cc in
             let same : u ≡ end = cc in
             let rest = more s t qs u (part_well text s t e) f in
-            subst (λ (l : List Part). AreParts (begins_pseudo_element end) (p ∷ l)) is (
-              any_conditions (begins_pseudo_element end && false) p.conditions (front s t e w),
-              subst (λ (v : List ℕ). AreParts (begins_pseudo_element v) (s ∷ qs)) same rest,
+            subst (λ (l : List Part). AreParts (starts colon end) (p ∷ l)) is (
+              any_conditions (starts colon end && false) p.conditions (front s t e w),
+              subst (λ (v : List ℕ). AreParts (starts colon v) (s ∷ qs)) same rest,
             )
 
 -- the compound selectors of a selector
 record PartsWell (ps : List Part) (end : List ℕ) : Type 0 where
   pub plain : BeginsPlain ps
-  pub are : AreParts (begins_pseudo_element end) ps
+  pub are : AreParts (starts colon end) ps
 
 parts_well : (text : List ℕ) (ps : List Part) (end : List ℕ) → parts text ≡ got ps end
     → PartsWell ps end
@@ -824,31 +847,31 @@ parts_well text ps end h =
         let same : u ≡ end = cc in
         subst (λ (l : List Part). PartsWell l end) is (record {
           plain = refl;
-          are = subst (λ (v : List ℕ). AreParts (begins_pseudo_element v)
+          are = subst (λ (v : List ℕ). AreParts (starts colon v)
               (joined_by Descendant cs ∷ qs)) same
               (parts_up_to (length t) (joined_by Descendant cs) t qs u w e);
         })
 
 -- the pseudo-element, if there is one
 record ElementWell (text : List ℕ) (element : Option (List ℕ)) : Type 0 where
-  pub there : begins_pseudo_element text ≡ is_some element
+  pub there : starts colon text ≡ is_some element
   pub named : (n : List ℕ) → element ≡ Some n → IsName n
 
 element_well : (text : List ℕ) (element : Option (List ℕ)) (rest : List ℕ)
     → pseudo_element text ≡ got element rest → ElementWell text element
 unfolding pseudo_element
-element_well text element rest h = by (begins_pseudo_element text) refl h
+element_well text element rest h = by (starts colon text) refl h
   where
-    by : (t : Bool) → begins_pseudo_element text ≡ t
-        → (if t then follow (name (past_one (past_one text))) (λ n. give (Some n))
+    by : (t : Bool) → starts colon text ≡ t
+        → (if t then follow (name (past_byte colon (past_one text))) (λ n. give (Some n))
         else got None text) ≡ got element rest → ElementWell text element
     by false e k =
         let is : None ≡ element = cc in
         subst (ElementWell text) is (record { there = e; named = λ n same. absurd (cc) })
     by true e k =
-        let f = followed (name (past_one (past_one text))) (λ n. give (Some n)) element rest k in
+        let f = followed (name (past_byte colon (past_one text))) (λ n. give (Some n)) element rest k in
         let is : Some f.value ≡ element = (let g = f.second in cc) in
-        let well = name_well (past_one (past_one text)) f.value f.middle f.first in
+        let well = name_well (past_byte colon (past_one text)) f.value f.middle f.first in
         subst (ElementWell text) is (record {
           there = e;
           named = λ n same. let own : f.value ≡ n = cc in subst IsName own well;

@@ -3,7 +3,7 @@ use Rattle.std.specs.Prelude.{ℕ, ◌+◌, ◌-◌, ◌*◌, Bool, true, false,
 use Rattle.std.specs.Option.{option_map}
 use Rattle.std.specs.Str.{str_eq_ignore_ascii_case}
 use Rattle.simplecss_text.specs.AsciiBytes.{asterisk, backslash, close_bracket, close_parenthesis, colon, comma, equals_sign, full_stop, greater_than_sign, hyphen, number_sign, open_bracket, open_parenthesis, plus_sign, tilde, underscore, vertical_bar}
-use Rattle.simplecss_text.specs.Bytes.{past_one, starts, starts_by, is_digit}
+use Rattle.simplecss_text.specs.Bytes.{past_one, past_byte, starts, starts_by, is_digit}
 use Rattle.simplecss_text.specs.Characters.{is_letter}
 use Rattle.simplecss_text.specs.Comments.{gap as gap_before}
 use Rattle.simplecss_text.specs.Reading.{Reading as TextReading, got as text_got, fails as text_fails}
@@ -24,7 +24,7 @@ use Rattle.selectors3.specs.Components.Structure.{root, empty, first_child, last
 use Rattle.selectors3.specs.Components.Simple.{universal, type_name, id, class, has_attribute, attribute, structure, language, state}
 use Rattle.selectors3.specs.Components.Condition.{simple, negation, any_of, where_any}
 use Rattle.selectors3.specs.Spellings.{spelled}
-use Rattle.selectors3.specs.Readings.{Reading, got, refused, Reader, follow, ◌>>=◌, ◌>>◌, give, Step, item, none, stop, as_item, with_first, items}
+use Rattle.selectors3.specs.Readings.{Reading, got, refused, Reader, follow, ◌>>=◌, ◌>>◌, give, Step, item, none, stop, step_after, as_item, with_first, items}
 
 -- ---- gaps, names, strings
 
@@ -305,20 +305,29 @@ functional opened (Some (Numbered kind)) = do
   closing opened close_parenthesis
   give (structure (numbered_by kind p))
 
-abbrev pub pseudo_by : List ℕ → List ℕ → Reader Simple
+-- one of the four pseudo-elements that may have one colon (section 7)
+abbrev pub is_old_element : List ℕ → Bool
+is_old_element n =
+    is_word (codes "before") n || is_word (codes "after") n
+    || is_word (codes "first-line") n || is_word (codes "first-letter") n
+
+-- a pseudo-class that is only a name; a pseudo-element is none
+abbrev pub named_pseudo : List ℕ → List ℕ → Step Simple
+named_pseudo n text =
+    if is_old_element n then none else item (plain_pseudo n (plain_structure n)) text
+
+-- after the name of a pseudo-class without a list
+abbrev pub pseudo_by : List ℕ → List ℕ → List ℕ → Step Simple
 pseudo_by opened n text =
-    if starts open_parenthesis text then functional opened (function_named n) (past_one text)
-    else got (plain_pseudo n (plain_structure n)) text
+    if starts open_parenthesis text
+    then as_item (λ s. s) (functional opened (function_named n) (past_one text))
+    else named_pseudo n text
 
 -- a pseudo-class without a list, from after its colon; `opened` is the text from the colon on
-unfoldable pub pseudo_class : List ℕ → Reader Simple
-pseudo_class opened text = follow (name text) (pseudo_by opened)
+unfoldable pub pseudo_class : List ℕ → List ℕ → Step Simple
+pseudo_class opened text = step_after (name text) (pseudo_by opened)
 
 -- ---- compound selectors
-
--- two colons
-abbrev pub begins_pseudo_element : List ℕ → Bool
-begins_pseudo_element text = starts colon text && starts colon (past_one text)
 
 -- `*` or a name
 unfoldable pub type_selector : List ℕ → Step Simple
@@ -334,7 +343,7 @@ next_simple (b ∷ text) =
     else (if b == number_sign then as_item id (name text)
     else (if b == open_bracket then as_item (λ s. s) (attribute_selector (b ∷ text) text)
     else (if b == colon && not (starts colon text)
-    then as_item (λ s. s) (pseudo_class (b ∷ text) text) else none)))
+    then pseudo_class (b ∷ text) text else none)))
 
 -- there is one
 abbrev pub some_of : {A : Type 0} → List ℕ → Reading (List A) → Reading (List A)
@@ -394,23 +403,23 @@ with_argument opened (Some kind) other =
     compound_list opened >>= λ compounds. give (listed kind compounds)
 
 -- after the name of a pseudo-class
-abbrev pub pseudo_condition : List ℕ → List ℕ → Reader Condition
+abbrev pub pseudo_condition : List ℕ → List ℕ → List ℕ → Step Condition
 pseudo_condition opened n text =
     if starts open_parenthesis text
-    then with_argument opened (list_kind n) (function_named n) (past_one text)
-    else got (simple (plain_pseudo n (plain_structure n))) text
+    then as_item (λ c. c) (with_argument opened (list_kind n) (function_named n) (past_one text))
+    else simple_item (named_pseudo n text)
 
 -- the next condition of a compound selector
 unfoldable pub next_condition : List ℕ → Step Condition
 next_condition text =
     if begins_pseudo_class text
-    then as_item (λ c. c) (follow (name (past_one text)) (pseudo_condition text))
+    then step_after (name (past_one text)) (pseudo_condition text)
     else simple_item (next_simple text)
 
--- a compound selector may be empty before a pseudo-element
+-- A compound selector may be empty before a pseudo-element, which a colon begins that begins no
+-- condition.
 abbrev pub some_or_element : List ℕ → Reading (List Condition) → Reading (List Condition)
-some_or_element text reading =
-    if begins_pseudo_element text then reading else some_of text reading
+some_or_element text reading = if starts colon text then reading else some_of text reading
 
 abbrev pub after_type_name : List ℕ → Step Simple → Reading (List Condition)
 after_type_name text (item s rest) = with_first (simple s) (items next_condition rest)
@@ -461,11 +470,12 @@ part_after (got spaced rest) = by_sign spaced rest (first_sign rest)
 unfoldable pub next_part : List ℕ → Step Part
 next_part text = part_after (gap text)
 
--- the pseudo-element, if there is one
+-- The pseudo-element after the compound selectors, if there is one: its name after two colons, or
+-- after the one of which no condition was read.
 unfoldable pub pseudo_element : Reader (Option (List ℕ))
 pseudo_element text =
-    if begins_pseudo_element text
-    then follow (name (past_one (past_one text))) (λ n. give (Some n)) else got None text
+    if starts colon text
+    then follow (name (past_byte colon (past_one text))) (λ n. give (Some n)) else got None text
 
 abbrev pub at_end : Reader (Unit {0})
 at_end [] = got tt []

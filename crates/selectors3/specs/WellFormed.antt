@@ -6,7 +6,7 @@ use Rattle.selectors3.specs.Components.{Signed, Progression, Structure, Simple, 
 use Rattle.selectors3.specs.Components.Structure.{nth_child, nth_last_child, nth_of_type, nth_last_of_type}
 use Rattle.selectors3.specs.Components.Simple.{universal, type_name, id, class, has_attribute, attribute, structure, language, state}
 use Rattle.selectors3.specs.Components.Condition.{simple, negation, any_of, where_any}
-use Rattle.selectors3.specs.Grammar.{plain_structure}
+use Rattle.selectors3.specs.Grammar.{plain_structure, is_old_element}
 
 -- a name is not empty
 abbrev pub IsName : List ℕ → Type 0
@@ -26,8 +26,9 @@ IsStructure (nth_of_type p) = IsProgression p
 IsStructure (nth_last_of_type p) = IsProgression p
 IsStructure s = Unit {0}
 
--- A simple selector that may follow others. `*` and a type may not, and a pseudo-class that is a
--- structural one by its name is no other.
+-- A simple selector that may follow others. `*` and a type may not. A pseudo-class that is a
+-- structural one by its name is no other, and none has the name of a pseudo-element that may have
+-- one colon.
 abbrev pub IsFurther : Simple → Type 0
 IsFurther universal = ⊥
 IsFurther (type_name name) = ⊥
@@ -37,7 +38,8 @@ IsFurther (has_attribute name) = IsName name
 IsFurther (attribute name comparison value ignores_case) = IsName name
 IsFurther (structure s) = IsStructure s
 IsFurther (language ranges) = 0 < length ranges
-IsFurther (state name) = IsName name × (plain_structure name ≡ None)
+IsFurther (state name) =
+    IsName name × (plain_structure name ≡ None) × (is_old_element name ≡ false)
 
 -- a simple selector that may be the first
 abbrev pub IsFirst : Simple → Type 0

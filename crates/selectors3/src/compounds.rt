@@ -4,16 +4,15 @@ ghost use Rattle.selectors3.specs.Grammar.{type_selector, next_simple as next_si
 ghost use Rattle.selectors3.specs.Grammar.{next_compound as next_compound_of, compound_list, listed as listed_as};
 ghost use Rattle.selectors3.specs.Grammar.{name as name_of, with_argument, pseudo_condition, begins_pseudo_class as begins_pseudo_class_of};
 ghost use Rattle.selectors3.specs.Grammar.{next_condition as next_condition_of, conditions as conditions_of};
-ghost use Rattle.selectors3.specs.Grammar.{begins_pseudo_element as begins_pseudo_element_of};
 ghost use Rattle.selectors3.specs.Components.Condition.{simple};
-ghost use Rattle.selectors3.specs.Readings.{follow, items, found_before};
+ghost use Rattle.selectors3.specs.Readings.{step_after, items, found_before};
 ghost use Rattle.selectors3.specs.Reads.{Reads, Finds};
 ghost use Rattle.selectors3.specs.Views.{simple_of, compound_of, condition_of};
 
 use crate::attribute_selectors::read_attribute;
 use crate::components::{Compound, Condition, Function, ListKind, Simple};
 use crate::pseudo_classes::{
-    function_named, list_kind, plain_pseudo, read_functional, read_pseudo_class,
+    function_named, is_old_element, list_kind, plain_pseudo, read_functional, read_pseudo_class,
 };
 use crate::refusal::{Refusal, Why};
 use crate::texts::{past_ascii, split_ascii};
@@ -55,7 +54,7 @@ fn next_simple<'a>(
         }
         Some((b'[', rest)) => Ok(Some(read_attribute(alloc, text, rest)?)),
         Some((b':', rest)) if !readers::starts(rest, b':') => {
-            Ok(Some(read_pseudo_class(alloc, text, rest)?))
+            read_pseudo_class(alloc, text, rest)
         }
         _ => Ok(None),
     }
@@ -207,22 +206,24 @@ fn begins_pseudo_class(text: &str) -> bool
     }
 }
 
-/// Reads a pseudo-class, from after its colon. `opened` is the text from the colon on.
+/// Reads a pseudo-class, from after its colon, unless it is a pseudo-element. `opened` is the text
+/// from the colon on.
 fn read_pseudo_condition<'a>(
     alloc: Global,
     opened: &'a str,
     text: &'a str,
-) -> Result<(Condition<'a>, &'a str), Refusal<'a>>
-    ensures { Reads condition_of result (follow (name_of text.now) (pseudo_condition opened.now)) }
+) -> Result<Option<(Condition<'a>, &'a str)>, Refusal<'a>>
+    ensures { Finds condition_of result (step_after (name_of text.now) (pseudo_condition opened.now)) }
 {
     let (name, rest) = read_name(alloc, text)?;
-    match split_ascii(rest) {
-        Some((b'(', after)) => {
-            let (kind, function) = (list_kind(name.as_str()), function_named(name.as_str()));
-            read_argument(alloc, opened, kind, function, after)
-        }
-        _ => Ok((Condition::Simple(plain_pseudo(name)), rest)),
+    if let Some((b'(', after)) = split_ascii(rest) {
+        let (kind, function) = (list_kind(name.as_str()), function_named(name.as_str()));
+        return Ok(Some(read_argument(alloc, opened, kind, function, after)?));
     }
+    if is_old_element(name.as_str()) {
+        return Ok(None);
+    }
+    Ok(Some((Condition::Simple(plain_pseudo(name)), rest)))
 }
 
 /// Reads the next condition of a compound selector, if there is one.
@@ -234,7 +235,7 @@ fn next_condition<'a>(
     ensures { Finds condition_of result (next_condition_of text.now) }
 {
     if begins_pseudo_class(text) {
-        return Ok(Some(read_pseudo_condition(alloc, text, past_ascii(text))?));
+        return read_pseudo_condition(alloc, text, past_ascii(text));
     }
     match next_simple(alloc, text)? {
         Some((simple, rest)) => Ok(Some((Condition::Simple(simple), rest))),
@@ -270,14 +271,8 @@ fn read_more<'a>(
     Ok((conditions, rest))
 }
 
-/// Whether two colons are next.
-pub(crate) fn begins_pseudo_element(text: &str) -> bool
-    ensures { result ≡ begins_pseudo_element_of text.now }
-{
-    matches!(text.as_bytes(), [b':', b':', ..])
-}
-
-/// Reads a compound selector, which may be empty before a pseudo-element.
+/// Reads a compound selector, which may be empty before a pseudo-element: a colon that begins no
+/// condition.
 #[tactic(auto, unfolding(crate::specs::Grammar::conditions))]
 pub(crate) fn read_conditions<'a>(
     alloc: Global,
@@ -289,7 +284,7 @@ pub(crate) fn read_conditions<'a>(
         Some((simple, rest)) => read_more(alloc, Some(simple), rest)?,
         None => read_more(alloc, None, text)?,
     };
-    if conditions.is_empty() && !begins_pseudo_element(text) {
+    if conditions.is_empty() && !readers::starts(text, b':') {
         return Err(Refusal::new(Why::NoSelector, text));
     }
     Ok((conditions, rest))

@@ -2,8 +2,10 @@
 //! `:where()` and `:not()` with lists of compound selectors, and `:lang()` with lists of ranges.
 //!
 //! `Selector3::parse` and `parse_list` read a text as `specs/Grammar` says, or report why and where it
-//! is refused. Names and strings are what their escapes spell. A selector can also be made of its
-//! components. It prints as CSSOM serializes it, and one that was read reads back from that text.
+//! is refused. Names and strings are what their escapes spell. At the end of a selector `before`,
+//! `after`, `first-line` and `first-letter` are pseudo-elements after one colon, too (Selectors 3,
+//! section 7). A selector can also be made of its components. It prints as CSSOM serializes it, a
+//! pseudo-element with two colons, and one that was read reads back from that text.
 //!
 //! A selector has a specificity, and `matches` is true exactly if there is a placement: an element for
 //! each compound selector, related as the combinators say. An element is any type with the trait

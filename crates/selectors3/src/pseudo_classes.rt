@@ -2,7 +2,8 @@
 ghost use Rattle.std.specs.Prelude.{◌≡◌, option_map};
 ghost use Rattle.selectors3.specs.Grammar.{plain_structure, numbering as numbering_of, numbered_by as numbered_by_of};
 ghost use Rattle.selectors3.specs.Grammar.{list_kind as list_kind_of, functional, pseudo_class};
-ghost use Rattle.selectors3.specs.Reads.{Reads};
+ghost use Rattle.selectors3.specs.Grammar.{is_old_element as is_old_element_of};
+ghost use Rattle.selectors3.specs.Reads.{Reads, Finds};
 ghost use Rattle.std.specs.Cow.{cow_str_bytes};
 ghost use Rattle.selectors3.specs.Grammar.{function_named as function_named_of, plain_pseudo as plain_pseudo_of};
 ghost use Rattle.selectors3.specs.Views.{structure_of, progression_of, simple_of};
@@ -95,6 +96,16 @@ pub(crate) fn list_kind(name: &str) -> Option<ListKind>
     }
 }
 
+/// Whether this is the name of one of the four pseudo-elements that may have one colon.
+pub(crate) fn is_old_element(name: &str) -> bool
+    ensures { result ≡ is_old_element_of name.now }
+{
+    name.eq_ignore_ascii_case("before")
+        || name.eq_ignore_ascii_case("after")
+        || name.eq_ignore_ascii_case("first-line")
+        || name.eq_ignore_ascii_case("first-letter")
+}
+
 /// Returns the pseudo-class without an argument of this name.
 pub(crate) fn plain_pseudo<'a>(name: CowStr<'a>) -> Simple<'a>
     ensures { simple_of result
@@ -131,18 +142,23 @@ pub(crate) fn read_functional<'a>(
     Ok((Simple::Structure(structure), rest))
 }
 
-/// Reads a pseudo-class without a list, from after its colon. `opened` is the text from the colon on.
+/// Reads a pseudo-class without a list, from after its colon, unless it is a pseudo-element. `opened`
+/// is the text from the colon on.
 #[tactic(auto, unfolding(crate::specs::Grammar::pseudo_class))]
 pub(crate) fn read_pseudo_class<'a>(
     alloc: Global,
     opened: &'a str,
     text: &'a str,
-) -> Result<(Simple<'a>, &'a str), Refusal<'a>>
-    ensures { Reads simple_of result (pseudo_class opened.now text.now) }
+) -> Result<Option<(Simple<'a>, &'a str)>, Refusal<'a>>
+    ensures { Finds simple_of result (pseudo_class opened.now text.now) }
 {
     let (name, rest) = read_name(alloc, text)?;
-    match split_ascii(rest) {
-        Some((b'(', after)) => read_functional(alloc, opened, function_named(name.as_str()), after),
-        _ => Ok((plain_pseudo(name), rest)),
+    if let Some((b'(', after)) = split_ascii(rest) {
+        let function = function_named(name.as_str());
+        return Ok(Some(read_functional(alloc, opened, function, after)?));
     }
+    if is_old_element(name.as_str()) {
+        return Ok(None);
+    }
+    Ok(Some((plain_pseudo(name), rest)))
 }

@@ -3,7 +3,8 @@ ghost use Rattle.std.specs.Prelude.{◌≡◌, ◌<◌, ◌∷◌, [], IfOk, IfN
 ghost use Rattle.selectors3.specs.Grammar.{next_part as next_part_of, parts as parts_of};
 ghost use Rattle.selectors3.specs.Grammar.{pseudo_element as pseudo_element_of, sign_combinator as sign_combinator_of};
 ghost use Rattle.selectors3.specs.Grammar.{begins_compound as begins_compound_of, first_sign};
-ghost use Rattle.simplecss_text.specs.Bytes.{starts_by, past_one};
+ghost use Rattle.simplecss_text.specs.AsciiBytes.{colon};
+ghost use Rattle.simplecss_text.specs.Bytes.{starts_by, past_one, past_byte};
 ghost use Rattle.selectors3.specs.Readings.{items, found_before};
 ghost use Rattle.selectors3.specs.Reads.{Reads, Finds};
 ghost use Rattle.std.specs.Cow.{cow_str_bytes};
@@ -126,7 +127,17 @@ fn read_parts<'a>(alloc: Global, text: &'a str) -> Result<(Vec<Part<'a>>, &'a st
     read_more(alloc, first, rest)
 }
 
-/// Reads the pseudo-element, if there is one.
+/// Skips a colon, if one is next.
+fn past_colon(text: &str) -> &str
+    ensures { result.now ≡ past_byte colon text.now }
+{
+    match split_ascii(text) {
+        Some((b':', rest)) => rest,
+        _ => text,
+    }
+}
+
+/// Reads the pseudo-element after the compound selectors, if there is one.
 #[tactic(auto, unfolding(crate::specs::Grammar::pseudo_element))]
 fn read_pseudo_element<'a>(
     alloc: Global,
@@ -137,10 +148,7 @@ fn read_pseudo_element<'a>(
     let Some((b':', rest)) = split_ascii(text) else {
         return Ok((None, text));
     };
-    let Some((b':', rest)) = split_ascii(rest) else {
-        return Ok((None, text));
-    };
-    let (name, rest) = read_name(alloc, rest)?;
+    let (name, rest) = read_name(alloc, past_colon(rest))?;
     Ok((Some(name), rest))
 }
 
