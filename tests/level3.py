@@ -40,11 +40,14 @@ PROGRESSIONS = (
     "odd", "even", "ODD", "1", "2", "+3", "-1", "0", "n", "-n", "+n", "2n", "2n+1", "2N + 1", "-n+3", "-2n + 5",
     "3n - 1", "0n+2", "n+0", " 2n ", "-0n-0", "+2n+0", "00002n+00001", "99999999999n+1", "n- 2", "-n- 1", "2n/**/+ 1",
 )
+# Pseudo-elements, which may have one colon (Selectors 3, section 7).
+ELEMENTS = ("before", "after", "first-line", "first-letter", "BEFORE")
 COMBINATORS = (" ", " > ", " + ", " ~ ", ">", "+", "~", "  ", "\n>\t", " /**/ ", "/**/ ~")
 # What a text is changed by, so that many changed texts are no selectors.
 CHANGES = (
     ".", "#", ":", "::", "[", "]", "(", ")", "=", "'", '"', "\\", "\n", ",", ">", "*", "a", "1", " ", "|", "/*", "/**/",
     "+", "~", "-", "n", "!", "=>", "\\\n", "\\31 ", ":not(", ":is(", ":foo(",
+    ":before", "::after",
 )
 
 
@@ -123,6 +126,9 @@ class Source(random.Random):
         text = self.compound()
         for _ in range(self.choice((0, 0, 1, 1, 2, 3))):
             text += self.choice(COMBINATORS) + self.compound()
+        if self.random() < 0.08:
+            text += self.choice(("", self.choice(COMBINATORS))) + self.choice((":", "::")) + self.name(
+                self.choice(ELEMENTS))
         return text
 
     def listed(self) -> str:
@@ -312,13 +318,17 @@ def browser_texts(texts: Sequence[str]) -> Optional[List[Optional[str]]]:
 # a comment within a compound selector.
 REFUSED_HERE = re.compile(r"is not closed|function that is read|: `(\||/\*|[+-]?\\.*(An\+B|expected here))")
 INNER = re.compile(r":(is|where|not)\([^()]*(\([^()]*)?$|\*/$", re.IGNORECASE)
-# A browser knows no flag `s`, and takes a large number for another; it refuses pseudo-classes that it does not know.
-ODD_IN_BROWSERS = re.compile(r"""[\s'"/]s\s*(/\*.*?\*/\s*)*\]|\d{10}""", re.IGNORECASE)
-KNOWN = {*STRUCTURES, *(name + "(" for name in (*NUMBERINGS, "not", "is", "where", "NOT"))}
+# A browser knows no flag `s`, and takes a large number for another; it refuses pseudo-classes that it does not know,
+# and reads `:is()` and a further pseudo-element after one.
+ODD_IN_BROWSERS = re.compile(
+    r"""[\s'"/]s\s*(/\*.*?\*/\s*)*\]|\d{10}|:(before|after)(:(is|where)\(|::)""", re.IGNORECASE)
+KNOWN = {*STRUCTURES, *ELEMENTS, *(name + "(" for name in (*NUMBERINGS, "not", "is", "where", "NOT"))}
 # soupsieve takes an empty value for the start of each, finds nothing by `n-2`, refuses two blanks before a sign and
-# newlines after escapes, takes away comments before it reads escapes, and takes the name `*` for any.
+# newlines after escapes, takes away comments before it reads escapes, takes the name `*` for any, and refuses
+# pseudo-elements.
 ODD_IN_SOUP = re.compile(
-    r"""[$^*]=\s*(/\*.*?\*/\s*)*(''|"")|\bn\s*-\s*2|\s(\s|/\*.*?\*/)+[,+>~]|\\[0-9a-f]{0,6}\n|\\/?\*""",
+    r"""[$^*]=\s*(/\*.*?\*/\s*)*(''|"")|\bn\s*-\s*2|\s(\s|/\*.*?\*/)+[,+>~]|\\[0-9a-f]{0,6}\n|\\/?\*"""
+    r"|:(:|before|after|first-l)",
     re.IGNORECASE,
 )
 
@@ -335,7 +345,7 @@ def front_of(text: str, reply: str) -> str:
 
 def has_unknown(text: str) -> bool:
     """Whether the text has the name of a pseudo-class that a browser may not know."""
-    return any(name not in KNOWN for name in re.findall(r":((?:[\w-]|\\.)*\(?)", text))
+    return any(name not in KNOWN for name in re.findall(r"::?((?:[\w-]|\\.)*\(?)", text))
 
 
 class Judge:
@@ -395,15 +405,18 @@ SERIALIZED = (
     ":nth-child( 2n + 1 )", ":nth-child(+n)", ":nth-child(-n+3)", ":nth-child(0n+5)", ":nth-child(5)", ":nth-child(n)",
     ":nth-child(2n+0)", ":nth-child(-5)", ":nth-child(-n)", ":nth-last-child(-2n - 1)", ":nth-of-type(3n-1)",
     ":nth-last-of-type(1n+2)", ":not( .a )", ":not(.a,b)", ":is(*,a)", ":where( a , .b )", ":IS(a)", "a::before", "::before",
+    "a:before", ":AFTER", "a > :first-line", "a:\\66irst-letter, b",
     "a > ::after", "*::after", ":hover", ":not(*)", ":not(*.a)", "a /**/ b", "a,b , c", ":lang(en)",
 )
-# A browser drops a `*` before other simple selectors, and writes a language range as it was written.
+# A browser drops a `*` before other simple selectors, and writes a language range as it was written and a
+# pseudo-element in lower case.
 DROPPED = re.compile(r'("(?:\\.|[^"\\])*"|\\.)|\*(?=[.#:\[])')
 
 
 def as_browsers_do(printed: str) -> str:
     """A serialized list with the differences that docs/DIFFERENCES.md names."""
-    return re.sub(r':lang\("(\w+)"\)', r":lang(\1)", DROPPED.sub(lambda found: found[1] or "", printed))
+    shown = re.sub(r':lang\("(\w+)"\)', r":lang(\1)", DROPPED.sub(lambda found: found[1] or "", printed))
+    return re.sub(r"::[\w-]+", lambda found: found[0].lower(), shown)
 
 
 def compare_printed(program: str, counts: Counts, count: int) -> None:
