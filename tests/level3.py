@@ -323,13 +323,13 @@ INNER = re.compile(r":(is|where|not)\([^()]*(\([^()]*)?$|\*/$", re.IGNORECASE)
 ODD_IN_BROWSERS = re.compile(
     r"""[\s'"/]s\s*(/\*.*?\*/\s*)*\]|\d{10}|:(before|after)(:(is|where)\(|::)""", re.IGNORECASE)
 KNOWN = {*STRUCTURES, *ELEMENTS, *(name + "(" for name in (*NUMBERINGS, "not", "is", "where", "NOT"))}
-# soupsieve takes an empty value for the start of each, finds nothing by `n-2`, refuses two blanks before a sign and
+# soupsieve takes an empty value for the start of each, finds nothing by `n-1`, refuses two blanks before a sign and
 # newlines after escapes, takes away comments before it reads escapes, takes the name `*` for any, and refuses
 # pseudo-elements.
 ODD_IN_SOUP = re.compile(
-    r"""[$^*]=\s*(/\*.*?\*/\s*)*(''|"")|\bn\s*-\s*2|\s(\s|/\*.*?\*/)+[,+>~]|\\[0-9a-f]{0,6}\n|\\/?\*"""
+    r"""[$^*]=\s*(/\*.*?\*/\s*)*(''|"")|\bn\s*-\s*\d|\s(\s|/\*.*?\*/)+[,+>~]|\\[0-9a-f]{0,6}\n|\\/?\*"""
     r"|:(:|before|after|first-l)",
-    re.IGNORECASE,
+    re.IGNORECASE | re.DOTALL,
 )
 
 
