@@ -354,7 +354,8 @@ class Panel:
             yield f'<polyline fill="none" stroke="{program.colour}" stroke-width="2" points="{points}"/>'
             yield from (f'<circle cx="{x:.1f}" cy="{y:.1f}" r="3" fill="{program.colour}"/>' for x, y in line)
             x, y = line[-1]
-            yield f'<text x="{x - 6:.1f}" y="{y - 8:.1f}" text-anchor="end" fill="{program.colour}">{program.name}</text>'
+            place_of_name = f'x="{x - 14:.1f}" y="{max(y - 8, 50):.1f}" text-anchor="end"' if place else f'x="{x:.1f}" y="{y + 20:.1f}" text-anchor="middle"'
+            yield f'<text {place_of_name} fill="{program.colour}">{program.name}</text>'
 
 
 def picture(bench: Bench) -> str:
@@ -362,8 +363,8 @@ def picture(bench: Bench) -> str:
     sized = [row for row in bench.rows if row.size]
     parts = ['<svg xmlns="http://www.w3.org/2000/svg" width="860" height="360" font-family="sans-serif" font-size="12">',
              '<rect width="860" height="360" fill="white"/>']
-    for number, (title, label, kind) in enumerate((("reading", "bytes of the style sheet", "sheet"), ("matching", "elements of the page", "match"))):
-        panel = Panel(title, label, [row for row in sized if row.what.startswith(kind)], 60 + 430 * number)
+    reading, matching = ([row for row in sized if row.what.startswith(kind)] for kind in ("sheet", "match"))
+    for panel in (Panel("reading", "bytes of the style sheet", reading, 60), Panel("matching", "elements of the page", matching, 490)):
         parts += panel.frame()
         for place, program in enumerate(bench.programs):
             parts += panel.curve(place, program)
@@ -380,15 +381,18 @@ def processor() -> str:
 
 
 def cells(own: Cost, cost: Optional[Cost]) -> str:
-    """Returns the time and memory of a program, and the ratio of the first program's time to it."""
-    return f"{cost.time:.1f}|{cost.memory}|{own.time / cost.time:.2f}|" if cost else "|||"
+    """Returns the time and memory of a program, and how many times that of the first its time is."""
+    if not cost:
+        return "|||"
+    times = cost.time / own.time
+    return f"{cost.time:.1f}|{cost.memory}|{times:.0f}|" if times >= 10 else f"{cost.time:.1f}|{cost.memory}|{times:.2f}|"
 
 
 def table(bench: Bench, source: str) -> str:
     """Returns the rows as a table of Markdown."""
     rivals = bench.programs[1:]
-    lines = [f"Machine: {processor()}, {os.cpu_count()} processors. Date: {time.strftime('%Y-%m-%d')}. Texts: {source}.", "",
-             "||`cssq`, ms|MB|" + "".join(f"{it.name}, ms|MB|ratio|" for it in rivals),
+    lines = [f"Machine: {processor()}, {os.cpu_count()} processors. Date: {time.strftime('%Y-%m-%d')}.", f"Texts: {source}.", "",
+             "||`cssq`, ms|MB|" + "".join(f"{it.name}, ms|MB|times|" for it in rivals),
              "|---|---|---|" + "---|---|---|" * len(rivals)]
     for row in bench.rows:
         own = row.costs[0]
@@ -417,7 +421,8 @@ def main() -> None:
     words = parser.parse_args()
     os.makedirs(words.out, exist_ok=True)
     bench = Bench(programs_of(words), words.out, words.runs)
-    css, page = fetched(words.out, "libjs-bootstrap4", "bootstrap.css"), fetched(words.out, "developers-reference", "developers-reference.html")
+    css = fetched(words.out, "libjs-bootstrap4", "bootstrap.css")
+    page = fetched(words.out, "developers-reference", "developers-reference.html")
     source = "bootstrap.css of Debian's libjs-bootstrap4, and the page developers-reference.html of Debian"
     elements = Elements()
     if css and page:
