@@ -2,3 +2,4 @@ mod Counting
 mod Grouping
 mod Numbering
 mod Reporting
+mod HtmlLemmas

@@ -1,5 +1,6 @@
 pub mod Counts
 pub mod GroupViews
+pub mod Html
 pub mod Keys
 pub mod Laws
 pub mod Pages

@@ -6,6 +6,7 @@
 #![tactic(auto)]
 
 mod groups;
+pub mod html;
 mod node;
 mod numbered_tree;
 

@@ -137,6 +137,7 @@ impl<'p, 't> NumberedTree<'p, 't> {
     pub fn new(alloc: Global, tree: &'p Tree<'t>) -> Result<NumberedTree<'p, 't>, NumberingError>
         ensures rows { IfOk result (λ page. page.rows ≡ tree.now) }
         ensures texts { IfOk result (λ page. (i : ℕ) → slice_index_or page.texts i false ≡ false) }
+        ensures all { IfOk result (λ page. length page.texts ≡ length tree.now) }
         ensures err { IfErr result (λ error. error ≡ TooManyElements → 2 ^ 32 ≤ length tree.now) }
     {
         if tree.len() > u32::MAX as usize {
