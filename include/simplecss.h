@@ -79,6 +79,17 @@ typedef struct simplecss_element {
 #define SIMPLECSS_HOVER 4u
 #define SIMPLECSS_ACTIVE 8u
 #define SIMPLECSS_FOCUS 16u
+/* No state: the element has a text of its own that is not empty. White space is a text, a comment is none.
+ * `:empty` of level 3 tests it. */
+#define SIMPLECSS_HAS_TEXT 32u
+
+/* How a document reads the names of selectors of level 3 (HTML Standard, "Case-sensitivity of selectors"). The
+ * tree of an HTML document has in lower case what is compared without case: names of elements and keys of
+ * attributes, the values of the attributes that the standard lists (accept to vlink), and in quirks mode the
+ * values of `id` and `class`. At these values the flag `s` of an attribute selector changes nothing. */
+#define SIMPLECSS_AS_WRITTEN 0u /* names, keys and values are compared byte by byte */
+#define SIMPLECSS_HTML 1u       /* an HTML document */
+#define SIMPLECSS_HTML_QUIRKS 2u /* an HTML document in quirks mode */
 
 /* The faults of a tree. */
 #define SIMPLECSS_BAD_DEPTH 1u    /* the depth is greater than it may be */
@@ -137,13 +148,14 @@ uint32_t simplecss_skipped(const uint8_t *text, size_t text_len,
  * 3). Ranges are offsets into the text, in bytes: of the first byte, and of the byte after the last.
  * Of "a, p::before { b: c }" the line is, here on several lines,
  * {"kind":"rule","start":0,"end":21,"levels":[],"prelude":[0,12],"block":[15,19],"closed":true,
- *  "selectors":[{"text":[0,1],"is_read":true,"pseudo_element":null},
- *               {"text":[3,12],"is_read":true,"pseudo_element":[4,12]}],
+ *  "selectors":[{"text":[0,1],"is_read":true,"specificity":[0,0,1],"pseudo_element":null},
+ *               {"text":[3,12],"is_read":true,"specificity":[0,0,2],"pseudo_element":[4,12]}],
  *  "items":[{"kind":"declaration","start":15,"end":19,"name":[15,16],"value":[18,19],
  *            "important":false,"closed":true}]}
  * "levels" are the group rules that the item is in, such as @media, from the outermost:
- * {"name":[1,6],"prelude":[7,12],"start":0,"end":30}. "is_read" says whether the library matches elements
- * by the selector without its pseudo-element. "closed" is false if the end of the text closes it.
+ * {"name":[1,6],"prelude":[7,12],"start":0,"end":30}. "is_read" says whether what is before the
+ * pseudo-element is a selector of level 3, by which the library matches elements; if not, "specificity" is null.
+ * "closed" is false if the end of the text closes it.
  * {"kind":"at-rule","start":0,"end":9,"levels":[],"name":[1,7],"prelude":[8,8],"block":null,"closed":true}
  * {"kind":"skipped","start":0,"end":9,"levels":[],"fault":"invalid selector"}
  * Other faults are "broken declaration", "bad string", "bad url", "stray bracket", "too deep" and
@@ -210,6 +222,40 @@ uint32_t simplecss_styles(const uint8_t *texts, size_t texts_len,
                           const uint8_t *strings, size_t strings_len,
                           const size_t *string_ends, size_t string_ends_count,
                           uint8_t *out, size_t out_size, size_t *len, simplecss_tree_fault *fault);
+
+/* The other calls read selectors of level 3, and of level 4 `:is()`, `:where()`, `:not()` with a list, `:lang()`
+ * with a list, `:any-link`, and the flags `i` and `s`. Reading takes time that grows as the text. */
+
+/* Writes a line of JSON for each selector of a list with commas between them:
+ * {"text":[0,13],"selector":"a > b::before","specificity":[0,0,3],"pseudo_element":"before"}
+ * "text" is its range, in bytes of the list; "selector" is printed as CSSOM serializes it; "pseudo_element" is
+ * null if it has none. Refused if one of them is no selector. */
+uint32_t simplecss_list_level3(const uint8_t *text, size_t text_len,
+                               uint8_t *out, size_t out_size, size_t *len);
+
+/* Writes a line of JSON for the first error of a list of selectors, or nothing where it has none:
+ * {"row":1,"column":4,"reason":"`:nth-child(2` is not closed"} */
+uint32_t simplecss_refusal_level3(const uint8_t *text, size_t text_len,
+                                  uint8_t *out, size_t out_size, size_t *len);
+
+/* Writes what simplecss_match_selectors writes, of selectors of level 3. `reading` says how the document reads
+ * them, as SIMPLECSS_HTML. A selector with a pseudo-element matches nothing. `:nth-child()` and the like count
+ * the roots of a tree as siblings, too; `:root` matches each of them. Refused if a text is no selector, or the
+ * reading is another number. A tree of 2^32 elements or more is reported as out of memory. Of each element those
+ * selectors are tested whose id, class, name or attribute it has. */
+uint32_t simplecss_match_level3(const uint8_t *texts, size_t texts_len,
+                                const size_t *ends, size_t ends_count, size_t reading,
+                                const simplecss_element *elements, size_t elements_count,
+                                const uint8_t *strings, size_t strings_len,
+                                const size_t *string_ends, size_t string_ends_count,
+                                uint8_t *out, size_t out_size, size_t *len, simplecss_tree_fault *fault);
+
+/* Writes the number of each element of a tree that one of the selectors of a list matches, and a newline. */
+uint32_t simplecss_select_level3(const uint8_t *selectors, size_t selectors_len, size_t reading,
+                                 const simplecss_element *elements, size_t elements_count,
+                                 const uint8_t *strings, size_t strings_len,
+                                 const size_t *string_ends, size_t string_ends_count,
+                                 uint8_t *out, size_t out_size, size_t *len, simplecss_tree_fault *fault);
 
 #ifdef __cplusplus
 }

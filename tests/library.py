@@ -17,7 +17,7 @@ TOP = os.path.dirname(os.path.dirname(os.path.abspath(__file__)))
 OUT = os.path.join(TOP, "out")
 EXPECTED = b"1:\n2: 1 2\n3: 1\n"
 # How many calls tests/library_refused.c makes, and which of them allocates nothing.
-CALLS = 14
+CALLS = 18
 VERSION_CALL = 10
 
 passed = failed = 0

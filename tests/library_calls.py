@@ -74,7 +74,14 @@ SHEET = (*buffer_of((b"ul > li { color: red }", b".new { color: blue !important 
 PAGE = tree_of((0, b"ul"), (1, b"li", b"class", b"new"), (1, b"li", b"title", b"a\tb\n=\x01\0", b"alt", b"a\tb"))
 # Elements in the states link, visited, hover and active, one in all states and other numbers, and one in none.
 STATES = tree_of(((0, 1), b"a"), ((0, 2), b"b"), ((0, 4), b"c"), ((0, 8), b"d"), ((0, 31 + 2**40), b"e"), (0, b"f"))
-WITH_TREE = ("simplecss_match", "simplecss_match_selectors", "simplecss_select", "simplecss_style", "simplecss_styles")
+# An empty list; a link of class NEW, in quirks mode `new`; one with a text; and one with an element.
+TREE3 = tree_of((0, b"ul"), (1, b"li"), (1, b"li", b"class", b"new", b"type", b"text"), ((1, 32), b"li"),
+                (1, b"li", b"class", b"new"), (2, b"a"))
+AS_WRITTEN, HTML, QUIRKS = 0, 1, 2
+SELECTORS3 = buffer_of((b"LI:nth-child(2n + 1)", b"li:empty", b".NEW", b"[TYPE=TEXT]", b"ul > li ~ li:not(.new, ul)",
+                        b"li::before", b":is(a, [class^=n]):last-of-type"))
+WITH_TREE = ("simplecss_match", "simplecss_match_selectors", "simplecss_select", "simplecss_style", "simplecss_styles",
+             "simplecss_match_level3", "simplecss_select_level3")
 VERSION = "0.1.0"
 RED = b'{"name":"color","value":"red","important":false}'
 BLUE = b'{"name":"color","value":"blue","important":true}'
@@ -82,9 +89,9 @@ TODAY = b"@media x { a, b:not(c), d::before { e: f; g } } h , { } @i;"
 TODAY_LINES = (
     b'{"kind":"rule","start":11,"end":45,"levels":[{"name":[1,6],"prelude":[7,8],"start":0,"end":47}],'
     b'"prelude":[11,33],"block":[36,43],"closed":true,'
-    b'"selectors":[{"text":[11,12],"is_read":true,"pseudo_element":null},'
-    b'{"text":[14,22],"is_read":false,"pseudo_element":null},'
-    b'{"text":[24,33],"is_read":true,"pseudo_element":[25,33]}],'
+    b'"selectors":[{"text":[11,12],"is_read":true,"specificity":[0,0,1],"pseudo_element":null},'
+    b'{"text":[14,22],"is_read":true,"specificity":[0,0,2],"pseudo_element":null},'
+    b'{"text":[24,33],"is_read":true,"specificity":[0,0,2],"pseudo_element":[25,33]}],'
     b'"items":[{"kind":"declaration","start":36,"end":40,"name":[36,37],"value":[39,40],'
     b'"important":false,"closed":true},'
     b'{"kind":"skipped","start":42,"end":43,"fault":"broken declaration"}]}\n'
@@ -94,8 +101,14 @@ TODAY_LINES = (
 # Offsets are in bytes, and the end of the text closes the rule.
 BYTES_LINE = (
     b'{"kind":"rule","start":0,"end":8,"levels":[],"prelude":[0,2],"block":[3,8],"closed":false,'
-    b'"selectors":[{"text":[0,2],"is_read":true,"pseudo_element":null}],'
+    b'"selectors":[{"text":[0,2],"is_read":true,"specificity":[0,0,1],"pseudo_element":null}],'
     b'"items":[{"kind":"declaration","start":3,"end":8,"name":[3,5],"value":[6,8],"important":false,"closed":true}]}\n'
+)
+# A selector that is valid, and none of level 3; and a pseudo-element alone, with one colon.
+UNREAD_LINE = (
+    b'{"kind":"rule","start":0,"end":21,"levels":[],"prelude":[0,18],"block":[20,20],"closed":true,'
+    b'"selectors":[{"text":[0,9],"is_read":false,"specificity":null,"pseudo_element":null},'
+    b'{"text":[11,18],"is_read":true,"specificity":[0,0,1],"pseudo_element":[11,18]}],"items":[]}\n'
 )
 DECLARATIONS = b"a: b !important; c; --x:; @a b { c };d:url(x"
 DECLARATION_LINES = (
@@ -131,6 +144,7 @@ ANSWERS = (
      b'{"row":2,"column":2,"reason":"at-rule not supported","text":"@media print"}\n'),
     ("simplecss_read", (TODAY,), TODAY_LINES),
     ("simplecss_read", ("é{é:é".encode(),), BYTES_LINE),
+    ("simplecss_read", (b"a:foo(b,), :before {}",), UNREAD_LINE),
     ("simplecss_read", (b" /* */ <!-- ",), b""),
     ("simplecss_declarations", (DECLARATIONS,), DECLARATION_LINES),
     ("simplecss_match_selectors", (*buffer_of((b"li", b".new", b"ul")), *PAGE), b"1: 3\n2: 1 2\n3: 1\n"),
@@ -142,6 +156,23 @@ ANSWERS = (
     ("simplecss_select", (b":hover", *STATES), b"3\n5\n"),
     ("simplecss_select", (b":active", *STATES), b"4\n5\n"),
     ("simplecss_select", (b":focus", *STATES), b"5\n"),
+    ("simplecss_list_level3", (b" a > b, c::before,d:not(.e, #f) ",),
+     b'{"text":[1,6],"selector":"a > b","specificity":[0,0,2],"pseudo_element":null}\n'
+     b'{"text":[8,17],"selector":"c::before","specificity":[0,0,2],"pseudo_element":"before"}\n'
+     b'{"text":[18,31],"selector":"d:not(.e, #f)","specificity":[1,0,1],"pseudo_element":null}\n'),
+    ("simplecss_list_level3", ("é/*,*/,[b=',']".encode(),),
+     '{"text":[0,2],"selector":"é","specificity":[0,0,1],"pseudo_element":null}\n'.encode()
+     + b'{"text":[8,15],"selector":"[b=\\",\\"]","specificity":[0,1,0],"pseudo_element":null}\n'),
+    ("simplecss_refusal_level3", (b"a, b:nth-child(2n+1) ~ c",), b""),
+    ("simplecss_refusal_level3", (b"a,\n b:nth-child(2",), b'{"row":2,"column":3,"reason":"`:nth-child(2` is not closed"}\n'),
+    ("simplecss_refusal_level3", (b"a,",),
+     b'{"row":1,"column":3,"reason":"a blank or the end of the text begins no selector"}\n'),
+    ("simplecss_match_level3", (*SELECTORS3, AS_WRITTEN, *TREE3), b"1:\n2: 2\n3: 2\n4: 5\n5: 7\n6: 7\n"),
+    ("simplecss_match_level3", (*SELECTORS3, HTML, *TREE3), b"1:\n2: 1 2\n3: 2 4\n4: 1 5\n5: 7\n6: 7\n"),
+    ("simplecss_match_level3", (*SELECTORS3, QUIRKS, *TREE3), b"1:\n2: 1 2\n3: 2 3 4\n4: 1 5\n5: 3 7\n6: 7\n"),
+    ("simplecss_select_level3", (b"LI, a", AS_WRITTEN, *TREE3), b"6\n"),
+    ("simplecss_select_level3", (b"LI, a", HTML, *TREE3), b"2\n3\n4\n5\n6\n"),
+    ("simplecss_select_level3", (b":any-link, :HOVER", AS_WRITTEN, *STATES), b"1\n2\n3\n5\n"),
     ("simplecss_style", (*SHEET, *PAGE, b"color"), b"1:\n2: blue !important\n3: red\n"),
     ("simplecss_styles", (*SHEET, *PAGE), b"[]\n[" + BLUE + b"]\n[" + RED + b"]\n"),
 )
@@ -167,9 +198,10 @@ BAD_PAGES = (
 # A call, its arguments, and the status that is no answer.
 FAILURES = [
     (name, (text,), status)
-    for name in ("simplecss_selector", "simplecss_list")
-    for text, status in ((b"", REFUSED), (b"a:none", REFUSED), (BROKEN, NOT_UTF8))
-] + [(f"simplecss_{name}", (BROKEN,), NOT_UTF8) for name in ("refusal", "skipped", "read", "declarations")]
+    for name in ("simplecss_selector", "simplecss_list", "simplecss_list_level3")
+    for text, status in ((b"", REFUSED), (b"a:none(b)", REFUSED), (BROKEN, NOT_UTF8))
+] + [(f"simplecss_{name}", (BROKEN,), NOT_UTF8)
+     for name in ("refusal", "refusal_level3", "skipped", "read", "declarations")]
 # Of two faults of texts the first is reported.
 for _sheet, _status in (((b"ab", sizes([1]), NO_LIMIT), REFUSED), ((b"ab", sizes([2, 1]), NO_LIMIT), REFUSED),
                         ((b"ab", sizes([3]), NO_LIMIT), REFUSED), ((BROKEN, sizes([1]), NO_LIMIT), NOT_UTF8),
@@ -181,10 +213,19 @@ for _sheet, _status in (((b"ab", sizes([1]), NO_LIMIT), REFUSED), ((b"ab", sizes
                  ("simplecss_match", (*_sheet, *PAGE), _status), ("simplecss_styles", (*_sheet, *PAGE), _status),
                  ("simplecss_style", (*_sheet, *PAGE, b"color"), _status)]
 _BROKEN_PAGE = (Elements([0, 0, 0]), BROKEN, sizes([1]))
-FAILURES += [("simplecss_match_selectors", (*_texts, *PAGE), _status) for _texts, _status in (
-    (buffer_of((b"a", b"b:none")), REFUSED), (buffer_of((b"a", b"")), REFUSED), ((b"ab", sizes([1])), REFUSED),
-    ((b"ab", sizes([2, 1])), REFUSED), ((b"ab", sizes([3])), REFUSED), (buffer_of((b"a", BROKEN)), NOT_UTF8))]
+for _texts, _status in ((buffer_of((b"a", b"b:none(c)")), REFUSED), (buffer_of((b"a", b"")), REFUSED),
+                        ((b"ab", sizes([1])), REFUSED), ((b"ab", sizes([2, 1])), REFUSED),
+                        ((b"ab", sizes([3])), REFUSED), (buffer_of((b"a", BROKEN)), NOT_UTF8)):
+    FAILURES += [("simplecss_match_selectors", (*_texts, *PAGE), _status),
+                 ("simplecss_match_level3", (*_texts, HTML, *PAGE), _status)]
 FAILURES += [
+    ("simplecss_match_level3", (*buffer_of((b"a,b",)), AS_WRITTEN, *PAGE), REFUSED),
+    ("simplecss_match_level3", (*buffer_of((b"a",)), 3, *PAGE), REFUSED),
+    ("simplecss_match_level3", (*buffer_of((b"a",)), AS_WRITTEN, *_BROKEN_PAGE), NOT_UTF8),
+    ("simplecss_select_level3", (b"a", 3, *PAGE), REFUSED),
+    ("simplecss_select_level3", (b"a,", AS_WRITTEN, *PAGE), REFUSED),
+    ("simplecss_select_level3", (BROKEN, AS_WRITTEN, *PAGE), NOT_UTF8),
+    ("simplecss_select_level3", (b"a", AS_WRITTEN, *_BROKEN_PAGE), NOT_UTF8),
     ("simplecss_match_selectors", (*buffer_of((b"a",)), *_BROKEN_PAGE), NOT_UTF8),
     ("simplecss_select", (b"a,", *PAGE), REFUSED),
     ("simplecss_select", (BROKEN, *PAGE), NOT_UTF8),
@@ -216,7 +257,8 @@ def test_failures(check, library):
         rows += [(name, arguments, TREE_FAULT, (fault, element)) for name, arguments in (
             ("simplecss_match", (*SHEET, *page)), ("simplecss_styles", (*SHEET, *page)),
             ("simplecss_style", (*SHEET, *page, b"color")), ("simplecss_select", (b"a", *page)),
-            ("simplecss_match_selectors", (b"a", sizes([1]), *page)))]
+            ("simplecss_match_selectors", (b"a", sizes([1]), *page)),
+            ("simplecss_match_level3", (b"a", sizes([1]), HTML, *page)), ("simplecss_select_level3", (b"a", HTML, *page)))]
     for name, arguments, status, fault in rows:
         for room in (0, 64):
             found = call(library, name, arguments, room)

@@ -42,6 +42,10 @@ int main(int count, char **words) {
     case 11: status = simplecss_read(TEXT("@media x { a, b:not(c), d::before { e: f; g } } h { } @i;"), OUT); break;
     case 12: status = simplecss_declarations(TEXT("a: b !important; c"), OUT); break;
     case 13: status = simplecss_match_selectors(TEXT("li.new"), selector_ends, 2, TREE, OUT, &fault); break;
+    case 14: status = simplecss_list_level3(TEXT("a\\62 > c, d:not(e, f)::before"), OUT); break;
+    case 15: status = simplecss_refusal_level3(TEXT("a, b:nth-child(2"), OUT); break;
+    case 16: status = simplecss_match_level3(TEXT("LI.new"), selector_ends, 2, SIMPLECSS_HTML, TREE, OUT, &fault); break;
+    case 17: status = simplecss_select_level3(TEXT("LI:empty, :is(UL, a) > .NEW"), SIMPLECSS_HTML_QUIRKS, TREE, OUT, &fault); break;
     default: break;
     }
     (void)!write(2, "end", 3);

@@ -13,8 +13,8 @@ use Rattle.simplecss_tree.specs.declared.tree.States.{States}
 use Rattle.simplecss_c.specs.declared.elements.TreeElement.{TreeElement}
 use Rattle.simplecss_c.specs.declared.elements.ElementFault.{ElementFault}
 use Rattle.simplecss_c.specs.declared.elements.ElementFault.TheVariants.{BadStrings}
-use Rattle.simplecss_c.specs.declared.answer.Failure.{Failure}
-use Rattle.simplecss_c.specs.declared.answer.Failure.TheVariants.{Refused, Tree, Memory, TooManyDeclarations, NotUtf8}
+use Rattle.simplecss_c.specs.declared.answer.CallError.{CallError}
+use Rattle.simplecss_c.specs.declared.answer.CallError.TheVariants.{Refused, Tree, Memory, TooManyDeclarations, NotUtf8}
 use Rattle.simplecss_c.specs.Elements.{Strings, key_in, value_in, attributes_in, name_in, element_row, limit_after, last_with, parent_after, IsPath, fault_in, strings_of, with_element, tree_from, states_in}
 use Rattle.simplecss_c.specs.Calls.{FailsFor}
 
@@ -276,7 +276,7 @@ module _ {all : Strings} {elements rest : List TreeElement} {rows : List Row} {p
       ∙ ap (λ n. Err (BadStrings (n + 1))) (sym is)
 
 -- a failure that is handed on, for its own reason
-pub handed_on : {V : Type 0} (P : V → Type 0) (r : Result V Failure) (failure : Failure)
+pub handed_on : {V : Type 0} (P : V → Type 0) (r : Result V CallError) (failure : CallError)
     (F G : ElementFault → Type 0) → IsErrAnd r (λ reported. reported ≡ failure)
     → FailsFor ⊥ F ⊥ failure → ((fault : ElementFault) → F fault → G fault)
     → MatchResult r P (FailsFor ⊥ G ⊥)

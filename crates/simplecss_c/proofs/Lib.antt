@@ -13,3 +13,6 @@ pub mod PlacedTexts
 pub mod FurtherMembers
 pub mod SheetTexts
 pub mod PageLines
+pub mod Level3Pages
+pub mod Level3Lists
+pub mod Level3Calls

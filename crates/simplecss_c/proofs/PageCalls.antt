@@ -10,8 +10,9 @@ use Rattle.simplecss.specs.SelectorLists.{list_of}
 use Rattle.simplecss.specs.Statements.{StyleRule}
 use Rattle.simplecss.specs.ThisEdition.{this_edition}
 use Rattle.simplecss_tree.specs.Rows.{Row}
-use Rattle.simplecss_c.specs.declared.answer.Failure.{Failure}
-use Rattle.simplecss_c.specs.declared.answer.Failure.TheVariants.{Refused, Tree, Memory, TooManyDeclarations, NotUtf8}
+use Rattle.cssq.specs.SelectorRuns.{selector_in}
+use Rattle.simplecss_c.specs.declared.answer.CallError.{CallError}
+use Rattle.simplecss_c.specs.declared.answer.CallError.TheVariants.{Refused, Tree, Memory, TooManyDeclarations, NotUtf8}
 use Rattle.simplecss_c.specs.Outcomes.{outcome_of}
 use Rattle.simplecss_c.specs.declared.pages.LineContent.TheVariants.{Numbers, Selected}
 use Rattle.simplecss_c.specs.Calls.{HasTexts, IsReadWithin, Passed, passed_tree, IsPageCall, IsSelectCall, IsMatchSelectorsCall, AreSelectorsIn, HasNoSelector, HasBadEnds, IsBrokenUtf8, FailsFor}
@@ -22,7 +23,7 @@ pub page_due : {Z : Type 0} (IsText : List StyleRule → List Row → List ℕ �
     (buffer ends : List ℕ) (limit : ℕ) (passed : Passed) (texts : List (List ℕ)) (rows : List Row)
     → HasTexts buffer ends texts → IsUtf8 passed.strings → passed_tree passed ≡ Ok rows
     → (rules : List StyleRule) → IsReadWithin limit texts rules
-    → (r : Result (String Z) Failure)
+    → (r : Result (String Z) CallError)
     → MatchResult r (λ text. IsText rules rows (string_bytes text)) (λ failure. failure ≡ Memory)
     → IsPageCall IsText buffer ends limit passed (outcome_of r)
 page_due IsText buffer ends limit passed texts rows has utf8 tree rules read (Ok text) due = (
@@ -42,7 +43,7 @@ pub select_due : {Z : Type 0} (text : List ℕ) (passed : Passed) (selectors : L
     → IsUtf8 text → list_of this_edition text ≡ Some selectors → IsUtf8 passed.strings
     → passed_tree passed ≡ Ok rows
     → (matched : List (List Component)) → matched ≡ selectors
-    → (r : Result (String Z) Failure)
+    → (r : Result (String Z) CallError)
     → MatchResult r (λ text. AreLinesOf Selected matched rows (string_bytes text))
     (λ failure. failure ≡ Memory)
     → IsSelectCall text passed (outcome_of r)
@@ -61,10 +62,10 @@ select_due text passed selectors rows utf8 is strings tree matched are (Err fail
 -- the text that is due for selectors, or a refused allocation
 pub match_due : {Z : Type 0} (buffer ends : List ℕ) (passed : Passed) (texts : List (List ℕ))
     (rows : List Row) → HasTexts buffer ends texts
-    → (selectors : List (List Component)) → AreSelectorsIn texts selectors
+    → (selectors : List (List Component)) → AreSelectorsIn selector_in texts selectors
     → IsUtf8 passed.strings → passed_tree passed ≡ Ok rows
     → (matched : List (List Component)) → matched ≡ selectors
-    → (r : Result (String Z) Failure)
+    → (r : Result (String Z) CallError)
     → MatchResult r (λ text. AreLinesOf Numbers matched rows (string_bytes text))
     (λ failure. failure ≡ Memory)
     → IsMatchSelectorsCall buffer ends passed (outcome_of r)
@@ -82,7 +83,7 @@ match_due buffer ends passed texts rows has selectors read utf8 tree matched are
     subst (λ failure. IsMatchSelectorsCall buffer ends passed (Err failure)) (sym due) tt
 
 -- why the texts of selectors are none
-pub texts_failed : (buffer ends : List ℕ) (passed : Passed) (failure : Failure)
+pub texts_failed : (buffer ends : List ℕ) (passed : Passed) (failure : CallError)
     → FailsFor (HasBadEnds buffer ends) (λ fault. ⊥) (IsBrokenUtf8 buffer ends) failure
     → IsMatchSelectorsCall buffer ends passed (Err failure)
 texts_failed buffer ends passed Refused h = inl h
@@ -93,8 +94,8 @@ texts_failed buffer ends passed NotUtf8 h = inl h
 
 -- why the texts are no selectors
 pub selectors_failed : (buffer ends : List ℕ) (passed : Passed) (texts : List (List ℕ))
-    → HasTexts buffer ends texts → (failure : Failure)
-    → FailsFor (HasNoSelector texts) (λ fault. ⊥) ⊥ failure
+    → HasTexts buffer ends texts → (failure : CallError)
+    → FailsFor (HasNoSelector selector_in texts) (λ fault. ⊥) ⊥ failure
     → IsMatchSelectorsCall buffer ends passed (Err failure)
 selectors_failed buffer ends passed texts has Refused h = inr (texts, has, h)
 selectors_failed buffer ends passed texts has (Tree fault) h = absurd h
@@ -103,7 +104,7 @@ selectors_failed buffer ends passed texts has TooManyDeclarations h = absurd h
 selectors_failed buffer ends passed texts has NotUtf8 h = absurd h
 
 -- why the tree is none
-pub tree_failed : (buffer ends : List ℕ) (passed : Passed) (failure : Failure)
+pub tree_failed : (buffer ends : List ℕ) (passed : Passed) (failure : CallError)
     → FailsFor ⊥ (λ fault. passed_tree passed ≡ Err fault) (¬ (IsUtf8 passed.strings)) failure
     → IsMatchSelectorsCall buffer ends passed (Err failure)
 tree_failed buffer ends passed Refused h = absurd h
@@ -113,8 +114,8 @@ tree_failed buffer ends passed TooManyDeclarations h = absurd h
 tree_failed buffer ends passed NotUtf8 h = inr h
 
 -- a failure that is handed on
-pub failed : {Z : Type 0} (buffer ends : List ℕ) (passed : Passed) (r : Result (String Z) Failure)
-    (failure : Failure) → IsErrAnd r (λ reported. reported ≡ failure)
+pub failed : {Z : Type 0} (buffer ends : List ℕ) (passed : Passed) (r : Result (String Z) CallError)
+    (failure : CallError) → IsErrAnd r (λ reported. reported ≡ failure)
     → IsMatchSelectorsCall buffer ends passed (Err failure)
     → IsMatchSelectorsCall buffer ends passed (outcome_of r)
 failed buffer ends passed (Ok text) failure is due = absurd is

@@ -6,8 +6,8 @@ use Rattle.std.specs.Result.{IsErrAnd}
 use Rattle.std.specs.List.{AllZip, range_with_len}
 use Rattle.cssq.specs.MatchRuns.{AreLines}
 use Rattle.cssq.proofs.MatchLines.{LinesSoFar}
-use Rattle.simplecss_c.specs.declared.answer.Failure.{Failure}
-use Rattle.simplecss_c.specs.declared.answer.Failure.TheVariants.{Memory}
+use Rattle.simplecss_c.specs.declared.answer.CallError.{CallError}
+use Rattle.simplecss_c.specs.declared.answer.CallError.TheVariants.{Memory}
 
 -- the lines of all elements
 pub lines_done : (IsLine : ℕ → List ℕ → Type 0) (index count : ℕ) (text : List ℕ)
@@ -19,7 +19,7 @@ lines_done IsLine index count text so_far all = (
 )
 
 -- a refused allocation
-pub memory_due : {V : Type 0} (P : V → Type 0) (r : Result V Failure)
+pub memory_due : {V : Type 0} (P : V → Type 0) (r : Result V CallError)
     → IsErrAnd r (λ failure. failure ≡ Memory) → MatchResult r P (λ failure. failure ≡ Memory)
 memory_due P (Ok x) is = absurd is
 memory_due P (Err failure) is = is

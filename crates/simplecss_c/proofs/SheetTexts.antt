@@ -58,21 +58,50 @@ line-closed out all m rest e =
     ∙ append_assoc out (object (m ∷ rest)) (newline ∷ [])
 
 -- the object of a selector, a piece after another
-pub selector-written : (out key text flag name all range is_read element : List ℕ)
+pub selector-written : (out key text flag second counts name all : List ℕ)
+    (range is_read specificity element : List ℕ)
     → key ≡ out ++ codes "{\"text\":" → text ≡ key ++ range
     → flag ≡ text ++ further (member (codes "is_read") is_read ∷ [])
-    → name ≡ flag ++ codes ",\"pseudo_element\":" → all ≡ name ++ element
+    → second ≡ flag ++ codes ",\"specificity\":" → counts ≡ second ++ specificity
+    → name ≡ counts ++ codes ",\"pseudo_element\":" → all ≡ name ++ element
     → all ++ codes "}"
     ≡ out ++ object (member (codes "text") range ∷ member (codes "is_read") is_read
-    ∷ member (codes "pseudo_element") element ∷ [])
-selector-written out key text flag name all range is_read element first second third fourth fifth =
+    ∷ member (codes "specificity") specificity ∷ member (codes "pseudo_element") element ∷ [])
+selector-written out key text flag second counts name all range is_read specificity element first_is
+    text_is flag_is second_is counts_is name_is all_is =
     let one = member (codes "text") range in
     let two = member (codes "is_read") is_read in
+    let three = member (codes "specificity") specificity in
     let start = (out ++ open_brace ∷ []) ++ one in
-    object-closed out all one (two ∷ member (codes "pseudo_element") element ∷ [])
-    (member-more (codes "pseudo_element") start flag name all element (two ∷ [])
-    (third ∙ ap (λ t. t ++ further (two ∷ []))
-    (first-member (codes "text") out key text range first second)) fourth fifth)
+    object-closed out all one (two ∷ three ∷ member (codes "pseudo_element") element ∷ [])
+    (member-more (codes "pseudo_element") start counts name all element (two ∷ three ∷ [])
+    (member-more (codes "specificity") start flag second counts specificity (two ∷ [])
+    (flag_is ∙ ap (λ t. t ++ further (two ∷ []))
+    (first-member (codes "text") out key text range first_is text_is)) second_is counts_is)
+    name_is all_is)
+
+-- the line of a selector of a list, a piece after another
+pub listed-written : (out key range second text third counts fourth name : List ℕ)
+    (range_is text_is counts_is name_is : List ℕ) → key ≡ out ++ codes "{\"text\":"
+    → range ≡ key ++ range_is → second ≡ range ++ codes ",\"selector\":" → text ≡ second ++ text_is
+    → third ≡ text ++ codes ",\"specificity\":" → counts ≡ third ++ counts_is
+    → fourth ≡ counts ++ codes ",\"pseudo_element\":" → name ≡ fourth ++ name_is
+    → name ++ codes "}\n"
+    ≡ out ++ line (object (member (codes "text") range_is ∷ member (codes "selector") text_is
+    ∷ member (codes "specificity") counts_is ∷ member (codes "pseudo_element") name_is ∷ []))
+listed-written out key range second text third counts fourth name range_is text_is counts_is name_is
+    first_is at second_is printed third_is counted fourth_is named =
+    let one = member (codes "text") range_is in
+    let two = member (codes "selector") text_is in
+    let three = member (codes "specificity") counts_is in
+    let start = (out ++ open_brace ∷ []) ++ one in
+    line-closed out name one (two ∷ three ∷ member (codes "pseudo_element") name_is ∷ [])
+    (member-more (codes "pseudo_element") start counts fourth name name_is (two ∷ three ∷ [])
+    (member-more (codes "specificity") start text third counts counts_is (two ∷ [])
+    (member-more (codes "selector") start range second text text_is []
+    (first-member (codes "text") out key range range_is first_is at
+    ∙ sym (append-nil start))
+    second_is printed) third_is counted) fourth_is named)
 
 -- the members of a rule set, a piece after another
 pub rule-written : (out prelude block range closed selectors list items all : List ℕ)

@@ -8,8 +8,8 @@ use Rattle.std.specs.Result.{IsErrAnd}
 use Rattle.std.specs.Option.{option_map}
 use Rattle.std.specs.List.{All, slice_range}
 use Rattle.std.specs.Str.{IsUtf8}
-use Rattle.simplecss_c.specs.declared.answer.Failure.{Failure}
-use Rattle.simplecss_c.specs.declared.answer.Failure.TheVariants.{NotUtf8}
+use Rattle.simplecss_c.specs.declared.answer.CallError.{CallError}
+use Rattle.simplecss_c.specs.declared.answer.CallError.TheVariants.{NotUtf8}
 use Rattle.simplecss_c.specs.Texts.{texts_from, texts_in}
 use Rattle.simplecss_c.specs.Calls.{HasBadEndsFrom, HasBadEnds, IsBrokenFrom, IsBrokenUtf8, FailsFor}
 
@@ -92,7 +92,7 @@ cut_left {buffer} {ends} {start} {rest} {texts} so_far none other =
     so_far.bad (subst (HasBadEndsFrom buffer start) (sym none) other)
 
 -- a failure that is handed on is due for its own reason
-pub broken_due : {V : Type 0} (P : V → Type 0) (r : Result V Failure) (failure : Failure)
+pub broken_due : {V : Type 0} (P : V → Type 0) (r : Result V CallError) (failure : CallError)
     (IsRefused IsBroken : Type 0) → IsErrAnd r (λ reported. reported ≡ failure) → failure ≡ NotUtf8
     → IsBroken
     → MatchResult r P (FailsFor IsRefused (λ fault. ⊥) IsBroken)

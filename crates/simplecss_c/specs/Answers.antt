@@ -2,14 +2,14 @@
 use Rattle.std.specs.Prelude.{◌≡◌, ℕ, ◌<◌, ◌≤◌, List, ◌++◌, length, drop, Result, Ok, Err}
 use Rattle.simplecss_c.specs.declared.elements.ElementFault.{ElementFault}
 use Rattle.simplecss_c.specs.Elements.{fault_number, fault_element}
-use Rattle.simplecss_c.specs.declared.answer.Failure.{Failure}
+use Rattle.simplecss_c.specs.declared.answer.CallError.{CallError}
 use Rattle.simplecss.specs.declared.SheetError.{SheetError}
 use Rattle.simplecss.specs.declared.SheetError.TheVariants as sheet
-use Rattle.simplecss_c.specs.declared.answer.Failure.TheVariants.{Refused, Tree, Memory, TooManyDeclarations, NotUtf8}
+use Rattle.simplecss_c.specs.declared.answer.CallError.TheVariants.{Refused, Tree, Memory, TooManyDeclarations, NotUtf8}
 use Rattle.simplecss_c.specs.declared.answer.TreeFault.{TreeFault}
 
 -- the status of a failure
-abbrev pub status_of : Failure → ℕ
+abbrev pub status_of : CallError → ℕ
 status_of Refused = 1
 status_of (Tree fault) = 2
 status_of Memory = 3
@@ -17,7 +17,7 @@ status_of TooManyDeclarations = 4
 status_of NotUtf8 = 5
 
 -- the failure of a call whose sheet is not read
-abbrev pub failure_of : SheetError → Failure
+abbrev pub failure_of : SheetError → CallError
 failure_of sheet.TooManyDeclarations = TooManyDeclarations
 failure_of sheet.Memory = Memory
 
@@ -31,7 +31,7 @@ pub data IsHandedOver (bytes : List ℕ) (status : ℕ) (old new : List ℕ) (le
 
 -- The text is handed over; or the status is that of the failure, the buffer is unchanged, and the
 -- length is 0.
-abbrev pub Answers : Result (List ℕ) Failure → ℕ → List ℕ → List ℕ → ℕ → Type 0
+abbrev pub Answers : Result (List ℕ) CallError → ℕ → List ℕ → List ℕ → ℕ → Type 0
 Answers (Ok bytes) status old new len = IsHandedOver bytes status old new len
 Answers (Err failure) status old new len = (status ≡ status_of failure) × (new ≡ old) × (len ≡ 0)
 
@@ -40,7 +40,7 @@ abbrev pub tree_fault_of : ElementFault → TreeFault
 tree_fault_of fault = record { fault = fault_number fault; element = fault_element fault }
 
 -- if the failure is a fault of the tree this is its number and the element's; else it is unchanged
-abbrev pub IsFaultSet : Result (List ℕ) Failure → TreeFault → TreeFault → Type 0
+abbrev pub IsFaultSet : Result (List ℕ) CallError → TreeFault → TreeFault → Type 0
 IsFaultSet (Ok bytes) old new = new ≡ old
 IsFaultSet (Err Refused) old new = new ≡ old
 IsFaultSet (Err (Tree fault)) old new = new ≡ tree_fault_of fault

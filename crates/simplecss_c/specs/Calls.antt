@@ -1,5 +1,5 @@
 -- What each call must write, and when it fails.
-use Rattle.std.specs.Prelude.{◌≡◌, ◌≢◌, ◌<◌, ◌≤◌, ◌⊎◌, ℕ, List, [], ◌∷◌, length, map, None, Some, Result, Ok, Err}
+use Rattle.std.specs.Prelude.{◌≡◌, ◌≢◌, ◌<◌, ◌≤◌, ◌⊎◌, ℕ, List, [], ◌∷◌, length, map, Option, None, Some, Result, Ok, Err}
 use Rattle.std.specs.List.{All, slice_range}
 use Rattle.std.specs.Str.{IsUtf8}
 use Rattle.simplecss.specs.Components.{Component}
@@ -15,8 +15,8 @@ use Rattle.cssq.specs.SheetRuns.{sheet_output}
 use Rattle.simplecss_c.specs.declared.calls.Passed.{Passed as SeenPassed}
 use Rattle.simplecss_c.specs.declared.elements.ElementFault.{ElementFault}
 use Rattle.simplecss_c.specs.declared.elements.TreeElement.{TreeElement}
-use Rattle.simplecss_c.specs.declared.answer.Failure.{Failure}
-use Rattle.simplecss_c.specs.declared.answer.Failure.TheVariants.{Refused, Tree, Memory, TooManyDeclarations, NotUtf8}
+use Rattle.simplecss_c.specs.declared.answer.CallError.{CallError}
+use Rattle.simplecss_c.specs.declared.answer.CallError.TheVariants.{Refused, Tree, Memory, TooManyDeclarations, NotUtf8}
 use Rattle.simplecss_c.specs.declared.pages.LineContent.TheVariants.{Numbers, Selected}
 use Rattle.simplecss_c.specs.Texts.{texts_in}
 use Rattle.simplecss_c.specs.Elements.{tree_of}
@@ -26,7 +26,7 @@ use Rattle.simplecss_c.specs.SheetLines.{sheet_lines}
 use Rattle.simplecss_c.specs.AnswerLines.{AreLinesOf, AreMatchLines, AreWinnerLines, AreWinnersLines}
 
 -- A failure has its own reason. Any call may be out of memory.
-abbrev pub FailsFor : Type 0 → (ElementFault → Type 0) → Type 0 → Failure → Type 0
+abbrev pub FailsFor : Type 0 → (ElementFault → Type 0) → Type 0 → CallError → Type 0
 FailsFor IsRefused IsFaulty IsBroken Refused = IsRefused
 FailsFor IsRefused IsFaulty IsBroken (Tree fault) = IsFaulty fault
 FailsFor IsRefused IsFaulty IsBroken Memory = Unit {0}
@@ -34,7 +34,7 @@ FailsFor IsRefused IsFaulty IsBroken TooManyDeclarations = ⊥
 FailsFor IsRefused IsFaulty IsBroken NotUtf8 = IsBroken
 
 -- the same of a call with a limit on the declarations
-abbrev pub FailsWithin : Type 0 → (ElementFault → Type 0) → Type 0 → Type 0 → Failure → Type 0
+abbrev pub FailsWithin : Type 0 → (ElementFault → Type 0) → Type 0 → Type 0 → CallError → Type 0
 FailsWithin IsRefused IsFaulty IsBroken IsBeyond Refused = IsRefused
 FailsWithin IsRefused IsFaulty IsBroken IsBeyond (Tree fault) = IsFaulty fault
 FailsWithin IsRefused IsFaulty IsBroken IsBeyond Memory = Unit {0}
@@ -42,7 +42,7 @@ FailsWithin IsRefused IsFaulty IsBroken IsBeyond TooManyDeclarations = IsBeyond
 FailsWithin IsRefused IsFaulty IsBroken IsBeyond NotUtf8 = IsBroken
 
 -- the line of the text's selector, or why there is none
-abbrev pub IsSelectorCall : List ℕ → Result (List ℕ) Failure → Type 0
+abbrev pub IsSelectorCall : List ℕ → Result (List ℕ) CallError → Type 0
 IsSelectorCall text (Ok line) =
     IsUtf8 text × (selector : List Component) × (selector_in text ≡ Some selector)
     × (line ≡ selector_line selector)
@@ -96,7 +96,7 @@ IsReadWithin limit texts rules =
 
 -- what is written for the sheet of the texts, or why nothing is
 abbrev pub IsSheetCall : (List StyleRule → List ℕ → Type 0) → List ℕ → List ℕ → (limit : ℕ)
-    → Result (List ℕ) Failure → Type 0
+    → Result (List ℕ) CallError → Type 0
 IsSheetCall IsText buffer ends limit (Ok bytes) =
     (texts : List (List ℕ)) × HasTextsWithin buffer ends limit texts
     × IsText (sheet this_edition texts) bytes
@@ -113,13 +113,13 @@ abbrev pub IsRuleLines : List StyleRule → List ℕ → Type 0
 IsRuleLines rules bytes = bytes ≡ rule_lines rules
 
 -- a line in JSON for each part of the text that is skipped
-abbrev pub IsSkippedCall : List ℕ → Result (List ℕ) Failure → Type 0
+abbrev pub IsSkippedCall : List ℕ → Result (List ℕ) CallError → Type 0
 IsSkippedCall text (Ok bytes) =
     IsUtf8 text × (bytes ≡ skipped_lines text (skipped this_edition text))
 IsSkippedCall text (Err failure) = FailsFor ⊥ (λ fault. ⊥) (¬ (IsUtf8 text)) failure
 
 -- a line in JSON for each selector of the list, or why there is none
-abbrev pub IsListCall : List ℕ → Result (List ℕ) Failure → Type 0
+abbrev pub IsListCall : List ℕ → Result (List ℕ) CallError → Type 0
 IsListCall text (Ok bytes) =
     IsUtf8 text × (selectors : List (List Component)) × (list_of this_edition text ≡ Some selectors)
     × (bytes ≡ selector_lines selectors)
@@ -127,17 +127,17 @@ IsListCall text (Err failure) =
     FailsFor (list_of this_edition text ≡ None) (λ fault. ⊥) (¬ (IsUtf8 text)) failure
 
 -- the line of why a text is no list of selectors, or nothing where it is one
-abbrev pub IsRefusalCall : List ℕ → Result (List ℕ) Failure → Type 0
+abbrev pub IsRefusalCall : List ℕ → Result (List ℕ) CallError → Type 0
 IsRefusalCall text (Ok bytes) = IsUtf8 text × (bytes ≡ read_line (list_read this_edition text))
 IsRefusalCall text (Err failure) = FailsFor ⊥ (λ fault. ⊥) (¬ (IsUtf8 text)) failure
 
 -- a line in JSON for each item of the style sheet
-abbrev pub IsReadCall : List ℕ → Result (List ℕ) Failure → Type 0
+abbrev pub IsReadCall : List ℕ → Result (List ℕ) CallError → Type 0
 IsReadCall text (Ok bytes) = IsUtf8 text × (bytes ≡ sheet_lines text)
 IsReadCall text (Err failure) = FailsFor ⊥ (λ fault. ⊥) (¬ (IsUtf8 text)) failure
 
 -- a line in JSON for each item of the style attribute
-abbrev pub IsDeclarationsCall : List ℕ → Result (List ℕ) Failure → Type 0
+abbrev pub IsDeclarationsCall : List ℕ → Result (List ℕ) CallError → Type 0
 IsDeclarationsCall text (Ok bytes) = IsUtf8 text × (bytes ≡ item_lines text)
 IsDeclarationsCall text (Err failure) = FailsFor ⊥ (λ fault. ⊥) (¬ (IsUtf8 text)) failure
 
@@ -157,7 +157,7 @@ passed_tree passed = tree_of passed.elements passed.strings passed.ends
 
 -- what is written for the sheet of the texts and a tree, or why nothing is
 abbrev pub IsPageCall : (List StyleRule → List Row → List ℕ → Type 0) → List ℕ → List ℕ
-    → (limit : ℕ) → Passed → Result (List ℕ) Failure → Type 0
+    → (limit : ℕ) → Passed → Result (List ℕ) CallError → Type 0
 IsPageCall IsText buffer ends limit passed (Ok bytes) =
     (texts : List (List ℕ)) × (rows : List Row) × HasTextsWithin buffer ends limit texts
     × IsUtf8 passed.strings × (passed_tree passed ≡ Ok rows)
@@ -167,43 +167,43 @@ IsPageCall IsText buffer ends limit passed (Err failure) =
     (IsBrokenUtf8 buffer ends ⊎ ¬ (IsUtf8 passed.strings)) (IsBeyond buffer ends limit) failure
 
 -- Of texts, one is no selector, and those before it are.
-abbrev pub HasNoSelector : List (List ℕ) → Type 0
-HasNoSelector [] = ⊥
-HasNoSelector (text ∷ texts) =
-    (selector_in text ≡ None) ⊎ ((selector_in text ≢ None) × HasNoSelector texts)
+abbrev pub HasNoSelector : {S : Type 0} → (List ℕ → Option S) → List (List ℕ) → Type 0
+HasNoSelector selector_in [] = ⊥
+HasNoSelector selector_in (text ∷ texts) =
+    (selector_in text ≡ None) ⊎ ((selector_in text ≢ None) × HasNoSelector selector_in texts)
 
 -- the texts of a buffer are texts, and one of them is no selector
-abbrev pub HasRefusedText : List ℕ → List ℕ → Type 0
-HasRefusedText buffer ends =
-    (texts : List (List ℕ)) × HasTexts buffer ends texts × HasNoSelector texts
+abbrev pub HasRefusedText : {S : Type 0} → (List ℕ → Option S) → List ℕ → List ℕ → Type 0
+HasRefusedText selector_in buffer ends =
+    (texts : List (List ℕ)) × HasTexts buffer ends texts × HasNoSelector selector_in texts
 
 -- the selectors of texts, one of each
-abbrev pub AreSelectorsIn : List (List ℕ) → List (List Component) → Type 0
-AreSelectorsIn texts selectors = map selector_in texts ≡ map Some selectors
+abbrev pub AreSelectorsIn : {S : Type 0} → (List ℕ → Option S) → List (List ℕ) → List S → Type 0
+AreSelectorsIn selector_in texts selectors = map selector_in texts ≡ map Some selectors
 
 -- which of the selectors of texts match each element
-abbrev pub IsMatchSelectorsCall : List ℕ → List ℕ → Passed → Result (List ℕ) Failure → Type 0
+abbrev pub IsMatchSelectorsCall : List ℕ → List ℕ → Passed → Result (List ℕ) CallError → Type 0
 IsMatchSelectorsCall buffer ends passed (Ok bytes) =
     (texts : List (List ℕ)) × (selectors : List (List Component)) × (rows : List Row)
-    × HasTexts buffer ends texts × AreSelectorsIn texts selectors
+    × HasTexts buffer ends texts × AreSelectorsIn selector_in texts selectors
     × IsUtf8 passed.strings × (passed_tree passed ≡ Ok rows)
     × AreLinesOf Numbers selectors rows bytes
 IsMatchSelectorsCall buffer ends passed (Err failure) =
-    FailsFor (HasBadEnds buffer ends ⊎ HasRefusedText buffer ends)
+    FailsFor (HasBadEnds buffer ends ⊎ HasRefusedText selector_in buffer ends)
     (λ fault. passed_tree passed ≡ Err fault)
     (IsBrokenUtf8 buffer ends ⊎ ¬ (IsUtf8 passed.strings)) failure
 
 -- which rules match each element
-abbrev pub IsMatchCall : List ℕ → List ℕ → (limit : ℕ) → Passed → Result (List ℕ) Failure → Type 0
+abbrev pub IsMatchCall : List ℕ → List ℕ → (limit : ℕ) → Passed → Result (List ℕ) CallError → Type 0
 IsMatchCall = IsPageCall AreMatchLines
 
 -- all that wins on each element
-abbrev pub IsStylesCall : List ℕ → List ℕ → (limit : ℕ) → Passed → Result (List ℕ) Failure → Type 0
+abbrev pub IsStylesCall : List ℕ → List ℕ → (limit : ℕ) → Passed → Result (List ℕ) CallError → Type 0
 IsStylesCall = IsPageCall AreWinnersLines
 
 -- what wins for a name on each element; the name is UTF-8
 abbrev pub IsStyleCall : List ℕ → List ℕ → (limit : ℕ) → Passed → List ℕ
-    → Result (List ℕ) Failure → Type 0
+    → Result (List ℕ) CallError → Type 0
 IsStyleCall buffer ends limit passed name (Err NotUtf8) =
     IsPageCall (AreWinnerLines name) buffer ends limit passed (Err NotUtf8) ⊎ ¬ (IsUtf8 name)
 IsStyleCall buffer ends limit passed name (Err Refused) = HasBadEnds buffer ends
@@ -214,7 +214,7 @@ IsStyleCall buffer ends limit passed name (Ok bytes) =
     IsUtf8 name × IsPageCall (AreWinnerLines name) buffer ends limit passed (Ok bytes)
 
 -- which elements one of the selectors of a list matches
-abbrev pub IsSelectCall : List ℕ → Passed → Result (List ℕ) Failure → Type 0
+abbrev pub IsSelectCall : List ℕ → Passed → Result (List ℕ) CallError → Type 0
 IsSelectCall text passed (Ok bytes) =
     (selectors : List (List Component)) × (rows : List Row) × IsUtf8 text
     × (list_of this_edition text ≡ Some selectors) × IsUtf8 passed.strings × (passed_tree passed ≡ Ok rows)

@@ -124,6 +124,10 @@ states_in sum = record {
   focus = has_bit sum 16;
 }
 
+-- whether an element has a text of its own that is not empty
+abbrev pub has_text : TreeElement → Bool
+has_text element = has_bit element.states 32
+
 -- the element of a tree, where it is the last child of its parent, in no state
 abbrev pub element_row : List Row → Option ℕ → List ℕ → List (List ℕ) → ℕ → Row
 element_row rows parent name fields count = record {

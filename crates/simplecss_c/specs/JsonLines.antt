@@ -13,6 +13,7 @@ use Rattle.simplecss.specs.Errors.{position_of}
 use Rattle.simplecss.specs.Quotes.{quote}
 use Rattle.simplecss.specs.Skipped.{Skip}
 use Rattle.simplecss.specs.declared.TextPos.{TextPos}
+use Rattle.selectors3.specs.Specificities.{Counts}
 use Rattle.simplecss_c.specs.Json.{string, boolean, array, member, object}
 
 -- a value, and a newline
@@ -37,6 +38,10 @@ selector_members selector =
     member (codes "selector") (string (selector_text selector))
     ∷ member (codes "specificity") (array (map decimal (specificity selector)))
     ∷ []
+
+-- a specificity of level 3 as three numbers
+abbrev pub counts_array : Counts → List ℕ
+counts_array c = array (decimal c.ids ∷ decimal c.classes ∷ decimal c.names ∷ [])
 
 -- the line of a rule: its selector and its declarations
 abbrev pub rule_line : StyleRule → List ℕ

@@ -10,3 +10,6 @@ pub mod SheetLines
 pub mod Shown
 pub mod AnswerLines
 pub mod Calls
+pub mod Readings
+pub mod Level3Lines
+pub mod Level3Calls

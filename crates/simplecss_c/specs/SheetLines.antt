@@ -9,10 +9,13 @@ use Rattle.css_selectors.specs.SelectorGrammar.{SelectorText, plain, with_elemen
 use Rattle.css_selectors.specs.SelectorLists.{prelude_fault}
 use Rattle.css_selectors.specs.PlacedSelectors.{PlacedSelector, placed_selectors}
 use Rattle.css_sheet.specs.Places.{PlacesText}
-use Rattle.css_sheet.specs.RuleSelectors.{selector_read}
+use Rattle.css_sheet.specs.RuleSelectors.{SelectorRead, selector_read}
+use Rattle.css_sheet.specs.SheetOrder.{with_element as with_name}
 use Rattle.css_sheet.specs.SheetItems.{ConditionText, SheetItemText, sheet_items}
+use Rattle.selectors3.specs.Components.{Selector}
+use Rattle.selectors3.specs.Specificities.{specificity}
 use Rattle.simplecss_c.specs.Json.{boolean, array, member, object}
-use Rattle.simplecss_c.specs.JsonLines.{line}
+use Rattle.simplecss_c.specs.JsonLines.{line, counts_array}
 use Rattle.simplecss_c.specs.Ranges.{range, extent, head_members, fault_members, at_rule_members}
 use Rattle.simplecss_c.specs.ItemLines.{item_array}
 
@@ -40,19 +43,27 @@ element_value (with_element front name) start end = range (start + length front)
 element_value other_valid start end = codes "null"
 element_value invalid start end = codes "null"
 
--- A selector with this range: whether the library matches elements by it, and its pseudo-element.
-abbrev pub selector_with : (start end : ℕ) → PlacedSelector → List ℕ
-selector_with start end placed =
+-- the specificity of a selector, if it is read, with its pseudo-element
+abbrev pub specificity_value : Option Selector → (pseudo_element : Option (List ℕ)) → List ℕ
+specificity_value None pseudo_element = codes "null"
+specificity_value (Some s) pseudo_element = counts_array (with_name (specificity s) pseudo_element)
+
+-- A selector with this range, and as it is read: whether it is one of level 3 without its
+-- pseudo-element, its specificity, and its pseudo-element.
+abbrev pub selector_with : (start end : ℕ) → SelectorText → SelectorRead → List ℕ
+selector_with start end form read =
     object (member (codes "text") (range start end)
-    ∷ member (codes "is_read") (boolean (is_some (selector_read placed.listed).components))
-    ∷ member (codes "pseudo_element") (element_value placed.listed.form start end)
+    ∷ member (codes "is_read") (boolean (is_some read.selector))
+    ∷ member (codes "specificity") (specificity_value read.selector read.pseudo_element)
+    ∷ member (codes "pseudo_element") (element_value form start end)
     ∷ [])
 
 -- a selector of a list whose text ends at this offset
 abbrev pub selector_object : (end : ℕ) → PlacedSelector → List ℕ
 selector_object end placed =
     selector_with (end - length placed.from)
-    ((end - length placed.from) + length placed.listed.text) placed
+    ((end - length placed.from) + length placed.listed.text) placed.listed.form
+    (selector_read placed.listed)
 
 -- the selectors of a list whose text ends at this offset
 abbrev pub selector_array : (end : ℕ) → List ℕ → List ℕ

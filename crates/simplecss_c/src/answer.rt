@@ -4,7 +4,7 @@ ghost use Rattle.std.specs.Prelude.{◌≡◌, Ok, Err};
 ghost use Rattle.std.specs.Prelude.{string_bytes};
 ghost use Rattle.simplecss_c.specs.Answers.{status_of, failure_of, IsHandedOver, Answers, IsFaultSet};
 ghost use Rattle.simplecss_c.specs.Outcomes.{outcome_of};
-ghost use Rattle.simplecss_c.specs.declared.answer.Failure.TheVariants.{Memory};
+ghost use Rattle.simplecss_c.specs.declared.answer.CallError.TheVariants.{Memory};
 
 use crate::elements::ElementFault;
 use simplecss::SheetError;
@@ -18,7 +18,7 @@ const TOO_SMALL: u32 = 6;
 
 /// Why a call has no answer.
 #[derive(Clone, Copy, Debug, PartialEq)]
-pub enum Failure {
+pub enum CallError {
     /// A text is no selector, or the ends are not those of texts in their buffer.
     Refused,
     /// A tree has a fault.
@@ -31,54 +31,54 @@ pub enum Failure {
     NotUtf8,
 }
 
-impl Failure {
+impl CallError {
     /// The status that the call returns.
     pub fn status(&self) -> u32
         ensures { result ≡ status_of self.now }
     {
         match self {
-            Failure::Refused => 1,
-            Failure::Tree(_) => 2,
-            Failure::Memory => 3,
-            Failure::TooManyDeclarations => 4,
-            Failure::NotUtf8 => 5,
+            CallError::Refused => 1,
+            CallError::Tree(_) => 2,
+            CallError::Memory => 3,
+            CallError::TooManyDeclarations => 4,
+            CallError::NotUtf8 => 5,
         }
     }
 }
 
-impl From<AllocError> for Failure {
+impl From<AllocError> for CallError {
     ghost from_gives = { λ _ failure. failure ≡ Memory };
 
-    fn from(_error: AllocError) -> Failure {
-        Failure::Memory
+    fn from(_error: AllocError) -> CallError {
+        CallError::Memory
     }
 }
 
-impl<T: Drop> From<AllocFailed<T>> for Failure {
+impl<T: Drop> From<AllocFailed<T>> for CallError {
     ghost from_gives = { λ _ failure. failure ≡ Memory };
 
-    fn from(_error: AllocFailed<T>) -> Failure {
-        Failure::Memory
+    fn from(_error: AllocFailed<T>) -> CallError {
+        CallError::Memory
     }
 }
 
-impl From<SheetError> for Failure {
+impl From<SheetError> for CallError {
     ghost from_gives = { λ error failure. failure ≡ failure_of error };
 
-    fn from(error: SheetError) -> Failure {
+    fn from(error: SheetError) -> CallError {
         match error {
-            SheetError::TooManyDeclarations => Failure::TooManyDeclarations,
-            SheetError::Memory => Failure::Memory,
+            SheetError::TooManyDeclarations => CallError::TooManyDeclarations,
+            SheetError::Memory => CallError::Memory,
         }
     }
 }
 
 /// Each element is added after its parent, so that adding one fails only if an allocation fails.
-impl From<TreeError> for Failure {
+impl From<TreeError> for CallError {
     ghost from_gives = { λ _ failure. failure ≡ Memory };
 
-    fn from(_error: TreeError) -> Failure {
-        Failure::Memory
+    fn from(_error: TreeError) -> CallError {
+        CallError::Memory
     }
 }
 
@@ -105,7 +105,7 @@ pub fn copy_whole(bytes: &[u8], out: &mut [u8], len: &mut usize) -> u32
 }
 
 /// Hands over the answer of a call, and returns its status.
-pub fn hand_over(outcome: Result<String, Failure>, out: &mut [u8], len: &mut usize) -> u32
+pub fn hand_over(outcome: Result<String, CallError>, out: &mut [u8], len: &mut usize) -> u32
     ensures { Answers (outcome_of outcome) result out.old out.new len.new }
 {
     match outcome {
@@ -118,10 +118,10 @@ pub fn hand_over(outcome: Result<String, Failure>, out: &mut [u8], len: &mut usi
 }
 
 /// Sets the fault of a tree, if that is why a call has no answer.
-pub fn set_fault(outcome: &Result<String, Failure>, fault: &mut TreeFault)
+pub fn set_fault(outcome: &Result<String, CallError>, fault: &mut TreeFault)
     ensures { IsFaultSet (outcome_of outcome.now) fault.old fault.new }
 {
-    if let Err(Failure::Tree(found)) = outcome {
+    if let Err(CallError::Tree(found)) = outcome {
         fault.fault = found.number();
         fault.element = found.element();
     }

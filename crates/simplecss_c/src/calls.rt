@@ -4,6 +4,7 @@ ghost use Rattle.std.specs.Prelude.{◌≡◌, ◌<◌, map, MatchResult, string
 ghost use Rattle.simplecss.specs.DeclarationCounts.{kept_in_all};
 ghost use Rattle.simplecss.specs.ThisEdition.{this_edition};
 ghost use Rattle.simplecss.specs.RuleViews.{rules_in};
+ghost use Rattle.cssq.specs.SelectorRuns.{selector_in};
 ghost use Rattle.simplecss_c.specs.Outcomes.{outcome_of};
 ghost use Rattle.simplecss_c.specs.AnswerLines.{AreMatchLines, AreWinnerLines};
 ghost use Rattle.simplecss_c.specs.Calls.{FailsWithin, IsReadWithin};
@@ -13,7 +14,7 @@ ghost use Rattle.simplecss_c.specs.Calls.{AreSelectorsIn, HasNoSelector, FailsFo
 ghost use Rattle.simplecss_c.specs.Calls.{IsPageCall, IsSelectCall, IsStyleCall, passed_of};
 ghost use Rattle.simplecss_c.specs.Calls.{IsRuleLines, IsSkippedCall, IsListCall, IsRefusalCall, IsStylesCall};
 
-use crate::answer::Failure;
+use crate::answer::CallError;
 use crate::elements::{TreeElement, read_tree};
 use crate::items::item_lines;
 use crate::lists::selectors_of;
@@ -28,7 +29,11 @@ use simplecss_tree::Tree;
 use std::alloc::Global;
 
 /// The style sheet of texts, whose rules may hold at most this number of declarations.
-fn read_sheet<'a>(alloc: Global, texts: &[&'a str], limit: usize) -> Result<StyleSheet<'a>, Failure>
+fn read_sheet<'a>(
+    alloc: Global,
+    texts: &[&'a str],
+    limit: usize,
+) -> Result<StyleSheet<'a>, CallError>
     ensures { MatchResult result (λ read. IsReadWithin limit (map (λ text. text.now) texts.now)
         (rules_in read)) (λ failure. FailsWithin ⊥ (λ fault. ⊥) ⊥
         (limit < kept_in_all this_edition (map (λ text. text.now) texts.now)) failure) }
@@ -43,19 +48,24 @@ fn read_sheet<'a>(alloc: Global, texts: &[&'a str], limit: usize) -> Result<Styl
 }
 
 /// The line of a selector.
-pub fn selector(alloc: Global, text: &[u8]) -> Result<String, Failure>
+pub fn selector(alloc: Global, text: &[u8]) -> Result<String, CallError>
     ensures { IsSelectorCall text.now (outcome_of result) }
 {
     let text = text_of(text)?;
     let Some(selector) = Selector::parse(&Discard, alloc, text)? else {
-        return Err(Failure::Refused);
+        return Err(CallError::Refused);
     };
     let line = selector_line(alloc, selector)?;
     Ok(line)
 }
 
 /// The printed sheet.
-pub fn sheet(alloc: Global, buffer: &[u8], ends: &[usize], limit: usize) -> Result<String, Failure>
+pub fn sheet(
+    alloc: Global,
+    buffer: &[u8],
+    ends: &[usize],
+    limit: usize,
+) -> Result<String, CallError>
     ensures { IsSheetCall IsPrinted buffer.now ends.now limit (outcome_of result) }
 {
     let texts = texts_of(alloc, buffer, ends)?;
@@ -65,7 +75,12 @@ pub fn sheet(alloc: Global, buffer: &[u8], ends: &[usize], limit: usize) -> Resu
 }
 
 /// The lines of the rules of a sheet, in JSON.
-pub fn rules(alloc: Global, buffer: &[u8], ends: &[usize], limit: usize) -> Result<String, Failure>
+pub fn rules(
+    alloc: Global,
+    buffer: &[u8],
+    ends: &[usize],
+    limit: usize,
+) -> Result<String, CallError>
     ensures { IsSheetCall IsRuleLines buffer.now ends.now limit (outcome_of result) }
 {
     let texts = texts_of(alloc, buffer, ends)?;
@@ -74,7 +89,7 @@ pub fn rules(alloc: Global, buffer: &[u8], ends: &[usize], limit: usize) -> Resu
 }
 
 /// The lines of what of a style sheet's text is skipped, in JSON.
-pub fn skipped(alloc: Global, text: &[u8]) -> Result<String, Failure>
+pub fn skipped(alloc: Global, text: &[u8]) -> Result<String, CallError>
     ensures { IsSkippedCall text.now (outcome_of result) }
 {
     let text = text_of(text)?;
@@ -83,7 +98,7 @@ pub fn skipped(alloc: Global, text: &[u8]) -> Result<String, Failure>
 }
 
 /// The lines of a list of selectors, in JSON.
-pub fn list(alloc: Global, text: &[u8]) -> Result<String, Failure>
+pub fn list(alloc: Global, text: &[u8]) -> Result<String, CallError>
     ensures { IsListCall text.now (outcome_of result) }
 {
     let selectors = selectors_of(alloc, text_of(text)?)?;
@@ -91,7 +106,7 @@ pub fn list(alloc: Global, text: &[u8]) -> Result<String, Failure>
 }
 
 /// The line of why a text is no list of selectors, in JSON.
-pub fn refusal(alloc: Global, text: &[u8]) -> Result<String, Failure>
+pub fn refusal(alloc: Global, text: &[u8]) -> Result<String, CallError>
     ensures { IsRefusalCall text.now (outcome_of result) }
 {
     lists::refusal(alloc, text_of(text)?)
@@ -109,7 +124,7 @@ pub struct Passed<'t> {
 }
 
 /// The numbers of the elements of a tree that one of the selectors of a list matches.
-pub fn select(alloc: Global, text: &[u8], tree: Passed<'_>) -> Result<String, Failure>
+pub fn select(alloc: Global, text: &[u8], tree: Passed<'_>) -> Result<String, CallError>
     ensures { IsSelectCall text.now (passed_of tree.entry) (outcome_of result) }
 {
     let text = text_of(text)?;
@@ -125,7 +140,7 @@ pub fn styles(
     ends: &[usize],
     limit: usize,
     tree: Passed<'_>,
-) -> Result<String, Failure>
+) -> Result<String, CallError>
     ensures { IsStylesCall buffer.now ends.now limit (passed_of tree.entry) (outcome_of result) }
 {
     let texts = texts_of(alloc, buffer, ends)?;
@@ -135,10 +150,10 @@ pub fn styles(
 }
 
 /// The numbers of the rules of a sheet that match each element of a tree.
-fn match_lines(alloc: Global, sheet: &StyleSheet<'_>, tree: &Tree<'_>) -> Result<String, Failure>
+fn match_lines(alloc: Global, sheet: &StyleSheet<'_>, tree: &Tree<'_>) -> Result<String, CallError>
     ensures { MatchResult result
         (λ text. AreMatchLines (rules_in sheet.now) tree.now (string_bytes text))
-        (λ failure. failure ≡ Failure.Memory) }
+        (λ failure. failure ≡ CallError.Memory) }
 {
     lines(alloc, LineContent::Numbers, &sheet.rules, tree)
 }
@@ -150,7 +165,7 @@ pub fn matches(
     ends: &[usize],
     limit: usize,
     tree: Passed<'_>,
-) -> Result<String, Failure>
+) -> Result<String, CallError>
     ensures { IsMatchCall buffer.now ends.now limit (passed_of tree.entry) (outcome_of result) }
 {
     let texts = texts_of(alloc, buffer, ends)?;
@@ -160,30 +175,30 @@ pub fn matches(
 }
 
 /// The lines of the items of a style sheet by the grammar of today, in JSON.
-pub fn read(alloc: Global, text: &[u8]) -> Result<String, Failure>
+pub fn read(alloc: Global, text: &[u8]) -> Result<String, CallError>
     ensures { IsReadCall text.now (outcome_of result) }
 {
     Ok(sheet_lines(alloc, text_of(text)?)?)
 }
 
 /// The lines of the items of a style attribute by the grammar of today, in JSON.
-pub fn declarations(alloc: Global, text: &[u8]) -> Result<String, Failure>
+pub fn declarations(alloc: Global, text: &[u8]) -> Result<String, CallError>
     ensures { IsDeclarationsCall text.now (outcome_of result) }
 {
     Ok(item_lines(alloc, text_of(text)?)?)
 }
 
 /// The selectors of texts, or the refusal.
-fn read_selectors<'a>(alloc: Global, texts: &[&'a str]) -> Result<Vec<Selector<'a>>, Failure>
+fn read_selectors<'a>(alloc: Global, texts: &[&'a str]) -> Result<Vec<Selector<'a>>, CallError>
     ensures { MatchResult result
-        (λ selectors. AreSelectorsIn (map (λ text. text.now) texts.now) selectors.items)
-        (λ failure. FailsFor (HasNoSelector (map (λ text. text.now) texts.now)) (λ fault. ⊥) ⊥
+        (λ selectors. AreSelectorsIn selector_in (map (λ text. text.now) texts.now) selectors.items)
+        (λ failure. FailsFor (HasNoSelector selector_in (map (λ text. text.now) texts.now)) (λ fault. ⊥) ⊥
         failure) }
 {
     let mut selectors = Vec::new(alloc);
     for text in texts {
         let Some(selector) = Selector::parse(&Discard, alloc, text)? else {
-            return Err(Failure::Refused);
+            return Err(CallError::Refused);
         };
         selectors.push(selector)?;
     }
@@ -196,7 +211,7 @@ pub fn match_selectors(
     buffer: &[u8],
     ends: &[usize],
     tree: Passed<'_>,
-) -> Result<String, Failure>
+) -> Result<String, CallError>
     ensures { IsMatchSelectorsCall buffer.now ends.now (passed_of tree.entry) (outcome_of result) }
 {
     let texts = texts_of(alloc, buffer, ends)?;
@@ -213,7 +228,7 @@ fn style_text(
     limit: usize,
     tree: Passed<'_>,
     name: &str,
-) -> Result<String, Failure>
+) -> Result<String, CallError>
     ensures { IsPageCall (AreWinnerLines name.now) buffer.now ends.now limit
         (passed_of tree.entry) (outcome_of result) }
 {
@@ -231,7 +246,7 @@ pub fn style(
     limit: usize,
     tree: Passed<'_>,
     name: &[u8],
-) -> Result<String, Failure>
+) -> Result<String, CallError>
     ensures { IsStyleCall buffer.now ends.now limit (passed_of tree.entry) name.now
         (outcome_of result) }
 {

@@ -8,10 +8,10 @@ ghost use Rattle.std.specs.Str.{IsCharBoundary, IsUtf8};
 ghost use Rattle.simplecss_c.specs.Elements.{Strings, may_end, strings_in, IsPath, limit_after};
 ghost use Rattle.simplecss_c.specs.Elements.{parent_after, element_row, repeats_key, strings_of};
 ghost use Rattle.simplecss_c.specs.Elements.{fault_in, with_element, tree_from, tree_of};
-ghost use Rattle.simplecss_c.specs.Elements.{fault_number, fault_element, has_bit, states_in};
+ghost use Rattle.simplecss_c.specs.Elements.{fault_number, fault_element, has_bit, has_text, states_in};
 ghost use Rattle.simplecss_c.specs.Calls.{FailsFor};
 
-use crate::answer::Failure;
+use crate::answer::CallError;
 use crate::texts::text_of;
 use simplecss_tree::{States, Tree, TreeError};
 use std::alloc::{AllocError, Global};
@@ -25,7 +25,8 @@ pub struct TreeElement {
     pub depth: usize,
     /// How many attributes it has.
     pub attributes: usize,
-    /// The sum of its states: 1 is `:link`, 2 `:visited`, 4 `:hover`, 8 `:active`, 16 `:focus`.
+    /// The sum of its states: 1 is `:link`, 2 `:visited`, 4 `:hover`, 8 `:active`, 16 `:focus`, and 32
+    /// that it has a text of its own that is not empty.
     pub states: usize,
 }
 
@@ -196,6 +197,13 @@ fn states_in(sum: usize) -> States
     }
 }
 
+/// Whether an element has a text of its own that is not empty.
+pub fn has_text(element: TreeElement) -> bool
+    ensures { result ≡ has_text element }
+{
+    has_bit(element.states, 32)
+}
+
 /// Adds the next element, and returns how many of the strings that are left it has.
 fn add_next<'t>(
     alloc: Global,
@@ -203,7 +211,7 @@ fn add_next<'t>(
     path: &mut Vec<usize>,
     element: TreeElement,
     strings: &[&'t str],
-) -> Result<usize, Failure>
+) -> Result<usize, CallError>
     requires { length tree.old + 1 < 2 ^ 64 }
     ensures { (depths : List ℕ) → IsPath path.old.items depths → length depths ≡ length tree.old
         → let all = map (λ string. string.now) strings.now in
@@ -216,7 +224,7 @@ fn add_next<'t>(
 {
     let index = tree.len();
     if let Some(fault) = fault_in(alloc, index + 1, path.len(), element, strings)? {
-        return Err(Failure::Tree(fault));
+        return Err(CallError::Tree(fault));
     }
     let parent = parent_of(path, element.depth);
     add_element(tree, parent, strings[0], &strings[1..], element.attributes)?;
@@ -232,7 +240,7 @@ fn link<'t>(
     elements: &[TreeElement],
     strings: &[&'t str],
     are_all: bool,
-) -> Result<Tree<'t>, Failure>
+) -> Result<Tree<'t>, CallError>
     ensures { let due = tree_from [] []
         (record { strings = map (λ string. string.now) strings.now; are_all = are_all })
         elements.now in
@@ -246,7 +254,7 @@ fn link<'t>(
         next += add_next(alloc, &mut tree, &mut path, *element, &strings[next..])?;
     }
     if next < strings.len() || !are_all {
-        return Err(Failure::Tree(ElementFault::BadStrings(elements.len() + 1)));
+        return Err(CallError::Tree(ElementFault::BadStrings(elements.len() + 1)));
     }
     Ok(tree)
 }
@@ -257,7 +265,7 @@ pub fn read_tree<'t>(
     elements: &[TreeElement],
     buffer: &'t [u8],
     ends: &[usize],
-) -> Result<Tree<'t>, Failure>
+) -> Result<Tree<'t>, CallError>
     ensures { MatchResult result
         (λ tree. IsUtf8 buffer.now × (tree_of elements.now buffer.now ends.now ≡ Ok tree))
         (λ failure. FailsFor ⊥ (λ fault. tree_of elements.now buffer.now ends.now ≡ Err fault)

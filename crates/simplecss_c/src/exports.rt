@@ -6,18 +6,20 @@
 //! written, and `len` is 0. `fault` is set at 2 only.
 
 ghost use Rattle.std.specs.Prelude.{◌≡◌, List, ℕ, Result};
-ghost use Rattle.simplecss_c.specs.declared.answer.Failure.{Failure as FailureView};
+ghost use Rattle.simplecss_c.specs.declared.answer.CallError.{CallError as CallErrorView};
 ghost use Rattle.simplecss_c.specs.Answers.{Answers, IsHandedOver, IsFaultSet};
 ghost use Rattle.simplecss_c.specs.Calls.{IsSelectorCall, IsSheetCall, IsPrinted, IsMatchCall};
 ghost use Rattle.simplecss_c.specs.Calls.{IsListCall, IsRuleLines, IsSkippedCall, IsSelectCall, IsStyleCall};
 ghost use Rattle.simplecss_c.specs.Calls.{IsRefusalCall, IsStylesCall, IsDeclarationsCall};
 ghost use Rattle.simplecss_c.specs.Calls.{IsReadCall};
 ghost use Rattle.simplecss_c.specs.Calls.{IsMatchSelectorsCall};
+ghost use Rattle.simplecss_c.specs.Level3Calls.{IsListLevel3Call, IsRefusalLevel3Call};
+ghost use Rattle.simplecss_c.specs.Level3Calls.{IsMatchLevel3Call, IsSelectLevel3Call};
 
 use crate::answer::{TreeFault, copy_whole, hand_over, set_fault};
-use crate::calls;
 use crate::calls::Passed;
 use crate::elements::TreeElement;
+use crate::{calls, level3};
 use std::alloc::Global;
 
 /// The version of the library. The changelog begins with it.
@@ -40,7 +42,7 @@ pub extern "C" fn simplecss_selector(
     out: &mut [u8],
     len: &mut usize,
 ) -> u32
-    ensures { (outcome : Result (List ℕ) FailureView) × IsSelectorCall text.now outcome
+    ensures { (outcome : Result (List ℕ) CallErrorView) × IsSelectorCall text.now outcome
         × Answers outcome result out.old out.new len.new }
 {
     hand_over(calls::selector(alloc, text), out, len)
@@ -50,7 +52,7 @@ pub extern "C" fn simplecss_selector(
 /// `specificity`.
 #[unsafe(no_mangle)]
 pub extern "C" fn simplecss_list(alloc: Global, text: &[u8], out: &mut [u8], len: &mut usize) -> u32
-    ensures { (outcome : Result (List ℕ) FailureView) × IsListCall text.now outcome
+    ensures { (outcome : Result (List ℕ) CallErrorView) × IsListCall text.now outcome
         × Answers outcome result out.old out.new len.new }
 {
     hand_over(calls::list(alloc, text), out, len)
@@ -65,7 +67,7 @@ pub extern "C" fn simplecss_refusal(
     out: &mut [u8],
     len: &mut usize,
 ) -> u32
-    ensures { (outcome : Result (List ℕ) FailureView) × IsRefusalCall text.now outcome
+    ensures { (outcome : Result (List ℕ) CallErrorView) × IsRefusalCall text.now outcome
         × Answers outcome result out.old out.new len.new }
 {
     hand_over(calls::refusal(alloc, text), out, len)
@@ -81,7 +83,7 @@ pub extern "C" fn simplecss_sheet(
     out: &mut [u8],
     len: &mut usize,
 ) -> u32
-    ensures { (outcome : Result (List ℕ) FailureView)
+    ensures { (outcome : Result (List ℕ) CallErrorView)
         × IsSheetCall IsPrinted texts.now ends.now limit outcome
         × Answers outcome result out.old out.new len.new }
 {
@@ -99,7 +101,7 @@ pub extern "C" fn simplecss_rules(
     out: &mut [u8],
     len: &mut usize,
 ) -> u32
-    ensures { (outcome : Result (List ℕ) FailureView)
+    ensures { (outcome : Result (List ℕ) CallErrorView)
         × IsSheetCall IsRuleLines texts.now ends.now limit outcome
         × Answers outcome result out.old out.new len.new }
 {
@@ -115,7 +117,7 @@ pub extern "C" fn simplecss_skipped(
     out: &mut [u8],
     len: &mut usize,
 ) -> u32
-    ensures { (outcome : Result (List ℕ) FailureView) × IsSkippedCall text.now outcome
+    ensures { (outcome : Result (List ℕ) CallErrorView) × IsSkippedCall text.now outcome
         × Answers outcome result out.old out.new len.new }
 {
     hand_over(calls::skipped(alloc, text), out, len)
@@ -125,7 +127,7 @@ pub extern "C" fn simplecss_skipped(
 /// the text.
 #[unsafe(no_mangle)]
 pub extern "C" fn simplecss_read(alloc: Global, text: &[u8], out: &mut [u8], len: &mut usize) -> u32
-    ensures { (outcome : Result (List ℕ) FailureView) × IsReadCall text.now outcome
+    ensures { (outcome : Result (List ℕ) CallErrorView) × IsReadCall text.now outcome
         × Answers outcome result out.old out.new len.new }
 {
     hand_over(calls::read(alloc, text), out, len)
@@ -140,7 +142,7 @@ pub extern "C" fn simplecss_declarations(
     out: &mut [u8],
     len: &mut usize,
 ) -> u32
-    ensures { (outcome : Result (List ℕ) FailureView) × IsDeclarationsCall text.now outcome
+    ensures { (outcome : Result (List ℕ) CallErrorView) × IsDeclarationsCall text.now outcome
         × Answers outcome result out.old out.new len.new }
 {
     hand_over(calls::declarations(alloc, text), out, len)
@@ -161,7 +163,7 @@ pub extern "C" fn simplecss_match(
     len: &mut usize,
     fault: &mut TreeFault,
 ) -> u32
-    ensures { (outcome : Result (List ℕ) FailureView) × IsMatchCall texts.now ends.now limit
+    ensures { (outcome : Result (List ℕ) CallErrorView) × IsMatchCall texts.now ends.now limit
         (record { elements = elements.now; strings = strings.now; ends = string_ends.now }) outcome
         × Answers outcome result out.old out.new len.new
         × IsFaultSet outcome fault.old fault.new }
@@ -191,7 +193,7 @@ pub extern "C" fn simplecss_match_selectors(
     len: &mut usize,
     fault: &mut TreeFault,
 ) -> u32
-    ensures { (outcome : Result (List ℕ) FailureView) × IsMatchSelectorsCall texts.now ends.now
+    ensures { (outcome : Result (List ℕ) CallErrorView) × IsMatchSelectorsCall texts.now ends.now
         (record { elements = elements.now; strings = strings.now; ends = string_ends.now }) outcome
         × Answers outcome result out.old out.new len.new
         × IsFaultSet outcome fault.old fault.new }
@@ -219,7 +221,7 @@ pub extern "C" fn simplecss_select(
     len: &mut usize,
     fault: &mut TreeFault,
 ) -> u32
-    ensures { (outcome : Result (List ℕ) FailureView) × IsSelectCall selectors.now
+    ensures { (outcome : Result (List ℕ) CallErrorView) × IsSelectCall selectors.now
         (record { elements = elements.now; strings = strings.now; ends = string_ends.now }) outcome
         × Answers outcome result out.old out.new len.new
         × IsFaultSet outcome fault.old fault.new }
@@ -250,7 +252,7 @@ pub extern "C" fn simplecss_style(
     len: &mut usize,
     fault: &mut TreeFault,
 ) -> u32
-    ensures { (outcome : Result (List ℕ) FailureView) × IsStyleCall texts.now ends.now limit
+    ensures { (outcome : Result (List ℕ) CallErrorView) × IsStyleCall texts.now ends.now limit
         (record { elements = elements.now; strings = strings.now; ends = string_ends.now }) name.now outcome
         × Answers outcome result out.old out.new len.new
         × IsFaultSet outcome fault.old fault.new }
@@ -280,7 +282,7 @@ pub extern "C" fn simplecss_styles(
     len: &mut usize,
     fault: &mut TreeFault,
 ) -> u32
-    ensures { (outcome : Result (List ℕ) FailureView) × IsStylesCall texts.now ends.now limit
+    ensures { (outcome : Result (List ℕ) CallErrorView) × IsStylesCall texts.now ends.now limit
         (record { elements = elements.now; strings = strings.now; ends = string_ends.now }) outcome
         × Answers outcome result out.old out.new len.new
         × IsFaultSet outcome fault.old fault.new }
@@ -291,6 +293,97 @@ pub extern "C" fn simplecss_styles(
         ends: string_ends,
     };
     let outcome = calls::styles(alloc, texts, ends, limit, tree);
+    set_fault(&outcome, fault);
+    hand_over(outcome, out, len)
+}
+
+/// Writes a line of JSON for each selector of level 3 of a list: `text`, with offsets into the list,
+/// `selector`, `specificity` and `pseudo_element`.
+#[unsafe(no_mangle)]
+pub extern "C" fn simplecss_list_level3(
+    alloc: Global,
+    text: &[u8],
+    out: &mut [u8],
+    len: &mut usize,
+) -> u32
+    ensures { (outcome : Result (List ℕ) CallErrorView) × IsListLevel3Call text.now outcome
+        × Answers outcome result out.old out.new len.new }
+{
+    hand_over(level3::list(alloc, text), out, len)
+}
+
+/// Writes a line of JSON for why a text is no list of selectors of level 3: `row`, `column` and
+/// `reason`. Nothing where it is one.
+#[unsafe(no_mangle)]
+pub extern "C" fn simplecss_refusal_level3(
+    alloc: Global,
+    text: &[u8],
+    out: &mut [u8],
+    len: &mut usize,
+) -> u32
+    ensures { (outcome : Result (List ℕ) CallErrorView) × IsRefusalLevel3Call text.now outcome
+        × Answers outcome result out.old out.new len.new }
+{
+    hand_over(level3::refusal(alloc, text), out, len)
+}
+
+/// Writes a line for each element of a tree: its number, a colon, the number of each of the selectors
+/// of level 3 that matches it after a space, and a newline. Each text is a selector. Numbers begin
+/// at 1.
+#[unsafe(no_mangle)]
+pub extern "C" fn simplecss_match_level3(
+    alloc: Global,
+    texts: &[u8],
+    ends: &[usize],
+    reading: usize,
+    elements: &[TreeElement],
+    strings: &[u8],
+    string_ends: &[usize],
+    out: &mut [u8],
+    len: &mut usize,
+    fault: &mut TreeFault,
+) -> u32
+    ensures { (outcome : Result (List ℕ) CallErrorView)
+        × IsMatchLevel3Call texts.now ends.now reading
+        (record { elements = elements.now; strings = strings.now; ends = string_ends.now }) outcome
+        × Answers outcome result out.old out.new len.new
+        × IsFaultSet outcome fault.old fault.new }
+{
+    let tree = Passed {
+        elements,
+        strings,
+        ends: string_ends,
+    };
+    let outcome = level3::matches(alloc, texts, ends, reading, tree);
+    set_fault(&outcome, fault);
+    hand_over(outcome, out, len)
+}
+
+/// Writes the number of each element of a tree that one of the selectors of level 3 of a list matches,
+/// and a newline.
+#[unsafe(no_mangle)]
+pub extern "C" fn simplecss_select_level3(
+    alloc: Global,
+    selectors: &[u8],
+    reading: usize,
+    elements: &[TreeElement],
+    strings: &[u8],
+    string_ends: &[usize],
+    out: &mut [u8],
+    len: &mut usize,
+    fault: &mut TreeFault,
+) -> u32
+    ensures { (outcome : Result (List ℕ) CallErrorView) × IsSelectLevel3Call selectors.now reading
+        (record { elements = elements.now; strings = strings.now; ends = string_ends.now }) outcome
+        × Answers outcome result out.old out.new len.new
+        × IsFaultSet outcome fault.old fault.new }
+{
+    let tree = Passed {
+        elements,
+        strings,
+        ends: string_ends,
+    };
+    let outcome = level3::select(alloc, selectors, reading, tree);
     set_fault(&outcome, fault);
     hand_over(outcome, out, len)
 }

@@ -9,12 +9,14 @@ ghost use Rattle.simplecss.specs.Skipped.{skipped};
 ghost use Rattle.simplecss.specs.SkipOffsets.{IsWithin};
 ghost use Rattle.simplecss.specs.SkipViews.{skip_of};
 ghost use Rattle.simplecss.specs.ThisEdition.{this_edition};
+ghost use Rattle.selectors3.specs.SpecificityViews.{counts_of};
 ghost use Rattle.simplecss_c.specs.Json.{is_escaped, escape, string, members};
 ghost use Rattle.simplecss_c.specs.JsonLines.{declaration_object, declaration_array};
-ghost use Rattle.simplecss_c.specs.JsonLines.{selector_members, rule_line, rule_lines};
+ghost use Rattle.simplecss_c.specs.JsonLines.{selector_members, counts_array, rule_line, rule_lines};
 ghost use Rattle.simplecss_c.specs.JsonLines.{selector_line, selector_lines, position_members};
 ghost use Rattle.simplecss_c.specs.JsonLines.{position_line, skipped_line, skipped_lines};
 
+use selectors3::Specificity;
 use simplecss::{Declaration, Place, Rule, Selector, Skipped, TextPos};
 use std::alloc::{AllocError, Global};
 use std::fmt::Write as _;
@@ -81,6 +83,15 @@ fn push_selector(out: &mut String, alloc: Global, selector: &Selector<'_>) -> Re
     out.push_str("\"selector\":")?;
     push_string(out, text.as_str())?;
     write!(out, ",\"specificity\":[{ids},{others},{types}]")
+}
+
+/// Appends a specificity of level 3 as an array.
+pub fn push_specificity(out: &mut String, specificity: Specificity) -> Result<(), AllocError>
+    ensures { OnOk result (string_bytes out.new
+        ≡ string_bytes out.old ++ counts_array (counts_of specificity)) }
+{
+    let (ids, classes, names) = (specificity.ids, specificity.classes, specificity.names);
+    write!(out, "[{ids},{classes},{names}]")
 }
 
 /// Appends a declaration as an object.

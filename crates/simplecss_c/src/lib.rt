@@ -11,6 +11,7 @@ mod elements;
 mod exports;
 mod items;
 mod json;
+mod level3;
 mod lists;
 mod pages;
 mod ranges;

@@ -11,7 +11,7 @@ ghost use Rattle.simplecss_c.specs.AnswerLines.{selected_line, indices_line, IsL
 ghost use Rattle.simplecss_c.specs.AnswerLines.{IsWinnerLine, AreWinnerLines};
 ghost use Rattle.simplecss_c.specs.AnswerLines.{IsWinnersLine, AreWinnersLines};
 
-use crate::answer::Failure;
+use crate::answer::CallError;
 use crate::json::push_declarations;
 use cssq::cascade::{Cascade, winning_among};
 use simplecss::{Declaration, HasSelector, Rule, RuleIndex};
@@ -51,6 +51,23 @@ fn push_selected(out: &mut String, number: usize, indices: &[usize]) -> Result<(
         return Ok(());
     }
     writeln!(out, "{number}")
+}
+
+/// Appends what is written of an element of this number that the selectors with these indices match.
+pub fn push_indices(
+    out: &mut String,
+    content: LineContent,
+    number: usize,
+    indices: &[usize],
+) -> Result<(), AllocError>
+    requires { All (λ index. index + 1 < 2 ^ 64) indices.now }
+    ensures { OnOk result (string_bytes out.new
+        ≡ string_bytes out.old ++ indices_line content number indices.now) }
+{
+    match content {
+        LineContent::Numbers => push_numbers(out, number, indices),
+        LineContent::Selected => push_selected(out, number, indices),
+    }
 }
 
 /// Appends an element's number, and the declaration that wins on it, if there is one.
@@ -95,11 +112,7 @@ fn push_line<'a, T: HasSelector<'a>>(
 {
     let node = tree.node(element).unwrap();
     index.matching(rules, &node, indices)?;
-    let indices = indices.as_slice();
-    match content {
-        LineContent::Numbers => push_numbers(out, element + 1, indices),
-        LineContent::Selected => push_selected(out, element + 1, indices),
-    }
+    push_indices(out, content, element + 1, indices.as_slice())
 }
 
 /// The lines of the elements of a tree, by which rules or selectors match each.
@@ -108,11 +121,11 @@ pub fn lines<'a, T: HasSelector<'a>>(
     content: LineContent,
     rules: &[T],
     tree: &Tree<'_>,
-) -> Result<String, Failure>
+) -> Result<String, CallError>
     requires { length rules.now < 2 ^ 63 }
     ensures { MatchResult result
         (λ text. AreLinesOf content (map T.selector_in rules.now) tree.now (string_bytes text))
-        (λ failure. failure ≡ Failure.Memory) }
+        (λ failure. failure ≡ CallError.Memory) }
 {
     let index = RuleIndex::new(alloc, rules)?;
     let mut indices = Vec::new(alloc);
@@ -162,10 +175,10 @@ pub fn winner_lines(
     rules: &[Rule<'_>],
     tree: &Tree<'_>,
     name: &str,
-) -> Result<String, Failure>
+) -> Result<String, CallError>
     ensures { MatchResult result
         (λ text. AreWinnerLines name.now (rules_of rules.now) tree.now (string_bytes text))
-        (λ failure. failure ≡ Failure.Memory) }
+        (λ failure. failure ≡ CallError.Memory) }
 {
     let index = RuleIndex::new(alloc, rules)?;
     let mut indices = Vec::new(alloc);
@@ -196,10 +209,14 @@ fn push_winners(
 }
 
 /// The lines of all that wins on each element of a tree, in JSON.
-pub fn winners_lines(alloc: Global, rules: &[Rule<'_>], tree: &Tree<'_>) -> Result<String, Failure>
+pub fn winners_lines(
+    alloc: Global,
+    rules: &[Rule<'_>],
+    tree: &Tree<'_>,
+) -> Result<String, CallError>
     ensures { MatchResult result
         (λ text. AreWinnersLines (rules_of rules.now) tree.now (string_bytes text))
-        (λ failure. failure ≡ Failure.Memory) }
+        (λ failure. failure ≡ CallError.Memory) }
 {
     let mut cascade = Cascade::new(alloc, rules)?;
     let mut text = String::new(alloc);

@@ -3,19 +3,19 @@
 ghost use Rattle.std.specs.Prelude.{◌≡◌, map, MatchResult};
 ghost use Rattle.std.specs.Str.{IsUtf8};
 ghost use Rattle.simplecss_c.specs.Calls.{HasTexts, HasBadEnds, IsBrokenUtf8, FailsFor};
-ghost use Rattle.simplecss_c.specs.declared.answer.Failure.TheVariants.{NotUtf8};
+ghost use Rattle.simplecss_c.specs.declared.answer.CallError.TheVariants.{NotUtf8};
 
-use crate::answer::Failure;
+use crate::answer::CallError;
 use std::alloc::Global;
 
 /// The text of the bytes, if they are UTF-8.
-pub fn text_of(bytes: &[u8]) -> Result<&str, Failure>
+pub fn text_of(bytes: &[u8]) -> Result<&str, CallError>
     ensures { MatchResult result (λ text. (text.now ≡ bytes.now) × IsUtf8 bytes.now)
         (λ failure. (failure ≡ NotUtf8) × ¬ (IsUtf8 bytes.now)) }
 {
     match std::str::from_utf8(bytes) {
         Ok(text) => Ok(text),
-        Err(_) => Err(Failure::NotUtf8),
+        Err(_) => Err(CallError::NotUtf8),
     }
 }
 
@@ -24,7 +24,7 @@ pub fn texts_of<'t>(
     alloc: Global,
     buffer: &'t [u8],
     ends: &[usize],
-) -> Result<Vec<&'t str>, Failure>
+) -> Result<Vec<&'t str>, CallError>
     ensures { MatchResult result
         (λ texts. HasTexts buffer.now ends.now (map (λ text. text.now) texts.items))
         (λ failure. FailsFor (HasBadEnds buffer.now ends.now) (λ fault. ⊥)
@@ -34,13 +34,13 @@ pub fn texts_of<'t>(
     let mut start = 0;
     for end in ends {
         let Some(bytes) = buffer.get(start..*end) else {
-            return Err(Failure::Refused);
+            return Err(CallError::Refused);
         };
         texts.push(text_of(bytes)?)?;
         start = *end;
     }
     if start != buffer.len() {
-        return Err(Failure::Refused);
+        return Err(CallError::Refused);
     }
     Ok(texts)
 }

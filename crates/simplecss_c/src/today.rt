@@ -1,25 +1,31 @@
 //! The items of a style sheet by the grammar of today, in JSON.
 
 ghost use Rattle.std.specs.Prelude.{◌≡◌, ◌<◌, ◌^◌, ◌+◌, ◌++◌, ◌∷◌, [], OnOk, IfOk, codes};
-ghost use Rattle.std.specs.Prelude.{length, map, string_bytes};
+ghost use Rattle.std.specs.Prelude.{length, map, option_map, string_bytes};
 ghost use Rattle.css_syntax.specs.Views.{prelude_of, block_of, statement_of, sheet_part_of};
 ghost use Rattle.css_selectors.specs.SelectorLists.{listed_of};
 ghost use Rattle.css_selectors.specs.SelectorViews.{form_of};
 ghost use Rattle.css_sheet.specs.Places.{places_of};
 ghost use Rattle.css_sheet.specs.ReaderViews.{level_of, condition_at};
+ghost use Rattle.css_sheet.specs.RuleViews.{rule_selector_of};
+ghost use Rattle.css_sheet.specs.SheetOrder.{with_element};
+ghost use Rattle.selectors3.specs.SpecificityViews.{counts_of};
 ghost use Rattle.simplecss_c.specs.Json.{member};
 ghost use Rattle.simplecss_c.specs.Ranges.{further};
 ghost use Rattle.simplecss_c.specs.SheetLines.{level_object, level_array, element_value};
+ghost use Rattle.simplecss_c.specs.SheetLines.{specificity_value, selector_with};
 ghost use Rattle.simplecss_c.specs.SheetLines.{selector_object, selector_array, rule_members};
 ghost use Rattle.simplecss_c.specs.SheetLines.{shown_of, shown_kind, shown_members, sheet_line};
 ghost use Rattle.simplecss_c.specs.SheetLines.{sheet_lines as lines_of};
 ghost use Rattle.simplecss_c.specs.Shown.{shown_text};
 
 use crate::items::{offset_of, push_items};
+use crate::json::push_specificity;
 use crate::ranges::{push_at_rule, push_extent, push_fault, push_flag, push_head, push_range};
 use css_selectors::{FoundSelector, SelectorForm, next_part, prelude_fault, read_part};
-use css_sheet::{Level, Places, SheetReader, read_listed};
+use css_sheet::{Level, Places, RuleSelector, SheetReader, read_listed};
 use css_syntax::{AtRule, Fault, RuleSet, SheetPart, Statement};
+use selectors3::Specificity;
 use std::alloc::{AllocError, Global};
 use std::fmt::Write as _;
 
@@ -71,6 +77,56 @@ fn push_element(
     }
 }
 
+/// Returns the specificity with a pseudo-element, if there is one.
+fn with_element(counts: Specificity, pseudo_element: Option<&str>) -> Specificity
+    ensures { counts_of result
+        ≡ with_element (counts_of counts) (option_map (λ name. name.now) pseudo_element.entry) }
+{
+    match pseudo_element {
+        Some(_) => Specificity {
+            names: counts.names.saturating_add(1),
+            ..counts
+        },
+        None => counts,
+    }
+}
+
+/// Appends the specificity of a selector with its pseudo-element, if it is read, or null.
+fn push_counts(out: &mut String, read: &RuleSelector<'_>) -> Result<(), AllocError>
+    ensures { OnOk result (string_bytes out.new ≡ string_bytes out.old
+        ++ specificity_value read.now.selector (rule_selector_of read.now).pseudo_element) }
+{
+    match &read.selector {
+        Some(selector) => {
+            let counts = with_element(selector.specificity(), read.pseudo_element);
+            push_specificity(out, counts)
+        }
+        None => out.push_str("null"),
+    }
+}
+
+/// Appends a selector with this range, of this form, as it is read.
+fn push_read(
+    out: &mut String,
+    form: &SelectorForm<'_>,
+    read: &RuleSelector<'_>,
+    start: usize,
+    end: usize,
+) -> Result<(), AllocError>
+    requires { start < 2 ^ 63 }
+    ensures { OnOk result (string_bytes out.new ≡ string_bytes out.old
+        ++ selector_with start end (form_of form.now) (rule_selector_of read.now)) }
+{
+    out.push_str("{\"text\":")?;
+    push_range(out, start, end)?;
+    push_flag(out, "is_read", read.selector.is_some())?;
+    out.push_str(",\"specificity\":")?;
+    push_counts(out, read)?;
+    out.push_str(",\"pseudo_element\":")?;
+    push_element(out, form, start, end)?;
+    out.push('}')
+}
+
 /// Appends a selector of a list whose text ends at this offset.
 fn push_selector(
     out: &mut String,
@@ -85,18 +141,12 @@ fn push_selector(
           from = found.now.from.now;
         })) }
 {
-    let is_read = match read_listed(alloc, &found.selector) {
-        Ok(read) => read.selector.is_some(),
-        Err(error) => return Err(error),
-    };
     let start = offset_of(end, found.from);
     let stop = start + found.selector.text.len();
-    out.push_str("{\"text\":")?;
-    push_range(out, start, stop)?;
-    push_flag(out, "is_read", is_read)?;
-    out.push_str(",\"pseudo_element\":")?;
-    push_element(out, &found.selector.form, start, stop)?;
-    out.push('}')
+    match read_listed(alloc, &found.selector) {
+        Ok(read) => push_read(out, &found.selector.form, &read, start, stop),
+        Err(error) => Err(error),
+    }
 }
 
 /// Appends the selectors of a list whose text ends at this offset, as an array.

@@ -2,7 +2,7 @@ use Rattle.std.proofs.Common.{map, string_bytes, ap, ◌∙◌, ◌≡◌, subst
 use Rattle.std.specs.Prelude.{MatchResult}
 use Rattle.simplecss.specs.RuleViews.{rule_of}
 use Rattle.cssq.proofs.Indexed.{same_selectors}
-use Rattle.simplecss_c.specs.declared.answer.Failure.TheVariants.{Memory}
+use Rattle.simplecss_c.specs.declared.answer.CallError.TheVariants.{Memory}
 use Rattle.simplecss_c.specs.declared.pages.LineContent.TheVariants.{Numbers}
 use Rattle.simplecss_c.specs.AnswerLines.{AreLinesOf}
 use Rattle.simplecss_c.proofs.calls.match_lines.Goals as goal

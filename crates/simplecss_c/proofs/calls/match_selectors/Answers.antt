@@ -1,5 +1,6 @@
 use Rattle.std.proofs.Common.{Bor, List, ℕ, map, subst, ◌∙◌}
 use Rattle.std.proofs.lemmas.List.{map-id}
+use Rattle.cssq.specs.SelectorRuns.{selector_in}
 use Rattle.simplecss_c.specs.Calls.{passed_of, AreSelectorsIn, HasNoSelector, FailsFor}
 use Rattle.simplecss_c.proofs.PageCalls.{match_due, texts_failed, selectors_failed, tree_failed, failed}
 use Rattle.simplecss_c.proofs.calls.match_selectors.Goals as goal
@@ -20,7 +21,7 @@ returns-in_err-selectors c =
     c.from_residual-in_err-selectors.ensures.1
     (selectors_failed c.args.buffer.now c.args.ends.now passed
     (map (λ text. text.now) c.in_ok-texts.texts.items) c.in_ok-texts.ensures failure
-    (subst (λ (texts : List (Bor (List ℕ))). FailsFor (HasNoSelector (map (λ text. text.now) texts))
+    (subst (λ (texts : List (Bor (List ℕ))). FailsFor (HasNoSelector selector_in (map (λ text. text.now) texts))
     (λ fault. ⊥) ⊥ failure) c.deref.ensures.value c.in_err-selectors.ensures))
 
 pub returns-in_err-tree : goal.returns-in_err-tree
@@ -36,7 +37,7 @@ returns c =
     match_due c.args.buffer.now c.args.ends.now (passed_of c.args.tree)
     (map (λ text. text.now) c.in_ok-texts.texts.items) c.in_ok-tree.tree
     c.in_ok-texts.ensures c.in_ok-selectors.selectors.items
-    (subst (λ (texts : List (Bor (List ℕ))). AreSelectorsIn (map (λ text. text.now) texts)
+    (subst (λ (texts : List (Bor (List ℕ))). AreSelectorsIn selector_in (map (λ text. text.now) texts)
     c.in_ok-selectors.selectors.items) c.deref.ensures.value c.in_ok-selectors.ensures)
     c.in_ok-tree.ensures.0 c.in_ok-tree.ensures.1
     (map (λ selector. selector) c.deref-2.result.now)

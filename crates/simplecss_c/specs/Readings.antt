@@ -1,0 +1,45 @@
+-- How a document reads the names of selectors, and which selectors of level 3 texts are.
+use Rattle.std.specs.Prelude.{ℕ, Bool, true, false, ◌==◌, if◌then◌else◌, List, Option, None, Some}
+use Rattle.selectors3.specs.Components.{Selector}
+use Rattle.selectors3.specs.Grammar.{selector_list}
+use Rattle.selectors3.specs.Readings.{Reading as Reads, got, refused}
+use Rattle.selectors3.specs.declared.refusal.Why.{Why}
+use Rattle.selectors3.specs.declared.refusal.Why.TheVariants.{Memory as NoMemory}
+use Rattle.selectors3_tree.specs.Html.{html_selector}
+use Rattle.selectors3_tree.specs.declared.html.HtmlMode.TheVariants.{NoQuirks, Quirks}
+use Rattle.simplecss_c.specs.declared.answer.CallError.{CallError}
+use Rattle.simplecss_c.specs.declared.answer.CallError.TheVariants.{Refused, Memory}
+use Rattle.simplecss_c.specs.declared.level3.reading.Reading.{Reading}
+use Rattle.simplecss_c.specs.declared.level3.reading.Reading.TheVariants.{AsWritten, Html}
+
+-- the reading of a number: 0 is as written, 1 as HTML, 2 as HTML in quirks mode
+abbrev pub reading_of : ℕ → Option Reading
+reading_of number =
+    if number == 0 then Some AsWritten
+    else (if number == 1 then Some (Html NoQuirks)
+    else (if number == 2 then Some (Html Quirks)
+    else None))
+
+-- a selector as a document reads it
+abbrev pub selector_as : Reading → Selector → Selector
+selector_as AsWritten s = s
+selector_as (Html mode) s = html_selector mode s
+
+-- what was read, unless the text is refused
+abbrev pub if_read : {A : Type 0} → Reads A → Option A
+if_read (got x rest) = Some x
+if_read (refused why rest) = None
+
+-- the selectors that the text is a list of, if it is one
+abbrev pub selectors_of : List ℕ → Option (List Selector)
+selectors_of text = if_read (selector_list text)
+
+-- an allocation failed
+abbrev pub is_memory : Why → Bool
+is_memory NoMemory = true
+is_memory why = false
+
+-- how a call fails whose text is refused
+abbrev pub error_of : Why → CallError
+error_of NoMemory = Memory
+error_of why = Refused

@@ -1,0 +1,128 @@
+//! Which elements of a tree selectors match.
+
+ghost use Rattle.std.specs.Prelude.{◌≡◌, ◌+◌, ◌^◌, ◌<◌, ◌++◌, OnOk, MatchResult, List, ℕ};
+ghost use Rattle.std.specs.Prelude.{length, map, string_bytes};
+ghost use Rattle.simplecss_c.specs.Level3Lines.{page_with, IsLevel3Line, AreLevel3Lines};
+ghost use Rattle.simplecss_c.specs.Readings.{selector_as};
+ghost use Rattle.simplecss_c.specs.declared.answer.CallError.TheVariants.{Memory};
+
+use super::reading::{Reading, html_selectors};
+use crate::answer::CallError;
+use crate::elements::{TreeElement, has_text};
+use crate::pages::{LineContent, push_indices};
+use selectors3::Selector3;
+use selectors3_index::SelectorIndex;
+use selectors3_tree::{NumberedTree, NumberingError};
+use simplecss_tree::Tree;
+use std::alloc::{AllocError, Global};
+
+/// A tree of 2^32 elements or more is too large for memory.
+impl From<NumberingError> for CallError {
+    ghost use Rattle.std.specs.Prelude.{◌≡◌};
+    ghost use Rattle.simplecss_c.specs.declared.answer.CallError.TheVariants.{Memory};
+
+    ghost from_gives = { λ _ error. error ≡ Memory };
+
+    fn from(_error: NumberingError) -> CallError {
+        CallError::Memory
+    }
+}
+
+/// The tree whose siblings are counted, and which of its elements have a text.
+pub fn page_of<'p, 't>(
+    alloc: Global,
+    tree: &'p Tree<'t>,
+    elements: &[TreeElement],
+) -> Result<NumberedTree<'p, 't>, CallError>
+    requires { length elements.now ≡ length tree.now }
+    ensures { MatchResult result (λ page. page ≡ page_with elements.now tree.now)
+        (λ error. error ≡ Memory) }
+{
+    let mut page = NumberedTree::new(alloc, tree)?;
+    for index in 0..elements.len() {
+        if has_text(elements[index]) {
+            page.set_text(index);
+        }
+    }
+    Ok(page)
+}
+
+/// Appends the line of an element, which is given by its index, by an index of the selectors. What was
+/// in `indices` is dropped.
+fn push_line(
+    out: &mut String,
+    content: LineContent,
+    index: &SelectorIndex<'_, Selector3<'_>>,
+    page: &NumberedTree<'_, '_>,
+    element: usize,
+    indices: &mut Vec<usize>,
+) -> Result<(), AllocError>
+    requires element { element < length page.now.rows }
+    requires number { element + 1 < 2 ^ 64 }
+    requires fits { length index.now < 2 ^ 63 }
+    ensures { OnOk result ((line : List ℕ)
+        × IsLevel3Line content index.now page.now element line
+        × (string_bytes out.new ≡ string_bytes out.old ++ line)) }
+{
+    let node = page.node(element).unwrap();
+    index.matching(&node, indices)?;
+    push_indices(out, content, element + 1, indices.as_slice())
+}
+
+/// The lines of the elements of a page, by an index of selectors.
+fn lines_by(
+    alloc: Global,
+    content: LineContent,
+    index: &SelectorIndex<'_, Selector3<'_>>,
+    page: &NumberedTree<'_, '_>,
+) -> Result<String, CallError>
+    requires { length index.now < 2 ^ 63 }
+    ensures { MatchResult result
+        (λ text. AreLevel3Lines content index.now page.now (string_bytes text))
+        (λ error. error ≡ Memory) }
+{
+    let mut indices = Vec::new(alloc);
+    let mut text = String::new(alloc);
+    for element in 0..page.len() {
+        push_line(&mut text, content, index, page, element, &mut indices)?;
+    }
+    Ok(text)
+}
+
+/// The lines of the elements of a page, by which selectors match each.
+fn lines_as_written(
+    alloc: Global,
+    content: LineContent,
+    selectors: &[Selector3<'_>],
+    page: &NumberedTree<'_, '_>,
+) -> Result<String, CallError>
+    requires { length selectors.now < 2 ^ 63 }
+    ensures { MatchResult result
+        (λ text. AreLevel3Lines content selectors.now page.now (string_bytes text))
+        (λ error. error ≡ Memory) }
+{
+    let index = SelectorIndex::new(alloc, selectors)?;
+    lines_by(alloc, content, &index, page)
+}
+
+/// The lines of the elements of a page, by which selectors match each as a document reads them.
+pub fn lines(
+    alloc: Global,
+    content: LineContent,
+    reading: Reading,
+    selectors: &[Selector3<'_>],
+    page: &NumberedTree<'_, '_>,
+) -> Result<String, CallError>
+    requires { length selectors.now < 2 ^ 63 }
+    ensures { MatchResult result (λ text. AreLevel3Lines content
+        (map (selector_as reading) selectors.now) page.now (string_bytes text))
+        (λ error. error ≡ Memory) }
+{
+    match reading {
+        Reading::AsWritten => lines_as_written(alloc, content, selectors, page),
+        Reading::Html(mode) => {
+            let selectors = html_selectors(alloc, mode, selectors)?;
+            lines_as_written(alloc, content, &selectors, page)
+        }
+    }
+}
