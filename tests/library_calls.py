@@ -74,7 +74,7 @@ SHEET = (*buffer_of((b"ul > li { color: red }", b".new { color: blue !important 
 PAGE = tree_of((0, b"ul"), (1, b"li", b"class", b"new"), (1, b"li", b"title", b"a\tb\n=\x01\0", b"alt", b"a\tb"))
 # Elements in the states link, visited, hover and active, one in all states and other numbers, and one in none.
 STATES = tree_of(((0, 1), b"a"), ((0, 2), b"b"), ((0, 4), b"c"), ((0, 8), b"d"), ((0, 31 + 2**40), b"e"), (0, b"f"))
-# An empty list; a link of class NEW, in quirks mode `new`; one with a text; and one with an element.
+# A list of four items: one that is empty, one of a class and a type, one with a text, and one with an element.
 TREE3 = tree_of((0, b"ul"), (1, b"li"), (1, b"li", b"class", b"new", b"type", b"text"), ((1, 32), b"li"),
                 (1, b"li", b"class", b"new"), (2, b"a"))
 AS_WRITTEN, HTML, QUIRKS = 0, 1, 2
