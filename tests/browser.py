@@ -2,7 +2,8 @@
 """Compares the Python package with a browser: headless Chromium (Debian's package `chromium`).
 
     tests/browser.py mails [FILE..]      the computed styles of documents before and after `simplecss.inline`
-    tests/browser.py trees [FILE..]      the elements and attributes of `Tree.from_html` with those of the browser
+    tests/browser.py trees [FILE..]      the elements and attributes of `Tree.from_html` with those of the browser, and
+                                         which are empty
     tests/browser.py winners [FILE..]    which declarations of ten properties win on each element
     tests/browser.py soup [FILE..]       what selectors find, with soupsieve over html5lib (no browser)
     tests/browser.py reports [FILE..]    whether the browser takes what `lint` reports: one in a hundred at most
@@ -41,12 +42,16 @@ SELECTORS = (
     "*", "p", "a", "a[href]", "A[HREF]", "ul > li", "table td", "td + td", "tr td:first-child", "p + p", "[class]",
     "[id]", "div p a", "li li", ":first-child", "html > body > *", "h1 + p", "head > title", "body h2, body h3",
     "img[alt]", "td[align=center]", "[lang|=en]", "div > div > p", "pre code", "dl > dt + dd", "tbody > tr", "a:link",
-    "span span", "input[type=text]",
+    "span span", "input[type=text]", "h2 ~ p", "li:nth-child(2n+1)", "tr:nth-child(even) > td", "td:nth-last-child(2)",
+    "p:first-of-type", "dd:last-of-type", "p:nth-of-type(3n)", "li:last-child", "p:only-child", "p:not([class])",
+    "p:not(:first-child, :last-child)", ":is(h1, h2) + p", ":where(ul, ol) > li", "a[href^=http]", "a[href$='.html']",
+    "a[href*='#']", "a[href^=HTTP i]", ":root > body", "body *:not(p):not(a)",
 )
 
 # What soupsieve finds less of, and why: the others are found by both.
 WIDER = {
     "a:link": "a link in SVG",
+    "li:nth-child(2n+1)": "by `An+B` soupsieve does not find the child B if there are B nodes",
     "td[align=center]": "of the values that HTML compares without case, soupsieve compares those of `type`",
 }
 
@@ -67,7 +72,8 @@ function styles(frame) {
 function tree(text) {
     const found = [], page = new DOMParser().parseFromString(text, "text/html");
     function walk(element, depth) {
-        found.push([depth, element.localName, [...element.attributes].map(each => [each.name, each.value]).sort()]);
+        const attributes = [...element.attributes].map(each => [each.name, each.value]).sort();
+        found.push([depth, element.localName, attributes, element.matches(":empty")]);
         for (const child of element.children) walk(child, depth + 1);
     }
     walk(page.documentElement, 0);
@@ -225,8 +231,8 @@ def compare_mails(names):
 
 
 def elements_of(text):
-    """Returns the depth, name and attributes of each element, as the browser does."""
-    return [[element.depth, element.name, sorted(map(list, element.attributes.items()))]
+    """Returns the depth, name and attributes of each element, and whether it is empty, as the browser does."""
+    return [[element.depth, element.name, sorted(map(list, element.attributes.items())), element.matches(":empty")]
             for element in simplecss.Tree.from_html(text)]
 
 
@@ -237,7 +243,7 @@ def compare_trees(names):
     with tempfile.TemporaryDirectory() as folder:
         for name, text, theirs in zip(names, texts, run_browser({"kind": "trees", "texts": texts}, [], folder)):
             ours = elements_of(text)
-            theirs = [[depth, element, sorted(attributes)] for depth, element, attributes in theirs]
+            theirs = [[depth, element, sorted(attributes), is_empty] for depth, element, attributes, is_empty in theirs]
             found = [f"{a}, in the browser {b}" for a, b in zip(ours, theirs) if a != b]
             if len(ours) != len(theirs):
                 found.insert(0, f"{len(ours)} elements, in the browser {len(theirs)}")
@@ -320,7 +326,7 @@ def compare_winners(names):
     for cause, number in causes.most_common(15):
         print(f"{number} differ where the browser has `{cause}`")
     equal = f"{count - differing} of {count} winners are equal"
-    print(f"{equal}; {beyond} of the others are of rules that CSS 2.1 does not have")
+    print(f"{equal}; {beyond} of the others are of rules that the library does not match")
     return report.end()
 
 
