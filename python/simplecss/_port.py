@@ -10,7 +10,6 @@ import re
 from typing import Dict, Match, NamedTuple
 
 from ._selectors import PORT, Reading, SelectorError, listed
-from ._tokens import lower
 
 # The parts of a printed selector: what an attribute must be, and the rest.
 _PART = re.compile(
@@ -40,14 +39,11 @@ class PortReading(NamedTuple):
             return attributes
         return {**attributes, "class": _WHITE_SPACE.sub(" ", value), _WHOLE_CLASS: value}
 
-    def _name(self, text: str) -> str:
-        return text if self.reading == Reading.AS_WRITTEN else lower(text)
-
     def _part(self, found: Match[str], quote: str) -> str:
         key, operator, value = found.groups()
         if key is None:
-            return self._name(found.group())
-        key = self._name(key)
+            return self.reading.compared_name(found.group())
+        key = self.reading.compared_name(key)
         if operator is None:
             return f"[{key}]"
         quote = quote if "'" in value else "'"

@@ -5,7 +5,18 @@ from __future__ import annotations
 import enum
 import json
 import re
-from typing import TYPE_CHECKING, Any, Dict, FrozenSet, List, NamedTuple, Optional, Sequence, Tuple
+from typing import (
+    TYPE_CHECKING,
+    Any,
+    Dict,
+    FrozenSet,
+    Iterable,
+    List,
+    NamedTuple,
+    Optional,
+    Sequence,
+    Tuple,
+)
 
 from . import _library as library
 from ._tokens import lower
@@ -59,22 +70,26 @@ class Reading(enum.IntEnum):
     HTML = 1
     QUIRKS = 2
 
-    def attributes(self, attributes: Dict[str, str]) -> Dict[str, str]:
-        """Returns attributes as they are compared. Of two that have one name then, the first."""
-        if self == Reading.AS_WRITTEN:
-            return attributes
-        caseless = _CASELESS[self]
-        if all(map(str.islower, attributes)) and caseless.isdisjoint(attributes):
-            return attributes
-        found: Dict[str, str] = {}
-        for key, value in attributes.items():
-            key = lower(key)
-            found.setdefault(key, lower(value) if key in caseless else value)
-        return found
+    def compared_name(self, name: str) -> str:
+        """Returns a name as it is compared."""
+        return name if self == Reading.AS_WRITTEN else lower(name)
 
     def compared(self, key: str, value: str) -> str:
-        """Returns the value of an attribute as it is compared."""
+        """Returns the value of an attribute, which has this name in a selector, as it is compared."""
         return lower(value) if key in _CASELESS[self] else value
+
+    def attributes(self, attributes: Dict[str, str]) -> Dict[str, str]:
+        """Returns attributes as they are compared. Of two that have one name then, the first."""
+        found: Dict[str, str] = {}
+        for key, value in attributes.items():
+            key = self.compared_name(key)
+            found.setdefault(key, self.compared(key, value))
+        return found
+
+    def may_change(self, keys: Iterable[str]) -> FrozenSet[str]:
+        """Returns the names of attributes that are compared as others, or whose values are."""
+        caseless = _CASELESS[self]
+        return frozenset(key for key in keys if key in caseless or self.compared_name(key) != key)
 
 
 # The attributes whose values compare without case.

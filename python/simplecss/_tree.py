@@ -4,6 +4,7 @@ from __future__ import annotations
 
 import array
 import bisect
+import itertools
 import re
 from typing import (
     Any,
@@ -25,7 +26,7 @@ from . import _library as library
 from ._html import HTML, SVG, Builder, Node, TooDeep
 from ._port import PortReading, has_lines, prepared
 from ._selectors import PORT, TODAY, Reading, expect_grammar, matched, selector_error
-from ._tokens import decode, lower
+from ._tokens import decode
 from ._xml import XmlError, read_xml
 
 # The states of an element that selectors test, as numbers of the library.
@@ -632,20 +633,18 @@ class Tree:
         reading = self._reading
         port = self._port_reading if grammar == PORT else None
         texts = set(self._texts.owners)
+        names = {name: reading.compared_name(name) for name in set(self._names)}
+        changing = reading.may_change(set(itertools.chain.from_iterable(self._attributes)))
         for index, attributes in enumerate(self._attributes):
-            states = self._states.get(index, _NONE)
-            name = self._names[index]
-            name = name if reading == Reading.AS_WRITTEN else lower(name)
-            attributes = reading.attributes(attributes)
+            if not changing.isdisjoint(attributes):
+                attributes = reading.attributes(attributes)
             if port is not None:
                 attributes = port.attributes(attributes)
-            shapes.append(self._depths[index])
-            shapes.append(len(attributes))
-            shapes.append(sum(map(STATES.__getitem__, states)) + _HAS_TEXT * (index in texts))
-            strings.append(name)
-            for key, value in attributes.items():
-                strings.append(key)
-                strings.append(value)
+            states = sum(map(STATES.__getitem__, self._states.get(index, _NONE)))
+            states += _HAS_TEXT * (index in texts)
+            shapes.extend((self._depths[index], len(attributes), states))
+            strings.append(names[self._names[index]])
+            strings.extend(itertools.chain.from_iterable(attributes.items()))
         return library.TreeArrays(shapes, strings)
 
 
