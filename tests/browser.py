@@ -254,12 +254,16 @@ def compare_trees(names):
 def sheets_of(name, tree):
     """Returns the style sheets of a page: those of its elements `style`, and those in files that it links to."""
     found = []
+    preferred = ""
     for element in tree:
-        if element.attributes.get("media", "all").lower() not in ("", "all", "screen"):
+        if element.attributes.get("media", "all").strip().lower() not in ("", "all", "screen"):
             continue
-        is_sheet = element.attributes.get("type", "").lower() in ("", "text/css") and "title" not in element.attributes
+        title = element.attributes.get("title", "")
+        is_sheet = element.attributes.get("type", "").lower() in ("", "text/css")
         if element.name == "style" and is_sheet:
-            found.append(element.text)
+            # Of the sheets with titles, those that have the first one apply.
+            preferred = preferred or title
+            found += [element.text] if title in ("", preferred) else []
         elif element.name == "link" and "stylesheet" in element.attributes.get("rel", "").lower().split():
             path = os.path.join(os.path.dirname(name), element.attributes.get("href", "").partition("?")[0])
             if os.path.isfile(path) and "alternate" not in element.attributes["rel"].lower():
