@@ -58,8 +58,7 @@ class Rule(NamedTuple):
 
 
 class Unmatched(NamedTuple):
-    """A rule whose selector is valid, and which the library does not match: it applies to elements
-    that nobody asked for."""
+    """A rule whose selector is valid, and which the library does not match."""
 
     selector: str
     declarations: Tuple[Declaration, ...]
