@@ -4,15 +4,16 @@
     tests/browser.py mails [FILE..]      the computed styles of documents before and after `simplecss.inline`
     tests/browser.py trees [FILE..]      the elements and attributes of `Tree.from_html` with those of the browser, and
                                          which are empty
+    tests/browser.py selectors           what random selectors find in random documents of HTML
     tests/browser.py winners [FILE..]    which declarations of ten properties win on each element
     tests/browser.py soup [FILE..]       what selectors find, with soupsieve over html5lib (no browser)
     tests/browser.py reports [FILE..]    whether the browser takes what `lint` reports: one in a hundred at most
     tests/browser.py printed [FILE..]    the rules of sheets, and of these sheets as the package prints them
 
-Without files, `mails` takes those of `tests/mails`, and the next three take these and pages of Debian packages below
-/usr/share/doc. `reports` takes sheets of Bootstrap, jQuery UI, Font Awesome and Sphinx below /usr/share, and `printed`
-200 of all there. Each test is a document. What differs is listed, and the last line is `N passed, M failed`. Run by
-hand, but for `soup`, which tests/library.py runs. The library is built by `./build library`.
+Without files, `mails` takes those of `tests/mails`, and `trees`, `winners` and `soup` take these and pages of Debian
+packages below /usr/share/doc. `reports` takes sheets of Bootstrap, jQuery UI, Font Awesome and Sphinx below /usr/share,
+and `printed` 200 of all there. Each test is a document. What differs is listed, and the last line is `N passed, M
+failed`. Run by hand, but for `soup`, which tests/library.py runs. The library is built by `./build library`.
 """
 import collections
 import glob
@@ -29,6 +30,7 @@ import tempfile
 TOP = os.path.dirname(os.path.dirname(os.path.abspath(__file__)))
 sys.path.insert(0, os.path.join(TOP, "python"))
 
+import level3  # noqa: E402
 import simplecss  # noqa: E402
 from simplecss import _lint  # noqa: E402
 
@@ -78,6 +80,12 @@ function tree(text) {
     }
     walk(page.documentElement, 0);
     return found;
+}
+function found([text, lists]) {
+    const page = new DOMParser().parseFromString(text, "text/html"), every = [page.documentElement, ...all(page)];
+    return lists.map(list => {
+        try { return [...page.querySelectorAll(list)].map(each => every.indexOf(each)); } catch { return null; }
+    });
 }
 // A sheet of another site, which is not loaded, has no rules.
 function rules_of(sheet) { try { return sheet.cssRules; } catch { return []; } }
@@ -130,6 +138,7 @@ window.onload = () => {
     if (input.kind == "mails")
         for (let i = 0; i < frames.length; i += 2) answer.push([styles(frames[i]), styles(frames[i + 1])]);
     if (input.kind == "trees") for (const text of input.texts) answer.push(tree(text));
+    if (input.kind == "selectors") for (const each of input.texts) answer.push(found(each));
     if (input.kind == "conditions") for (const text of input.texts) answer.push(holds(text));
     if (input.kind == "reports") for (const [text, isRule] of input.texts) answer.push(takes(text, isRule));
     if (input.kind == "printed") for (const [one, other] of input.texts) answer.push([rules(one), rules(other)]);
@@ -248,6 +257,43 @@ def compare_trees(names):
             if len(ours) != len(theirs):
                 found.insert(0, f"{len(ours)} elements, in the browser {len(theirs)}")
             report.add(name, found)
+    return report.end()
+
+
+def markup(element):
+    """Returns an element of tests/level3.py as markup, with an attribute whose values HTML compares without case."""
+    name, attributes, children = element
+    words = "".join(f' {key}="{html.escape(value)}"' for key, value in attributes.items()).replace("title=", "TYPE=")
+    return f"<{name}{words}>{''.join(each if isinstance(each, str) else markup(each) for each in children)}</{name}>"
+
+
+def random_document(source, number):
+    """Returns a document, without a doctype if the number is odd, and lists that the browser should read alike."""
+    text = "" if number % 2 else "<!DOCTYPE html>"
+    lists = [source.listed().replace("title", "type") for _ in range(50)]
+    # Without a doctype, attribute selectors ignore the case of ids and classes, too.
+    odd = re.compile(r"\[[^\]]*(?:class|id|\\)" if number % 2 else r"(?!)")
+    lists = [each for each in lists if not level3.ODD_IN_BROWSERS.search(each) and not odd.search(each)]
+    return f"{text}<div>{markup(source.tree())}</div>", lists
+
+
+def compare_selectors(_):
+    """Compares what random selectors find."""
+    report = Report()
+    source = level3.Source("HTML")
+    texts = [random_document(source, number) for number in range(100)]
+    with tempfile.TemporaryDirectory() as folder:
+        answers = run_browser({"kind": "selectors", "texts": texts}, [], folder)
+    for number, ((text, lists), answer) in enumerate(zip(texts, answers)):
+        tree = simplecss.Tree.from_html(text)
+        found = []
+        for each, theirs in zip(lists, answer):
+            try:
+                mine = [element.index for element in tree.select(each)]
+            except simplecss.SelectorError:
+                mine = None
+            found += [] if mine == theirs else [f"{each!r}: {mine}, in the browser {theirs}"]
+        report.add(f"document {number}", found)
     return report.end()
 
 
@@ -401,9 +447,9 @@ def compare_soup(names):
 
 
 def main():
-    kinds = {"mails": compare_mails, "trees": compare_trees, "winners": compare_winners, "soup": compare_soup,
-             "reports": compare_reports, "printed": compare_printed}
-    usual = {"mails": mails, "reports": list, "printed": list}
+    kinds = {"mails": compare_mails, "trees": compare_trees, "selectors": compare_selectors, "winners": compare_winners,
+             "soup": compare_soup, "reports": compare_reports, "printed": compare_printed}
+    usual = {"mails": mails, "selectors": list, "reports": list, "printed": list}
     words = sys.argv[1:] or ["mails"]
     if words[0] not in kinds:
         sys.exit(__doc__)

@@ -70,13 +70,15 @@ class Selectors(unittest.TestCase):
         self.assertEqual(style_of("<!-- p { n: 1 } -->"), "n: 1")
 
     def test_what_depends_on_a_state_stays_alone(self):
-        for selector in ("p:hover", "p::before", "p:not(:hover)", "b ~ p:focus-within", "p:is(:checked, a)", "p:has(b)"):
+        for selector in ("p:hover", "p::before", "p:not(:hover)", "b ~ p:focus-within", "p:is(:checked, a)",
+                         "p:has(b)"):
             text = inline("<p>", f"{selector}, p {{ n: 1 }}")
             self.assertEqual(text, f'<style>\n{selector} {{ n: 1 }}\n</style><p style="n: 1">', selector)
 
     def test_what_depends_on_the_tree_is_written(self):
-        for selector in ("p:nth-child(2n+1)", "p:not(.x)", "p[title^=b]", "p:last-of-type", "p:is(a, p)", "p:not(:empty)",
-                         "p:not(:nth-of-type(2), b)", "p[title='b:c|d']", r"p.a\:b", "p:not(.x:nth-child(2))", ":root p"):
+        for selector in ("p:nth-child(2n+1)", "p:not(.x)", "p[title^=b]", "p:last-of-type", "p:is(a, p)",
+                         "p:not(:empty)", "p:not(:nth-of-type(2), b)", "p[title='b:c|d']", r"p.a\:b",
+                         "p:not(.x:nth-child(2))", ":root p"):
             style = style_of(selector + " { n: 1 }", "<body><p class='a:b' title='b:c|d'>x")
             self.assertEqual(style, "n: 1", selector)
         self.assertEqual(inline("<b></b><i></i><p></p>", "b ~ p { n: 1 }"), '<b></b><i></i><p style="n: 1"></p>')

@@ -24,7 +24,8 @@ SHEET = "li { color: red; margin: 0 } ul > .a { color: blue !important } #x, p:h
 PAGE = '<ul><li class="a b">one<li id=x>two</ul><p>three'
 
 
-# Selectors, how they are printed (CSSOM, "Serializing Selectors"), and their specificity (Selectors Level 4, section 17).
+# Selectors, how they are printed (CSSOM, "Serializing Selectors"), and their specificity (Selectors Level 4, section
+# 17).
 PRINTED = (
     ("a", "a", (0, 0, 1)),
     ("*", "*", (0, 0, 0)),
@@ -398,14 +399,16 @@ class Trees(unittest.TestCase):
 
     def test_what_is_empty(self):
         for text, expected in (
-            ("<p></p>", True), ("<p> </p>", False), ("<p>x</p>", False), ("<p><!-- --></p>", True), ("<p><b></b></p>", False),
+            ("<p></p>", True), ("<p> </p>", False), ("<p>x</p>", False), ("<p><!-- --></p>", True),
+            ("<p><b></b></p>", False),
             ("<pre>\n</pre>", True), ("<pre>\r\n</pre>", True), ("<pre>\n\n</pre>", False),
             ("<textarea>\n</textarea>", True), ("<title></title>", True), ("<template>x</template>", True),
             ("<svg><![CDATA[]]></svg>", True), ("<svg><![CDATA[x]]></svg>", False),
         ):
             tree = simplecss.Tree.from_html(text, is_part=True)
             self.assertEqual(tree[0].matches(":empty"), expected, text)
-        for text, expected in (("<p/>", True), ("<p> </p>", False), ("<p><!-- --><?x?></p>", True), ("<p>&#65;</p>", False)):
+        for text, expected in (("<p/>", True), ("<p> </p>", False), ("<p><!-- --><?x?></p>", True),
+                               ("<p>&#65;</p>", False)):
             root = xml.etree.ElementTree.fromstring(text)
             for tree in (simplecss.Tree.from_xml(text), simplecss.Tree.from_etree(root)):
                 self.assertEqual(tree[0].matches(":empty"), expected, text)
@@ -517,8 +520,8 @@ class Matching(unittest.TestCase):
         self.assertEqual(self.found("li"), [1, 2])
         self.assertEqual(self.found("p, .a, #x"), [1, 2, 3])
         self.assertEqual(self.found("li + li"), [2])
-        for text, grammar in (("", "today"), ("li,", "today"), (",li", "today"), ("li p {", "today"), ("a:none()", "today"),
-                              ("li ~ li", "simplecss"), ("a:none", "simplecss")):
+        for text, grammar in (("", "today"), ("li,", "today"), (",li", "today"), ("li p {", "today"),
+                              ("a:none()", "today"), ("li ~ li", "simplecss"), ("a:none", "simplecss")):
             with self.assertRaises(simplecss.SelectorError, msg=text):
                 self.tree.select(text, grammar=grammar)
 
@@ -654,7 +657,8 @@ class CommandLine(unittest.TestCase):
         self.assertEqual(json.loads(self.lines("match", "--json", self.sheet, self.page)[4]),
                          {"element": 4, "name": "li", "rules": [0, 1]})
         self.write(self.sheet, SHEET.replace("ul > .a", "ul >\n.a"))
-        self.assertEqual(self.lines("match", self.sheet, self.page)[4], f'{self.page}:1:5: <li class="a b"> li, ul > .a')
+        lines = self.lines("match", self.sheet, self.page)
+        self.assertEqual(lines[4], f'{self.page}:1:5: <li class="a b"> li, ul > .a')
         self.assertEqual(len(self.lines("style", "color", self.sheet, self.page)), 2)
         with open(self.page, "a", encoding="utf-8") as file:
             file.write("<style>p { color: green }</style>")
@@ -734,8 +738,8 @@ class CommandLine(unittest.TestCase):
             "block-not-closed"])
 
     def test_what_is_not_evaluated(self):
-        text = ("@import 'a'; b:has(c), d ~ d { e: f } @supports (g: h) { i { j: k } } @media print { l:hover { m: n } }"
-                "o:checked::after, [p=':q'] { r: s }")
+        text = ("@import 'a'; b:has(c), d ~ d { e: f } @supports (g: h) { i { j: k } }"
+                "@media print { l:hover { m: n } } o:checked::after, [p=':q'] { r: s }")
         self.assertEqual(self.kinds(text), [])
         self.assertEqual(self.kinds(text, "--all"), [
             ("at-rule-not-evaluated", "@import 'a';"), ("selector-not-evaluated", "b:has(c)"),
