@@ -57,8 +57,10 @@ _KNOWN = re.compile(
 _UNKNOWN = re.compile(r":|\|(?!=)")
 _OPAQUE = re.compile(OPAQUE, re.DOTALL)
 # A pseudo-class with what is in its parentheses, in which may be one more pair of them.
-_INNER = rf"""(?:[^()"'\\]|{OPAQUE})*"""
-_PSEUDO_CLASS = re.compile(rf"{OPAQUE}|:[-\w]*(?:\((?:{_INNER}|\({_INNER}\))*\))?", re.DOTALL)
+_INNER = rf"""[^()"'\\]|{OPAQUE}"""
+_PSEUDO_CLASS = re.compile(
+    rf"{OPAQUE}|:[-\w]*(?:\((?:{_INNER}|\((?:{_INNER})*\))*\))?", re.DOTALL
+)
 # What matches any element, as a pseudo-class.
 _ANY = ":is(*)"
 # The ids, classes and attributes that mail clients add to a page, whose rules match nothing yet.

@@ -238,6 +238,10 @@ class KeptRules(unittest.TestCase):
             inline("<a>", "%s{%s}" % many)
         inline("<a>" * 100, "a{b:c}" + "%s{%s}" % (many[0].replace(",", ":hover,"), many[1]))
         self.assertEqual(style_of("a { n: 1 }" + "@media x{" * 99 + "a { n: 2 }", "<a>"), "")
+        for selector in (":has(:is(:not(:nth-child(2))%s))" % ("x" * 5000), ":not(.x)" * 5000,
+                         ":is(%s)" % ("b," * 5000 + "b"),
+                         "".join(f":not({mark}x" for mark in ".#" * 30) + ")" * 60):
+            inline("<a>", f"a{{n:1}} a{selector}:hover{{n:2}}")
 
 
 class Options(unittest.TestCase):
