@@ -430,9 +430,11 @@ class OtherTrees(unittest.TestCase):
     """Trees of other packages, each left out where the package is missing."""
 
     PAGE = "<!DOCTYPE html><title>t</title><P CLASS='a b' TYPE=X>one<A HREF=x>two</A></P>"
+    EMPTY = "<div><p><!-- x --></p><b> </b><i></i>x<u><s></s></u></div>"
 
-    def check(self, tree):
-        link = tree.select_one("p.a[type=x] > A:link")
+    def check(self, tree, other):
+        self.assertEqual([each.name for each in other.select("div :empty")], ["p", "i", "s"])
+        link = tree.select_one("p.a[type=x]:not(:last-child, .c) > A:link, p.a[type=x] > A:any-link")
         self.assertEqual((link.name, link.text, link.attributes["href"]), ("a", "two", "x"))
         self.assertEqual(tree.select("p")[0].text, "onetwo")
         self.assertEqual(tree.select(".A"), [])
@@ -445,7 +447,8 @@ class OtherTrees(unittest.TestCase):
         except ImportError:
             self.skipTest("there is no lxml")
         root = lxml.html.document_fromstring(self.PAGE)
-        self.assertIs(self.check(simplecss.Tree.from_lxml(root)), root.find(".//a"))
+        other = simplecss.Tree.from_lxml(lxml.html.document_fromstring(self.EMPTY))
+        self.assertIs(self.check(simplecss.Tree.from_lxml(root), other), root.find(".//a"))
         root = lxml.etree.fromstring("<!-- --><r xmlns='x'><?y?><A b='c'>d</A>e</r>")
         tree = simplecss.Tree.from_lxml(root.getroottree())
         self.assertEqual([each.name for each in tree], ["r", "A"])
@@ -457,7 +460,8 @@ class OtherTrees(unittest.TestCase):
         except ImportError:
             self.skipTest("there is no BeautifulSoup")
         soup = bs4.BeautifulSoup(self.PAGE, "html.parser")
-        self.assertIs(self.check(simplecss.Tree.from_soup(soup)), soup.find("a"))
+        other = simplecss.Tree.from_soup(bs4.BeautifulSoup(self.EMPTY, "html.parser"))
+        self.assertIs(self.check(simplecss.Tree.from_soup(soup), other), soup.find("a"))
         tree = simplecss.Tree.from_soup(soup.find("p"))
         self.assertEqual([each.name for each in tree], ["p", "a"])
 
