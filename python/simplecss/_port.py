@@ -47,7 +47,7 @@ class PortReading(NamedTuple):
         if operator is None:
             return f"[{key}]"
         quote = quote if "'" in value else "'"
-        value = self.reading.compared(key, value)
+        value = self.reading.compared_value(key, value)
         if key == "class" and operator != "~=" and self.has_lines:
             key = _WHOLE_CLASS
         return f"[{key}{operator}{quote}{value}{quote}]"

@@ -74,7 +74,7 @@ class Reading(enum.IntEnum):
         """Returns a name as it is compared."""
         return name if self == Reading.AS_WRITTEN else lower(name)
 
-    def compared(self, key: str, value: str) -> str:
+    def compared_value(self, key: str, value: str) -> str:
         """Returns the value of an attribute, which has this name in a selector, as it is compared."""
         return lower(value) if key in _CASELESS[self] else value
 
@@ -83,7 +83,7 @@ class Reading(enum.IntEnum):
         found: Dict[str, str] = {}
         for key, value in attributes.items():
             key = self.compared_name(key)
-            found.setdefault(key, self.compared(key, value))
+            found.setdefault(key, self.compared_value(key, value))
         return found
 
     def may_change(self, keys: Iterable[str]) -> FrozenSet[str]:
