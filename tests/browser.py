@@ -2,16 +2,18 @@
 """Compares the Python package with a browser: headless Chromium (Debian's package `chromium`).
 
     tests/browser.py mails [FILE..]      the computed styles of documents before and after `simplecss.inline`
-    tests/browser.py trees [FILE..]      the elements and attributes of `Tree.from_html` with those of the browser
+    tests/browser.py trees [FILE..]      the elements and attributes of `Tree.from_html` with those of the browser, and
+                                         which are empty
+    tests/browser.py selectors           what random selectors find in random documents of HTML
     tests/browser.py winners [FILE..]    which declarations of ten properties win on each element
     tests/browser.py soup [FILE..]       what selectors find, with soupsieve over html5lib (no browser)
     tests/browser.py reports [FILE..]    whether the browser takes what `lint` reports: one in a hundred at most
     tests/browser.py printed [FILE..]    the rules of sheets, and of these sheets as the package prints them
 
-Without files, `mails` takes those of `tests/mails`, and the next three take these and pages of Debian packages below
-/usr/share/doc. `reports` takes sheets of Bootstrap, jQuery UI, Font Awesome and Sphinx below /usr/share, and `printed`
-200 of all there. Each test is a document. What differs is listed, and the last line is `N passed, M failed`. Run by
-hand, but for `soup`, which tests/library.py runs. The library is built by `./build library`.
+Without files, `mails` takes those of `tests/mails`, and `trees`, `winners` and `soup` take these and pages of Debian
+packages below /usr/share/doc. `reports` takes sheets of Bootstrap, jQuery UI, Font Awesome and Sphinx below /usr/share,
+and `printed` 200 of all there. Each test is a document. What differs is listed, and the last line is `N passed, M
+failed`. Run by hand, but for `soup`, which tests/library.py runs. The library is built by `./build library`.
 """
 import collections
 import glob
@@ -28,6 +30,7 @@ import tempfile
 TOP = os.path.dirname(os.path.dirname(os.path.abspath(__file__)))
 sys.path.insert(0, os.path.join(TOP, "python"))
 
+import level3  # noqa: E402
 import simplecss  # noqa: E402
 from simplecss import _lint  # noqa: E402
 
@@ -41,12 +44,16 @@ SELECTORS = (
     "*", "p", "a", "a[href]", "A[HREF]", "ul > li", "table td", "td + td", "tr td:first-child", "p + p", "[class]",
     "[id]", "div p a", "li li", ":first-child", "html > body > *", "h1 + p", "head > title", "body h2, body h3",
     "img[alt]", "td[align=center]", "[lang|=en]", "div > div > p", "pre code", "dl > dt + dd", "tbody > tr", "a:link",
-    "span span", "input[type=text]",
+    "span span", "input[type=text]", "h2 ~ p", "li:nth-child(2n+1)", "tr:nth-child(even) > td", "td:nth-last-child(2)",
+    "p:first-of-type", "dd:last-of-type", "p:nth-of-type(3n)", "li:last-child", "p:only-child", "p:not([class])",
+    "p:not(:first-child, :last-child)", ":is(h1, h2) + p", ":where(ul, ol) > li", "a[href^=http]", "a[href$='.html']",
+    "a[href*='#']", "a[href^=HTTP i]", ":root > body", "body *:not(p):not(a)",
 )
 
 # What soupsieve finds less of, and why: the others are found by both.
 WIDER = {
     "a:link": "a link in SVG",
+    "li:nth-child(2n+1)": "by `An+B` soupsieve does not find the child B if there are B nodes",
     "td[align=center]": "of the values that HTML compares without case, soupsieve compares those of `type`",
 }
 
@@ -67,11 +74,18 @@ function styles(frame) {
 function tree(text) {
     const found = [], page = new DOMParser().parseFromString(text, "text/html");
     function walk(element, depth) {
-        found.push([depth, element.localName, [...element.attributes].map(each => [each.name, each.value]).sort()]);
+        const attributes = [...element.attributes].map(each => [each.name, each.value]).sort();
+        found.push([depth, element.localName, attributes, element.matches(":empty")]);
         for (const child of element.children) walk(child, depth + 1);
     }
     walk(page.documentElement, 0);
     return found;
+}
+function found([text, lists]) {
+    const page = new DOMParser().parseFromString(text, "text/html"), every = [page.documentElement, ...all(page)];
+    return lists.map(list => {
+        try { return [...page.querySelectorAll(list)].map(each => every.indexOf(each)); } catch { return null; }
+    });
 }
 // A sheet of another site, which is not loaded, has no rules.
 function rules_of(sheet) { try { return sheet.cssRules; } catch { return []; } }
@@ -124,6 +138,7 @@ window.onload = () => {
     if (input.kind == "mails")
         for (let i = 0; i < frames.length; i += 2) answer.push([styles(frames[i]), styles(frames[i + 1])]);
     if (input.kind == "trees") for (const text of input.texts) answer.push(tree(text));
+    if (input.kind == "selectors") for (const each of input.texts) answer.push(found(each));
     if (input.kind == "conditions") for (const text of input.texts) answer.push(holds(text));
     if (input.kind == "reports") for (const [text, isRule] of input.texts) answer.push(takes(text, isRule));
     if (input.kind == "printed") for (const [one, other] of input.texts) answer.push([rules(one), rules(other)]);
@@ -225,8 +240,8 @@ def compare_mails(names):
 
 
 def elements_of(text):
-    """Returns the depth, name and attributes of each element, as the browser does."""
-    return [[element.depth, element.name, sorted(map(list, element.attributes.items()))]
+    """Returns the depth, name and attributes of each element, and whether it is empty, as the browser does."""
+    return [[element.depth, element.name, sorted(map(list, element.attributes.items())), element.matches(":empty")]
             for element in simplecss.Tree.from_html(text)]
 
 
@@ -237,7 +252,7 @@ def compare_trees(names):
     with tempfile.TemporaryDirectory() as folder:
         for name, text, theirs in zip(names, texts, run_browser({"kind": "trees", "texts": texts}, [], folder)):
             ours = elements_of(text)
-            theirs = [[depth, element, sorted(attributes)] for depth, element, attributes in theirs]
+            theirs = [[depth, element, sorted(attributes), is_empty] for depth, element, attributes, is_empty in theirs]
             found = [f"{a}, in the browser {b}" for a, b in zip(ours, theirs) if a != b]
             if len(ours) != len(theirs):
                 found.insert(0, f"{len(ours)} elements, in the browser {len(theirs)}")
@@ -245,15 +260,56 @@ def compare_trees(names):
     return report.end()
 
 
+def markup(element):
+    """Returns an element of tests/level3.py as markup, with an attribute whose values HTML compares without case."""
+    name, attributes, children = element
+    words = "".join(f' {key}="{html.escape(value)}"' for key, value in attributes.items()).replace("title=", "TYPE=")
+    return f"<{name}{words}>{''.join(each if isinstance(each, str) else markup(each) for each in children)}</{name}>"
+
+
+def random_document(source, number):
+    """Returns a document, without a doctype if the number is odd, and lists that the browser should read alike."""
+    text = "" if number % 2 else "<!DOCTYPE html>"
+    lists = [source.listed().replace("title", "type") for _ in range(50)]
+    # Without a doctype, attribute selectors ignore the case of ids and classes, too.
+    odd = re.compile(r"\[[^\]]*(?:class|id|\\)" if number % 2 else r"(?!)")
+    lists = [each for each in lists if not level3.ODD_IN_BROWSERS.search(each) and not odd.search(each)]
+    return f"{text}<div>{markup(source.tree())}</div>", lists
+
+
+def compare_selectors(_):
+    """Compares what random selectors find."""
+    report = Report()
+    source = level3.Source("HTML")
+    texts = [random_document(source, number) for number in range(100)]
+    with tempfile.TemporaryDirectory() as folder:
+        answers = run_browser({"kind": "selectors", "texts": texts}, [], folder)
+    for number, ((text, lists), answer) in enumerate(zip(texts, answers)):
+        tree = simplecss.Tree.from_html(text)
+        found = []
+        for each, theirs in zip(lists, answer):
+            try:
+                mine = [element.index for element in tree.select(each)]
+            except simplecss.SelectorError:
+                mine = None
+            found += [] if mine == theirs else [f"{each!r}: {mine}, in the browser {theirs}"]
+        report.add(f"document {number}", found)
+    return report.end()
+
+
 def sheets_of(name, tree):
     """Returns the style sheets of a page: those of its elements `style`, and those in files that it links to."""
     found = []
+    preferred = ""
     for element in tree:
-        if element.attributes.get("media", "all").lower() not in ("", "all", "screen"):
+        if element.attributes.get("media", "all").strip().lower() not in ("", "all", "screen"):
             continue
-        is_sheet = element.attributes.get("type", "").lower() in ("", "text/css") and "title" not in element.attributes
+        title = element.attributes.get("title", "")
+        is_sheet = element.attributes.get("type", "").lower() in ("", "text/css")
         if element.name == "style" and is_sheet:
-            found.append(element.text)
+            # Of the sheets with titles, those that have the first one apply.
+            preferred = preferred or title
+            found += [element.text] if title in ("", preferred) else []
         elif element.name == "link" and "stylesheet" in element.attributes.get("rel", "").lower().split():
             path = os.path.join(os.path.dirname(name), element.attributes.get("href", "").partition("?")[0])
             if os.path.isfile(path) and "alternate" not in element.attributes["rel"].lower():
@@ -320,7 +376,7 @@ def compare_winners(names):
     for cause, number in causes.most_common(15):
         print(f"{number} differ where the browser has `{cause}`")
     equal = f"{count - differing} of {count} winners are equal"
-    print(f"{equal}; {beyond} of the others are of rules that CSS 2.1 does not have")
+    print(f"{equal}; {beyond} of the others are of rules that the library does not match")
     return report.end()
 
 
@@ -391,9 +447,9 @@ def compare_soup(names):
 
 
 def main():
-    kinds = {"mails": compare_mails, "trees": compare_trees, "winners": compare_winners, "soup": compare_soup,
-             "reports": compare_reports, "printed": compare_printed}
-    usual = {"mails": mails, "reports": list, "printed": list}
+    kinds = {"mails": compare_mails, "trees": compare_trees, "selectors": compare_selectors, "winners": compare_winners,
+             "soup": compare_soup, "reports": compare_reports, "printed": compare_printed}
+    usual = {"mails": mails, "selectors": list, "reports": list, "printed": list}
     words = sys.argv[1:] or ["mails"]
     if words[0] not in kinds:
         sys.exit(__doc__)

@@ -101,30 +101,28 @@ def declared(nodes: Sequence[Any]) -> Iterator[Tuple[str, str, bool]]:
             yield name, value, one.important
 
 
-def printed(selector: str) -> Optional[str]:
-    """Returns a selector as the library prints it, or `None` if it does not read it."""
-    try:
-        return str(simplecss.Selector(selector))
-    except simplecss.SelectorError:
-        return None
+def printed(selector: str, known: Dict[str, Optional[str]]) -> Optional[str]:
+    """Returns a selector as the library prints it, or `None` if it does not read it. What is known is kept."""
+    if selector not in known:
+        try:
+            known[selector] = str(simplecss.Selector(selector))
+        except simplecss.SelectorError:
+            known[selector] = None
+    return known[selector]
 
 
-def their_pairs(text: str) -> Tuple[Counter[Pair], int]:
+def their_pairs(text: str, known: Dict[str, Optional[str]]) -> Tuple[Counter[Pair], int]:
     """Returns the pairs of tinycss2 whose selectors the library reads, and how many have others."""
     import tinycss2
 
     found: Counter[Pair] = Counter()
     others = 0
-    known: Dict[str, Optional[str]] = {}
     for rule in rules_in(tinycss2.parse_stylesheet(text, skip_comments=True, skip_whitespace=True)):
         declarations = list(declared(rule.content))
         for selector in cut(rule.prelude):
-            words = plain(selector)
-            if words not in known:
-                known[words] = printed(words)
-            read = known[words]
             if has_element(selector):
                 continue
+            read = printed(plain(selector), known)
             if read is None:
                 others += len(declarations)
             else:
@@ -132,17 +130,18 @@ def their_pairs(text: str) -> Tuple[Counter[Pair], int]:
     return found, others
 
 
-def our_pairs(text: str) -> Counter[Pair]:
+def our_pairs(text: str, known: Dict[str, Optional[str]]) -> Counter[Pair]:
     """Returns the pairs of the package."""
     import tinycss2
 
     found: Counter[Pair] = Counter()
     values: Dict[str, str] = {}
     for rule in simplecss.StyleSheet(text, limit=None).rules:
+        selector = printed(plain(tinycss2.parse_component_value_list(rule.selector)), known)
         for name, value, important in rule.declarations if rule.pseudo_element is None else ():
             if value not in values:
                 values[value] = plain(tinycss2.parse_component_value_list(value))
-            found[(rule.selector, name, values[value], important)] += 1
+            found[(selector or "", name, values[value], important)] += 1
     return found
 
 
@@ -151,9 +150,10 @@ def compare(texts: Sequence[str], counts: Counts) -> None:
     pairs = others = 0
     missing: Counter[Pair] = Counter()
     added: Counter[Pair] = Counter()
+    known: Dict[str, Optional[str]] = {}
     for text in texts:
-        theirs, other = their_pairs(text)
-        ours = our_pairs(text)
+        theirs, other = their_pairs(text, known)
+        ours = our_pairs(text, known)
         pairs += sum(theirs.values())
         others += other
         missing += theirs - ours

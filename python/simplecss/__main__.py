@@ -16,8 +16,8 @@ from ._encoding import decode_page
 from ._inline import NotWritten, inline
 from ._library import LibraryError, LimitError, __version__
 from ._page import Page
-from ._selectors import SelectorError
-from ._sheet import PORT, TODAY, StyleSheet
+from ._selectors import PORT, TODAY, SelectorError
+from ._sheet import StyleSheet
 from ._tree import Element, Tree, TreeError
 from ._xml import is_xml
 
@@ -143,7 +143,7 @@ def _places(tree: Tree) -> List[int]:
 
 
 def _path(element: Element, places: List[int]) -> str:
-    """Returns a selector of CSS 3 that matches the element only."""
+    """Returns a selector that matches the element only."""
     steps: List[str] = []
     node: Optional[Element] = element
     while node is not None:
@@ -167,7 +167,8 @@ def _match(words: argparse.Namespace) -> int:
             _print_json({"element": element.index, "name": element.name, "rules": found})
         else:
             selectors = ", ".join(sheet.rules[rule].selector for rule in found)
-            print(f"{_position(page, element)}: {element} {selectors}")
+            # A selector may be on several lines of its sheet.
+            print(f"{_position(page, element)}: {element} {' '.join(selectors.split())}")
     return DONE
 
 
@@ -205,7 +206,7 @@ def _select(words: argparse.Namespace) -> int:
 def _select_in(words: argparse.Namespace, name: str, tree: Tree) -> int:
     """Prints what is asked for of a page. Returns how many elements were found."""
     try:
-        found = tree.select(words.selectors)
+        found = tree.select(words.selectors, grammar=words.grammar)
     except SelectorError as error:
         raise _Failure(f"selector refused: {error}", REFUSED) from None
     _show_found(words, name, found)
@@ -319,7 +320,7 @@ def _parser() -> argparse.ArgumentParser:
 
 
 def _add_grammar(command: Any) -> None:
-    text = "the grammar of sheets: that of browsers, or that of the Rust crate"
+    text = "the grammar: that of browsers, or that of the Rust crate"
     command.add_argument("--grammar", choices=[TODAY, PORT], default=TODAY, help=text)
 
 
@@ -338,6 +339,7 @@ def _add_select(command: Any) -> None:
     shown.add_argument(
         "--quiet", action="store_true", help="write nothing; status 1 if there are none"
     )
+    _add_grammar(command)
     command.add_argument("selectors", metavar="SELECTORS")
     command.add_argument("pages", nargs="+", metavar="PAGE")
 

@@ -540,14 +540,18 @@ class Builder:
         self.token = token
         if self.skips_newline:
             self.skips_newline = False
-            if token.kind == TEXT and self.text.startswith("\n", token.start):
-                token.start += 1
-                if token.start == token.end:
-                    return
+            if token.kind == TEXT and not self._skip_newline(token):
+                return
         if self.open and self.open[-1].space != HTML and self._is_foreign(token):
             self._in_foreign(token)
         else:
             self.mode(token)
+
+    def _skip_newline(self, token: Token) -> bool:
+        """Skips a newline at the start of a text. Returns whether something of the text is left."""
+        newlines = (each for each in ("\r\n", "\n", "\r") if self.text.startswith(each, token.start))
+        token.start += len(next(newlines, ""))
+        return token.start < token.end
 
     def _is_foreign(self, token: Token) -> bool:
         if token.kind == EOF:
@@ -661,7 +665,8 @@ class Builder:
         node = self.open[-1]
         token = self.tokens.next()
         if token.kind == TEXT:
-            node.children.append((token.start, token.end))
+            if node.name != "textarea" or self._skip_newline(token):
+                node.children.append((token.start, token.end))
             token = self.tokens.next()
         self.token = token
         self._pop()

@@ -38,8 +38,8 @@ from ._reading import (
     Statement,
     read_sheet,
 )
-from ._selectors import Numbers, Printed, Selector, SelectorError, matched, printed
-from ._tree import STATES, Tree
+from ._selectors import OPAQUE, Numbers, SelectorError, Specificity, listed, states_in
+from ._tree import Tree
 
 # The pseudo-classes and pseudo-elements that browsers know. A rule set whose selectors have others, or a
 # namespace, stays whole, since a browser may drop all of it.
@@ -55,8 +55,14 @@ _KNOWN = re.compile(
     re.IGNORECASE,
 )
 _UNKNOWN = re.compile(r":|\|(?!=)")
-# The pseudo-classes of a printed selector that depend on a state of the page, and a language in quotes.
-_STATE = re.compile(r""":(?!first-child\b|lang\([^"'])""")
+_OPAQUE = re.compile(OPAQUE, re.DOTALL)
+# A pseudo-class with what is in its parentheses, in which may be one more pair of them.
+_INNER = rf"""[^()"'\\]|{OPAQUE}"""
+_PSEUDO_CLASS = re.compile(
+    rf"{OPAQUE}|:[-\w]*(?:\((?:{_INNER}|\((?:{_INNER})*\))*\))?", re.DOTALL
+)
+# What matches any element, as a pseudo-class.
+_ANY = ":is(*)"
 # The ids, classes and attributes that mail clients add to a page, whose rules match nothing yet.
 _CLIENTS = re.compile(
     r"#(?:outlook|MessageViewBody|MessageWebViewDiv|body)\b|\.(?:ExternalClass|ReadMsgBody|yshortcuts"
@@ -64,11 +70,6 @@ _CLIENTS = re.compile(
     r"|x-apple-data-detectors|owa)|\bu\s*\+",
     re.IGNORECASE,
 )
-# What is dropped of a selector, so that the rest matches all that it does and maybe more.
-_DROPPED = re.compile(r"::?[-\w]+(?:\((?:[^()]|\([^()]*\))*\))?")
-_OPERATOR = re.compile(r"\[\s*([-\w]+)\s*[$^*~|]?=[^\]]*\]")
-# A compound of which all was dropped.
-_ALONE = re.compile(r"(?<![^\s>+])\0+(?![^\s>+])")
 _PREFIX = re.compile(r"-(?:webkit|moz|ms|o)-|[*_]")
 # The beginnings of names of which one property may set another, by the family that they are of.
 _FAMILIES = {
@@ -105,6 +106,7 @@ _PLAIN_VALUE = re.compile(
 _URL = re.compile(r"""(\burl\(\s*|@import\s+(?=["']))(["']?)([^"'()\\]*?)\2(\s*\)|(?<=["']))""", re.IGNORECASE)
 _URL_ATTRIBUTES = frozenset(("href", "src", "background", "action", "poster"))
 _CLASS = re.compile(r"\.(-?[_a-zA-Z\u0080-\U0010ffff][-\w]*)")
+_ESCAPED_CLASS = re.compile(r"\.[-\w]*\\")
 # The attributes that say the same as a property: for which elements, and for which values.
 _CELLS = frozenset(("td", "th", "tr"))
 _TABLES = _CELLS | {"table"}
@@ -120,8 +122,7 @@ _ATTRIBUTES: Dict[str, Tuple[Tuple[str, FrozenSet[str], Pattern[str]], ...]] = {
 }
 
 Document = TypeVar("Document", str, bytes)
-Specificity = Tuple[int, ...]
-_GREATEST: Specificity = (256, 256, 256)
+_GREATEST: Specificity = (2**32, 0, 0)
 _EVERYTHING = "*"
 # How deep at-rules are looked into.
 _DEEPEST = 16
@@ -160,7 +161,7 @@ class _Statement:
         # The statements that it has, if it is a group rule, or itself.
         self.inner: List[Statement] = []
         # The selectors that are written into attributes, and those that stay.
-        self.going: List[Tuple[str, Printed]] = []
+        self.going: List[Tuple[str, Specificity]] = []
         self.staying: List[ReadSelector] = []
         self.block = ""
         self.declarations: Tuple[Declaration, ...] = ()
@@ -176,7 +177,7 @@ class _Statement:
             group = groups.pop(key, [])
             group.append(declaration)
             groups[key] = group
-        return [_Group(tuple(group), (), self.number) for group in groups.values()]
+        return [_Group(tuple(group), (0, 0, 0), self.number) for group in groups.values()]
 
     def kept(self) -> List[str]:
         """Returns the text that stays."""
@@ -204,8 +205,9 @@ class _Statement:
 
     def keep_clients(self) -> None:
         """Keeps the selectors for mail clients."""
-        clients = [each for each, _ in self.going if _CLIENTS.search(each)]
-        self.staying = [ReadSelector(each, each, None, True, (0, 0)) for each in clients] + self.staying
+        clients = [each for each in self.going if _CLIENTS.search(each[0])]
+        more = [ReadSelector(text, text, None, specificity, (0, 0)) for text, specificity in clients]
+        self.staying = more + self.staying
 
 
 class _Sheet:
@@ -215,8 +217,6 @@ class _Sheet:
         self.content = content
         self.statements: List[_Statement] = []
         self.source, found = read_sheet(css)
-        # What the library prints of the selectors that it reads.
-        self.known = _printed_of(found)
         group = (0, 0)
         for each in found:
             if not each.levels:
@@ -243,7 +243,7 @@ class _Sheet:
             title = self.source.at(found.head)
             statement = self._add(start, text, title, "a browser may drop the list")
             statement.inner = [found]
-            _sort(statement, found, self)
+            _sort(statement, found, self.source)
         elif text.endswith("}"):
             self._add(start, text, text.partition("{")[0].strip(), found.reason)
 
@@ -292,29 +292,32 @@ def _reason_of(selector: ReadSelector) -> str:
         return "it is for a mail client"
     if selector.pseudo_element is not None:
         return "it has a pseudo-element"
-    return "it depends on a state, or is of CSS 3"
+    if selector.specificity is None:
+        return "the library does not match it"
+    return "it depends on a state of the page"
 
 
-def _printed_of(statements: Iterable[Statement]) -> Dict[str, Printed]:
-    """Returns what the library prints of the selectors that it reads."""
-    sets = (each for each in statements if isinstance(each, RuleSet))
-    return printed(each.front or "*" for rules in sets for each in rules.selectors if each.is_read)
+def _is_known_selector(selector: str) -> bool:
+    """Whether every browser knows the pseudo-classes of a selector, and it has no namespace."""
+    text, before = _OPAQUE.sub("", selector), ""
+    while text != before:
+        # Those in parentheses go before those that have them.
+        text, before = _KNOWN.sub("", text), text
+    return _UNKNOWN.search(text) is None
 
 
-def _sort(statement: _Statement, found: RuleSet, sheet: _Sheet) -> None:
+def _sort(statement: _Statement, found: RuleSet, source: Source) -> None:
     """Sorts the selectors of a rule set, unless it stays whole."""
-    source = sheet.source
-    if any(_UNKNOWN.search(_KNOWN.sub("", each.text)) for each in found.selectors):
+    if not all(_is_known_selector(each.text) for each in found.selectors):
         return
     if has_rules(found.items, source):
         statement.reason = "it has rules in it"
         return
     for each in found.selectors:
-        one = sheet.known.get(each.text)
-        if one is None or each.pseudo_element is not None or _STATE.search(one.text):
+        if each.specificity is None or states_in(each.text):
             statement.staying.append(each)
         else:
-            statement.going.append((each.text, one))
+            statement.going.append((each.text, each.specificity))
     if statement.staying and _is_open(found):
         # No brace would close what stays.
         statement.going, statement.staying = [], []
@@ -343,29 +346,29 @@ def has_rules(items: Iterable[Item], source: Source) -> bool:
     return False
 
 
-def _wider(selector: str) -> Tuple[str, Specificity]:
-    """Returns a selector that matches all that a selector does and that the library reads, and the
-    specificity, or a greater one."""
-    subject = selector.rpartition("~")[2] if "~=" not in selector else selector
-    dropped = _DROPPED.findall(subject)
-    text = _OPERATOR.sub(r"[\1]", _DROPPED.sub("\0", subject)).strip()
-    text = _ALONE.sub("*", text).replace("\0", "")
+def _wider(selector: ReadSelector) -> str:
+    """Returns a selector that matches all that a selector does in some state of the page, and that
+    the library reads."""
+    is_read = selector.specificity is not None
+    if is_read and not states_in(selector.text):
+        return selector.text
+
+    def kept(found: Match[str]) -> str:
+        text = found.group()
+        is_kept = is_read and not states_in(text) or not text.startswith(":")
+        return text if is_kept else _ANY
+
+    text = _PSEUDO_CLASS.sub(kept, selector.text)
     try:
-        found = Selector(text or _EVERYTHING)
+        return text if len(listed(text)) == 1 else _EVERYTHING
     except SelectorError:
-        return _EVERYTHING, _GREATEST
-    if subject != selector or any("(" in each for each in dropped):
-        return str(found), _GREATEST
-    ids, others, types = found.specificity
-    return str(found), (ids, others + len(dropped), types)
+        return _EVERYTHING
 
 
 def _rules_of(
     source: Source, statements: Iterable[Statement], number: int, is_layered: bool = False, level: int = 0
 ) -> Iterator[_Kept]:
     """Yields the rules of statements that stay, also those within at-rules."""
-    statements = list(statements)
-    known = _printed_of(statements)
     for found in statements:
         is_inner = is_layered or any(each.condition.name == "layer" for each in found.levels)
         if isinstance(found, RuleSet):
@@ -374,7 +377,7 @@ def _rules_of(
                 # What rules within it say is not looked at: they may say anything of any element.
                 yield _Kept(_EVERYTHING, _GREATEST, number, declared + _ANYTHING, is_inner)
             else:
-                yield from _kept_rules(found.selectors, declared, known, number, is_inner)
+                yield from _kept_rules(found.selectors, declared, number, is_inner)
         elif isinstance(found, ReadAtRule) and found.rule.block is not None:
             if level > _DEEPEST:
                 yield _Kept(_EVERYTHING, _GREATEST, number, _ANYTHING, is_inner)
@@ -383,20 +386,14 @@ def _rules_of(
 
 
 def _kept_rules(
-    selectors: Iterable[ReadSelector],
-    declared: List[Declaration],
-    known: Dict[str, Printed],
-    number: int,
-    is_layered: bool,
+    selectors: Iterable[ReadSelector], declared: List[Declaration], number: int, is_layered: bool
 ) -> Iterator[_Kept]:
     """Yields a rule for each of these selectors of a rule set that stay."""
     for each in selectors:
         # What a pseudo-element has is of another box.
         if each.pseudo_element is None:
-            text, specificity = known.get(each.text) or _wider(each.text)
-            if is_layered:
-                specificity = _GREATEST
-            yield _Kept(text, specificity, number, declared, is_layered)
+            specificity = None if is_layered else each.specificity
+            yield _Kept(_wider(each), specificity or _GREATEST, number, declared, is_layered)
 
 
 class _Options(NamedTuple):
@@ -458,7 +455,7 @@ class _Inliner:
 
     def _prepare(self) -> None:
         """Makes the rules that are written into attributes, in the order of the cascade."""
-        rules: List[Tuple[Printed, List[_Group]]] = []
+        rules: List[Tuple[str, Specificity, List[_Group]]] = []
         for sheet in self.sheets:
             for statement in sheet.statements:
                 self._keep(statement, sheet)
@@ -466,12 +463,12 @@ class _Inliner:
                 self.room -= len(groups) * len(statement.going)
                 if self.room < 0:
                     raise library.LimitError("the rules would hold more declarations than the limit")
-                rules.extend((one, groups) for _, one in statement.going if groups)
-        rules.sort(key=lambda rule: rule[0].specificity)
-        rewrite = self.tree._reading.rewrite
-        self.selectors = [rewrite(one.text, '"') for one, _ in rules]
+                rules.extend((*each, groups) for each in statement.going if groups)
+        rules.sort(key=lambda rule: rule[1])
+        self.selectors = [text for text, _, _ in rules]
         self.rules = [
-            [each._replace(specificity=one.specificity) for each in groups] for one, groups in rules
+            [each._replace(specificity=specificity) for each in groups]
+            for _, specificity, groups in rules
         ]
 
     def _keep(self, statement: _Statement, sheet: _Sheet) -> None:
@@ -481,11 +478,11 @@ class _Inliner:
             self.kept.extend(_rules_of(sheet.source, statement.inner, number))
         else:
             declared = list(statement.declarations)
-            self.kept.extend(_kept_rules(statement.staying, declared, sheet.known, number, False))
+            self.kept.extend(_kept_rules(statement.staying, declared, number, False))
 
     def write(self) -> None:
         """Writes what wins on each element into its attribute, and what stays into style elements."""
-        matching = matched(self.tree._arrays(), self.selectors)
+        matching = self.tree._matched(self.selectors)
         numbers = Numbers(range(len(self.rules)))
         rivals = self._rivals()
         shown = self.page.shown()
@@ -534,7 +531,8 @@ class _Inliner:
         kept += " ".join(
             self.page.sheet_of(each) for each in self.page.styles() if each not in written
         )
-        if self.options.keep_style or "[class" in kept.lower():
+        is_unclear = "[class" in kept.lower() or _ESCAPED_CLASS.search(kept)
+        if self.options.keep_style or is_unclear:
             return
         named = frozenset(_CLASS.findall(kept))
         for index, attributes in enumerate(self.tree._attributes):
@@ -550,9 +548,7 @@ class _Inliner:
     def _rivals(self) -> List[Tuple[bytes, List[_Kept]]]:
         """Returns for each element the rules that stay and may match it, in some state of the page, and a
         key for them."""
-        rewrite = self.tree._reading.rewrite
-        arrays = self.tree._arrays().with_states(sum(STATES.values()))
-        lines = matched(arrays, [rewrite(rule.selector, '"') for rule in self.kept])
+        lines = self.tree._matched([rule.selector for rule in self.kept])
         numbers = Numbers(range(len(self.kept)))
         found: Dict[bytes, List[_Kept]] = {}
         for line in lines:
@@ -730,8 +726,8 @@ def inline(
     The sheets are `css` and then the document's own `style` elements. Each element gets the
     declarations that win on it, and after them those of its own `style` attribute, so that its own
     are stronger, unless one of a sheet is important and they are not. Rules that depend on a state
-    of the page (`:hover`), that CSS 2.1 does not have, and at-rules stay in a `style` element, as
-    does one for some media only, and with them what they could override. Everything else is
+    of the page (`:hover`), that the library does not match, and at-rules stay in a `style` element,
+    as does one for some media only, and with them what they could override. Everything else is
     unchanged, byte for byte. A document in bytes is returned in bytes.
 
     `folder` has the files of `link rel=stylesheet`, which are written, too. `base_url` is what

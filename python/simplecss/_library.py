@@ -3,7 +3,6 @@
 from __future__ import annotations
 
 import array
-import copy
 import ctypes
 import ctypes.util
 import functools
@@ -92,14 +91,6 @@ class TreeArrays:
     def count(self) -> int:
         """The number of elements."""
         return len(self._elements)
-
-    def with_states(self, states: int) -> "TreeArrays":
-        """Returns the arrays of the tree whose elements all have these states."""
-        found = copy.copy(self)
-        found._elements = type(self._elements).from_buffer_copy(self._elements)
-        for element in found._elements:
-            element.states = states
-        return found
 
     @property
     def arguments(self) -> Tuple[Any, Any, Any]:

@@ -20,12 +20,16 @@ from ._reading import (
     read_block,
     read_sheet,
 )
-from ._sheet import PORT, TODAY, StyleSheet, holds
+from ._selectors import PORT, TODAY, states_in
+from ._sheet import StyleSheet, holds
 from ._tokens import attributes_of, decode_value
+from ._tree import STATES
 
 _PAGES = (".html", ".htm", ".xhtml", ".svg", ".xml")
 # The at-rules whose blocks have declarations.
 _DECLARING = frozenset("counter-style font-face font-palette-values page property view-transition viewport".split())
+# The states that elements of trees may have.
+_KNOWN_STATES = frozenset((*STATES, "any-link"))
 # How many characters of a text a message has.
 _SHOWN = 60
 
@@ -84,8 +88,10 @@ def _problems_of_rule(rule: RuleSet, shows_all: bool) -> Iterator[_Problem]:
     if not rule.is_closed:
         yield "block not closed", rule.head
     for each in rule.selectors if shows_all else ():
-        if not each.is_read:
-            yield "selector not matched", each.span
+        if each.specificity is None:
+            yield "selector not evaluated", each.span
+        elif not _KNOWN_STATES.issuperset(states_in(each.front)):
+            yield "pseudo-class not evaluated", each.span
     for item in rule.items:
         yield from _problems_of_item(item, shows_all)
 

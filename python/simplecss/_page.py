@@ -7,6 +7,7 @@ from html import unescape
 from typing import Dict, List, NamedTuple, Optional, Tuple
 
 from ._html import HTML, Builder, TooDeep
+from ._selectors import Reading
 from ._tokens import BLANKS, Attribute, attributes_of
 from ._tree import Tree, TreeError
 from ._xml import XmlError, is_xml, read_xml
@@ -92,7 +93,7 @@ class Page:
             raise TreeError(str(error), None, None) from None
         self.tree = Tree()
         nodes = self.tree._take_nodes(root, self.text)
-        self.tree._read_as(True, builder.is_quirky)
+        self.tree._reading = Reading.QUIRKS if builder.is_quirky else Reading.HTML
         self._doctype_end = builder.doctype_end
         seen = set()
         for node in nodes:

@@ -11,6 +11,7 @@ from typing import Any, Dict, Iterable, Iterator, List, NamedTuple, Optional, Se
 
 from . import _library as library
 from ._declaration import Declaration
+from ._selectors import Specificity, specificity_of
 
 Span = Tuple[int, int]
 
@@ -90,12 +91,12 @@ class Source:
 
 class ReadSelector(NamedTuple):
     """A selector of a list: its `text`, what of it is before a pseudo-element at its end, the name of
-    that one, and whether the library matches what is before it."""
+    that one, and the specificity of the whole, if the library matches what is before it."""
 
     text: str
     front: str
     pseudo_element: Optional[str]
-    is_read: bool
+    specificity: Optional[Specificity]
     span: Span
 
 
@@ -249,8 +250,9 @@ class _Reader:
             before = self.source.data[start : element[0]]
             # Before the name are one colon or two.
             front = element[0] - (len(before) - len(before.rstrip(b":")))
-        at = self.source.at
-        return ReadSelector(at((start, end)), at((start, front)), name, value["is_read"], (start, end))
+        at, numbers = self.source.at, value["specificity"]
+        specificity = None if numbers is None else specificity_of(numbers)
+        return ReadSelector(at((start, end)), at((start, front)), name, specificity, (start, end))
 
     def _declaration(self, value: Dict[str, Any]) -> ReadDeclaration:
         name = self.source.at(value["name"])

@@ -1,16 +1,32 @@
-"""Selectors, and how they are read for the elements of HTML and XML."""
+"""Selectors, what the library reads of them, and what it matches."""
 
 from __future__ import annotations
 
-import functools
+import enum
 import json
 import re
-from typing import TYPE_CHECKING, Any, Dict, Iterable, List, Match, NamedTuple, Sequence, Tuple
+from typing import (
+    TYPE_CHECKING,
+    Any,
+    Dict,
+    FrozenSet,
+    Iterable,
+    List,
+    NamedTuple,
+    Optional,
+    Sequence,
+    Tuple,
+)
 
 from . import _library as library
+from ._tokens import lower
 
 if TYPE_CHECKING:
     from ._tree import Element
+
+# The names of the grammars: that of browsers, and that of the Rust crate.
+TODAY = "today"
+PORT = "simplecss"
 
 # The attributes whose values HTML compares without case (HTML Standard, "Case-sensitivity of
 # selectors").
@@ -20,14 +36,14 @@ _WITHOUT_CASE = frozenset(
     " link media method multiple nohref noresize noshade nowrap readonly rel rev rules scope"
     " scrolling selected shape target text type valign valuetype vlink".split()
 )
-# The parts of a printed selector: what an attribute must be, and the rest.
-_PART = re.compile(
-    r"\[([^\]=~|']+)(?:([~|]?=)'(.*?)')?\](?=[\[: ]|\Z)"
-    r"|[^\[]+|\[",
-    re.DOTALL,
+# An escape, a string or a comment of a selector, in which nothing else begins.
+OPAQUE = r"""\\.|"(?:[^"\\]|\\.)*"|'(?:[^'\\]|\\.)*'|/\*.*?\*/"""
+_PSEUDO_NAME = re.compile(rf"{OPAQUE}|:([-\w]*)", re.DOTALL)
+# The pseudo-classes that depend only on the tree.
+_OF_TREE = frozenset(
+    "root empty first-child last-child only-child first-of-type last-of-type only-of-type nth-child"
+    " nth-last-child nth-of-type nth-last-of-type lang not is where".split()
 )
-# The attribute that has a class as it is, where the words of `class` are parted by spaces.
-WHOLE_CLASS = "-whole-class"
 
 
 class SelectorError(ValueError):
@@ -46,37 +62,48 @@ class SelectorError(ValueError):
         return f"{self.row}:{self.column}: {self.reason}"
 
 
-class Reading(NamedTuple):
-    """How selectors are read for a tree: whether names compare without case, classes and ids too,
-    and whether a class has lines or TABs."""
+class Reading(enum.IntEnum):
+    """How names and values are compared, as the library numbers it. In HTML a tree is passed with
+    names, and values that compare without case, in lower case."""
 
-    is_html: bool
-    is_quirky: bool
-    has_lines: bool
+    AS_WRITTEN = 0
+    HTML = 1
+    QUIRKS = 2
 
-    def value(self, key: str, value: str) -> str:
-        """Returns the value of an attribute as it is compared."""
-        if self.is_html and (key in _WITHOUT_CASE or self.is_quirky and key in ("class", "id")):
-            return value.lower()
-        return value
+    def compared_name(self, name: str) -> str:
+        """Returns a name as it is compared."""
+        return name if self == Reading.AS_WRITTEN else lower(name)
 
-    def _part(self, found: Match[str], quote: str) -> str:
-        key, operator, value = found.groups()
-        if key is None:
-            return found.group().lower() if self.is_html else found.group()
-        key = key.lower() if self.is_html else key
-        if operator is None:
-            return f"[{key}]"
-        quote = quote if "'" in value else "'"
-        value = self.value(key, value)
-        if key == "class" and operator != "~=" and self.has_lines:
-            key = WHOLE_CLASS
-        return f"[{key}{operator}{quote}{value}{quote}]"
+    def compared_value(self, key: str, value: str) -> str:
+        """Returns the value of an attribute, which has this name in a selector, as it is compared."""
+        return lower(value) if key in _CASELESS[self] else value
 
-    def rewrite(self, printed: str, quote: str = "'") -> str:
-        """Returns a printed selector as it is read for the tree; values with an apostrophe are in
-        these quotes, and printed in apostrophes."""
-        return _PART.sub(lambda found: self._part(found, quote), printed)
+    def attributes(self, attributes: Dict[str, str]) -> Dict[str, str]:
+        """Returns attributes as they are compared. Of two that have one name then, the first."""
+        found: Dict[str, str] = {}
+        for key, value in attributes.items():
+            key = self.compared_name(key)
+            found.setdefault(key, self.compared_value(key, value))
+        return found
+
+    def may_change(self, keys: Iterable[str]) -> FrozenSet[str]:
+        """Returns the names of attributes that are compared as others, or whose values are."""
+        caseless = _CASELESS[self]
+        return frozenset(key for key in keys if key in caseless or self.compared_name(key) != key)
+
+
+# The attributes whose values compare without case.
+_CASELESS: Dict[Reading, FrozenSet[str]] = {
+    Reading.AS_WRITTEN: frozenset(),
+    Reading.HTML: _WITHOUT_CASE,
+    Reading.QUIRKS: _WITHOUT_CASE | {"class", "id"},
+}
+
+
+def expect_grammar(grammar: str) -> None:
+    """Raises `ValueError` for what is no name of a grammar."""
+    if grammar not in (TODAY, PORT):
+        raise ValueError(f"no grammar: {grammar!r}")
 
 
 def lines_of(output: bytes) -> List[Any]:
@@ -88,11 +115,13 @@ def lines_of(output: bytes) -> List[Any]:
 Specificity = Tuple[int, int, int]
 
 
-class Printed(NamedTuple):
-    """A selector as the library prints it, and its specificity."""
+class Listed(NamedTuple):
+    """A selector of a list: its text as the library prints it, its specificity, and the name of its
+    pseudo-element, if it has one."""
 
     text: str
     specificity: Specificity
+    pseudo_element: Optional[str]
 
 
 def specificity_of(numbers: Sequence[int]) -> Specificity:
@@ -101,35 +130,30 @@ def specificity_of(numbers: Sequence[int]) -> Specificity:
     return ids, others, types
 
 
-def _list(data: bytes) -> library.Answer:
-    return library.call("simplecss_list", data, room=256 + 8 * len(data))
+def listed(text: str, grammar: str = TODAY) -> List[Listed]:
+    """Returns the selectors of a list. A text that is no list raises `SelectorError`."""
+    expect_grammar(grammar)
+    data = library.encode(text)
+    name = "simplecss_list" if grammar == PORT else "simplecss_list_level3"
+    answer = library.call(name, data, room=256 + 8 * len(data))
+    if answer.status == library.REFUSED:
+        raise selector_error(text, grammar)
+    return [
+        Listed(each["selector"], specificity_of(each["specificity"]), each.get("pseudo_element"))
+        for each in lines_of(library.output_of(name, answer))
+    ]
 
 
-def _printed(text: str) -> List[Printed]:
-    """Returns the selectors of a list, or none if it is refused."""
-    answer = _list(library.encode(text))
-    values = lines_of(answer.output) if answer.status == library.DONE else []
-    return [Printed(each["selector"], specificity_of(each["specificity"])) for each in values]
-
-
-def printed(selectors: Iterable[str]) -> Dict[str, Printed]:
-    """Returns what the library prints of selectors, by their texts, but for those that it refuses."""
-    texts = list(dict.fromkeys(selectors))
-    found = _printed(",".join(texts)) if texts else []
-    if len(found) == len(texts):
-        return dict(zip(texts, found))
-    each = ((text, _printed(text)) for text in texts)
-    return {text: one[0] for text, one in each if len(one) == 1}
-
-
-def matched(tree: library.TreeArrays, selectors: Sequence[str]) -> List[bytes]:
+def matched(
+    tree: library.TreeArrays, selectors: Sequence[str], reading: Optional[Reading]
+) -> List[bytes]:
     """Returns for each element the numbers of the selectors that match it, which begin at 1, with
-    spaces between them."""
+    spaces between them. Without a reading, the selectors are of the grammar of the Rust crate."""
     texts = [library.encode(each) for each in selectors]
     ends = library.ends_of(map(len, texts))
-    name = "simplecss_match_selectors"
-    room = 1024 + 32 * tree.count
-    answer = library.call(name, b"".join(texts), ends, tree, room=room, with_fault=True)
+    name = "simplecss_match_selectors" if reading is None else "simplecss_match_level3"
+    words = [b"".join(texts), ends, *([] if reading is None else [reading]), tree]
+    answer = library.call(name, *words, room=1024 + 32 * tree.count, with_fault=True)
     return [line.partition(b":")[2] for line in library.output_of(name, answer).split(b"\n")[:-1]]
 
 
@@ -146,68 +170,65 @@ class Numbers(Dict[bytes, List[int]]):
         return found
 
 
-@functools.lru_cache(maxsize=512)
-def prepared(selectors: str, reading: Reading) -> str:
-    """Returns a list of selectors as it is read for a tree."""
-    if not (reading.is_html or reading.has_lines):
-        return selectors
-    answer = _list(library.encode(selectors))
-    if answer.status != library.DONE:
-        return selectors
-    printed = [value["selector"] for value in lines_of(answer.output)]
-    texts = [reading.rewrite(each) for each in printed]
-    if texts == printed:
-        return selectors
-    text = ", ".join(reading.rewrite(each, '"') for each in printed)
-    answer = _list(library.encode(text))
-    if answer.status != library.DONE:
-        return selectors
-    return text if [value["selector"] for value in lines_of(answer.output)] == texts else selectors
-
-
-def selector_error(text: str) -> SelectorError:
+def selector_error(text: str, grammar: str) -> SelectorError:
     """Returns the error of a list of selectors that was refused."""
-    answer = library.call("simplecss_refusal", library.encode(text), room=4096)
+    name = "simplecss_refusal" if grammar == PORT else "simplecss_refusal_level3"
+    answer = library.call(name, library.encode(text), room=4096)
     found = lines_of(answer.output)
     if not found:
         return SelectorError("refused", 1, 1)
     return SelectorError(found[0]["reason"], found[0]["row"], found[0]["column"])
 
 
-class Selector:
-    """A selector (CSS 2.1 section 5). `str` is its text as the library prints it.
+def states_in(selector: str) -> List[str]:
+    """Returns the names of the pseudo-classes of a selector that depend on more than the tree, in
+    lower case. One with an escape is cut, and so is none of the tree."""
+    names = (found[1] for found in _PSEUDO_NAME.finditer(selector))
+    return [name.lower() for name in names if name is not None and name.lower() not in _OF_TREE]
 
-    A text that is no selector, or a list of several, raises `SelectorError`.
+
+class Selector:
+    """A selector. `str` is its text as the library prints it.
+
+    The grammar "today" reads selectors of level 3 and some of level 4, and "simplecss" those of CSS
+    2.1, as the Rust crate does. A text that is no selector, or a list of several, raises
+    `SelectorError`.
     """
 
-    def __init__(self, text: str) -> None:
-        answer = _list(library.encode(text))
-        if answer.status != library.DONE:
-            raise selector_error(text)
-        found = lines_of(answer.output)
+    def __init__(self, text: str, *, grammar: str = TODAY) -> None:
+        found = listed(text, grammar)
         if len(found) != 1:
             raise SelectorError("more than one selector", 1, 1)
         self._source = text
-        self._text: str = found[0]["selector"]
-        self._specificity = specificity_of(found[0]["specificity"])
+        self._grammar = grammar
+        self._listed = found[0]
 
     @property
     def specificity(self) -> Specificity:
-        """The numbers of ids, of attributes and pseudo-classes, and of types; each at most 255."""
-        return self._specificity
+        """The numbers of ids, of classes, attributes and pseudo-classes, and of types and
+        pseudo-elements."""
+        return self._listed.specificity
+
+    @property
+    def pseudo_element(self) -> Optional[str]:
+        """The name of the pseudo-element at the end, with which no element is matched."""
+        return self._listed.pseudo_element
 
     def matches(self, element: "Element") -> bool:
         """Whether the selector matches an element of a tree."""
-        return element.matches(self._source)
+        return element.matches(self._source, grammar=self._grammar)
 
     def __str__(self) -> str:
-        return self._text
+        return self._listed.text
 
     def __repr__(self) -> str:
-        return f"Selector({self._text!r})"
+        return f"Selector({self._listed.text!r})"
 
     def __eq__(self, other: object) -> bool:
-        return isinstance(other, Selector) and self._text == other._text
+        return isinstance(other, Selector) and self._key() == other._key()
 
     def __hash__(self) -> int:
-        return hash(self._text)
+        return hash(self._key())
+
+    def _key(self) -> Tuple[str, str]:
+        return self._grammar, self._listed.text

@@ -31,15 +31,12 @@ from ._reading import (
     Statement,
     read_sheet,
 )
-from ._selectors import Numbers, Reading, Specificity, lines_of, matched, printed, specificity_of
+from ._port import PortReading
+from ._selectors import PORT, TODAY, Numbers, Specificity, expect_grammar, lines_of, specificity_of
 from ._specified import Inherit, inherited, specified_by
 from ._tree import Element, Tree
 
 T = TypeVar("T")
-
-# The names of the grammars.
-TODAY = "today"
-PORT = "simplecss"
 
 # A media type, or what decides of the prelude of a group rule whether its rules apply.
 Media = Union[str, Callable[[str], bool]]
@@ -61,8 +58,7 @@ class Rule(NamedTuple):
 
 
 class Unmatched(NamedTuple):
-    """A rule whose selector is valid, and which the library does not match: it applies to elements
-    that nobody asked for."""
+    """A rule whose selector is valid, and which the library does not match."""
 
     selector: str
     declarations: Tuple[Declaration, ...]
@@ -142,14 +138,13 @@ class StyleSheet:
     def __init__(
         self, *texts: str, grammar: str = TODAY, limit: Optional[int] = library.USUAL_LIMIT
     ) -> None:
-        if grammar not in (TODAY, PORT):
-            raise ValueError(f"no grammar: {grammar!r}")
+        expect_grammar(grammar)
         self._texts = tuple(library.encode(text) for text in texts)
         self._grammar = grammar
         self._limit = library.NO_LIMIT if limit is None else min(max(limit, 0), library.NO_LIMIT)
         self._read: Optional[List[Tuple[Source, List[Statement]]]] = None
         self._contents: Optional[_Contents] = None
-        self._selectors: Dict[Tuple[Reading, str], _Selectors] = {}
+        self._selectors: Dict[Tuple[Optional[PortReading], str], _Selectors] = {}
 
     def __reduce__(self) -> Tuple[Any, ...]:
         texts = tuple(text.decode("utf-8") for text in self._texts)
@@ -241,7 +236,7 @@ class StyleSheet:
         match it."""
         if not isinstance(tree, Tree):
             raise TypeError(f"a Tree is expected, not {type(tree).__name__}")
-        reading = tree._reading
+        reading = tree._port_reading if self._grammar == PORT else None
         if callable(media):
             found = _Selectors(self.rules, reading, media)
         else:
@@ -250,7 +245,7 @@ class StyleSheet:
             if key not in self._selectors:
                 self._selectors[key] = _Selectors(self.rules, reading, media)
             found = self._selectors[key]
-        return found, matched(tree._arrays(), found.texts)
+        return found, tree._matched(found.texts, self._grammar)
 
     def match(self, tree: Tree, *, media: Media = "screen") -> "ByElement[List[int]]":
         """Returns for each element the indices of the rules that match it, in order.
@@ -313,9 +308,12 @@ class StyleSheet:
 
 
 class _Selectors:
-    """The selectors of the rules that apply, as they are read for a tree."""
+    """The selectors of the rules that apply; those of the Rust crate's grammar as they are read for a
+    tree."""
 
-    def __init__(self, rules: Tuple[Rule, ...], reading: Reading, media: Media) -> None:
+    def __init__(
+        self, rules: Tuple[Rule, ...], reading: Optional[PortReading], media: Media
+    ) -> None:
         groups: Dict[Tuple[Condition, ...], bool] = {(): True}
         indices = []
         for index, rule in enumerate(rules):
@@ -323,7 +321,9 @@ class _Selectors:
                 groups[rule.conditions] = all(holds(each, media) for each in rule.conditions)
             if groups[rule.conditions] and rule.pseudo_element is None:
                 indices.append(index)
-        self.texts = [reading.rewrite(rules[index].selector, '"') for index in indices]
+        self.texts = [rules[index].selector for index in indices]
+        if reading is not None:
+            self.texts = list(map(reading.rewrite, self.texts))
         self.rules = Numbers(indices)
 
 
@@ -336,22 +336,17 @@ def _rule_of_port(value: Dict[str, Any]) -> Rule:
 
 def _rules_of(sets: List[RuleSet]) -> Tuple[List[Rule], List[Unmatched]]:
     """Returns the rules of rule sets in the order of the cascade, and those that are not matched."""
-    known = printed(
-        each.front or "*" for found in sets for each in found.selectors if each.is_read
-    )
     rules: List[Rule] = []
     unmatched: List[Unmatched] = []
     for found in sets:
         declarations, conditions = found.declarations, found.conditions
         for each in found.selectors:
-            one = known.get(each.front or "*") if each.is_read else None
-            if one is None:
+            if each.specificity is None:
                 unmatched.append(Unmatched(each.text, declarations, conditions))
                 continue
-            ids, others, types = one.specificity
-            types = types if each.pseudo_element is None else min(types + 1, 255)
+            selector = each.front or "*"
             rules.append(
-                Rule(one.text, (ids, others, types), declarations, conditions, each.pseudo_element)
+                Rule(selector, each.specificity, declarations, conditions, each.pseudo_element)
             )
     rules.sort(key=lambda rule: rule.specificity)
     return rules, unmatched

@@ -4,6 +4,7 @@ from __future__ import annotations
 
 import array
 import bisect
+import itertools
 import re
 from typing import (
     Any,
@@ -23,17 +24,23 @@ from typing import (
 
 from . import _library as library
 from ._html import HTML, SVG, Builder, Node, TooDeep
-from ._selectors import WHOLE_CLASS, Reading, prepared, selector_error
+from ._port import PortReading, has_lines, prepared
+from ._selectors import PORT, TODAY, Reading, expect_grammar, matched, selector_error
 from ._tokens import decode
 from ._xml import XmlError, read_xml
 
 # The states of an element that selectors test, as numbers of the library.
 STATES = {"link": 1, "visited": 2, "hover": 4, "active": 8, "focus": 16}
+# The number of the library for an element that has a text of its own.
+_HAS_TEXT = 32
 _NONE: FrozenSet[str] = frozenset()
 _LINK = frozenset(("link",))
 _SVG_SPACE = "http://www.w3.org/2000/svg"
 _LINK_SPACES = ("", "http://www.w3.org/1999/xhtml", _SVG_SPACE)
-_WHITE_SPACE = re.compile("[\t\n\f\r]")
+# The nodes of BeautifulSoup that are no elements and no texts.
+_NO_TEXTS = frozenset(
+    ("Comment", "Doctype", "Declaration", "ProcessingInstruction", "XMLProcessingInstruction")
+)
 
 # Selectors, and the states of the elements that each matches.
 States = Mapping[str, Iterable[str]]
@@ -57,7 +64,8 @@ class TreeError(ValueError):
 
 class Item(NamedTuple):
     """An element for `Tree`: its name and attributes, the index of its parent if it has one, where
-    its start tag begins if that is known, and its states, of `STATES`."""
+    its start tag begins if that is known, its states, of `STATES`, and the text before its first
+    child."""
 
     name: str
     attributes: Dict[str, str] = {}
@@ -65,6 +73,7 @@ class Item(NamedTuple):
     row: Optional[int] = None
     column: Optional[int] = None
     states: FrozenSet[str] = _NONE
+    text: str = ""
 
 
 class Element:
@@ -139,13 +148,13 @@ class Element:
         nodes = self.tree._nodes
         return None if nodes is None else nodes[self.index]
 
-    def matches(self, selectors: str) -> bool:
+    def matches(self, selectors: str, *, grammar: str = TODAY) -> bool:
         """Whether one of the selectors matches the element."""
-        return self.index in self.tree._found_set(selectors)
+        return self.index in self.tree._found_set(selectors, grammar)
 
-    def closest(self, selectors: str) -> Optional["Element"]:
+    def closest(self, selectors: str, *, grammar: str = TODAY) -> Optional["Element"]:
         """Returns the element itself or its nearest ancestor that one of the selectors matches."""
-        found = self.tree._found_set(selectors)
+        found = self.tree._found_set(selectors, grammar)
         index = self.index
         while index >= 0:
             if index in found:
@@ -153,9 +162,9 @@ class Element:
             index = self.tree._parents[index]
         return None
 
-    def select(self, selectors: str) -> List["Element"]:
+    def select(self, selectors: str, *, grammar: str = TODAY) -> List["Element"]:
         """Returns the elements within this one that one of the selectors matches, in order."""
-        found = self.tree._found(selectors)
+        found = self.tree._found(selectors, grammar)
         first = bisect.bisect_right(found, self.index)
         last = bisect.bisect_left(found, self.tree._end_of(self.index))
         return [Element(self.tree, index) for index in found[first:last]]
@@ -178,8 +187,8 @@ class Element:
 
 
 class _Texts:
-    """The texts of a document, in order: for each how many elements begin before it, in which
-    element it is, and the text, or where it begins and ends in the source."""
+    """The texts of a document that are not empty, in order: for each how many elements begin before
+    it, in which element it is, and the text, or where it begins and ends in the source."""
 
     def __init__(self, source: Optional[str] = None) -> None:
         self.begun = array.array("l")
@@ -223,13 +232,8 @@ class Tree:
                 raise ValueError(f"no state of an element: {sorted(states - STATES.keys())[0]!r}")
             if states:
                 self._states[index] = states
-        self._read_as(False, False)
-
-    def _read_as(self, is_html: bool, is_quirky: bool) -> None:
-        """Sets how selectors are read for the elements."""
-        values = (attributes.get("class", "") for attributes in self._attributes)
-        has_lines = any(map(_WHITE_SPACE.search, values))
-        self._reading = Reading(is_html, is_quirky, has_lines)
+            if item.text:
+                self._texts.add(index + 1, index, item.text)
 
     def _clear(self) -> None:
         self._names: List[str] = []
@@ -243,22 +247,24 @@ class Tree:
         self._places: List[Tuple[Optional[int], Optional[int]]] = []
         self._spans: Optional[List[Tuple[int, int, int]]] = None
         self._source: Optional[str] = None
-        self._texts: Optional[_Texts] = None
+        self._texts = _Texts()
         self._nodes: Optional[List[Any]] = None
-        self._reading = Reading(False, False, False)
+        # How selectors are read for the elements.
+        self._reading = Reading.AS_WRITTEN
         self._forget()
 
     def _forget(self) -> None:
         """Forgets what is computed when it is needed."""
-        self._passed: Optional[library.TreeArrays] = None
-        self._answers: Dict[str, List[int]] = {}
-        self._sets: Dict[str, FrozenSet[int]] = {}
+        self._passed: Dict[str, library.TreeArrays] = {}
+        self._answers: Dict[Tuple[str, str], List[int]] = {}
+        self._sets: Dict[Tuple[str, str], FrozenSet[int]] = {}
         self._lines: Optional[List[int]] = None
         self._children: Optional[List[List[int]]] = None
+        self._read_by_port: Optional[PortReading] = None
 
     def __getstate__(self) -> Dict[str, Any]:
         state = self.__dict__.copy()
-        for key in ("_passed", "_answers", "_sets", "_lines", "_children"):
+        for key in ("_passed", "_answers", "_sets", "_lines", "_children", "_read_by_port"):
             del state[key]
         state["_nodes"] = None
         return state
@@ -274,6 +280,7 @@ class Tree:
             raise TypeError(f"an Item is expected, not {type(item).__name__}")
         if not isinstance(item.name, str) or not isinstance(item.attributes, Mapping):
             raise TypeError("an element has a text as its name and a mapping as its attributes")
+        library.expect_text(item.text)
         if item.parent is not None:
             if not 0 <= item.parent < index:
                 raise TreeError("the parent is not an earlier element", item.row, item.column)
@@ -314,7 +321,7 @@ class Tree:
             raise TreeError(str(error), None, None) from None
         tree = cls()
         tree._take_nodes(root, text, is_part)
-        tree._read_as(True, builder.is_quirky)
+        tree._reading = Reading.QUIRKS if builder.is_quirky else Reading.HTML
         return tree._with_states(states)
 
     def _take_nodes(self, root: Node, text: str, is_part: bool = False) -> List[Node]:
@@ -331,7 +338,8 @@ class Tree:
         while waiting:
             node, parent = waiting.pop()
             if not isinstance(node, Node):
-                self._texts.add(len(taken), parent, node)
+                if node[0] < node[1]:
+                    self._texts.add(len(taken), parent, node)
                 continue
             index = len(taken)
             names.append(node.name)
@@ -363,7 +371,6 @@ class Tree:
         except XmlError as error:
             raise TreeError(error.reason, error.row, error.column) from None
         tree._source = text
-        tree._texts = _Texts()
         spans = []
         for index, tag in enumerate(found.tags):
             tree._add(tag.name, tag.attributes, tag.parent)
@@ -376,7 +383,6 @@ class Tree:
         for begun, owner, value in found.texts:
             tree._texts.add(begun, owner, value)
         tree._spans = spans
-        tree._read_as(False, False)
         return tree._with_states(states)
 
     @classmethod
@@ -392,19 +398,18 @@ class Tree:
             raise TypeError(f"an element of ElementTree is expected, not {type(root).__name__}")
         tree = cls()
         tree._nodes = []
-        tree._texts = _Texts()
         waiting: List[Tuple[Any, int]] = [(root, -1)]
         while waiting:
             node, parent = waiting.pop()
             if isinstance(node, str):
-                tree._texts.add(len(tree), parent, node)
+                if node:
+                    tree._texts.add(len(tree), parent, node)
             elif isinstance(node.tag, str):
                 index = tree._take_element(node, parent)
                 for child in reversed(list(node)):
                     waiting.append((child.tail or "", index))
                     waiting.append((child, index))
                 waiting.append((node.text or "", index))
-        tree._read_as(False, False)
         return tree._with_states(states)
 
     def _take_element(self, node: Any, parent: int) -> int:
@@ -429,7 +434,7 @@ class Tree:
         top = root.getroot() if hasattr(root, "getroot") else root
         if type(top).__module__.partition(".")[0] == "lxml" and "html" in type(top).__module__:
             doctype = getattr(getattr(top.getroottree(), "docinfo", None), "doctype", "")
-            tree._read_as(True, not doctype)
+            tree._reading = Reading.HTML if doctype else Reading.QUIRKS
         return tree._with_states(states)
 
     @classmethod
@@ -439,7 +444,6 @@ class Tree:
             raise TypeError(f"an element of BeautifulSoup is expected, not {type(root).__name__}")
         tree = cls()
         tree._nodes = []
-        tree._texts = _Texts()
         has_doctype = False
         waiting: List[Tuple[Any, int]] = [(root, -1)]
         while waiting:
@@ -447,13 +451,13 @@ class Tree:
             if not hasattr(node, "contents"):
                 kind = type(node).__name__
                 has_doctype = has_doctype or kind == "Doctype"
-                if kind not in ("Comment", "Doctype", "Declaration", "ProcessingInstruction"):
+                if kind not in _NO_TEXTS and node:
                     tree._texts.add(len(tree), parent, str(node))
                 continue
             index = parent if node.name == "[document]" else tree._take_tag(node, parent)
             waiting.extend((child, index) for child in reversed(node.contents))
-        is_xml = bool(getattr(root, "_is_xml", False))
-        tree._read_as(not is_xml, not is_xml and not has_doctype)
+        if not getattr(root, "_is_xml", False):
+            tree._reading = Reading.HTML if has_doctype else Reading.QUIRKS
         return tree._with_states(states)
 
     def _take_tag(self, node: Any, parent: int) -> int:
@@ -486,7 +490,7 @@ class Tree:
             named = frozenset((names,) if isinstance(names, str) else names)
             if not named <= STATES.keys():
                 raise ValueError(f"no state of an element: {sorted(named - STATES.keys())[0]!r}")
-            for index in self._found(selectors):
+            for index in self._found(selectors, TODAY):
                 more[index] = more.get(index, self._states.get(index, _NONE)) | named
         for index, named in more.items():
             # A link is visited or not.
@@ -531,7 +535,7 @@ class Tree:
         return self._children[index]
 
     def _text_of(self, index: int) -> str:
-        return "" if self._texts is None else self._texts.within(index, self._end_of(index))
+        return self._texts.within(index, self._end_of(index))
 
     def _source_of(self, index: int) -> Optional[str]:
         if self._spans is None or self._source is None:
@@ -552,93 +556,95 @@ class Tree:
 
     # ---- selectors
 
-    def select(self, selectors: str) -> List[Element]:
+    def select(self, selectors: str, *, grammar: str = TODAY) -> List[Element]:
         """Returns the elements that one of the selectors matches, in order.
 
         The selectors are separated by commas. A text that is no such list raises `SelectorError`.
+        `grammar` is that of `Selector`.
         """
-        return [Element(self, index) for index in self._found(selectors)]
+        return [Element(self, index) for index in self._found(selectors, grammar)]
 
-    def iselect(self, selectors: str) -> Iterator[Element]:
+    def iselect(self, selectors: str, *, grammar: str = TODAY) -> Iterator[Element]:
         """Yields the elements that one of the selectors matches, in order."""
-        return (Element(self, index) for index in self._found(selectors))
+        return (Element(self, index) for index in self._found(selectors, grammar))
 
-    def select_one(self, selectors: str) -> Optional[Element]:
+    def select_one(self, selectors: str, *, grammar: str = TODAY) -> Optional[Element]:
         """Returns the first element that one of the selectors matches, or `None`."""
-        return next(self.iselect(selectors), None)
+        return next(self.iselect(selectors, grammar=grammar), None)
 
-    def _found_set(self, selectors: str) -> FrozenSet[int]:
-        if selectors not in self._sets:
+    def _found_set(self, selectors: str, grammar: str = TODAY) -> FrozenSet[int]:
+        key = (grammar, selectors)
+        if key not in self._sets:
             if len(self._sets) >= 32:
                 self._sets.clear()
-            self._sets[selectors] = frozenset(self._found(selectors))
-        return self._sets[selectors]
+            self._sets[key] = frozenset(self._found(selectors, grammar))
+        return self._sets[key]
 
-    def _found(self, selectors: str) -> List[int]:
+    def _found(self, selectors: str, grammar: str) -> List[int]:
         """Returns the indices of the elements that one of the selectors matches, in order."""
         library.expect_text(selectors)
-        if selectors not in self._answers:
+        expect_grammar(grammar)
+        key = (grammar, selectors)
+        if key not in self._answers:
             if len(self._answers) >= 32:
                 self._answers.clear()
-            self._answers[selectors] = self._find(selectors)
-        return self._answers[selectors]
+            self._answers[key] = self._find(selectors, grammar)
+        return self._answers[key]
 
-    def _find(self, selectors: str) -> List[int]:
-        text = prepared(selectors, self._reading)
-        answer = library.call(
-            "simplecss_select",
-            library.encode(text),
-            self._arrays(),
-            room=1024 + 8 * len(self),
-            with_fault=True,
-        )
+    def _find(self, selectors: str, grammar: str) -> List[int]:
+        arrays = self._arrays(grammar)
+        if grammar == PORT:
+            name = "simplecss_select"
+            words = [library.encode(prepared(selectors, self._port_reading)), arrays]
+        else:
+            name = "simplecss_select_level3"
+            words = [library.encode(selectors), self._reading, arrays]
+        answer = library.call(name, *words, room=1024 + 8 * len(self), with_fault=True)
         if answer.status == library.REFUSED:
-            raise selector_error(selectors)
-        return [int(line) - 1 for line in library.output_of("simplecss_select", answer).split()]
+            raise selector_error(selectors, grammar)
+        return [int(line) - 1 for line in library.output_of(name, answer).split()]
 
-    def _arrays(self) -> library.TreeArrays:
-        """Returns the arrays of the tree, as calls of the library take them.
+    def _matched(self, selectors: Sequence[str], grammar: str = TODAY) -> List[bytes]:
+        """Returns for each element the numbers of the selectors that match it, which begin at 1, with
+        spaces between them. Those of the grammar of the Rust crate are as they are read for the tree."""
+        reading = None if grammar == PORT else self._reading
+        return matched(self._arrays(grammar), selectors, reading)
 
-        Words of a value are parted by spaces. In `class`, other white space parts them too, and
-        selectors that compare its whole value compare that of another attribute.
-        """
-        if self._passed is None:
+    @property
+    def _port_reading(self) -> PortReading:
+        """How selectors of the grammar of the Rust crate are read for the elements."""
+        if self._read_by_port is None:
+            values = (attributes.get("class", "") for attributes in self._attributes)
+            self._read_by_port = PortReading(self._reading, any(map(has_lines, values)))
+        return self._read_by_port
+
+    def _arrays(self, grammar: str) -> library.TreeArrays:
+        """Returns the arrays of the tree, as calls of the library for a grammar take them."""
+        if grammar not in self._passed:
             try:
-                self._passed = self._make_arrays()
+                self._passed[grammar] = self._make_arrays(grammar)
             except UnicodeEncodeError as error:
                 raise TreeError(f"a text is not Unicode: {error.reason}", None, None) from None
-        return self._passed
+        return self._passed[grammar]
 
-    def _html_attributes(self, attributes: Dict[str, str]) -> Dict[str, str]:
-        """Returns attributes as HTML compares them."""
-        if not attributes:
-            return attributes
-        found: Dict[str, str] = {}
-        for key, value in attributes.items():
-            key = key.lower()
-            found.setdefault(key, self._reading.value(key, value))
-        return found
-
-    def _make_arrays(self) -> library.TreeArrays:
+    def _make_arrays(self, grammar: str) -> library.TreeArrays:
         shapes = array.array(library.SIZE)
         strings: List[str] = []
-        is_html = self._reading.is_html
+        reading = self._reading
+        port = self._port_reading if grammar == PORT else None
+        texts = set(self._texts.owners)
+        names = {name: reading.compared_name(name) for name in set(self._names)}
+        changing = reading.may_change(set(itertools.chain.from_iterable(self._attributes)))
         for index, attributes in enumerate(self._attributes):
-            states = self._states.get(index, _NONE)
-            name = self._names[index]
-            if is_html:
-                name = name.lower()
-                attributes = self._html_attributes(attributes)
-            if self._reading.has_lines and "class" in attributes:
-                value = attributes["class"]
-                attributes = {**attributes, "class": _WHITE_SPACE.sub(" ", value), WHOLE_CLASS: value}
-            shapes.append(self._depths[index])
-            shapes.append(len(attributes))
-            shapes.append(sum(map(STATES.__getitem__, states)))
-            strings.append(name)
-            for key, value in attributes.items():
-                strings.append(key)
-                strings.append(value)
+            if not changing.isdisjoint(attributes):
+                attributes = reading.attributes(attributes)
+            if port is not None:
+                attributes = port.attributes(attributes)
+            states = sum(map(STATES.__getitem__, self._states.get(index, _NONE)))
+            states += _HAS_TEXT * (index in texts)
+            shapes.extend((self._depths[index], len(attributes), states))
+            strings.append(names[self._names[index]])
+            strings.extend(itertools.chain.from_iterable(attributes.items()))
         return library.TreeArrays(shapes, strings)
 
 

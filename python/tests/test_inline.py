@@ -69,10 +69,19 @@ class Selectors(unittest.TestCase):
     def test_marks_of_html_comments_are_skipped(self):
         self.assertEqual(style_of("<!-- p { n: 1 } -->"), "n: 1")
 
-    def test_what_browsers_know_stays_alone(self):
-        for selector in ("p:hover", "p::before", "p:nth-child(2n)", "b ~ p", "p[a^=b]", "p:not(.x)"):
+    def test_what_depends_on_a_state_stays_alone(self):
+        for selector in ("p:hover", "p::before", "p:not(:hover)", "b ~ p:focus-within", "p:is(:checked, a)",
+                         "p:has(b)"):
             text = inline("<p>", f"{selector}, p {{ n: 1 }}")
             self.assertEqual(text, f'<style>\n{selector} {{ n: 1 }}\n</style><p style="n: 1">', selector)
+
+    def test_what_depends_on_the_tree_is_written(self):
+        for selector in ("p:nth-child(2n+1)", "p:not(.x)", "p[title^=b]", "p:last-of-type", "p:is(a, p)",
+                         "p:not(:empty)", "p:not(:nth-of-type(2), b)", "p[title='b:c|d']", r"p.a\:b",
+                         "p:not(.x:nth-child(2))", ":root p"):
+            style = style_of(selector + " { n: 1 }", "<body><p class='a:b' title='b:c|d'>x")
+            self.assertEqual(style, "n: 1", selector)
+        self.assertEqual(inline("<b></b><i></i><p></p>", "b ~ p { n: 1 }"), '<b></b><i></i><p style="n: 1"></p>')
 
     def test_a_list_with_what_nobody_knows_stays_whole(self):
         for selectors in ("p, p::x-y", "p < b, p", "p, x|b", "p:unknown, p", "p,", ",p", "p,,b"):
@@ -183,6 +192,17 @@ class KeptRules(unittest.TestCase):
             ("a { n: 1 } @media x { a { n: 2 } }", ""),
             ("a { n: 1 } a { & b { n: 2 } }", ""),
             ("a { n: 1 !important } @layer x { a { n: 2 !important } }", ""),
+            ("a { n: 1 } a:not(:hover) { n: 2 }", ""),
+            ("a { n: 1 } a:not(.b):hover { n: 2 }", ""),
+            ("a { n: 1 } a:not(a):hover { n: 2 }", "n: 1"),
+            ("a { n: 1 } b:is(:hover, :focus) { n: 2 }", "n: 1"),
+            ("a { n: 1 } a:is(:hover, :checked) { n: 2 }", ""),
+            ("a { n: 1 } [title=':hover']:hover { n: 2 }", "n: 1"),
+            ("a { n: 1 } b:has(c) { n: 2 }", "n: 1"),
+            ("a { n: 1 } a:has(c) { n: 2 }", ""),
+            ("a { n: 1 } :checked + b { n: 2 }", "n: 1"),
+            ("a { n: 1 } :nth-child(2):hover { n: 2 }", "n: 1"),
+            ("a { n: 1 } :nth-child(1):hover { n: 2 }", ""),
         ):
             self.assertEqual(style_of(css, "<a>"), style, css)
 
@@ -218,6 +238,10 @@ class KeptRules(unittest.TestCase):
             inline("<a>", "%s{%s}" % many)
         inline("<a>" * 100, "a{b:c}" + "%s{%s}" % (many[0].replace(",", ":hover,"), many[1]))
         self.assertEqual(style_of("a { n: 1 }" + "@media x{" * 99 + "a { n: 2 }", "<a>"), "")
+        for selector in (":has(:is(:not(:nth-child(2))%s))" % ("x" * 5000), ":not(.x)" * 5000,
+                         ":is(%s)" % ("b," * 5000 + "b"),
+                         "".join(f":not({mark}x" for mark in ".#" * 30) + ")" * 60):
+            inline("<a>", f"a{{n:1}} a{selector}:hover{{n:2}}")
 
 
 class Options(unittest.TestCase):
@@ -257,6 +281,8 @@ class Options(unittest.TestCase):
                    remove_classes=True),
             '<style>\n.b:hover { m: 2 }\n</style><p class="b" style="n: 1"><p style="n: 1" >'
             '<p id=x style="n: 1">')
+        page = r"<style>.a\:b:hover { n: 1 }</style><p class='a:b c'>"
+        self.assertIn("class='a:b c'", inline(page, remove_classes=True))
 
     def test_attributes(self):
         self.assertEqual(
@@ -270,7 +296,7 @@ class Options(unittest.TestCase):
         report = []
         inline("<a>", "@media x{} a:hover, a { n: 1 } a::before { m: 2 } a, a:q { o: 3 } a { n: 2 }", report=report)
         self.assertEqual([tuple(each) for each in report], [
-            ("@media x", "an at-rule"), ("a:hover", "it depends on a state, or is of CSS 3"),
+            ("@media x", "an at-rule"), ("a:hover", "it depends on a state of the page"),
             ("a", "a rule that stays could override it"), ("a::before", "it has a pseudo-element"),
             ("a, a:q", "a browser may drop the list"), ("a", "a rule that stays could override it")])
 

@@ -24,23 +24,71 @@ SHEET = "li { color: red; margin: 0 } ul > .a { color: blue !important } #x, p:h
 PAGE = '<ul><li class="a b">one<li id=x>two</ul><p>three'
 
 
+# Selectors, how they are printed (CSSOM, "Serializing Selectors"), and their specificity (Selectors Level 4, section
+# 17).
+PRINTED = (
+    ("a", "a", (0, 0, 1)),
+    ("*", "*", (0, 0, 0)),
+    ("ul>li.a", "ul > li.a", (0, 1, 2)),
+    ("#x  #x", "#x #x", (2, 0, 0)),
+    ("A:First-Child+b[c |= d]", 'A:first-child + b[c|="d"]', (0, 2, 2)),
+    ("a~b:not(.c,#d)", "a ~ b:not(.c, #d)", (1, 0, 2)),
+    (":where(#a) :is(b, .c)", ":where(#a) :is(b, .c)", (0, 1, 0)),
+    ("li:nth-child(odd)", "li:nth-child(2n+1)", (0, 1, 1)),
+    ("p::before", "p::before", (0, 0, 2)),
+)
+# Selectors that CSS 2.1 does not have, and the elements of the page that they match, by the standard.
+LEVEL3_PAGE = """<!DOCTYPE html><ul class="a b"><li id=1 title="x-y z">one<li id=2 class=c>two<li id=3 lang=de-AT>three
+</ul><p id=4></p><p id=5> <p id=6><!-- --></p><p id=7 class=c>x<input id=8 type=TEXT disabled>"""
+LEVEL3 = (
+    ("li:nth-child(2n+1)", "1 3"), ("li:nth-last-child(-n+2)", "2 3"), ("li:last-child, p:only-child", "3"),
+    ("p:first-of-type", "4"), ("p:nth-of-type(2)", "5"), ("p:last-of-type", "7"), ("p:nth-last-of-type(2)", "6"),
+    ("input:only-of-type", "8"), ("li:empty, p:empty", "4 6"), ("ul ~ p.c", "7"), ("li:not(#\\31 , .c)", "3"),
+    ("[title^=x]", "1"), ("[title$='z']", "1"), ("[title*='-']", "1"), ("[title^='']", ""), ("[title~='']", ""),
+    (":is(li, p).c", "2 7"), (":where(li) + li", "2 3"), (":lang(de)", "3"), ("LI:NOT(.C)", "1 2 3"),
+    ("[title='X-Y z' i]", "1"), ("[TYPE=text]", "8"), ("[title='X-Y z' s]", ""), ("[title='x-y z' s]", "1"),
+    (":root > body > p.c", "7"), (".a.b > :nth-child(even)", "2"), ("p:hover, p::before, :checked", ""),
+)
+
+
 class Selectors(unittest.TestCase):
     def test_text_and_specificity(self):
-        for text, printed, specificity in (
-            ("a", "a", (0, 0, 1)),
-            ("*", "*", (0, 0, 0)),
-            ("ul>li.a", "ul > li[class~='a']", (0, 1, 2)),
-            ("#x #x", None, (2, 0, 0)),
-            ("a:first-child + b[c|=d]", None, (0, 2, 2)),
-        ):
+        for text, printed, specificity in PRINTED:
             selector = simplecss.Selector(text)
-            self.assertEqual(selector.specificity, specificity, text)
-            if printed is not None:
-                self.assertEqual(str(selector), printed)
+            self.assertEqual((str(selector), selector.specificity), (printed, specificity), text)
             self.assertEqual(simplecss.Selector(str(selector)), selector)
+        self.assertEqual(simplecss.Selector("p::before").pseudo_element, "before")
+
+    def test_those_of_the_crate(self):
+        selector = simplecss.Selector("ul>li.a", grammar="simplecss")
+        self.assertEqual((str(selector), selector.specificity), ("ul > li[class~='a']", (0, 1, 2)))
+        self.assertNotEqual(selector, simplecss.Selector(str(selector)))
+        with self.assertRaises(ValueError):
+            simplecss.Selector("a", grammar="css")
+
+    def check_refusals(self, rows, **options):
+        for text, error in rows:
+            with self.assertRaises(simplecss.SelectorError, msg=text) as found:
+                simplecss.Selector(text, **options)
+            self.assertIsInstance(found.exception, ValueError)
+            self.assertEqual(str(found.exception), error, text)
+            position = f"{found.exception.row}:{found.exception.column}"
+            self.assertEqual(f"{position}: {found.exception.reason}", error)
 
     def test_refusals(self):
-        for text, error in (
+        self.check_refusals((
+            ("", "1:1: a blank or the end of the text begins no selector"),
+            ("a\n> > b", "2:3: `>` begins no selector"),
+            ("a[b!=c]", "1:4: `!=` is no attribute operator"),
+            ("a, b", "1:1: more than one selector"),
+            ("é:has(b)", "1:2: `:has` is no function that is read here"),
+            ("a:nth-child(x)", "1:13: `x` is no An+B"),
+            ("b,\n c[d='e]", "2:6: `'e]` is not closed"),
+            ("a {", "1:3: `{` is not expected here"),
+        ))
+
+    def test_refusals_of_the_crate(self):
+        self.check_refusals((
             ("", "1:1: selector missing"),
             ("a\n> > b", "2:3: unexpected combinator"),
             ("a[b^=c]", "1:4: invalid attribute selector"),
@@ -48,13 +96,7 @@ class Selectors(unittest.TestCase):
             ("a:foo >", "1:2: unknown pseudo-class ':foo'"),
             ("b,\n c:foo <", "2:3: unknown pseudo-class ':foo'"),
             ("a {", "1:3: unexpected text after a selector"),
-        ):
-            with self.assertRaises(simplecss.SelectorError, msg=text) as found:
-                simplecss.Selector(text)
-            self.assertIsInstance(found.exception, ValueError)
-            self.assertEqual(str(found.exception), error, text)
-            position = f"{found.exception.row}:{found.exception.column}"
-            self.assertEqual(f"{position}: {found.exception.reason}", error)
+        ), grammar="simplecss")
 
     def test_what_is_no_text(self):
         for value, name in ((b"a", "bytes"), (["a"], "list"), (None, "NoneType"), (7, "int")):
@@ -69,6 +111,16 @@ class Selectors(unittest.TestCase):
         tree = simplecss.Tree.from_html("<ul><li class=a><b>")
         self.assertTrue(simplecss.Selector("LI.a").matches(tree.select_one("li")))
         self.assertFalse(simplecss.Selector("li.b").matches(tree.select_one("li")))
+        self.assertTrue(simplecss.Selector("LI.a", grammar="simplecss").matches(tree.select_one("li")))
+
+    def test_level_3(self):
+        tree = simplecss.Tree.from_html(LEVEL3_PAGE)
+        for text, expected in LEVEL3:
+            found = [element.attributes["id"] for element in tree.select(text)]
+            self.assertEqual(found, expected.split(), text)
+            sheet = simplecss.StyleSheet(f"{text} {{ a: b }}")
+            wanted = [bool(each and each.value) for each in sheet.style(tree, "a")]
+            self.assertEqual(wanted, [element.matches(text) for element in tree], text)
 
     def test_surrogates_are_refused(self):
         with self.assertRaises(ValueError):
@@ -193,12 +245,12 @@ class Today(unittest.TestCase):
         sheet = simplecss.StyleSheet("p::before, .a:After, p { n: 1 } ::marker { m: 2 }")
         self.assertEqual([(rule.selector, rule.specificity, rule.pseudo_element) for rule in sheet.rules],
                          [("p", (0, 0, 1), None), ("*", (0, 0, 1), "marker"), ("p", (0, 0, 2), "before"),
-                          ("*[class~='a']", (0, 1, 1), "After")])
+                          (".a", (0, 1, 1), "After")])
         self.assertEqual(self.styles("p { n: 1 } p::before { n: 2 }"), ["n: 1", ""])
 
     def test_what_is_not_matched_is_no_mistake(self):
-        sheet = simplecss.StyleSheet("@media x { a ~ b, c:nth-child(2) { d: e } } f, g < h { i: j }")
-        self.assertEqual([each.selector for each in sheet.unmatched], ["a ~ b", "c:nth-child(2)"])
+        sheet = simplecss.StyleSheet("@media x { a:has(b), c:not(:is(d)) { d: e } } f, g < h { i: j }")
+        self.assertEqual([each.selector for each in sheet.unmatched], ["a:has(b)", "c:not(:is(d))"])
         self.assertEqual(sheet.unmatched[0].conditions, (("media", "x"),))
         self.assertEqual((sheet.rules, [each.reason for each in sheet.skipped]), ((), ["invalid selector"]))
 
@@ -307,12 +359,14 @@ class Trees(unittest.TestCase):
         self.assertEqual(found("[k]"), values)
         for value in ("a b", "\x01", "a=b", "a\tb", "\t", ""):
             self.assertEqual(found(f"[k='{value}']"), [value])
-        self.assertEqual(found("[k~='a']"), ["a b"])
+        self.assertEqual(found("[k~='a']"), ["a\nb", "a\tb", "a b"])
+        self.assertEqual(tree.select("[k~='a']", grammar="simplecss"), [tree[values.index("a b")]])
 
     def test_class_words(self):
         tree = simplecss.Tree.from_html('<a class="x\n\ty">')
-        self.assertEqual(tree.select(".x.y"), [tree[3]])
-        self.assertEqual(tree.select("[class='x  y'], [class='x y']"), [])
+        for grammar in ("today", "simplecss"):
+            self.assertEqual(tree.select(".x.y", grammar=grammar), [tree[3]])
+            self.assertEqual(tree.select("[class='x  y'], [class='x y']", grammar=grammar), [])
 
     def test_languages(self):
         tree = simplecss.Tree.from_html("<div lang=de-AT><p>a<p lang=EN>b</div><p>c")
@@ -321,11 +375,13 @@ class Trees(unittest.TestCase):
 
     def test_html_compares_without_case(self):
         tree = simplecss.Tree.from_html("<!DOCTYPE html><A HREF=x><INPUT TYPE=Text TITLE=Ab CLASS=C>")
-        for selectors in ("A[Href]", "input[type=TEXT]", "INPUT", "A:link"):
-            self.assertEqual(len(tree.select(selectors)), 1, selectors)
-        for selectors in ("[title=ab]", ".c", "a[HREF=X]"):
-            self.assertEqual(tree.select(selectors), [], selectors)
-        self.assertEqual(len(simplecss.Tree.from_html("<p class=A id=B>").select("p.a#b")), 1)
+        old = simplecss.Tree.from_html("<p class=A id=B>")
+        for grammar in ("today", "simplecss"):
+            for selectors in ("A[Href]", "input[type=TEXT]", "INPUT", "A:link"):
+                self.assertEqual(len(tree.select(selectors, grammar=grammar)), 1, selectors)
+            for selectors in ("[title=ab]", ".c", "a[HREF=X]"):
+                self.assertEqual(tree.select(selectors, grammar=grammar), [], selectors)
+            self.assertEqual(len(old.select("p.a#b", grammar=grammar)), 1)
 
     def test_states(self):
         page = "<a href=x>1</a><a>2</a><a href=y id=y>3</a><map><area href>"
@@ -340,6 +396,24 @@ class Trees(unittest.TestCase):
             simplecss.Tree.from_html(page, {"a": "seen"})
         sheet = simplecss.StyleSheet("a:link { b: c } a:active { b: d }")
         self.assertEqual(sheet.style(tree, "b")[tree.select_one("a")].value, "c")
+
+    def test_what_is_empty(self):
+        for text, expected in (
+            ("<p></p>", True), ("<p> </p>", False), ("<p>x</p>", False), ("<p><!-- --></p>", True),
+            ("<p><b></b></p>", False),
+            ("<pre>\n</pre>", True), ("<pre>\r\n</pre>", True), ("<pre>\n\n</pre>", False),
+            ("<textarea>\n</textarea>", True), ("<title></title>", True), ("<template>x</template>", True),
+            ("<svg><![CDATA[]]></svg>", True), ("<svg><![CDATA[x]]></svg>", False),
+        ):
+            tree = simplecss.Tree.from_html(text, is_part=True)
+            self.assertEqual(tree[0].matches(":empty"), expected, text)
+        for text, expected in (("<p/>", True), ("<p> </p>", False), ("<p><!-- --><?x?></p>", True),
+                               ("<p>&#65;</p>", False)):
+            root = xml.etree.ElementTree.fromstring(text)
+            for tree in (simplecss.Tree.from_xml(text), simplecss.Tree.from_etree(root)):
+                self.assertEqual(tree[0].matches(":empty"), expected, text)
+        tree = simplecss.Tree([simplecss.Item("a"), simplecss.Item("b", text="c"), simplecss.Item("d", parent=1)])
+        self.assertEqual(([each.name for each in tree.select(":empty")], tree[1].text), (["a", "d"], "c"))
 
     def test_names_that_cannot_be_matched(self):
         for item in (simplecss.Item("", {}), simplecss.Item("a", {}, 0)):
@@ -356,9 +430,11 @@ class OtherTrees(unittest.TestCase):
     """Trees of other packages, each left out where the package is missing."""
 
     PAGE = "<!DOCTYPE html><title>t</title><P CLASS='a b' TYPE=X>one<A HREF=x>two</A></P>"
+    EMPTY = "<div><p><!-- x --></p><b> </b><i></i>x<u><s></s></u></div>"
 
-    def check(self, tree):
-        link = tree.select_one("p.a[type=x] > A:link")
+    def check(self, tree, other):
+        self.assertEqual([each.name for each in other.select("div :empty")], ["p", "i", "s"])
+        link = tree.select_one("p.a[type=x]:not(:last-child, .c) > A:link, p.a[type=x] > A:any-link")
         self.assertEqual((link.name, link.text, link.attributes["href"]), ("a", "two", "x"))
         self.assertEqual(tree.select("p")[0].text, "onetwo")
         self.assertEqual(tree.select(".A"), [])
@@ -371,7 +447,8 @@ class OtherTrees(unittest.TestCase):
         except ImportError:
             self.skipTest("there is no lxml")
         root = lxml.html.document_fromstring(self.PAGE)
-        self.assertIs(self.check(simplecss.Tree.from_lxml(root)), root.find(".//a"))
+        other = simplecss.Tree.from_lxml(lxml.html.document_fromstring(self.EMPTY))
+        self.assertIs(self.check(simplecss.Tree.from_lxml(root), other), root.find(".//a"))
         root = lxml.etree.fromstring("<!-- --><r xmlns='x'><?y?><A b='c'>d</A>e</r>")
         tree = simplecss.Tree.from_lxml(root.getroottree())
         self.assertEqual([each.name for each in tree], ["r", "A"])
@@ -383,7 +460,8 @@ class OtherTrees(unittest.TestCase):
         except ImportError:
             self.skipTest("there is no BeautifulSoup")
         soup = bs4.BeautifulSoup(self.PAGE, "html.parser")
-        self.assertIs(self.check(simplecss.Tree.from_soup(soup)), soup.find("a"))
+        other = simplecss.Tree.from_soup(bs4.BeautifulSoup(self.EMPTY, "html.parser"))
+        self.assertIs(self.check(simplecss.Tree.from_soup(soup), other), soup.find("a"))
         tree = simplecss.Tree.from_soup(soup.find("p"))
         self.assertEqual([each.name for each in tree], ["p", "a"])
 
@@ -446,9 +524,10 @@ class Matching(unittest.TestCase):
         self.assertEqual(self.found("li"), [1, 2])
         self.assertEqual(self.found("p, .a, #x"), [1, 2, 3])
         self.assertEqual(self.found("li + li"), [2])
-        for text in ("", "li,", ",li", "li p {", "a:none"):
+        for text, grammar in (("", "today"), ("li,", "today"), (",li", "today"), ("li p {", "today"),
+                              ("a:none()", "today"), ("li ~ li", "simplecss"), ("a:none", "simplecss")):
             with self.assertRaises(simplecss.SelectorError, msg=text):
-                self.tree.select(text)
+                self.tree.select(text, grammar=grammar)
 
     def test_match(self):
         self.assertEqual(self.sheet.match(self.tree), [[], [0, 1], [0, 3], []])
@@ -574,10 +653,16 @@ class CommandLine(unittest.TestCase):
             "attributes": {"id": "x"}})
         self.assertEqual(self.run_command("select", "--quiet", "li", self.page), (0, "", ""))
         self.assertEqual(self.run_command("select", "--quiet", "table", self.page), (1, "", ""))
+        self.assertEqual(self.lines("select", "--count", "li ~ li", self.page), ["1"])
+        self.assertEqual(self.run_command("select", "--grammar", "simplecss", "li ~ li", self.page)[::2],
+                         (1, "simplecss: selector refused: 1:4: invalid ident\n"))
 
     def test_match_and_style(self):
         self.assertEqual(json.loads(self.lines("match", "--json", self.sheet, self.page)[4]),
                          {"element": 4, "name": "li", "rules": [0, 1]})
+        self.write(self.sheet, SHEET.replace("ul > .a", "ul >\n.a"))
+        lines = self.lines("match", self.sheet, self.page)
+        self.assertEqual(lines[4], f'{self.page}:1:5: <li class="a b"> li, ul > .a')
         self.assertEqual(len(self.lines("style", "color", self.sheet, self.page)), 2)
         with open(self.page, "a", encoding="utf-8") as file:
             file.write("<style>p { color: green }</style>")
@@ -657,11 +742,13 @@ class CommandLine(unittest.TestCase):
             "block-not-closed"])
 
     def test_what_is_not_evaluated(self):
-        text = "@import 'a'; b ~ c, d { e: f } @supports (g: h) { i { j: k } } @media print { l { m: n } }"
+        text = ("@import 'a'; b:has(c), d ~ d { e: f } @supports (g: h) { i { j: k } }"
+                "@media print { l:hover { m: n } } o:checked::after, [p=':q'] { r: s }")
         self.assertEqual(self.kinds(text), [])
         self.assertEqual(self.kinds(text, "--all"), [
-            ("at-rule-not-evaluated", "@import 'a';"), ("selector-not-matched", "b ~ c"),
-            ("condition-not-evaluated", "@supports (g: h)")])
+            ("at-rule-not-evaluated", "@import 'a';"), ("selector-not-evaluated", "b:has(c)"),
+            ("condition-not-evaluated", "@supports (g: h)"), ("pseudo-class-not-evaluated", "o:checked::after")])
+        text = "@import 'a'; b ~ c, d { e: f } @supports (g: h) { i { j: k } } @media print { l { m: n } }"
         self.assertEqual([kind for kind, _ in self.kinds(text, "--grammar", "simplecss")],
                          ["at-rule-not-supported", "invalid-ident", "at-rule-not-supported", "at-rule-not-supported"])
 
