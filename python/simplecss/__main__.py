@@ -396,14 +396,16 @@ def _run(words: argparse.Namespace) -> Tuple[int, str]:
         return REFUSED, str(error)
     except MemoryError:
         return OUT_OF_MEMORY, "out of memory"
-    except BrokenPipeError:
-        _drop_output()
-        return UNREADABLE, ""
     except LibraryError as error:
         return UNREADABLE, str(error)
     except OSError as error:
-        _drop_output()
-        return UNREADABLE, f"cannot write: {error.strerror}"
+        return _unwritten(error)
+
+
+def _unwritten(error: OSError) -> Tuple[int, str]:
+    """Returns the exit status where output cannot be written, and what to say on standard error."""
+    _drop_output()
+    return UNREADABLE, "" if isinstance(error, BrokenPipeError) else f"cannot write: {error.strerror}"
 
 
 def _drop_output() -> None:
@@ -440,12 +442,29 @@ def _run_aside(words: argparse.Namespace) -> Tuple[int, str]:
     return answers[0]
 
 
+def _parse(arguments: Optional[List[str]]) -> argparse.Namespace:
+    """Returns the words. Exits after the help, the version or an error of words, and raises an
+    `OSError` where one of these cannot be written."""
+    try:
+        return _parser().parse_args(arguments)
+    except SystemExit:
+        if sys.stdout is not None:
+            sys.stdout.flush()
+        raise
+
+
 def main(arguments: Optional[List[str]] = None) -> int:
     """Runs the command line. Returns the exit status: 0 done, 1 refused or found, 2 wrong words, 3
     out of memory, 4 a file that cannot be read or written."""
     global _progress
     _progress = _Progress()
-    words = _parser().parse_args(arguments)
+    try:
+        words = _parse(arguments)
+    except OSError as error:
+        status, message = _unwritten(error)
+        if message:
+            _say(message)
+        return status
     reconfigure = getattr(sys.stdout, "reconfigure", None)
     if reconfigure is not None:
         reconfigure(encoding="utf-8", newline="\n")

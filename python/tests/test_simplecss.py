@@ -801,6 +801,8 @@ class CommandLine(unittest.TestCase):
         if os.path.exists("/dev/full"):
             self.assertEqual(self.run_shell("$RUN select p $PAGE >/dev/full"),
                              (4, "", "simplecss: cannot write: No space left on device\n"))
+            self.assertEqual(self.run_shell("$RUN select --help >/dev/full"),
+                             (4, "", "simplecss: cannot write: No space left on device\n"))
         self.assertEqual(self.run_shell("$RUN select p - <&-")[::2],
                          (4, "simplecss: cannot read -: standard input is closed\n"))
         self.assertEqual(self.run_shell("$RUN select p $PAGE >&-")[::2],
