@@ -7,6 +7,7 @@ ghost use Rattle.css_sheet.specs.SheetRuleViews.{sheet_rule_of};
 
 use css_syntax::Declarations;
 use selectors3::{Selector3, Specificity};
+use selectors3_index::HasSelector3;
 
 /// A style rule with one selector. The rules of one rule set share the text of its block.
 ///
@@ -52,5 +53,15 @@ impl<'a> SheetRule<'a> {
     {
         let counts = self.specificity();
         [counts.ids, counts.classes, counts.names]
+    }
+}
+
+/// An index of rules finds one with a pseudo-element too, where its selector matches.
+impl<'a> HasSelector3 for SheetRule<'a> {
+    ghost selector_in = { λ rule. rule.selector };
+
+    #[inline(always)]
+    fn selector(&self) -> &Selector3<'_> {
+        &self.selector
     }
 }
