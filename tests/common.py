@@ -1,11 +1,16 @@
-"""What the scripts of this folder share: counted expectations, runs in which a request for memory is refused, and real
-sheets."""
+"""What the scripts of this folder share: counted expectations, runs in which a request for memory is refused, real
+sheets, and what a browser answers."""
 from __future__ import annotations
 
 import glob
+import html
+import json
 import os
+import re
+import shutil
 import subprocess
-from typing import Any, List, Sequence, Tuple
+import tempfile
+from typing import Any, List, Optional, Sequence, Tuple
 
 
 class Counts:
@@ -57,3 +62,22 @@ def real_sheets(folder: str) -> List[str]:
         if len(text) < 300_000 and not set(text) & {"\0", "\1"}:
             found.add(text)
     return sorted(found)
+
+
+def browser_answers(template: str, work: Any) -> Optional[Any]:
+    """What a browser answers on a page of this template, or None if there is none or it does not answer."""
+    browser = shutil.which("chromium") or shutil.which("chromium-browser")
+    if not browser:
+        return None
+    with tempfile.TemporaryDirectory() as folder:
+        page = os.path.join(folder, "page.html")
+        with open(page, "w", encoding="utf-8") as file:
+            file.write(template % json.dumps(work).replace("<", "\\u003c"))
+        words = [browser, "--headless", "--no-sandbox", "--disable-gpu", f"--user-data-dir={folder}/profile",
+                 "--virtual-time-budget=60000", "--dump-dom", "file://" + page]
+        try:
+            made = subprocess.run(words, capture_output=True, check=False, timeout=120)
+        except subprocess.TimeoutExpired:
+            return None
+    answer = re.search(r"ANSWER(.*)END", made.stdout.decode(), re.DOTALL)
+    return json.loads(html.unescape(answer[1])) if answer else None

@@ -9,18 +9,15 @@ of them what it would judge is left out, and a line says so. The trees and the t
 line is 'N passed, M failed'.
 """
 import argparse
-import html
 import json
 import os
 import random
 import re
-import shutil
 import subprocess
 import sys
-import tempfile
 from typing import Any, Dict, List, Optional, Sequence, Tuple, Union
 
-from common import Counts
+from common import Counts, browser_answers
 
 # An element: its name, its attributes, and its children, which are elements and texts.
 Element = Tuple[str, Dict[str, str], List[Any]]
@@ -283,25 +280,6 @@ def soup_finds(work: List[Tuple[Element, List[str]]]) -> Optional[List[List[Foun
     made = subprocess.run(words + [SOUP], input=json.dumps(work), stdout=subprocess.PIPE, text=True, check=True)
     answers: List[List[Found]] = json.loads(made.stdout)
     return answers
-
-
-def browser_answers(template: str, work: Any) -> Optional[Any]:
-    """What a browser answers on a page of this template, or None if there is none or it does not answer."""
-    browser = shutil.which("chromium") or shutil.which("chromium-browser")
-    if not browser:
-        return None
-    with tempfile.TemporaryDirectory() as folder:
-        page = os.path.join(folder, "selectors.html")
-        with open(page, "w", encoding="utf-8") as file:
-            file.write(template % json.dumps(work).replace("<", "\\u003c"))
-        words = [browser, "--headless", "--no-sandbox", "--disable-gpu", f"--user-data-dir={folder}/profile",
-                 "--virtual-time-budget=60000", "--dump-dom", "file://" + page]
-        try:
-            made = subprocess.run(words, capture_output=True, check=False, timeout=120)
-        except subprocess.TimeoutExpired:
-            return None
-    answer = re.search(r"ANSWER(.*)END", made.stdout.decode(), re.DOTALL)
-    return json.loads(html.unescape(answer[1])) if answer else None
 
 
 def browser_finds(work: List[Tuple[Element, List[str]]]) -> Optional[List[List[Found]]]:

@@ -18,7 +18,7 @@ import subprocess
 import sys
 from typing import Any, Iterator, List, Optional, Sequence, Tuple
 
-from common import Counts, real_sheets
+from common import Counts, browser_answers, real_sheets
 
 # What the program prints of an item, and what the tables have of a declaration, a statement and a selector.
 Fields = Tuple[str, ...]
@@ -35,6 +35,21 @@ PIECES = (
 MORE = PIECES + (
     "{", "}", "{}", "{a:b}", "@media x", "@import 'y';", "a", "b ", ",", ".c", "#d", "<!--", "-->", "@f{g{h:i}}", "}", "}",
 )
+
+# The pieces of random style attributes for a browser.
+STYLE = (
+    "color", "width", "content", "--x", ":", ":", ":", ":", ";", ";", "red", "1px", "url(x", "url('y')", "calc(1px + (2px", ")", "'s", "'", '"',
+    "(", "[", "]", "{", "}", "!important", " ", "/*", "*/", "c\\6f lor", "rgb(1,2,3)", ",", "color:red;", "width:1px;", "content:'a", "--y:{a;b}",
+)
+STYLES = """
+<!DOCTYPE html><meta charset=utf-8><script id=input type="application/json">%s</script>
+<script>
+const style = document.createElement("p").style;
+function kept(text) { style.cssText = ""; style.cssText = text; return style.cssText; }
+const answers = JSON.parse(document.getElementById("input").textContent).map(pair => pair.map(kept));
+document.documentElement.textContent = "ANS" + "WER" + JSON.stringify(answers) + "END";
+</script>
+"""
 
 # The pieces of random declarations with escapes in their names.
 ESCAPES = (
@@ -343,6 +358,12 @@ def names_of(today: str, texts: Sequence[str]) -> Iterator[List[Fields]]:
         yield [item[1:] for item in items]
 
 
+def printed_of(today: str, texts: Sequence[str]) -> List[str]:
+    """The declarations of each text as they are printed, with what closes their values."""
+    reply = subprocess.run([today, "printed"], input="\0".join(texts).encode(), stdout=subprocess.PIPE, check=True).stdout.decode()
+    return reply.split("\0")[:-1]
+
+
 def statement(kind: str, name: str, prelude: str, block: str) -> Stated:
     """A statement as the tables have it."""
     if kind == "rule set":
@@ -397,12 +418,17 @@ def check_selectors(today: str, counts: Counts) -> None:
         counts.expect(found == wanted, f"{selectors!r} has {found}, and not {wanted}")
 
 
+def one_blank(text: str) -> str:
+    """A selector with one blank for several and for comments, since soupsieve refuses two before a combinator; the blank that ends
+    an escape stays."""
+    return re.sub(r"(\\[0-9a-f]+ )|(?: |/\*.*?\*/)+", lambda found: found[1] or " ", text)
+
+
 def beside_soupsieve(today: str, counts: Counts, count: int) -> None:
     """Compares what a selector finds with what its printed text finds, where the library reads it."""
     texts = random_texts(SELECTOR_PIECES, count, 3, ("",))
     read = [item[:2] for items in selectors_of(today, [text + "{}" for text in texts]) for item in items if item[1] and not item[2]]
-    # (soupsieve refuses two blanks before a combinator.)
-    pairs = {(re.sub(" +", " ", text), re.sub(" +", " ", printed)) for text, printed in read}
+    pairs = {(one_blank(text), printed) for text, printed in read}
     work = {"page": PAGE, "selectors": sorted(pairs)}
     reply = subprocess.run(["/usr/bin/python3", "-c", FINDS], input=json.dumps(work), stdout=subprocess.PIPE, text=True, check=True).stdout
     for (text, printed), equal in zip(work["selectors"], json.loads(reply)):
@@ -444,6 +470,47 @@ def beside(today: str, counts: Counts, what: str, texts: Sequence[str], kind: st
     print(f"{len(texts)} {kind}: {items} {what} compared; {left_out} left out: a bare backslash, or two in an address")
 
 
+def theirs(texts: Sequence[str]) -> List[Any]:
+    """The declarations that tinycss2 reads of each text."""
+    work = {"what": "declarations", "texts": texts, "found": [[] for _ in texts]}
+    reply = subprocess.run(["/usr/bin/python3", "-c", THEIRS], input=json.dumps(work), stdout=subprocess.PIPE, text=True, check=True).stdout
+    found: List[Any] = json.loads(reply)[0]
+    return found
+
+
+def without_ends(found: Any) -> Any:
+    """What tinycss2 reads, without the ends of strings and addresses: it has none where the end of the text closed one."""
+    if isinstance(found, list):
+        return list(map(without_ends, found))
+    if isinstance(found, str) and found.startswith(('"', "url(")):
+        return found.rstrip('"' if found[0] == '"' else ")")
+    return found
+
+
+def beside_printed(today: str, counts: Counts, texts: Sequence[str]) -> None:
+    """Compares what tinycss2 reads of texts, and of what is printed of their declarations."""
+    printed = printed_of(today, texts)
+    for text, read, other in zip(texts, theirs(texts), theirs(printed)):
+        if not (escaped_in_bad_url(text) or has_bare_end(text)):
+            counts.expect(without_ends(read) == without_ends(other), f"printed of {text!r}: tinycss2 has {other}, and not {read}")
+    print(f"{len(texts)} texts printed, and read again by tinycss2")
+
+
+def browser_reads(today: str, counts: Counts, texts: Sequence[str]) -> None:
+    """Compares what a browser keeps of style attributes, and of what is printed of these. It keeps a custom property that is
+    open at the end as it is written."""
+    read = declarations_of(today, texts)
+    texts = [text for text, found in zip(texts, read) if not any(one[0].startswith("--") and "open" in one[2] for one in found)]
+    printed = printed_of(today, texts)
+    answers = browser_answers(STYLES, list(zip(texts, printed)))
+    if answers is None:
+        print("left out: printed declarations beside chromium, which is missing or does not answer")
+        return
+    for text, shown, (kept, other) in zip(texts, printed, answers):
+        counts.expect(kept == other, f"{text!r}: chromium keeps {kept!r}, and of {shown!r} {other!r}")
+    print(f"{len(texts)} style attributes printed, and read by chromium: {sum(bool(one[0]) for one in answers)} with declarations")
+
+
 def random_texts(pieces: Sequence[str], count: int, seed: int, starts: Sequence[str]) -> List[str]:
     """Random texts, the same in each run."""
     source = random.Random(seed)
@@ -470,9 +537,11 @@ def main() -> int:
         beside_soupsieve(words.today, counts, words.count)
     else:
         print("left out: random selectors beside soupsieve, since python3-soupsieve or python3-html5lib is missing")
+    browser_reads(words.today, counts, random_texts(STYLE, 400, 5, ("", "color:", "--x:", "width:1px;color:")))
     if has_modules("tinycss2"):
         lists = random_texts(PIECES, words.count, 1, ("", "a:", "a:", "--x:", "a:b;c:"))
         beside(words.today, counts, "declarations", lists, "random texts")
+        beside_printed(words.today, counts, lists)
         beside(words.today, counts, "names", random_texts(ESCAPES, words.count, 4, ("", "a", "--")), "random texts")
         beside(words.today, counts, "statements", random_texts(MORE, words.count, 2, ("",)), "random texts")
         sheets = real_sheets(words.sheets)

@@ -1,7 +1,7 @@
 //! An example: reads texts by the rules of today's style sheets, `today statements`, `today
-//! declarations`, `today names`, `today rules`, `today selectors` or `today order`. The texts are on
-//! standard input, and a NUL byte separates them. For each text, what it has is printed in fields, of
-//! which each ends with the byte 1; a NUL byte ends the text.
+//! declarations`, `today names`, `today rules`, `today selectors`, `today order` or `today printed`.
+//! The texts are on standard input, and a NUL byte separates them. For each text, what it has is
+//! printed in fields, of which each ends with the byte 1; a NUL byte ends the text.
 //!
 //! The fields of a statement are its kind, its name, its prelude and its block; those of an item of
 //! a list are its kind, its name, its value and its flags. What is skipped has its fault in place
@@ -10,13 +10,15 @@
 //! each, why it is dropped, its prelude and its block; those of its selectors are the text, the
 //! selector of level 3 that is read of it, the name of the pseudo-element, and why the rule set is
 //! dropped. With `order` the rules are printed in the order of the cascade, but for those in `@media
-//! print`: the text of the selector, the name of the pseudo-element and the block.
+//! print`: the text of the selector, the name of the pseudo-element and the block. With `printed` the
+//! declarations are printed, not in fields, each with what closes its value and a blank.
 #![tactic(auto)]
 
 use css_selectors::prelude_fault;
 use css_sheet::{RuleSelector, SheetReader, read_selectors, read_sheet};
 use css_syntax::{
-    AtRule, Declaration, Declarations, Fault, Item, RuleSet, Statement, Statements, decode,
+    AtRule, Declaration, Declarations, Fault, Item, RuleSet, Statement, Statements, closed_value,
+    decode,
 };
 use std::alloc::Global;
 use std::borrow::CowStr;
@@ -233,6 +235,30 @@ fn write_order<W: Write>(alloc: Global, out: &mut W, text: &str) -> io::Result<(
     Ok(())
 }
 
+/// Writes a declaration, with what closes its value where the end of the text did.
+fn write_closed<W: Write>(alloc: Global, out: &mut W, one: &Declaration<'_>) -> io::Result<()> {
+    let Some(value) = closed_value(alloc, one.value)? else {
+        return Ok(());
+    };
+    let whole = Declaration {
+        name: one.name,
+        value: value.as_str(),
+        important: one.important,
+        closed: true,
+    };
+    write!(out, "{whole} ")
+}
+
+/// Writes the declarations of a text as they are printed.
+fn write_printed<W: Write>(alloc: Global, out: &mut W, text: &str) -> io::Result<()> {
+    for part in Declarations::new(text) {
+        if let Item::Declaration(one) = &part.item {
+            write_closed(alloc, out, one)?;
+        }
+    }
+    Ok(())
+}
+
 /// What is read of a text.
 #[derive(Clone, Copy)]
 enum Part {
@@ -242,6 +268,7 @@ enum Part {
     Names,
     Selectors,
     Order,
+    Printed,
 }
 
 /// The part with this name.
@@ -252,6 +279,7 @@ fn part_of(word: &str) -> Part {
         "names" => Part::Names,
         "selectors" => Part::Selectors,
         "order" => Part::Order,
+        "printed" => Part::Printed,
         _ => Part::Declarations,
     }
 }
@@ -265,6 +293,7 @@ fn write_text<W: Write>(alloc: Global, out: &mut W, text: &str, part: Part) -> i
         Part::Names => write_names(alloc, out, text)?,
         Part::Selectors => write_selectors(alloc, out, text)?,
         Part::Order => write_order(alloc, out, text)?,
+        Part::Printed => write_printed(alloc, out, text)?,
     }
     out.write_all(b"\x00")
 }
