@@ -295,8 +295,18 @@ def _lint_files(words: argparse.Namespace) -> int:
     return status or (REFUSED if found else DONE)
 
 
+class _ArgumentParser(argparse.ArgumentParser):
+    """A parser of words that raises an `OSError` where its help cannot be written, as that of the
+    standard library does in some versions alone."""
+
+    def _print_message(self, message: str, file: Any = None) -> None:
+        stream = sys.stderr if file is None else file
+        if message and stream is not None:
+            stream.write(message)
+
+
 def _parser() -> argparse.ArgumentParser:
-    parser = argparse.ArgumentParser(prog="simplecss", description="CSS on real files.")
+    parser = _ArgumentParser(prog="simplecss", description="CSS on real files.")
     parser.add_argument("--version", action="version", version=f"simplecss {__version__}")
     commands = parser.add_subparsers(dest="command", required=True)
 
