@@ -7,6 +7,8 @@ pub mod GapLemmas
 pub mod EscapeLemmas
 pub mod PrintLemmas
 pub mod KeyLemmas
+mod BoundLemmas
+mod PlacementListLemmas
 mod SpelledAgain
 mod NumbersAgain
 mod CompoundsAgain

@@ -6,6 +6,7 @@ pub mod KeyViews
 pub mod Keys
 pub mod Meanings
 pub mod Numbers
+pub mod PlacementLists
 pub mod Printing
 pub mod ReadSelectors
 pub mod ReadViews
@@ -15,6 +16,7 @@ pub mod RefusalWords
 pub mod Specificities
 pub mod SpecificityViews
 pub mod Spellings
+pub mod TestBounds
 pub mod TriedElements
 pub mod Views
 pub mod WellFormed
