@@ -1,0 +1,261 @@
+#!/usr/bin/env python3
+"""Selectors of level 3 judged by the tests of other projects: cssselect, css-select (with those of Sizzle, NWMatcher
+and qwery), css-what (with web-platform-tests of reading), jQuery, cascadia (with web-platform-tests of matching),
+nokogiri and Servo's crate `selectors`.
+
+    judges.py [--all] [PROJECT..]    of these projects, else of all; `--all` lists each selector that is not judged
+
+The tests are fetched from Debian's archive by apt-get, once, into out/judges; suites of JavaScript are run by node. What
+cannot be fetched or run is left out, and a line says so. Of these tests, those of selectors outside the grammar are
+counted by what they need. The library is built by `./build library`. The last line is 'N passed, M failed'.
+"""
+from __future__ import annotations
+
+import argparse
+import collections
+import os
+import re
+import sys
+from typing import Callable, Dict, Iterator, List, Optional, Sequence, Set, Tuple
+
+TOP = os.path.dirname(os.path.dirname(os.path.abspath(__file__)))
+sys.path.insert(0, os.path.join(TOP, "python"))
+
+import judges_tests  # noqa: E402
+from common import Counts  # noqa: E402
+from simplecss import Element, SelectorError, Tree  # noqa: E402
+from simplecss._selectors import OPAQUE, Listed, listed  # noqa: E402
+
+# Pseudo-classes that no standard has, of jQuery, css-select, cascadia, nokogiri and cssselect.
+EXTENSIONS = (
+    "contains icontains containsown haschild matches matchesown eq gt lt nth first last even odd only parent header input"
+    " button submit reset image radio checkbox text password file selected hidden visible animated humanoid foovalue foo"
+    " aaron first-or-second five-attributes nb-attr"
+).split()
+# Pseudo-classes of what a browser knows of an element besides the tree, or of the call.
+STATES = "checked disabled enabled target scope host host-context focus-visible".split()
+# What a text outside the grammar has, where strings, escapes and comments are blank, and arguments without lists.
+OUTSIDE = (
+    (":has()", re.compile(r":has\(", re.IGNORECASE)),
+    ("an extension", re.compile(rf"[!#]=|@|//?|(?<!\\)<|\[\d|\w\(\)|(?<!:):({'|'.join(EXTENSIONS)})(?![-\w])", re.IGNORECASE)),
+    ("a state or what a call is about", re.compile(rf":({'|'.join(STATES)})(?![-\w])", re.IGNORECASE)),
+    ("`of` in :nth-child()", re.compile(r":nth-(last-)?child\([^)]*\bof\b", re.IGNORECASE)),
+    ("a pseudo-element with arguments, or further ones", re.compile(r"::[-\w]+\(|::(attr|text|name)")),
+    ("a namespace or the column combinator", re.compile(r"\|(?!=)")),
+)
+# What one has that other projects read, and whose refusal is judged.
+ONLY_READ = (
+    ("a combinator at the beginning", re.compile(r"(^|,)\s*[>+~]")),
+    ("a pseudo-class after a pseudo-element", re.compile(r"::[-\w]+:(?!:)")),
+)
+LIST = re.compile(r":(is|where|not|matches)\(", re.IGNORECASE)
+
+# Where a project's tests and the standards differ: why the answer here is right, and the texts.
+DIFFERENCES: Tuple[Tuple[str, Dict[str, Sequence[str]]], ...] = (
+    ("a selector has a compound at least (Selectors 3, section 4)", {
+        "css-select": ("", " ", "\t"),
+        "css-what": ("", " ", "\t"),
+    }),
+    ("the value of an attribute is a name or a string (Selectors 3, section 6.3)", {
+        "css-select": (
+            "[test=]", "a[href*=#]", "p a[href*=#]", "p a[href^=#]", "#qunit-fixture option[value=1]",
+            "#qunit-fixture li[tabIndex=-1]",
+        ),
+        "css-what": (
+            "[test=]", "a[href*=#]", "p a[href*=#]", "p a[href^=#]", "#qunit-fixture option[value=1]",
+            "#qunit-fixture li[tabIndex=-1]",
+        ),
+        "nokogiri": ("img[width=200]",),
+    }),
+    ("an id is a name (Selectors 3, section 6.5)", {
+        "css-what": ("#.identifier",),
+        "nokogiri": ("#3 ~ p", "#5 ~ p", "#3 + p", "#5 + p"),
+    }),
+    ("a newline is in no string (CSS Syntax 3, section 4.3.5)", {"css-what": ('[value="\nsome text\n"]',)}),
+    ("the argument is no An+B (CSS Syntax 3, section 6)", {
+        "css-what": (
+            ":nth-child(- 1n)", ":nth-child(-)", ":nth-child(-1 n)", ":nth-child(2+0)", ":nth-child(2n+-0)",
+            ":nth-child(asdf)",
+        ),
+    }),
+    ("no standard has a function of this name", {
+        "css-what": (":first-child(n)", ":last-child(n)", ":only-child(n)", ":nth-last-last-child(1)", ":bar(baz)"),
+    }),
+    ("a name of a pseudo-class or a pseudo-element that is not known is read, and matches no element", {
+        "css-select": (":visble", ":nth-child", ":first-last-child", ":last-last-child", ":only-last-child"),
+        "cascadia": ("div:example", ":example", "div::example", "::example"),
+    }),
+    ("a selector may have a pseudo-element (Selectors 3, section 7)", {"css-select": ("::after",)}),
+    ("a type selector is of the local name (Selectors 3, section 6.1.1)", {"css-select": ("soap\\:Envelope",)}),
+    ("classes are compared without case in a page without a doctype (Selectors 4, section 6.6)", {
+        "cascadia": ("div.teST",),
+    }),
+    ("only an empty value begins, ends or is in none (Selectors 3, section 6.3.2)", {
+        "cascadia": ('p[class$=" "]', 'p[class^=" "]', 'p[class*=" "]'),
+    }),
+    ("an element with white space is not empty (Selectors 3, section 6.6.5.12)", {
+        "cascadia": ("#pseudo-empty p:empty", "#pseudo-empty :empty"),
+    }),
+    ("links are `a` and `area` (HTML Standard, `:link`)", {
+        "cssselect": (":link",),
+        "cascadia": ("#head :link, #head :visited",),
+    }),
+    ("an element is counted among those of its type, whatever else the selector has (Selectors 3, section 6.6.5.4)", {
+        "nokogiri": ("div .a:nth-of-type(2n)", "div .a:nth-of-type(2n+1)"),
+    }),
+    ("printed with `*` and with strings, as docs/DIFFERENCES.md says", {
+        "cssselect": ("*:before", ":not(*.foo)", ":not(*[foo])"),
+        "servo": (".foo:lang(en-US)",),
+    }),
+)
+
+
+def blanked(text: str) -> str:
+    """The text with an `x` in place of each escape, `""` of each string, and nothing of each comment."""
+    kinds = {"\\": "x", "/": ""}
+    return re.sub(OPAQUE, lambda found: kinds.get(found[0][0], '""'), text, flags=re.DOTALL)
+
+
+def argument(text: str, start: int) -> str:
+    """The text from an index up to the parenthesis that closes it, or up to the end."""
+    depth, end = 1, start
+    while end < len(text) and depth:
+        depth += {"(": 1, ")": -1}.get(text[end], 0)
+        end += 1
+    return text[start : end - 1 if depth == 0 else end]
+
+
+def has_complex(text: str) -> bool:
+    """Whether a list within a function has a combinator."""
+    for found in LIST.finditer(text):
+        plain = argument(text, found.end())
+        for pattern in (r"\[[^]]*\]", *[r"\([^()]*\)"] * 4):
+            plain = re.sub(pattern, "", plain)
+        if any(re.search(r"[\s>+~]", each.strip()) for each in plain.split(",")):
+            return True
+    return False
+
+
+def has_nested(text: str) -> bool:
+    """Whether a list within a function has a list within a function."""
+    return any(LIST.search(argument(text, found.end())) for found in LIST.finditer(text))
+
+
+def outside(text: str, is_refused: bool) -> Optional[str]:
+    """What puts a text outside the grammar, where it is read or, as is expected, refused."""
+    shown = blanked(text)
+    for reason, pattern in OUTSIDE if is_refused else OUTSIDE + ONLY_READ:
+        if pattern.search(shown):
+            return reason
+    if has_complex(shown):
+        return "a combinator within a list"
+    return "a list within a list" if has_nested(shown) else None
+
+
+class Judge:
+    """Counts what the tests of a project expect of selectors."""
+
+    def __init__(self, project: str, counts: Counts, shows_all: bool) -> None:
+        self.project = project
+        self.counts = counts
+        self.shows_all = shows_all
+        self.judged = 0
+        self.left_out: Dict[str, int] = collections.Counter()
+        self.rows = {text: reason for reason, each in DIFFERENCES for text in each.get(project, ())}
+        self.used: Set[str] = set()
+
+    def leave_out(self, texts: Sequence[str], reason: str) -> None:
+        """Counts an expectation that is not judged."""
+        self.left_out[reason] += 1
+        if self.shows_all:
+            print(f"{self.project}: not judged, {reason}: {', '.join(map(repr, texts))}")
+
+    def settle(self, texts: Sequence[str], holds: bool, shown: str, is_refused: bool = False) -> None:
+        """Counts an expectation of texts: one that does not hold must be a difference that is named."""
+        reason = next(filter(None, (outside(text, is_refused) for text in texts)), None)
+        if reason:
+            self.leave_out(texts, reason)
+            return
+        self.judged += 1
+        row = next((text for text in texts if text in self.rows), None)
+        if row is not None and not holds:
+            self.used.add(row)
+        else:
+            self.counts.expect(holds, f"{self.project}: {', '.join(map(repr, texts))}: {shown}")
+
+    def reads(self, text: str, is_refused: bool = False) -> None:
+        """The text is a list of selectors, or is refused."""
+        found = reading(text)
+        self.settle([text], (found is None) == is_refused, f"read as {printed(found)}", is_refused)
+
+    def reads_as(self, text: str, other: str) -> None:
+        """Both texts are read as the same."""
+        found, wanted = printed(reading(text)), printed(reading(other))
+        self.settle([text], found is not None and found == wanted, f"read as {found}, and not as {wanted}")
+
+    def prints(self, text: str, wanted: Sequence[str]) -> None:
+        """The text is printed as one of these."""
+        found = printed(reading(text))
+        self.settle([text], found in wanted, f"printed as {found}, and not as {wanted}")
+
+    def has_specificity(self, text: str, wanted: Tuple[int, ...]) -> None:
+        """The selector has this specificity."""
+        found = [each.specificity for each in reading(text) or []]
+        self.settle([text], found == [wanted], f"specificity {found}, and not {wanted}")
+
+    def finds(self, tree: Tree, text: str, wanted: object, seen: Callable[[List[Element]], object]) -> None:
+        """The text finds what is wanted, of which `seen` says how it is seen."""
+        try:
+            found = seen(tree.select(text))
+        except SelectorError as error:
+            found = error
+        self.settle([text], found == wanted, f"found {found}, and not {wanted}")
+
+    def end(self) -> None:
+        """Prints what was judged. Each difference must have shown."""
+        for text in self.rows.keys() - self.used:
+            self.counts.expect(False, f"{self.project}: {text!r} is no difference any more")
+        print(f"{self.project}: {self.judged} expectations, {len(self.used)} differences that are named")
+        for reason, count in sorted(self.left_out.items(), key=lambda each: -each[1]):
+            print(f"{self.project}: {count} not judged: {reason}")
+
+
+def reading(text: str) -> Optional[List[Listed]]:
+    """The selectors of a text, or None if it is refused."""
+    try:
+        return listed(text)
+    except SelectorError:
+        return None
+
+
+def printed(found: Optional[List[Listed]]) -> Optional[str]:
+    """Selectors as they are printed, with the names of pseudo-classes in lower case."""
+    if found is None:
+        return None
+    return re.sub(r":[-\w]+", lambda each: each[0].lower(), ", ".join(each.text for each in found))
+
+
+def chosen(names: Sequence[str]) -> Iterator[judges_tests.Project]:
+    """The projects of these names, or all."""
+    return (each for each in judges_tests.PROJECTS if not names or each.name in names)
+
+
+def main() -> int:
+    parser = argparse.ArgumentParser()
+    parser.add_argument("projects", nargs="*")
+    parser.add_argument("--all", action="store_true")
+    words = parser.parse_args()
+    counts = Counts()
+    for project in chosen(words.projects):
+        why = judges_tests.fetch(project, os.path.join(TOP, "out", "judges"))
+        if why:
+            print(f"left out: the tests of {project.name}: {why}")
+            continue
+        judge = Judge(project.name, counts, words.all)
+        project.judge(os.path.join(TOP, "out", "judges"), judge)
+        judge.end()
+    return counts.end()
+
+
+if __name__ == "__main__":
+    sys.exit(main())
