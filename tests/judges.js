@@ -1,9 +1,11 @@
-// Runs the test suites of css-select, css-what and jQuery with selectors that tests/judges.py reads and matches.
+// Runs the test suites of css-select, css-what and jQuery with selectors that tests/judges.py reads and
+// matches.
 //
 //     node judges.js SUITE FOLDER
 //
-// What a suite asks and what it expects is written to standard output, as lines of JSON, and each answer to a question
-// is read from standard input. FOLDER has the suite, with its TypeScript made JavaScript; NODE_PATH has htmlparser2.
+// Writes what a suite asks and what it expects to standard output, as lines of JSON, and reads the answer to
+// each question from standard input. FOLDER has the suite, whose TypeScript is JavaScript by then, and NODE_PATH
+// has htmlparser2 and what belongs to it.
 "use strict";
 
 const fs = require("fs");
@@ -24,7 +26,7 @@ function tell(message) {
 }
 
 function ask(question) {
-    tell({ ...question, throws });
+    tell({ kind: throws ? "refuse" : "find", ...question });
     const part = Buffer.alloc(65536);
     while (!waiting.includes("\n")) {
         const count = fs.readSync(0, part, 0, part.length);
@@ -37,14 +39,15 @@ function ask(question) {
     return answer;
 }
 
-// Says that the expectations up to the next report are not about selectors, and why.
+// Says why the expectations up to the next question are not judged.
 function leaveOut(reason) {
     tell({ leftOut: reason });
 }
 
 // ---- trees
 
-// The element as the other program reads it: its name, attributes and children. Adds it and those within to `nodes`.
+// The node as the other program reads it: a text, or an element as its name, attributes and children. Adds the
+// elements to `nodes`.
 function written(node, nodes) {
     if (node.type === "text") return node.data;
     if (node.type === "cdata") return node.children.map(each => each.data).join("");
@@ -58,12 +61,13 @@ function written(node, nodes) {
 function findIn(roots, text, options) {
     const nodes = [];
     const tree = roots.map(each => written(each, nodes)).filter(each => each !== null);
-    const answer = ask({ ask: "found", tree, text, xml: Boolean(options && options.xmlMode) });
-    if (answer.refused && throws) throw new Error(answer.refused);
+    const answer = ask({ ask: true, tree, text, xml: Boolean(options && options.xmlMode) });
+    if (answer.refused && throws) throw new Error("refused");
     return answer.found.map(index => nodes[index]);
 }
 
-// What css-select searches for a context, as forests: an element is searched below, and those of an array with them.
+// What css-select searches for a context, as forests: what is below an element, and the elements of an array
+// with what is below them.
 function forests(context) {
     if (!Array.isArray(context)) return [context.children || []];
     const groups = new Map();
@@ -78,9 +82,11 @@ function forests(context) {
 // What these options change is no matter of selectors.
 const OPTIONS = ["relativeSelector", "context", "quirksMode", "cacheResults"];
 
+// Whether a call is of no text, or of such an option. Its expectations are left out.
 function isOwn(query, options) {
     const given = options || {};
-    if (typeof query === "string" && !OPTIONS.some(each => each in given) && !(given.adapter || {}).isHovered) return false;
+    const hasOwn = OPTIONS.some(each => each in given) || (given.adapter || {}).isHovered;
+    if (typeof query === "string" && !hasOwn) return false;
     leaveOut("what css-select does besides selectors");
     return true;
 }
@@ -103,8 +109,7 @@ select.is = (element, query, options) => {
 
 select.compile = (query, options) => {
     if (isOwn(query, options)) return query;
-    const answer = ask({ ask: "read", text: query });
-    if (answer.refused && throws) throw new Error(answer.refused);
+    if (ask({ ask: true, text: query }).refused && throws) throw new Error("refused");
     return { query };
 };
 
@@ -122,6 +127,7 @@ const before = [];
 
 function named(name, body) {
     names.push(name);
+    tell({ begins: true });
     try {
         body();
     } catch (error) {
@@ -228,13 +234,12 @@ function runCssWhat(folder) {
     const types = require(path.join(folder, "src/types.js"));
     const parse = text => {
         if (throws) {
-            const answer = ask({ ask: "read", text });
-            if (answer.refused) throw new Error(answer.refused);
+            if (ask({ ask: true, text }).refused) throw new Error("refused");
         }
         const compare = wanted => tell({ name: names.join(", "), text, parsed: wanted });
         return { readBy: parse, text, toStrictEqual: compare, toEqual: compare };
     };
-    const stringify = read => ask({ ask: "printed", text: read.text }).printed;
+    const stringify = read => ask({ ask: true, text: read.text, kind: "read" }).printed;
     runSuites(folder, { ...types, parse, stringify }, ["src/parse.spec.js", "src/wpt.spec.js"]);
 }
 
@@ -255,7 +260,7 @@ class Found extends Array {
     }
 
     filter(text) {
-        return typeof text === "string" ? Found.from([...this].filter(each => select.is(each, text))) : super.filter(text);
+        return Found.from([...this].filter(each => select.is(each, text)));
     }
 
     is(text) {
@@ -314,7 +319,7 @@ const assert = {
     expect() {},
     ok: holds => report(holds, "ok"),
     equal: (one, other) => report(one == other, `${one} is not ${other}`),
-    deepEqual: (one, other) => report(isSame([...one], [...other]), `${JSON.stringify([shown([...one]), shown([...other])])}`),
+    deepEqual: (one, other) => report(isSame([...one], [...other]), JSON.stringify([one, other].map(shown))),
     notStrictEqual: (one, other) => report(one !== other, "the same"),
     t: (name, text, ids) => assert.deepEqual(jQuery(text).map(each => each.attribs.id).get(), ids),
     selectInFixture(name, text, ids) {
@@ -327,7 +332,8 @@ const NO_SELECTORS = ["jQuery.contains", "jQuery.uniqueSort", "Iframe dispatch",
 
 function runJQuery(folder) {
     const read = name => fs.readFileSync(path.join(folder, "test", name), "utf8");
-    const index = read("index.html").replace('id="qunit-fixture">', each => each + read("data/qunit-fixture.html"));
+    const fixture = read("data/qunit-fixture.html");
+    const index = read("index.html").replace('id="qunit-fixture">', each => each + fixture);
     const run = (name, text, body) => {
         if (NO_SELECTORS.some(each => name.startsWith(each))) return;
         page = html(text);

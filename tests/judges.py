@@ -1,13 +1,14 @@
 #!/usr/bin/env python3
-"""Selectors of level 3 judged by the tests of other projects: cssselect, css-select (with those of Sizzle, NWMatcher
-and qwery), css-what (with web-platform-tests of reading), jQuery, cascadia (with web-platform-tests of matching),
-nokogiri and Servo's crate `selectors`.
+"""Judges selectors of level 3 by the tests of other projects: cssselect, css-select (with those of Sizzle,
+NWMatcher and qwery), css-what and cascadia (both with web-platform-tests), jQuery, nokogiri and Servo's crate
+`selectors`.
 
-    judges.py [--all] [PROJECT..]    of these projects, else of all; `--all` lists each selector that is not judged
+    judges.py [--all] [PROJECT..]    by these, else by all; `--all` lists each expectation that is not judged
 
-The tests are fetched from Debian's archive by apt-get, once, into out/judges; suites of JavaScript are run by node. What
-cannot be fetched or run is left out, and a line says so. Of these tests, those of selectors outside the grammar are
-counted by what they need. The library is built by `./build library`. The last line is 'N passed, M failed'.
+The tests are fetched from Debian's archive by apt-get, once, into out/judges, and node runs those in JavaScript.
+What cannot be fetched is left out, and a line says so. Expectations of selectors outside the grammar are counted
+by what they need. Where the standards disagree with a test, `DIFFERENCES` says why; a difference that is gone
+fails. The library is built by `./build library`. The last line is 'N passed, M failed'.
 """
 from __future__ import annotations
 
@@ -16,7 +17,7 @@ import collections
 import os
 import re
 import sys
-from typing import Callable, Dict, Iterator, List, Optional, Sequence, Set, Tuple
+from typing import Callable, Dict, List, Optional, Sequence, Set, Tuple
 
 TOP = os.path.dirname(os.path.dirname(os.path.abspath(__file__)))
 sys.path.insert(0, os.path.join(TOP, "python"))
@@ -26,29 +27,32 @@ from common import Counts  # noqa: E402
 from simplecss import Element, SelectorError, Tree  # noqa: E402
 from simplecss._selectors import OPAQUE, Listed, listed  # noqa: E402
 
+# What a test expects of a text: that it finds these elements, that it is read, or that it is refused.
+FIND, READ, REFUSE = "find", "read", "refuse"
 # Pseudo-classes that no standard has, of jQuery, css-select, cascadia, nokogiri and cssselect.
-EXTENSIONS = (
-    "contains icontains containsown haschild matches matchesown eq gt lt nth first last even odd only parent header input"
-    " button submit reset image radio checkbox text password file selected hidden visible animated humanoid foovalue foo"
-    " aaron first-or-second five-attributes nb-attr"
-).split()
+EXTENSIONS = "|".join((
+    "contains icontains containsown haschild matches matchesown eq gt lt nth first last even odd only parent"
+    " header input button submit reset image radio checkbox text password file selected hidden visible animated"
+    " humanoid foovalue foo aaron first-or-second five-attributes nb-attr"
+).split())
 # Pseudo-classes of what a browser knows of an element besides the tree, or of the call.
-STATES = "checked disabled enabled target scope host host-context focus-visible".split()
-# What a text outside the grammar has, where strings, escapes and comments are blank, and arguments without lists.
-OUTSIDE = (
-    (":has()", re.compile(r":has\(", re.IGNORECASE)),
-    ("an extension", re.compile(rf"[!#]=|@|//?|(?<!\\)<|\[\d|\w\(\)|(?<!:):({'|'.join(EXTENSIONS)})(?![-\w])", re.IGNORECASE)),
-    ("a state or what a call is about", re.compile(rf":({'|'.join(STATES)})(?![-\w])", re.IGNORECASE)),
-    ("`of` in :nth-child()", re.compile(r":nth-(last-)?child\([^)]*\bof\b", re.IGNORECASE)),
-    ("a pseudo-element with arguments, or further ones", re.compile(r"::[-\w]+\(|::(attr|text|name)")),
-    ("a namespace or the column combinator", re.compile(r"\|(?!=)")),
-)
-# What one has that other projects read, and whose refusal is judged.
-ONLY_READ = (
-    ("a combinator at the beginning", re.compile(r"(^|,)\s*[>+~]")),
-    ("a pseudo-class after a pseudo-element", re.compile(r"::[-\w]+:(?!:)")),
-)
-LIST = re.compile(r":(is|where|not|matches)\(", re.IGNORECASE)
+STATES = "checked|disabled|enabled|target|scope|host|host-context|focus-visible"
+# What a text outside the grammar has, where strings, escapes and comments are blank, and which expectations of
+# it are left out. A name that is not known is read, as that of a state.
+OUTSIDE = tuple((reason, re.compile(pattern, re.IGNORECASE), kinds) for reason, pattern, kinds in (
+    (":has()", r":has\(", (FIND, READ, REFUSE)),
+    ("an extension", r"[!#]=|@|/|<|\[\d|\w\(\)", (FIND, READ)),
+    ("an extension", rf"(?<!:):({EXTENSIONS})\(", (FIND, READ)),
+    ("an extension", rf"(?<!:):({EXTENSIONS})(?![-\w(])", (FIND, REFUSE)),
+    ("a state, or what a call is about", rf":({STATES})\(", (FIND, READ, REFUSE)),
+    ("a state, or what a call is about", rf":({STATES})(?![-\w(])", (FIND, REFUSE)),
+    ("`of` in :nth-child()", r":nth-(last-)?child\([^)]*\bof\b", (FIND, READ, REFUSE)),
+    ("a pseudo-element with an argument", r"::[-\w]+\(", (FIND, READ, REFUSE)),
+    ("a pseudo-class after a pseudo-element", r"::[-\w]+:(?!:)", (FIND, READ)),
+    ("a namespace or the column combinator", r"\|(?!=)", (FIND, READ, REFUSE)),
+    ("a combinator at the beginning", r"(^|,)\s*[>+~]", (FIND, READ)),
+))
+LIST = re.compile(r":(is|where|not)\(", re.IGNORECASE)
 
 # Where a project's tests and the standards differ: why the answer here is right, and the texts.
 DIFFERENCES: Tuple[Tuple[str, Dict[str, Sequence[str]]], ...] = (
@@ -79,14 +83,18 @@ DIFFERENCES: Tuple[Tuple[str, Dict[str, Sequence[str]]], ...] = (
         ),
     }),
     ("no standard has a function of this name", {
-        "css-what": (":first-child(n)", ":last-child(n)", ":only-child(n)", ":nth-last-last-child(1)", ":bar(baz)"),
+        "css-what": (
+            ":first-child(n)", ":last-child(n)", ":only-child(n)", ":nth-last-last-child(1)", ":bar(baz)",
+        ),
     }),
     ("a name of a pseudo-class or a pseudo-element that is not known is read, and matches no element", {
         "css-select": (":visble", ":nth-child", ":first-last-child", ":last-last-child", ":only-last-child"),
         "cascadia": ("div:example", ":example", "div::example", "::example"),
     }),
     ("a selector may have a pseudo-element (Selectors 3, section 7)", {"css-select": ("::after",)}),
-    ("a type selector is of the local name (Selectors 3, section 6.1.1)", {"css-select": ("soap\\:Envelope",)}),
+    ("a type selector is of the local name (Selectors 3, section 6.1.1)", {
+        "css-select": ("soap\\:Envelope",),
+    }),
     ("classes are compared without case in a page without a doctype (Selectors 4, section 6.6)", {
         "cascadia": ("div.teST",),
     }),
@@ -100,7 +108,7 @@ DIFFERENCES: Tuple[Tuple[str, Dict[str, Sequence[str]]], ...] = (
         "cssselect": (":link",),
         "cascadia": ("#head :link, #head :visited",),
     }),
-    ("an element is counted among those of its type, whatever else the selector has (Selectors 3, section 6.6.5.4)", {
+    ("all siblings of the type are counted, with or without the class (Selectors 3, section 6.6.5.4)", {
         "nokogiri": ("div .a:nth-of-type(2n)", "div .a:nth-of-type(2n+1)"),
     }),
     ("printed with `*` and with strings, as docs/DIFFERENCES.md says", {
@@ -141,11 +149,11 @@ def has_nested(text: str) -> bool:
     return any(LIST.search(argument(text, found.end())) for found in LIST.finditer(text))
 
 
-def outside(text: str, is_refused: bool) -> Optional[str]:
-    """What puts a text outside the grammar, where it is read or, as is expected, refused."""
+def outside(text: str, kind: str) -> Optional[str]:
+    """What puts a text outside the grammar, of which this is expected."""
     shown = blanked(text)
-    for reason, pattern in OUTSIDE if is_refused else OUTSIDE + ONLY_READ:
-        if pattern.search(shown):
+    for reason, pattern, kinds in OUTSIDE:
+        if kind in kinds and pattern.search(shown):
             return reason
     if has_complex(shown):
         return "a combinator within a list"
@@ -170,9 +178,9 @@ class Judge:
         if self.shows_all:
             print(f"{self.project}: not judged, {reason}: {', '.join(map(repr, texts))}")
 
-    def settle(self, texts: Sequence[str], holds: bool, shown: str, is_refused: bool = False) -> None:
+    def settle(self, texts: Sequence[str], kind: str, holds: bool, shown: str) -> None:
         """Counts an expectation of texts: one that does not hold must be a difference that is named."""
-        reason = next(filter(None, (outside(text, is_refused) for text in texts)), None)
+        reason = next(filter(None, (outside(text, kind) for text in texts)), None)
         if reason:
             self.leave_out(texts, reason)
             return
@@ -183,25 +191,28 @@ class Judge:
         else:
             self.counts.expect(holds, f"{self.project}: {', '.join(map(repr, texts))}: {shown}")
 
-    def reads(self, text: str, is_refused: bool = False) -> None:
-        """The text is a list of selectors, or is refused."""
-        found = reading(text)
-        self.settle([text], (found is None) == is_refused, f"read as {printed(found)}", is_refused)
+    def reads(self, text: str) -> None:
+        """The text is a list of selectors."""
+        self.settle([text], READ, printed(text) is not None, "refused")
+
+    def refuses(self, text: str) -> None:
+        """The text is no list of selectors."""
+        self.settle([text], REFUSE, printed(text) is None, f"read as {printed(text)}")
 
     def reads_as(self, text: str, other: str) -> None:
         """Both texts are read as the same."""
-        found, wanted = printed(reading(text)), printed(reading(other))
-        self.settle([text], found is not None and found == wanted, f"read as {found}, and not as {wanted}")
+        found, wanted = printed(text), printed(other)
+        holds = found is not None and found == wanted
+        self.settle([text], READ, holds, f"read as {found}, and not as {wanted}")
 
-    def prints(self, text: str, wanted: Sequence[str]) -> None:
-        """The text is printed as one of these."""
-        found = printed(reading(text))
-        self.settle([text], found in wanted, f"printed as {found}, and not as {wanted}")
+    def prints(self, text: str, wanted: str) -> None:
+        """The text is printed so."""
+        self.settle([text], READ, printed(text) == wanted, f"printed as {printed(text)}, and not as {wanted}")
 
     def has_specificity(self, text: str, wanted: Tuple[int, ...]) -> None:
         """The selector has this specificity."""
         found = [each.specificity for each in reading(text) or []]
-        self.settle([text], found == [wanted], f"specificity {found}, and not {wanted}")
+        self.settle([text], READ, found == [wanted], f"specificity {found}, and not {wanted}")
 
     def finds(self, tree: Tree, text: str, wanted: object, seen: Callable[[List[Element]], object]) -> None:
         """The text finds what is wanted, of which `seen` says how it is seen."""
@@ -209,10 +220,16 @@ class Judge:
             found = seen(tree.select(text))
         except SelectorError as error:
             found = error
-        self.settle([text], found == wanted, f"found {found}, and not {wanted}")
+        self.settle([text], FIND, found == wanted, f"found {found}, and not {wanted}")
 
-    def end(self) -> None:
-        """Prints what was judged. Each difference must have shown."""
+    def printed(self, text: str) -> Optional[str]:
+        """The text as it is printed, or None if it is refused."""
+        return printed(text)
+
+    def end(self, least: int) -> None:
+        """Prints what was judged, at least so many expectations. Each difference must have shown."""
+        enough = self.judged >= least
+        self.counts.expect(enough, f"{self.project}: {self.judged} expectations, and not {least} or more")
         for text in self.rows.keys() - self.used:
             self.counts.expect(False, f"{self.project}: {text!r} is no difference any more")
         print(f"{self.project}: {self.judged} expectations, {len(self.used)} differences that are named")
@@ -228,32 +245,31 @@ def reading(text: str) -> Optional[List[Listed]]:
         return None
 
 
-def printed(found: Optional[List[Listed]]) -> Optional[str]:
-    """Selectors as they are printed, with the names of pseudo-classes in lower case."""
+def printed(text: str) -> Optional[str]:
+    """A text as it is printed, with the names of pseudo-classes in lower case, or None if it is refused."""
+    found = reading(text)
     if found is None:
         return None
     return re.sub(r":[-\w]+", lambda each: each[0].lower(), ", ".join(each.text for each in found))
 
 
-def chosen(names: Sequence[str]) -> Iterator[judges_tests.Project]:
-    """The projects of these names, or all."""
-    return (each for each in judges_tests.PROJECTS if not names or each.name in names)
-
-
 def main() -> int:
+    projects = {each.name: each for each in judges_tests.PROJECTS}
     parser = argparse.ArgumentParser()
-    parser.add_argument("projects", nargs="*")
+    parser.add_argument("projects", nargs="*", choices=[*projects, []])
     parser.add_argument("--all", action="store_true")
     words = parser.parse_args()
     counts = Counts()
-    for project in chosen(words.projects):
-        why = judges_tests.fetch(project, os.path.join(TOP, "out", "judges"))
+    folder = os.path.join(TOP, "out", "judges")
+    for project in (projects[name] for name in words.projects or projects):
+        why = judges_tests.fetch(project, folder)
         if why:
             print(f"left out: the tests of {project.name}: {why}")
             continue
         judge = Judge(project.name, counts, words.all)
-        project.judge(os.path.join(TOP, "out", "judges"), judge)
-        judge.end()
+        project.judge(folder, judge)
+        judge.end(project.least)
+    judges_tests.forget_lists(folder)
     return counts.end()
 
 

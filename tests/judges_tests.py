@@ -1,4 +1,4 @@
-"""The tests of other projects, for tests/judges.py: where they are in Debian's archive, and what they expect."""
+"""The tests of other projects, for tests/judges.py: where Debian's archive has them, and what they expect."""
 from __future__ import annotations
 
 import ast
@@ -21,14 +21,14 @@ HERE = os.path.dirname(os.path.abspath(__file__))
 
 
 class Project(NamedTuple):
-    """A project: sources and packages of Debian, with their versions, the programs that its tests need, and what judges
-    by them, given the folder of all and a judge."""
+    """A project: sources and packages of Debian, what judges by their tests, given the folder of all and a
+    judge, and how many expectations it judges at least."""
 
     name: str
     sources: Sequence[str]
     packages: Sequence[str]
-    programs: Sequence[str]
     judge: Callable[[str, "Judge"], None]
+    least: int
 
 
 # ---- Debian's archive
@@ -52,69 +52,78 @@ SOURCES, PACKAGES = "sources", "packages"
 
 
 def apt_get(words: Sequence[str], lists: str, folder: str) -> bool:
-    """Runs apt-get in a folder, with the lists of its own, and not the system's."""
+    """Runs apt-get in a folder, with lists of its own in place of the system's."""
     settings = {
         "Dir::Etc::sourcelist": os.path.join(lists, "archive.sources"),
         "Dir::Etc::sourceparts": os.devnull,
         "Dir::State::lists": os.path.join(lists, "lists"),
         "Dir::Cache": os.path.join(lists, "cache"),
+        "Dir::Cache::pkgcache": "packages.bin",
+        "Dir::Cache::srcpkgcache": "sources.bin",
         "APT::Sandbox::User": "",
+        "APT::Update::Error-Mode": "any",
+        "Acquire::http::Timeout": "20",
     }
     options = [word for key, value in settings.items() for word in ("-o", f"{key}={value}")]
-    quiet = {"stdin": subprocess.DEVNULL, "stdout": subprocess.DEVNULL, "stderr": subprocess.DEVNULL}
+    quiet: Dict[str, Any] = dict.fromkeys(("stdin", "stdout", "stderr"), subprocess.DEVNULL)
+    words = ["apt-get", *options, *words]
     try:
-        made = subprocess.run(["apt-get", *options, *words], cwd=folder, timeout=SECONDS, check=False, **quiet)
+        made = subprocess.run(words, cwd=folder, timeout=SECONDS, check=False, **quiet)
     except subprocess.TimeoutExpired:
         return False
-    return made.returncode == 0
+    return bool(made.returncode == 0)
 
 
+@functools.lru_cache(maxsize=None)
 def has_lists(lists: str) -> bool:
-    """Whether the archive's lists are there, which are fetched once."""
+    """Whether the archive's lists are in a folder, into which they are fetched once."""
     if not os.path.isdir(lists):
-        for name in ("lists", "cache"):
-            os.makedirs(os.path.join(lists, name, *(("archives",) if name == "cache" else ()), "partial"))
+        for name in ("lists/partial", "cache/archives/partial"):
+            os.makedirs(os.path.join(lists, name))
         with open(os.path.join(lists, "archive.sources"), "w", encoding="ascii") as file:
             file.write(ARCHIVE)
-        if not apt_get(["-o", "APT::Update::Error-Mode=any", "update"], lists, lists):
+        if not apt_get(["update"], lists, lists):
             shutil.rmtree(lists)
     return os.path.isdir(lists)
 
 
-def unpack(folder: str) -> None:
-    """Unpacks what apt-get has fetched into a folder."""
-    for path in sorted(glob.glob(os.path.join(folder, "*.orig.tar.*"))):
-        with tarfile.open(path) as archive:
-            archive.extractall(folder)
-    for path in glob.glob(os.path.join(folder, "*.deb")):
-        subprocess.run(["dpkg-deb", "-x", path, folder], check=True)
+def forget_lists(top: str) -> None:
+    """Deletes the archive's lists, which are large, and wanted no more if all was fetched."""
+    shutil.rmtree(os.path.join(top, "apt"), ignore_errors=True)
 
 
-def fetched(source: str, kind: str, lists: str, top: str) -> bool:
+def unpack(folder: str) -> bool:
+    """Unpacks what apt-get has fetched into a folder. Returns whether that worked."""
+    words = [["tar", "-xf", path, "-C", folder] for path in glob.glob(os.path.join(folder, "*.orig*.tar.*"))]
+    words += [["dpkg-deb", "-x", path, folder] for path in glob.glob(os.path.join(folder, "*.deb"))]
+    return bool(words) and all(subprocess.run(each, check=False).returncode == 0 for each in words)
+
+
+def fetched(name: str, kind: str, top: str) -> bool:
     """Whether a source or a package is in a folder of its name, into which it is fetched once."""
-    folder = os.path.join(top, kind, source.partition("=")[0])
+    folder, lists = os.path.join(top, kind, name.partition("=")[0]), os.path.join(top, "apt")
     if os.path.isdir(folder):
         return True
     made = folder + ".part"
     shutil.rmtree(made, ignore_errors=True)
     os.makedirs(made)
     words = ["download"] if kind == PACKAGES else ["source", "--download-only", "--tar-only"]
-    if not has_lists(lists) or not apt_get([*words, source], lists, made):
+    if not has_lists(lists) or not apt_get([*words, name], lists, made) or not unpack(made):
         return False
-    unpack(made)
     os.rename(made, folder)
     return True
 
 
 def fetch(project: Project, top: str) -> Optional[str]:
     """Fetches the tests of a project into a folder. Returns why it could not."""
-    missing = [each for each in ("apt-get", "dpkg-deb", *project.programs) if not shutil.which(each)]
+    programs = ("apt-get", "dpkg-deb", "tar", *(("node",) if project.packages == MODULES else ()))
+    missing = [each for each in programs if not shutil.which(each)]
     if missing:
         return f"there is no {missing[0]}"
     for kind, names in ((SOURCES, project.sources), (PACKAGES, project.packages)):
         for name in names:
-            if not fetched(name, kind, os.path.join(top, "apt"), top):
-                return f"apt-get did not fetch {name}"
+            if not fetched(name, kind, top):
+                return f"{name} could not be fetched"
     return None
 
 
@@ -138,6 +147,11 @@ def ids_of(found: Sequence[Element]) -> List[str]:
     return [each.attributes.get("id", "nil") for each in found]
 
 
+def sorted_ids_of(found: Sequence[Element]) -> List[str]:
+    """The ids of elements, in the order of the alphabet."""
+    return sorted(ids_of(found))
+
+
 def tags_of(found: Sequence[Element]) -> List[Tuple[str, Dict[str, str]]]:
     """The names and attributes of elements."""
     return [(each.name, each.attributes) for each in found]
@@ -154,7 +168,7 @@ def within(tree: Tree, selector: str) -> Callable[[Sequence[Element]], int]:
 
 
 def asserted(module: ast.Module) -> Iterator[Tuple[str, List[str], Dict[str, bool], Any]]:
-    """The name, the words and what is wanted of each `assert call("..") == wanted`, and of calls of `css2css`."""
+    """The name, the words and what is wanted of each `assert call("..") == wanted`, and of other calls."""
     for node in ast.walk(module):
         call, wanted = None, None
         if isinstance(node, ast.Assert) and isinstance(node.test, ast.Compare):
@@ -184,7 +198,7 @@ def pages_of(module: ast.Module) -> Dict[str, str]:
 def judge_series(judge: "Judge", text: str, wanted: Optional[Tuple[int, int]]) -> None:
     """`An+B` and its two numbers, or none if it is refused."""
     if wanted is None:
-        judge.reads(f":nth-child({text})", is_refused=True)
+        judge.refuses(f":nth-child({text})")
     else:
         judge.reads_as(f":nth-child({text})", f":nth-child({wanted[0]}n{wanted[1]:+})")
 
@@ -194,7 +208,8 @@ def judge_cssselect(top: str, judge: "Judge") -> None:
     module = ast.parse(text_of(top, "sources/python-cssselect/*/tests/test_cssselect.py"))
     pages = pages_of(module)
     trees = {name: Tree.from_xml(pages[name]) for name in ("HTML_IDS", "XMLLANG_IDS")}
-    page, play = Tree.from_html("<!DOCTYPE html>" + pages["HTML_IDS"]), Tree.from_html(pages["HTML_SHAKESPEARE"])
+    page = Tree.from_html("<!DOCTYPE html>" + pages["HTML_IDS"])
+    play = Tree.from_html(pages["HTML_SHAKESPEARE"])
     in_body = within(play, "body")
     for name, words, keywords, wanted in asserted(module):
         if name == "parse_many":
@@ -205,7 +220,7 @@ def judge_cssselect(top: str, judge: "Judge") -> None:
         elif name == "css2css":
             judge.reads_as(words[0], words[-1])
         elif name == "get_error":
-            judge.reads(words[0], is_refused=wanted is not None)
+            (judge.reads if wanted is None else judge.refuses)(words[0])
         elif name == "specificity":
             judge.has_specificity(words[0], wanted)
         elif name == "series":
@@ -249,7 +264,8 @@ def judge_go_tables(top: str, judge: "Judge") -> None:
     for page, selector, wanted, _ in entries:
         tags = [start_tag(go_text(each)) for each in re.findall(GO, wanted)]
         judge.finds(Tree.from_html(go_text(page)), go_text(selector), tags, tags_of)
-    play = Tree.from_html(text_of(top, "sources/golang-github-andybalholm-cascadia/*/test_resources/shakespeare.html"))
+    resources = "sources/golang-github-andybalholm-cascadia/*/test_resources"
+    play = Tree.from_html(text_of(top, f"{resources}/shakespeare.html"))
     for selector, count in re.findall(rf"assertCount\({GO}, (\d+)\)", text):
         judge.finds(play, go_text(selector), int(count), within(play, "body"))
 
@@ -258,22 +274,22 @@ def judge_go_specificity(top: str, judge: "Judge") -> None:
     """Judges by specificities, some of them of pseudo-elements."""
     for name in ("selector_test.go", "specificity_test.go"):
         text = text_of(top, f"sources/golang-github-andybalholm-cascadia/*/{name}")
-        for selector, *numbers in re.findall(rf"selector:\s*{GO},\s*spec:\s*Specificity\{{(\d+), (\d+), (\d+)\}}", text):
+        pattern = rf"selector:\s*{GO},\s*spec:\s*Specificity\{{(\d+), (\d+), (\d+)\}}"
+        for selector, *numbers in re.findall(pattern, text):
             judge.has_specificity(go_text(selector), tuple(map(int, numbers)))
 
 
 def judge_go_names(top: str, judge: "Judge") -> None:
     """Judges by names and strings with escapes: what they denote, or nothing if they are refused."""
     text = text_of(top, "sources/golang-github-andybalholm-cascadia/*/parser_test.go")
-    for table, form in (("identifierTests", "[a={}]"), ("stringTests", "[a={}]")):
+    for table in ("identifierTests", "stringTests"):
         rows = between(text, f"var {table} = map[string]string{{", "\n}\n")
         for source, value in re.findall(rf"{GO}:\s*{GO},", rows):
-            wanted = go_text(value)
+            selector, wanted = f"[a={go_text(source)}]", go_text(value)
             if wanted:
-                tree = Tree([Item("p", {"id": "p", "a": wanted})])
-                judge.finds(tree, form.format(go_text(source)), ["p"], ids_of)
+                judge.finds(Tree([Item("p", {"id": "p", "a": wanted})]), selector, ["p"], ids_of)
             else:
-                judge.reads(form.format(go_text(source)), is_refused=True)
+                judge.refuses(selector)
 
 
 def judge_cascadia(top: str, judge: "Judge") -> None:
@@ -282,11 +298,13 @@ def judge_cascadia(top: str, judge: "Judge") -> None:
     judge_go_specificity(top, judge)
     judge_go_names(top, judge)
     resources = "sources/golang-github-andybalholm-cascadia/*/test_resources"
-    page = Tree.from_html(text_of(top, f"{resources}/content.xhtml"))
+    text = text_of(top, f"{resources}/content.xhtml")
+    pages = {"html": Tree.from_html(text), "xhtml": Tree.from_xml(text)}
     for each in json.loads(text_of(top, f"{resources}/valid_selectors.json")):
-        judge.finds(page, each["selector"], sorted(each.get("expect") or []), lambda found: sorted(ids_of(found)))
+        for kind in pages.keys() - (each.get("exclude") or []):
+            judge.finds(pages[kind], each["selector"], sorted(each.get("expect") or []), sorted_ids_of)
     for each in json.loads(text_of(top, f"{resources}/invalid_selectors.json")):
-        judge.reads(each["selector"], is_refused=True)
+        judge.refuses(each["selector"])
 
 
 # ---- nokogiri: calls in Ruby
@@ -332,12 +350,17 @@ def judge_nokogiri(top: str, judge: "Judge") -> None:
     for name in ("xpath_visitor", "parser"):
         text = text_of(top, f"sources/ruby-nokogiri/*/test/css/test_{name}.rb")
         for raises, literal in re.findall(rf"(SyntaxError\) \{{ )?parser\.parse\({RUBY}\)", text):
-            judge.reads(ruby_text(literal), is_refused=bool(raises))
+            (judge.refuses if raises else judge.reads)(ruby_text(literal))
 
 
 # ---- Servo: calls in Rust
 
-RUST = r'"((?:[^"\\]|\\.)*)"'
+RUST = r'("(?:[^"\\]|\\.)*")'
+
+
+def rust_text(literal: str) -> str:
+    """The value of a string of Rust."""
+    return str(json.loads(literal))
 
 
 def judge_servo(top: str, judge: "Judge") -> None:
@@ -345,23 +368,22 @@ def judge_servo(top: str, judge: "Judge") -> None:
     text = text_of(top, "packages/librust-selectors-dev/usr/share/cargo/registry/*/parser.rs")
     tests = text[text.index("fn test_parsing()") :]
     for literal, outcome in re.findall(rf"assert!\(parse\({RUST}\)\.is_(ok|err)\(\)\);", tests):
-        judge.reads(json.loads(f'"{literal}"'), is_refused=outcome == "err")
+        (judge.reads if outcome == "ok" else judge.refuses)(rust_text(literal))
     statements = re.findall(r"assert_eq!\(\n(.*?)\n        \);", tests, re.DOTALL)
     for statement in statements:
         literals = re.findall(rf'parse\w*\(\s*{RUST}(?:.*?Some\({RUST}\))?', statement, re.DOTALL)
         numbers = re.findall(r"specificity\((\d+), (\d+), (\d+)\)", statement)
         if literals and numbers:
-            selector, shown = (json.loads(f'"{each}"') for each in literals[0])
-            judge.prints(selector, [shown or selector])
-            judge.has_specificity(selector, tuple(map(int, numbers[-1])))
+            selector, shown = literals[0]
+            judge.prints(rust_text(selector), rust_text(shown or selector))
+            judge.has_specificity(rust_text(selector), tuple(map(int, numbers[-1])))
 
 
 # ---- suites of JavaScript, which node runs
 
-PROGRAMS = ("node",)
 MODULES = (
-    "node-htmlparser2", "node-domutils", "node-domhandler", "node-domelementtype", "node-dom-serializer", "node-entities",
-    "node-boolbase", "node-css-what", "esbuild",
+    "node-htmlparser2", "node-domutils", "node-domhandler", "node-domelementtype", "node-dom-serializer",
+    "node-entities", "node-boolbase", "node-css-what", "esbuild",
 )
 
 
@@ -392,54 +414,54 @@ class Hearing:
 
     def __init__(self, judge: "Judge") -> None:
         self.judge = judge
-        self.last: List[str] = []
         self.forget()
 
     def forget(self) -> None:
-        """Begins with the next expectation."""
+        """Forgets what expectations were about."""
         self.texts: List[str] = []
+        self.kind = "find"
         self.reason: Optional[str] = None
-        self.is_refused = self.throws = False
+        self.is_refused = self.is_reported = False
 
     def answer(self, message: Dict[str, Any]) -> Optional[Dict[str, Any]]:
         """Takes a line of a suite. Returns what is answered to a question."""
+        if "begins" in message or self.is_reported and ("ask" in message or "leftOut" in message):
+            self.forget()
         if "ask" in message:
-            self.texts.append(message["text"])
-            self.throws = message["throws"]
             return self.answered(message)
         if "leftOut" in message:
             self.reason = message["leftOut"]
         elif "parsed" in message:
             self.judge.reads_as(message["text"], spelled_list(message["parsed"]))
-        else:
+        elif "holds" in message:
             self.report(message)
-            self.last = self.texts or self.last
-            self.forget()
         return None
 
     def answered(self, message: Dict[str, Any]) -> Dict[str, Any]:
-        """Finds elements, or reads a text for what it is printed as."""
-        from judges import printed
-        from simplecss._selectors import listed
-
+        """Finds elements, or reads a text."""
+        text = message["text"]
+        self.kind = message["kind"]
+        if text not in self.texts:
+            self.texts.append(text)
         try:
-            if message["ask"] != "found":
-                return {"found": [], "printed": printed(listed(message["text"]))}
+            if "tree" not in message:
+                shown = self.judge.printed(text)
+                return {"printed": shown, "refused": shown is None}
             tree = tree_of(json.dumps(message["tree"]), message["xml"])
-            return {"found": [each.index for each in tree.select(message["text"])]}
-        except SelectorError as error:
+            return {"found": [each.index for each in tree.select(text)]}
+        except SelectorError:
             self.is_refused = True
-            return {"found": [], "refused": str(error)}
+            return {"found": [], "refused": True}
 
     def report(self, message: Dict[str, Any]) -> None:
-        """Judges an expectation that depends on selectors."""
+        """Judges an expectation about what was asked last."""
         shown = f"{message['name']}: {message['detail']}"
+        self.is_reported = True
         if self.reason:
             self.judge.leave_out(self.texts, self.reason)
         elif self.texts or message.get("thrown"):
-            # What a test throws is blamed on what it asked last.
-            holds = message["holds"] and (self.throws or not self.is_refused)
-            self.judge.settle(self.texts or self.last, holds, shown, self.throws)
+            holds = message["holds"] and (self.kind == "refuse" or not self.is_refused)
+            self.judge.settle(self.texts, self.kind, holds, shown)
 
 
 def run_suite(top: str, judge: "Judge", suite: str, folder: str) -> None:
@@ -447,8 +469,9 @@ def run_suite(top: str, judge: "Judge", suite: str, folder: str) -> None:
     modules = [os.path.join(top, PACKAGES, each, "usr", "share", "nodejs") for each in MODULES]
     words = ["node", os.path.join(HERE, "judges.js"), suite, folder]
     hearing = Hearing(judge)
-    streams: Dict[str, Any] = {"stdin": subprocess.PIPE, "stdout": subprocess.PIPE, "text": True, "encoding": "utf-8"}
-    with subprocess.Popen(words, env={**os.environ, "NODE_PATH": ":".join(modules)}, **streams) as child:
+    environment = {**os.environ, "NODE_PATH": ":".join(modules)}
+    streams: Dict[str, Any] = {"stdin": subprocess.PIPE, "stdout": subprocess.PIPE, "encoding": "utf-8"}
+    with subprocess.Popen(words, env=environment, **streams) as child:
         for line in child.stdout or ():
             answer = hearing.answer(json.loads(line))
             if answer is not None and child.stdin:
@@ -457,35 +480,34 @@ def run_suite(top: str, judge: "Judge", suite: str, folder: str) -> None:
     judge.counts.expect(child.returncode == 0, f"{suite}: node ended with status {child.returncode}")
 
 
-def run_typed(top: str, judge: "Judge", suite: str, pattern: str) -> None:
-    """Runs a suite in TypeScript, of which esbuild makes JavaScript."""
+def transpiled(top: str, pattern: str) -> str:
+    """The folder of a suite in TypeScript, of which esbuild makes JavaScript."""
     folder = path_of(top, pattern)
-    sources = glob.glob(os.path.join(folder, "src", "**", "*.ts"), recursive=True)
-    sources += glob.glob(os.path.join(folder, "test", "**", "*.ts"), recursive=True)
+    found = [glob.glob(os.path.join(folder, name, "**", "*.ts"), recursive=True) for name in ("src", "test")]
     esbuild = os.path.join(top, PACKAGES, "esbuild", "usr", "bin", "esbuild")
-    words = ["--format=cjs", "--platform=node", "--target=node18", "--log-level=error", f"--outdir={folder}", f"--outbase={folder}"]
-    subprocess.run([esbuild, *sources, *words], check=True)
-    hoist(os.path.join(folder, "test", "tools", "sizzle-testinit.js"))
-    run_suite(top, judge, suite, folder)
+    words = ["--format=cjs", "--target=node18", "--log-level=error", f"--outdir={folder}"]
+    subprocess.run([esbuild, *sum(found, []), *words, f"--outbase={folder}"], check=True)
+    return folder
 
 
-def hoist(path: str) -> None:
-    """Makes `var` of a `let` that is assigned before it is reached."""
-    if os.path.exists(path):
-        with open(path, encoding="utf-8") as file:
-            text = file.read()
-        with open(path, "w", encoding="utf-8") as file:
-            file.write(text.replace("let document = loadDoc", "var document = loadDoc"))
+def hoist(path: str, name: str) -> None:
+    """Makes a variable one of `var`, for it is assigned before its `let` is reached."""
+    with open(path, encoding="utf-8") as file:
+        text = file.read()
+    with open(path, "w", encoding="utf-8") as file:
+        file.write(text.replace(f"let {name} =", f"var {name} ="))
 
 
 def judge_css_select(top: str, judge: "Judge") -> None:
-    """Judges by css-select's tests and by those of sizzle, NWMatcher and qwery."""
-    run_typed(top, judge, "css-select", "sources/node-css-select/css-select-*")
+    """Judges by css-select's tests and by those of Sizzle, NWMatcher and qwery."""
+    folder = transpiled(top, "sources/node-css-select/css-select-*")
+    hoist(os.path.join(folder, "test", "tools", "sizzle-testinit.js"), "document")
+    run_suite(top, judge, "css-select", folder)
 
 
 def judge_css_what(top: str, judge: "Judge") -> None:
     """Judges by css-what's tests of reading, and by those of web-platform-tests that it has."""
-    run_typed(top, judge, "css-what", "sources/node-css-what/css-what-*")
+    run_suite(top, judge, "css-what", transpiled(top, "sources/node-css-what/css-what-*"))
 
 
 def judge_jquery(top: str, judge: "Judge") -> None:
@@ -497,7 +519,8 @@ def judge_jquery(top: str, judge: "Judge") -> None:
 
 COMBINATORS = {"descendant": " ", "child": " > ", "sibling": " ~ ", "adjacent": " + ", "parent": " < ",
                "column-combinator": " || "}
-ACTIONS = {"equals": "=", "element": "~=", "start": "^=", "end": "$=", "any": "*=", "not": "!=", "hyphen": "|="}
+ACTIONS = {"equals": "=", "element": "~=", "start": "^=", "end": "$=", "any": "*=", "not": "!=",
+           "hyphen": "|="}
 
 
 def spelled_name(name: str) -> str:
@@ -534,7 +557,7 @@ def spelled(token: Dict[str, Any]) -> str:
         return name if space is None else f"{space}|{name}"
     data = token.get("data")
     shown = "" if data is None else f"({data if isinstance(data, str) else spelled_list(data)})"
-    return (":" if kind == "pseudo" else "::") + token["name"] + shown
+    return f"{':' if kind == 'pseudo' else '::'}{token['name']}{shown}"
 
 
 def spelled_list(parsed: List[List[Dict[str, Any]]]) -> str:
@@ -543,11 +566,11 @@ def spelled_list(parsed: List[List[Dict[str, Any]]]) -> str:
 
 
 PROJECTS = (
-    Project("cssselect", ("python-cssselect=1.3.0-1",), (), (), judge_cssselect),
-    Project("css-select", ("node-css-select=5.1.0-3",), MODULES, PROGRAMS, judge_css_select),
-    Project("css-what", ("node-css-what=6.1.0-5",), MODULES, PROGRAMS, judge_css_what),
-    Project("jquery", ("node-jquery=3.6.1+dfsg+~3.5.14-1",), MODULES, PROGRAMS, judge_jquery),
-    Project("cascadia", ("golang-github-andybalholm-cascadia=1.3.3-1",), (), (), judge_cascadia),
-    Project("nokogiri", ("ruby-nokogiri=1.13.10+dfsg-2",), (), (), judge_nokogiri),
-    Project("servo", (), ("librust-selectors-dev=0.23.0-1",), (), judge_servo),
+    Project("cssselect", ["python-cssselect=1.3.0-1"], [], judge_cssselect, 360),
+    Project("css-select", ["node-css-select=5.1.0-3"], MODULES, judge_css_select, 720),
+    Project("css-what", ["node-css-what=6.1.0-5"], MODULES, judge_css_what, 780),
+    Project("jquery", ["node-jquery=3.6.1+dfsg+~3.5.14-1"], MODULES, judge_jquery, 150),
+    Project("cascadia", ["golang-github-andybalholm-cascadia=1.3.3-1"], [], judge_cascadia, 540),
+    Project("nokogiri", ["ruby-nokogiri=1.13.10+dfsg-2"], [], judge_nokogiri, 130),
+    Project("servo", [], ["librust-selectors-dev=0.23.0-1"], judge_servo, 45),
 )
