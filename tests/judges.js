@@ -4,8 +4,8 @@
 //     node judges.js SUITE FOLDER
 //
 // Writes what a suite asks and what it expects to standard output, as lines of JSON, and reads the answer to
-// each question from standard input. FOLDER has the suite, whose TypeScript is JavaScript by then, and NODE_PATH
-// has htmlparser2 and what belongs to it.
+// each question from standard input. FOLDER has the suite, in JavaScript, and NODE_PATH has htmlparser2 with the
+// packages that it uses.
 "use strict";
 
 const fs = require("fs");
@@ -46,8 +46,8 @@ function leaveOut(reason) {
 
 // ---- trees
 
-// The node as the other program reads it: a text, or an element as its name, attributes and children. Adds the
-// elements to `nodes`.
+// The node as the other program reads it: a text, or an element as its name, attributes and children. Adds
+// the elements to `nodes`.
 function written(node, nodes) {
     if (node.type === "text") return node.data;
     if (node.type === "cdata") return node.children.map(each => each.data).join("");

@@ -5,10 +5,10 @@ NWMatcher and qwery), css-what and cascadia (both with web-platform-tests), jQue
 
     judges.py [--all] [PROJECT..]    by these, else by all; `--all` lists each expectation that is not judged
 
-The tests are fetched from Debian's archive by apt-get, once, into out/judges, and node runs those in JavaScript.
-What cannot be fetched is left out, and a line says so. Expectations of selectors outside the grammar are counted
-by what they need. Where the standards disagree with a test, `DIFFERENCES` says why; a difference that is gone
-fails. The library is built by `./build library`. The last line is 'N passed, M failed'.
+The tests are fetched from Debian's archive by apt-get, once, into out/judges, and node runs those in
+JavaScript. What cannot be fetched is left out, and a line says so. Expectations of selectors outside the grammar
+are counted by what they need. Where the standards disagree with a test, `DIFFERENCES` says why; a difference
+that is gone fails. The library is built by `./build library`. The last line is 'N passed, M failed'.
 """
 from __future__ import annotations
 
@@ -32,13 +32,13 @@ FIND, READ, REFUSE = "find", "read", "refuse"
 # Pseudo-classes that no standard has, of jQuery, css-select, cascadia, nokogiri and cssselect.
 EXTENSIONS = "|".join((
     "contains icontains containsown haschild matches matchesown eq gt lt nth first last even odd only parent"
-    " header input button submit reset image radio checkbox text password file selected hidden visible animated"
-    " humanoid foovalue foo aaron first-or-second five-attributes nb-attr"
+    " header input button submit reset image radio checkbox text password file selected hidden visible"
+    " animated humanoid foovalue foo aaron first-or-second five-attributes nb-attr"
 ).split())
 # Pseudo-classes of what a browser knows of an element besides the tree, or of the call.
 STATES = "checked|disabled|enabled|target|scope|host|host-context|focus-visible"
-# What a text outside the grammar has, where strings, escapes and comments are blank, and which expectations of
-# it are left out. A name that is not known is read, as that of a state.
+# What a text outside the grammar has, where strings, escapes and comments are blank, and which expectations
+# of it are left out. A name that is not known is read, as that of a state.
 OUTSIDE = tuple((reason, re.compile(pattern, re.IGNORECASE), kinds) for reason, pattern, kinds in (
     (":has()", r":has\(", (FIND, READ, REFUSE)),
     ("an extension", r"[!#]=|@|/|<|\[\d|\w\(\)", (FIND, READ)),
