@@ -4,8 +4,8 @@
 //     node judges.js SUITE FOLDER
 //
 // Writes what a suite asks and what it expects to standard output, as lines of JSON, and reads the answer to
-// each question from standard input. FOLDER has the suite, in JavaScript, and NODE_PATH has htmlparser2 with the
-// packages that it uses.
+// each question from standard input. FOLDER has the suite, in JavaScript, and NODE_PATH has htmlparser2 with
+// the packages that it uses.
 "use strict";
 
 const fs = require("fs");

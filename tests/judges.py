@@ -6,9 +6,9 @@ NWMatcher and qwery), css-what and cascadia (both with web-platform-tests), jQue
     judges.py [--all] [PROJECT..]    by these, else by all; `--all` lists each expectation that is not judged
 
 The tests are fetched from Debian's archive by apt-get, once, into out/judges, and node runs those in
-JavaScript. What cannot be fetched is left out, and a line says so. Expectations of selectors outside the grammar
-are counted by what they need. Where the standards disagree with a test, `DIFFERENCES` says why; a difference
-that is gone fails. The library is built by `./build library`. The last line is 'N passed, M failed'.
+JavaScript. What cannot be fetched is left out, and a line says so. Expectations of selectors outside the
+grammar are counted by what they need. Those of `DIFFERENCES` do not hold, for the reasons that it names; one
+that holds again fails. The library is built by `./build library`. The last line is 'N passed, M failed'.
 """
 from __future__ import annotations
 
@@ -54,7 +54,7 @@ OUTSIDE = tuple((reason, re.compile(pattern, re.IGNORECASE), kinds) for reason, 
 ))
 LIST = re.compile(r":(is|where|not)\(", re.IGNORECASE)
 
-# Where a project's tests and the standards differ: why the answer here is right, and the texts.
+# The texts whose expectations do not hold, and why: what the standards say, or docs/DIFFERENCES.md.
 DIFFERENCES: Tuple[Tuple[str, Dict[str, Sequence[str]]], ...] = (
     ("a selector has a compound at least (Selectors 3, section 4)", {
         "css-select": ("", " ", "\t"),
@@ -87,7 +87,7 @@ DIFFERENCES: Tuple[Tuple[str, Dict[str, Sequence[str]]], ...] = (
             ":first-child(n)", ":last-child(n)", ":only-child(n)", ":nth-last-last-child(1)", ":bar(baz)",
         ),
     }),
-    ("a name of a pseudo-class or a pseudo-element that is not known is read, and matches no element", {
+    ("docs/DIFFERENCES.md: a name that is not known, which the standards refuse, is that of a state", {
         "css-select": (":visble", ":nth-child", ":first-last-child", ":last-last-child", ":only-last-child"),
         "cascadia": ("div:example", ":example", "div::example", "::example"),
     }),
@@ -111,7 +111,7 @@ DIFFERENCES: Tuple[Tuple[str, Dict[str, Sequence[str]]], ...] = (
     ("all siblings of the type are counted, with or without the class (Selectors 3, section 6.6.5.4)", {
         "nokogiri": ("div .a:nth-of-type(2n)", "div .a:nth-of-type(2n+1)"),
     }),
-    ("printed with `*` and with strings, as docs/DIFFERENCES.md says", {
+    ("docs/DIFFERENCES.md: `*` is printed, and so are the quotes of a language", {
         "cssselect": ("*:before", ":not(*.foo)", ":not(*[foo])"),
         "servo": (".foo:lang(en-US)",),
     }),
