@@ -3,3 +3,4 @@ mod Grouping
 mod Numbering
 mod Reporting
 mod HtmlLemmas
+mod LanguageLemmas
