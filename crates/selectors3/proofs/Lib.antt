@@ -1,14 +1,14 @@
 pub mod AttributeLemmas
 pub mod NumberLemmas
 pub mod MatchLemmas
+mod BoundLemmas
+mod PlacementListLemmas
 pub mod TextLemmas
 pub mod ItemLemmas
 pub mod GapLemmas
 pub mod EscapeLemmas
 pub mod PrintLemmas
 pub mod KeyLemmas
-mod BoundLemmas
-mod PlacementListLemmas
 mod SpelledAgain
 mod NumbersAgain
 mod CompoundsAgain
