@@ -67,6 +67,17 @@ pub of_compound_conditions : (so_far : Counts) (cs : List Condition)
 of_compound_conditions so_far [] = refl
 of_compound_conditions so_far (c ∷ cs) = of_compound_conditions (plus so_far (of_condition c)) cs
 
+-- the next compound selector is counted
+pub greatest_step : (most counted next all : Counts) (x : Compound) (xs rest : List Compound)
+    → xs ≡ x ∷ rest → counted ≡ with_conditions nothing (compound_of x)
+    → next ≡ greater most counted
+    → greatest most (compounds_from (map compound_of xs)) ≡ all
+    → greatest next (compounds_from (map compound_of rest)) ≡ all
+greatest_step most counted next all x xs rest split is more so_far =
+    ap (λ m. greatest m (compounds_from (map compound_of rest)))
+    (more ∙ ap (greater most) (is ∙ sym (of_compound_conditions nothing (compound_of x))))
+    ∙ ap (λ ys. greatest most (compounds_from (map compound_of ys))) (sym split) ∙ so_far
+
 -- ---- texts
 
 pub compound_text_conditions : (cs : List Condition)
