@@ -8,6 +8,7 @@ use Rattle.selectors3.specs.declared.components.Condition.{Condition as Conditio
 use Rattle.selectors3.specs.Components.{Condition, conditions_from, compounds_from}
 use Rattle.selectors3.specs.Components.Condition.{negation, any_of, where_any}
 use Rattle.selectors3.specs.Documents.{Document}
+use Rattle.selectors3.specs.Keys.{compound_key, compound_keys, condition_keys}
 use Rattle.selectors3.specs.Meanings.{is_met, hold, holds_any, are_met}
 use Rattle.selectors3.specs.Printing.{condition_text, compound_text, compounds_text, further_compounds_text, further_text, list_text}
 use Rattle.selectors3.specs.Specificities.{Counts, nothing, plus, greater, of_condition, of_compound, greatest, with_conditions}
@@ -95,3 +96,24 @@ pub text_compounds : (cs : List (List Condition))
     → compounds_text (compounds_from cs) ≡ list_text (flat_map condition_text) cs
 text_compounds [] = refl
 text_compounds (c ∷ cs) = rw (compound_text_conditions c, further_text_compounds cs) refl
+
+-- ---- keys
+
+pub keys_compounds : (cs : List Compound)
+    → compound_keys (compounds_from (map compound_of cs))
+    ≡ map (λ c. compound_key (conditions_from (compound_of c))) cs
+keys_compounds [] = refl
+keys_compounds (c ∷ cs) = ap (λ ks. compound_key (conditions_from (compound_of c)) ∷ ks) (keys_compounds cs)
+
+module _ (c : ConditionOf) (v : Vec Compound Global) (xs : List Compound) where
+  pub keys_listed : (c ≡ Is v) ⊎ (c ≡ Where v) → xs ≡ v.items
+      → map (λ x. compound_key (conditions_from (compound_of x))) xs
+      ≡ condition_keys (condition_of c)
+  keys_listed (inl is) same =
+      sym (ap (λ x. condition_keys (condition_of x)) is ∙ ap condition_keys (condition_is v)
+      ∙ ap (λ ys. compound_keys (compounds_from (map compound_of ys))) (sym same)
+      ∙ keys_compounds xs)
+  keys_listed (inr is) same =
+      sym (ap (λ x. condition_keys (condition_of x)) is ∙ ap condition_keys (condition_where v)
+      ∙ ap (λ ys. compound_keys (compounds_from (map compound_of ys))) (sym same)
+      ∙ keys_compounds xs)
