@@ -6,9 +6,11 @@ pub mod ItemLemmas
 pub mod GapLemmas
 pub mod EscapeLemmas
 pub mod PrintLemmas
+pub mod NestedLists
 pub mod KeyLemmas
 mod SpelledAgain
 mod NumbersAgain
+mod SimplesAgain
 mod CompoundsAgain
 mod SelectorsAgain
 mod ReadWellFormed

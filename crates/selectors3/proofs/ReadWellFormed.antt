@@ -21,17 +21,19 @@ use Rattle.selectors3.specs.declared.components.Function.{Function}
 use Rattle.selectors3.specs.declared.components.Function.TheVariants.{Numbered, Language}
 use Rattle.selectors3.specs.declared.components.ListKind.{ListKind}
 use Rattle.selectors3.specs.declared.components.ListKind.TheVariants.{Not, Is, Where}
-use Rattle.selectors3.specs.Components.{Comparison, Signed, Progression, Structure, Simple, Condition, Part, Selector}
+use Rattle.selectors3.specs.Components.{Comparison, Signed, Progression, Structure, Simple, Condition, compounds_from, Part, Selector}
 use Rattle.selectors3.specs.Components.Structure.{root, empty, first_child, last_child, only_child, first_of_type, last_of_type, only_of_type}
 use Rattle.selectors3.specs.Components.Simple.{universal, type_name, id, class, has_attribute, attribute, structure, language, state}
 use Rattle.selectors3.specs.Components.Condition.{simple, negation, any_of, where_any}
 use Rattle.selectors3.specs.Spellings.{replacement, character, escape, spelled, spelled_up_to}
 use Rattle.selectors3.specs.Readings.{Reading, got, refused, Reader, follow, give, ◌>>=◌, ◌>>◌, Step, item, none, stop, step_after, as_item, with_first, go_on, items, items_up_to}
 use Rattle.selectors3.specs.declared.refusal.Why.TheVariants.{NoName, NoProgression}
-use Rattle.selectors3.specs.Grammar.{gap, name, begins_name, begins_word, begins_compound, value, comparison, flag, compared, by_comparison, attribute_selector, closing, progression, digits, with_digit, sign, is_sign, is_n, signed, stepping, offset_after, offset_or_none, with_offset, numbered, word_progression, one_more, is_word, plain_structure, plain_pseudo, list_kind, function_named, numbered_by, next_range, language_ranges, functional, pseudo_by, is_old_element, named_pseudo, pseudo_class, type_selector, next_simple, after_type, some_of, compound, comma_compound, next_compound, after_gap, listed, compound_list, begins_pseudo_class, simple_item, with_argument, pseudo_condition, next_condition, after_type_name, some_or_element, conditions, first_sign, joined_by, signed_part, by_sign, part_after, next_part, pseudo_element, selector_with, at_end, parts, listed_selector, selector}
-use Rattle.selectors3.specs.WellFormed.{IsName, IsSize, IsProgression, IsStructure, IsFurther, IsFirst, IsCompound, AreCompounds, IsFurtherCondition, IsFirstCondition, AreConditions, AreParts, BeginsPlain, IsWellFormed}
+use Rattle.selectors3.specs.Grammar.{gap, name, begins_name, begins_word, begins_compound, value, comparison, flag, compared, by_comparison, attribute_selector, closing, progression, digits, with_digit, sign, is_sign, is_n, signed, stepping, offset_after, offset_or_none, with_offset, numbered, word_progression, one_more, is_word, plain_structure, plain_pseudo, list_kind, function_named, numbered_by, next_range, language_ranges, functional, is_old_element, named_pseudo, type_selector, next_simple, some_of, Finder, compound, comma_compound, next_compound, after_gap, listed, compound_list, ListReader, begins_pseudo_class, simple_item, with_argument, pseudo_condition, condition_by, deepest, too_deep, next_condition, some_or_element, conditions, first_sign, joined_by, signed_part, by_sign, part_after, next_part, pseudo_element, selector_with, at_end, parts, listed_selector, selector}
+use Rattle.selectors3.specs.WellFormed.{IsName, IsSize, IsProgression, IsStructure, IsFurther, IsFirst, IsFurtherCondition, IsFirstCondition, IsList, AreConditions, AreParts, BeginsPlain, IsWellFormed}
 use Rattle.simplecss_text.proofs.bytes.GapLemmas.{no_gap-byte}
-use Rattle.selectors3.proofs.CompoundsAgain.{name_first}
+use Rattle.selectors3.proofs.NestedLists.{IsRow, AreRows, rows_in}
+use Rattle.selectors3.proofs.SimplesAgain.{name_first}
+use Rattle.selectors3.proofs.CompoundsAgain.{Accept, row_after, some_after, some_or_element_after}
 use Rattle.selectors3.proofs.NumbersAgain.{no_gap}
 use Rattle.selectors3.proofs.SpelledAgain.{step_bare, step_slash}
 
@@ -456,52 +458,31 @@ named_pseudo_well n text s rest some h = by (is_old_element n) refl h
         let is : plain_pseudo n (plain_structure n) ≡ s = cc in
         subst IsFurther is (plain_pseudo_well n some e)
 
-pseudo_well : (opened n text : List ℕ) (s : Simple) (rest : List ℕ) → IsName n
-    → pseudo_by opened n text ≡ item s rest → IsFurther s
-pseudo_well opened n text s rest some h = by (starts open_parenthesis text) h
-  where
-    by : (t : Bool) → (if t
-        then as_item (λ s. s) (functional opened (function_named n) (past_one text))
-        else named_pseudo n text) ≡ item s rest → IsFurther s
-    by true k =
-        let m = made (λ x. x) (functional opened (function_named n) (past_one text)) s rest k in
-        subst IsFurther m.is
-        (functional_well opened (past_one text) (function_named n) m.value rest m.first)
-    by false k = named_pseudo_well n text s rest some k
-
-pseudo_class_well : (opened text : List ℕ) (s : Simple) (rest : List ℕ)
-    → pseudo_class opened text ≡ item s rest → IsFurther s
-unfolding pseudo_class
-pseudo_class_well opened text s rest h =
-    let f = found_after (name text) (pseudo_by opened) s rest h in
-    pseudo_well opened f.value f.middle s rest (name_well text f.value f.middle f.first) f.second
+-- what is a name after a sign
+named_well : (make : List ℕ → Simple) → ((n : List ℕ) → IsName n → IsFurther (make n))
+    → (text : List ℕ) (s : Simple) (rest : List ℕ) → as_item make (name text) ≡ item s rest
+    → IsFurther s
+named_well make well text s rest h =
+    let m = made make (name text) s rest h in
+    subst IsFurther m.is (well m.value (name_well text m.value rest m.first))
 
 next_simple_well : (text : List ℕ) (s : Simple) (rest : List ℕ)
     → next_simple text ≡ item s rest → IsFurther s
 unfolding next_simple
 next_simple_well [] s rest h = absurd (cc)
 next_simple_well (b ∷ text) s rest h =
-    by (b == full_stop) (b == number_sign) (b == open_bracket) (b == colon && not
-    (starts colon text)) h
+    by (b == full_stop) (b == number_sign) (b == open_bracket) h
   where
-    named : (make : List ℕ → Simple) → ((n : List ℕ) → IsName n → IsFurther (make n))
-        → as_item make (name text) ≡ item s rest → IsFurther s
-    named make well k =
-        let m = made make (name text) s rest k in
-        subst IsFurther m.is (well m.value (name_well text m.value rest m.first))
-
-    by : (c i o p : Bool) → (if c then as_item class (name text)
+    by : (c i o : Bool) → (if c then as_item class (name text)
         else (if i then as_item id (name text)
-        else (if o then as_item (λ s. s) (attribute_selector (b ∷ text) text)
-        else (if p then pseudo_class (b ∷ text) text else none))))
+        else (if o then as_item (λ s. s) (attribute_selector (b ∷ text) text) else none)))
         ≡ item s rest → IsFurther s
-    by true i o p k = named class (λ n some. some) k
-    by false true o p k = named id (λ n some. some) k
-    by false false true p k =
+    by true i o k = named_well class (λ n some. some) text s rest k
+    by false true o k = named_well id (λ n some. some) text s rest k
+    by false false true k =
         let m = made (λ x. x) (attribute_selector (b ∷ text) text) s rest k in
         subst IsFurther m.is (attribute_well (b ∷ text) text m.value rest m.first)
-    by false false false true k = pseudo_class_well (b ∷ text) text s rest k
-    by false false false false k = absurd (cc)
+    by false false false k = absurd (cc)
 
 type_well : (text : List ℕ) (s : Simple) (rest : List ℕ) → type_selector text ≡ item s rest
     → IsFirst s
@@ -528,140 +509,198 @@ first_of_further (structure s) w = w
 first_of_further (language ranges) w = w
 first_of_further (state n) w = w
 
--- ---- compound selectors of lists
+first_of_condition : (n : ℕ) (c : Condition) → IsFurtherCondition n c → IsFirstCondition n c
+first_of_condition n (simple s) w = first_of_further s w
+first_of_condition n (negation compounds) w = w
+first_of_condition n (any_of compounds) w = w
+first_of_condition n (where_any compounds) w = w
 
-compound_well : (text : List ℕ) (simples : List Simple) (rest : List ℕ)
-    → compound text ≡ got simples rest → IsCompound simples
-unfolding compound
-compound_well text simples rest h = by (type_selector text) refl h
+-- ---- compound selectors, at a depth
+
+some_keeps : (text : List ℕ) (r : Reading (List Condition)) (cs : List Condition) (rest : List ℕ)
+    → some_of text r ≡ got cs rest → r ≡ got cs rest
+some_keeps text (got [] u) cs rest h = absurd (cc)
+some_keeps text (got (c ∷ ds) u) cs rest h = h
+some_keeps text (refused why u) cs rest h = h
+
+element_keeps : (text : List ℕ) (r : Reading (List Condition)) (cs : List Condition)
+    (rest : List ℕ) → some_or_element text r ≡ got cs rest → r ≡ got cs rest
+element_keeps text r cs rest h = by (starts colon text) h
   where
-    front : (s : Simple) → IsFirst s → (t : List ℕ) (r : Reading (List Simple))
-        → items next_simple t ≡ r → with_first s r ≡ got simples rest → IsCompound simples
-    front s w t (refused why u) e k = absurd (cc)
-    front s w t (got ss u) e k =
-        let is : s ∷ ss ≡ simples = cc in
-        subst IsCompound is (w, all_items next_simple IsFurther next_simple_well t ss u e)
+    by : (t : Bool) → (if t then r else some_of text r) ≡ got cs rest → r ≡ got cs rest
+    by true k = k
+    by false k = some_keeps text r cs rest k
 
-    alone : (r : Reading (List Simple)) → items next_simple text ≡ r
-        → some_of text r ≡ got simples rest → IsCompound simples
-    alone (refused why u) e k = absurd (cc)
-    alone (got [] u) e k = absurd (cc)
-    alone (got (s ∷ ss) u) e k =
-        let is : s ∷ ss ≡ simples = cc in
-        let all = all_items next_simple IsFurther next_simple_well text (s ∷ ss) u e in
-        subst IsCompound is
-        (first_of_further s (All-head IsFurther s ss all), All-tail IsFurther s ss all)
+-- each condition that is read may follow others
+abbrev FurtherWell : ℕ → Type 0
+FurtherWell n = (text : List ℕ) (c : Condition) (rest : List ℕ)
+    → next_condition n text ≡ item c rest → IsFurtherCondition n c
 
-    by : (step : Step Simple) → type_selector text ≡ step
-        → after_type text step ≡ got simples rest → IsCompound simples
-    by (item s t) e k = front s (type_well text s t e) t (items next_simple t) refl k
-    by none e k = alone (items next_simple text) refl k
-    by (stop why t) e k = absurd (cc)
+-- there is a condition, or there is none and that is accepted
+abbrev Row : ℕ → Accept → List ℕ → List Condition → List ℕ → Type 0
+Row n accept text cs rest =
+    IsRow n cs ⊎ ((cs ≡ []) × (rest ≡ text) × (accept text (got [] rest) ≡ got [] rest))
 
-next_compound_well : (text : List ℕ) (simples : List Simple) (rest : List ℕ)
-    → next_compound text ≡ item simples rest → IsCompound simples
-unfolding next_compound
-next_compound_well text simples rest h = by (gap text) h
-  where
-    by : (r : Reading Bool) → after_gap r ≡ item simples rest → IsCompound simples
-    by (refused why t) k = absurd (cc)
-    by (got spaced t) k = after (starts comma t) k
-      where
-        after : (c : Bool)
-            → (if c then as_item (λ c. c) (comma_compound (past_one t)) else none)
-            ≡ item simples rest → IsCompound simples
-        after false k = absurd (cc)
-        after true k =
-            let m = made (λ c. c) (comma_compound (past_one t)) simples rest k in
-            let f = followed (gap (past_one t)) (λ x. compound) m.value rest m.first in
-            subst IsCompound m.is (compound_well f.middle m.value rest f.second)
+module _ (n : ℕ) (well : FurtherWell n) where
+  row_well : (accept : Accept) → ((text : List ℕ) (r : Reading (List Condition))
+      (cs : List Condition) (rest : List ℕ) → accept text r ≡ got cs rest → r ≡ got cs rest)
+      → (text : List ℕ) (cs : List Condition) (rest : List ℕ)
+      → row_after accept (next_condition n) text (type_selector text) ≡ got cs rest
+      → Row n accept text cs rest
+  row_well accept keeps text cs rest h = by (type_selector text) refl h
+    where
+      typed : (s : Simple) → IsFirst s → (t : List ℕ) (r : Reading (List Condition))
+          → items (next_condition n) t ≡ r → with_first (simple s) r ≡ got cs rest
+          → Row n accept text cs rest
+      typed s w t (refused why u) e k = absurd (cc)
+      typed s w t (got ds u) e k =
+          let is : simple s ∷ ds ≡ cs = cc in
+          inl (subst (IsRow n) is
+          (w, all_items (next_condition n) (IsFurtherCondition n) well t ds u e))
 
-compounds_well : (opened text : List ℕ) (compounds : List (List Simple)) (rest : List ℕ)
-    → compound_list opened text ≡ got compounds rest → AreCompounds compounds
-unfolding compound_list
-compounds_well opened text compounds rest h =
-    let f = followed (gap text) (λ x. compound >>= λ c. one_more c (items next_compound) >>= λ all.
-    gap >> (closing opened close_parenthesis >> give all)) compounds rest h in
-    let g = followed (compound f.middle) (λ c. one_more c (items next_compound) >>= λ all.
-    gap >> (closing opened close_parenthesis >> give all)) compounds rest f.second in
-    let i = followed (one_more g.value (items next_compound) g.middle) (λ all.
-    gap >> (closing opened close_parenthesis >> give all)) compounds rest g.second in
-    subst AreCompounds
-    (closing_gives opened close_parenthesis i.value compounds i.middle rest i.second)
-    (front g.value (compound_well f.middle g.value g.middle g.first) g.middle
-    (items next_compound g.middle) refl i.value i.middle i.first)
-  where
-    front : (c : List Simple) → IsCompound c → (t : List ℕ) (r : Reading (List (List Simple)))
-        → items next_compound t ≡ r → (cs : List (List Simple)) (mid : List ℕ)
-        → with_first c r ≡ got cs mid → AreCompounds cs
-    front c w t (refused why u) e cs mid k = absurd (cc)
-    front c w t (got ds u) e cs mid k =
-        let is : c ∷ ds ≡ cs = cc in
-        subst AreCompounds is (
-          omega arith,
-          All-cons IsCompound c ds w (all_items next_compound IsCompound next_compound_well t ds u
-              e),
-        )
+      untyped : (ds : List Condition) → items (next_condition n) text ≡ got ds rest
+          → accept text (got ds rest) ≡ got ds rest → Row n accept text ds rest
+      untyped [] e k = inr (refl, nothing_read (next_condition n) (length text) text rest e, k)
+      untyped (d ∷ ds) e k =
+          let all = all_items (next_condition n) (IsFurtherCondition n) well text (d ∷ ds) rest e in
+          inl (
+            first_of_condition n d (All-head (IsFurtherCondition n) d ds all),
+            All-tail (IsFurtherCondition n) d ds all,
+          )
+
+      by : (step : Step Simple) → type_selector text ≡ step
+          → row_after accept (next_condition n) text step ≡ got cs rest
+          → Row n accept text cs rest
+      by (item s t) e k = typed s (type_well text s t e) t (items (next_condition n) t) refl k
+      by none e k =
+          let kept = keeps text (items (next_condition n) text) cs rest k in
+          untyped cs kept (ap (accept text) (sym kept) ∙ k)
+      by (stop why t) e k = absurd (cc)
+
+  compound_well : (text : List ℕ) (cs : List Condition) (rest : List ℕ)
+      → compound (next_condition n) text ≡ got cs rest → IsRow n cs
+  unfolding compound
+  compound_well text cs rest h =
+      by (row_well some_of some_keeps text cs rest
+      (sym (some_after (next_condition n) text (type_selector text)) ∙ h))
+    where
+      by : Row n some_of text cs rest → IsRow n cs
+      by (inl w) = w
+      by (inr w) = absurd (let k = w.2 in cc)
+
+  next_compound_well : (text : List ℕ) (cs : List Condition) (rest : List ℕ)
+      → next_compound (next_condition n) text ≡ item cs rest → IsRow n cs
+  unfolding next_compound
+  next_compound_well text cs rest h = by (gap text) h
+    where
+      by : (r : Reading Bool) → after_gap (next_condition n) r ≡ item cs rest → IsRow n cs
+      by (refused why t) k = absurd (cc)
+      by (got spaced t) k = after (starts comma t) k
+        where
+          after : (c : Bool) → (if c
+              then as_item (λ c. c) (comma_compound (next_condition n) (past_one t)) else none)
+              ≡ item cs rest → IsRow n cs
+          after false k = absurd (cc)
+          after true k =
+              let m = made (λ c. c) (comma_compound (next_condition n) (past_one t)) cs rest k in
+              let f = followed (gap (past_one t)) (λ x. compound (next_condition n)) m.value rest
+              m.first in
+              subst (IsRow n) m.is (compound_well f.middle m.value rest f.second)
+
+  compounds_well : (opened text : List ℕ) (css : List (List Condition)) (rest : List ℕ)
+      → compound_list (next_condition n) opened text ≡ got css rest → AreRows n css
+  unfolding compound_list
+  compounds_well opened text css rest h =
+      let next : Finder = next_condition n in
+      let f = followed (gap text) (λ x. compound next >>= λ c.
+      one_more c (items (next_compound next)) >>= λ all.
+      gap >> (closing opened close_parenthesis >> give all)) css rest h in
+      let g = followed (compound next f.middle) (λ c.
+      one_more c (items (next_compound next)) >>= λ all.
+      gap >> (closing opened close_parenthesis >> give all)) css rest f.second in
+      let i = followed (one_more g.value (items (next_compound next)) g.middle) (λ all.
+      gap >> (closing opened close_parenthesis >> give all)) css rest g.second in
+      subst (AreRows n)
+      (closing_gives opened close_parenthesis i.value css i.middle rest i.second)
+      (front g.value (compound_well f.middle g.value g.middle g.first) g.middle
+      (items (next_compound next) g.middle) refl i.value i.middle i.first)
+    where
+      front : (cs : List Condition) → IsRow n cs → (t : List ℕ)
+          (r : Reading (List (List Condition))) → items (next_compound (next_condition n)) t ≡ r
+          → (all : List (List Condition)) (mid : List ℕ) → with_first cs r ≡ got all mid
+          → AreRows n all
+      front cs w t (refused why u) e all mid k = absurd (cc)
+      front cs w t (got ds u) e all mid k =
+          let is : cs ∷ ds ≡ all = cc in
+          subst (AreRows n) is (
+            omega arith,
+            All-cons (IsRow n) cs ds w
+                (all_items (next_compound (next_condition n)) (IsRow n) next_compound_well t ds u e),
+          )
 
 -- ---- conditions
 
-argument_well : (opened n text : List ℕ) (kind : Option ListKind) (c : Condition) (rest : List ℕ)
-    → with_argument opened kind (function_named n) text ≡ got c rest → IsFurtherCondition c
-argument_well opened n text None c rest h =
-    let f = followed (functional opened (function_named n) text) (λ s. give (simple s)) c rest h in
-    let is : simple f.value ≡ c = (let e = f.second in cc) in
-    subst IsFurtherCondition is
-    (functional_well opened text (function_named n) f.value f.middle f.first)
-argument_well opened n text (Some kind) c rest h =
-    let f = followed (compound_list opened text) (λ all. give (listed kind all)) c rest h in
-    let is : listed kind f.value ≡ c = (let e = f.second in cc) in
-    subst IsFurtherCondition is (by kind f.value
-    (compounds_well opened text f.value f.middle f.first))
-  where
-    by : (k : ListKind) (cs : List (List Simple)) → AreCompounds cs
-        → IsFurtherCondition (listed k cs)
-    by Not cs w = w
-    by Is cs w = w
-    by Where cs w = w
+module _ (n : ℕ) (list : ListReader) (well : (opened text : List ℕ) (css : List (List Condition))
+    (rest : List ℕ) → list opened text ≡ got css rest → IsList n (compounds_from css)) where
+  argument_well : (opened name text : List ℕ) (kind : Option ListKind) (c : Condition)
+      (rest : List ℕ) → with_argument list opened kind (function_named name) text ≡ got c rest
+      → IsFurtherCondition n c
+  argument_well opened name text None c rest h =
+      let f = followed (functional opened (function_named name) text) (λ s. give (simple s)) c rest
+      h in
+      let is : simple f.value ≡ c = (let e = f.second in cc) in
+      subst (IsFurtherCondition n) is
+      (functional_well opened text (function_named name) f.value f.middle f.first)
+  argument_well opened name text (Some kind) c rest h =
+      let f = followed (list opened text) (λ all. give (listed kind all)) c rest h in
+      let is : listed kind f.value ≡ c = (let e = f.second in cc) in
+      subst (IsFurtherCondition n) is (by kind f.value (well opened text f.value f.middle f.first))
+    where
+      by : (k : ListKind) (css : List (List Condition)) → IsList n (compounds_from css)
+          → IsFurtherCondition n (listed k css)
+      by Not css w = w
+      by Is css w = w
+      by Where css w = w
 
-next_condition_well : (text : List ℕ) (c : Condition) (rest : List ℕ)
-    → next_condition text ≡ item c rest → IsFurtherCondition c
+  condition_by_well : (text : List ℕ) (c : Condition) (rest : List ℕ)
+      → condition_by list text ≡ item c rest → IsFurtherCondition n c
+  condition_by_well text c rest h = by (begins_pseudo_class text) h
+    where
+      further : (step : Step Simple) → ((s : Simple) (t : List ℕ) → step ≡ item s t → IsFurther s)
+          → simple_item step ≡ item c rest → IsFurtherCondition n c
+      further (item s t) well k =
+          let is : simple s ≡ c = cc in
+          subst (IsFurtherCondition n) is (well s t refl)
+      further none well k = absurd (cc)
+      further (stop why t) well k = absurd (cc)
+
+      after : (m t : List ℕ) → IsName m → (o : Bool) → (if o
+          then as_item (λ c. c)
+          (with_argument list text (list_kind m) (function_named m) (past_one t))
+          else simple_item (named_pseudo m t)) ≡ item c rest → IsFurtherCondition n c
+      after m t some true k =
+          let f = made (λ x. x)
+          (with_argument list text (list_kind m) (function_named m) (past_one t)) c rest k in
+          subst (IsFurtherCondition n) f.is
+          (argument_well text m (past_one t) (list_kind m) f.value rest f.first)
+      after m t some false k =
+          further (named_pseudo m t) (λ s u e. named_pseudo_well m t s u some e) k
+
+      by : (t : Bool) → (if t then step_after (name (past_one text)) (pseudo_condition list text)
+          else simple_item (next_simple text)) ≡ item c rest → IsFurtherCondition n c
+      by false k = further (next_simple text) (next_simple_well text) k
+      by true k =
+          let f = found_after (name (past_one text)) (pseudo_condition list text) c rest k in
+          after f.value f.middle (name_well (past_one text) f.value f.middle f.first)
+          (starts open_parenthesis f.middle) f.second
+
+next_condition_well : (n : ℕ) → FurtherWell n
 unfolding next_condition
-next_condition_well text c rest h = by (begins_pseudo_class text) h
-  where
-    further : (step : Step Simple) → ((s : Simple) (t : List ℕ) → step ≡ item s t → IsFurther s)
-        → simple_item step ≡ item c rest → IsFurtherCondition c
-    further (item s t) well k =
-        let is : simple s ≡ c = cc in
-        subst IsFurtherCondition is (well s t refl)
-    further none well k = absurd (cc)
-    further (stop why t) well k = absurd (cc)
-
-    after : (n t : List ℕ) → IsName n → (o : Bool)
-        → (if o
-        then as_item (λ c. c) (with_argument text (list_kind n) (function_named n) (past_one t))
-        else simple_item (named_pseudo n t)) ≡ item c rest → IsFurtherCondition c
-    after n t some true k =
-        let m = made (λ x. x) (with_argument text (list_kind n) (function_named n) (past_one t)) c
-        rest k in
-        subst IsFurtherCondition m.is
-        (argument_well text n (past_one t) (list_kind n) m.value rest m.first)
-    after n t some false k =
-        further (named_pseudo n t) (λ s u e. named_pseudo_well n t s u some e) k
-
-    by : (t : Bool) → (if t then step_after (name (past_one text)) (pseudo_condition text)
-        else simple_item (next_simple text)) ≡ item c rest → IsFurtherCondition c
-    by false k = further (next_simple text) (next_simple_well text) k
-    by true k =
-        let f = found_after (name (past_one text)) (pseudo_condition text) c rest k in
-        after f.value f.middle (name_well (past_one text) f.value f.middle f.first)
-        (starts open_parenthesis f.middle) f.second
-
-first_of_condition : (c : Condition) → IsFurtherCondition c → IsFirstCondition c
-first_of_condition (simple s) w = first_of_further s w
-first_of_condition (negation compounds) w = w
-first_of_condition (any_of compounds) w = w
-first_of_condition (where_any compounds) w = w
+next_condition_well zero text c rest h =
+    condition_by_well zero too_deep (λ opened t css u e. absurd (cc)) text c rest h
+next_condition_well (suc n) text c rest h =
+    condition_by_well (suc n) (compound_list (next_condition n)) (λ opened t css u e.
+    rows_in n css (compounds_well n (next_condition_well n) opened t css u e)) text c rest h
 
 -- the conditions of a compound selector, of which there may be none before a pseudo-element
 abbrev Conditions : List Condition → List ℕ → Type 0
@@ -671,54 +710,23 @@ Conditions cs rest =
 conditions_well : (text : List ℕ) (cs : List Condition) (rest : List ℕ)
     → conditions text ≡ got cs rest → Conditions cs rest
 unfolding conditions
-conditions_well text cs rest h = by (type_selector text) refl h
+conditions_well text cs rest h =
+    by (row_well deepest (next_condition_well deepest) some_or_element element_keeps text cs rest
+    (sym (some_or_element_after text (type_selector text)) ∙ h))
   where
-    front : (s : Simple) → IsFirst s → (t : List ℕ) (r : Reading (List Condition))
-        → items next_condition t ≡ r → with_first (simple s) r ≡ got cs rest → Conditions cs rest
-    front s w t (refused why u) e k = absurd (cc)
-    front s w t (got ds u) e k =
-        let is : simple s ∷ ds ≡ cs = cc in
-        inl (subst (AreConditions false) is
-        (w, all_items next_condition IsFurtherCondition next_condition_well t ds u e))
+    some : (ds : List Condition) → IsRow deepest ds → AreConditions false ds
+    some [] w = absurd w
+    some (d ∷ ds) w = w
 
-    some : (ds : List Condition) (u : List ℕ) → items next_condition text ≡ got ds u
-        → (t : Bool) → starts colon text ≡ t
-        → (if t then got ds u else some_of text (got ds u)) ≡ got cs rest → Conditions cs rest
-    some [] u e false f k = absurd (cc)
-    some [] u e true f k =
-        let here : u ≡ text = nothing_read next_condition (length text) text u e in
-        let none : [] ≡ cs = cc in
-        let same : u ≡ rest = cc in
-        inr (sym none, ap (starts colon) (sym same ∙ here) ∙ f)
-    some (d ∷ ds) u e t f k =
-        let is : d ∷ ds ≡ cs = both t k in
-        let all = all_items next_condition IsFurtherCondition next_condition_well text
-        (d ∷ ds) u e in
-        inl (subst (AreConditions false) is (
-          first_of_condition d (All-head IsFurtherCondition d ds all),
-          All-tail IsFurtherCondition d ds all,
-        ))
-      where
-        both : (t : Bool) → (if t then got (d ∷ ds) u else got (d ∷ ds) u) ≡ got cs rest
-            → d ∷ ds ≡ cs
-        both true k = cc
-        both false k = cc
+    element : (t : Bool) → starts colon text ≡ t
+        → (if t then got [] rest else some_of text (got [] rest)) ≡ got [] rest
+        → starts colon text ≡ true
+    element true e k = e
+    element false e k = absurd (cc)
 
-    alone : (r : Reading (List Condition)) → items next_condition text ≡ r
-        → some_or_element text r ≡ got cs rest → Conditions cs rest
-    alone (refused why u) e k = refusal (starts colon text) k
-      where
-        refusal : (t : Bool) → (if t then refused why u else refused why u) ≡ got cs rest
-            → Conditions cs rest
-        refusal true k = absurd (cc)
-        refusal false k = absurd (cc)
-    alone (got ds u) e k = some ds u e (starts colon text) refl k
-
-    by : (step : Step Simple) → type_selector text ≡ step
-        → after_type_name text step ≡ got cs rest → Conditions cs rest
-    by (item s t) e k = front s (type_well text s t e) t (items next_condition t) refl k
-    by none e k = alone (items next_condition text) refl k
-    by (stop why t) e k = absurd (cc)
+    by : Row deepest some_or_element text cs rest → Conditions cs rest
+    by (inl w) = inl (some cs w)
+    by (inr w) = inr (w.0, ap (starts colon) w.1 ∙ element (starts colon text) refl w.2)
 
 -- ---- selectors
 
