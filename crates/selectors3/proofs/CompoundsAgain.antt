@@ -1,9 +1,9 @@
 -- Printed compound selectors, and lists of them, read back.
 -- Serves `printing_laws::printing_law`.
-use Rattle.std.proofs.Common.{◌≡◌, ℕ, zero, suc, ◌<◌, ◌≤◌, ◌⊎◌, inl, inr, ◌==◌, Bool, true, false, List, [], ◌∷◌, ◌++◌, Some, All, length, flat_map, append_assoc, arith, refl, sym, ap, ◌∙◌, subst, eqb-true}
+use Rattle.std.proofs.Common.{◌≡◌, ℕ, zero, suc, ◌≤◌, ◌⊎◌, inl, inr, Bool, true, false, List, [], ◌∷◌, ◌++◌, Some, All, length, flat_map, append_assoc, arith, refl, sym, ap, ◌∙◌, subst, eqb-true}
 use Rattle.std.specs.Prelude.{codes, if◌then◌else◌}
 use Rattle.std.proofs.lemmas.List.Elements.{All-cons, All-head, All-tail}
-use Rattle.simplecss_text.specs.AsciiBytes.{asterisk, close_parenthesis, colon, comma, full_stop, number_sign, open_bracket, open_parenthesis, space}
+use Rattle.simplecss_text.specs.AsciiBytes.{asterisk, close_parenthesis, colon, comma, open_parenthesis, space}
 use Rattle.simplecss_text.specs.Bytes.{starts_by, starts}
 use Rattle.simplecss_text.proofs.bytes.GapLemmas.{no_gap-byte}
 use Rattle.selectors3.specs.declared.components.ListKind.{ListKind}
@@ -12,8 +12,8 @@ use Rattle.selectors3.specs.Components.{Simple, Condition, Compounds, compounds_
 use Rattle.selectors3.specs.Components.Simple.{universal, type_name, id, class, has_attribute, attribute, structure, language, state}
 use Rattle.selectors3.specs.Components.Condition.{simple, negation, any_of, where_any}
 use Rattle.selectors3.specs.Readings.{Reading, got, refused, follow, give, ◌>>=◌, ◌>>◌, Step, item, none, stop, as_item, with_first, items}
-use Rattle.selectors3.specs.Grammar.{gap, begins_name, begins_compound, closing, one_more, list_kind, function_named, with_argument, type_selector, next_simple, after_type, some_of, Finder, ListReader, compound, next_compound, after_gap, listed, compound_list, begins_pseudo_class, simple_item, condition_by, too_deep, next_condition, deepest, after_type_name, some_or_element, conditions}
-use Rattle.selectors3.specs.Printing.{identifier_text, further_text, list_text, simple_text, compounds_text, condition_text}
+use Rattle.selectors3.specs.Grammar.{gap, begins_compound, closing, one_more, list_kind, function_named, with_argument, type_selector, next_simple, after_type, some_of, Finder, ListReader, compound, next_compound, after_gap, listed, compound_list, begins_pseudo_class, simple_item, condition_by, too_deep, next_condition, deepest, after_type_name, some_or_element, conditions}
+use Rattle.selectors3.specs.Printing.{identifier_text, further_text, list_text, compounds_text, condition_text}
 use Rattle.selectors3.specs.WellFormed.{IsName, IsFurtherCondition, IsFirstCondition, IsList, AreConditions}
 use Rattle.selectors3.proofs.SpelledAgain.{name-again}
 use Rattle.selectors3.proofs.NumbersAgain.{no_gap, one_blank}
@@ -47,9 +47,9 @@ start_begins (b ∷ text) rest h = by_start (λ d. begins_compound d ≡ true) r
 
 condition_starts : (n : ℕ) (c : Condition) → IsFurtherCondition n c → Starts (condition_text c)
 condition_starts n (simple s) w = further_starts s w
-condition_starts n (negation compounds) w = refl
-condition_starts n (any_of compounds) w = refl
-condition_starts n (where_any compounds) w = refl
+condition_starts n (negation _) w = refl
+condition_starts n (any_of _) w = refl
+condition_starts n (where_any _) w = refl
 
 -- `*` or a type
 star-again : (rest : List ℕ) → type_selector (asterisk ∷ rest) ≡ item universal rest
@@ -92,9 +92,9 @@ first_kind n (simple (attribute name c v ignores)) rest w h = inr w
 first_kind n (simple (structure s)) rest w h = inr w
 first_kind n (simple (language ranges)) rest w h = inr w
 first_kind n (simple (state name)) rest w h = inr w
-first_kind n (negation compounds) rest w h = inr w
-first_kind n (any_of compounds) rest w h = inr w
-first_kind n (where_any compounds) rest w h = inr w
+first_kind n (negation _) rest w h = inr w
+first_kind n (any_of _) rest w h = inr w
+first_kind n (where_any _) rest w h = inr w
 
 -- ---- compound selectors, at a depth
 
@@ -360,7 +360,7 @@ no_conditions [] stops h = absurd (cc)
 no_conditions (b ∷ rest) stops h =
     let is : b ≡ colon = eqb-true b colon h in
     let untyped : type_selector (b ∷ rest) ≡ none =
-    start_untyped (b ∷ rest) [] (ap is_start is) in (
+    start_untyped (b ∷ []) rest (ap is_start is) in (
       ap (after_type_name (b ∷ rest)) untyped
           ∙ ap (some_or_element (b ∷ rest))
           (items-again (next_condition deepest) condition_text [] (b ∷ rest) stops)

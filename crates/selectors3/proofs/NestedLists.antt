@@ -1,6 +1,6 @@
 -- The compound selectors of a list within a condition, as lists.
 -- Serves `printing` and `printing_laws::printing_law`.
-use Rattle.std.proofs.Common.{◌≡◌, ℕ, suc, ◌<◌, List, [], ◌∷◌, ◌++◌, All, length, flat_map, append_assoc, arith, refl, sym, ap, ◌∙◌}
+use Rattle.std.proofs.Common.{◌≡◌, ℕ, suc, ◌<◌, List, [], ◌∷◌, ◌++◌, All, length, flat_map, arith, refl, ap, ◌∙◌}
 use Rattle.std.specs.Prelude.{codes}
 use Rattle.std.proofs.lemmas.List.Elements.{All-nil, All-cons, All-head, All-tail}
 use Rattle.selectors3.specs.Components.{Condition, Conditions, Compounds, conditions_from, compounds_from}

@@ -511,9 +511,9 @@ first_of_further (state n) w = w
 
 first_of_condition : (n : ℕ) (c : Condition) → IsFurtherCondition n c → IsFirstCondition n c
 first_of_condition n (simple s) w = first_of_further s w
-first_of_condition n (negation compounds) w = w
-first_of_condition n (any_of compounds) w = w
-first_of_condition n (where_any compounds) w = w
+first_of_condition n (negation _) w = w
+first_of_condition n (any_of _) w = w
+first_of_condition n (where_any _) w = w
 
 -- ---- compound selectors, at a depth
 
@@ -719,7 +719,7 @@ conditions_well text cs rest h =
     some (d ∷ ds) w = w
 
     element : (t : Bool) → starts colon text ≡ t
-        → (if t then got [] rest else some_of text (got [] rest)) ≡ got [] rest
+        → (if t then got [] rest else some_of {A = Condition} text (got [] rest)) ≡ got [] rest
         → starts colon text ≡ true
     element true e k = e
     element false e k = absurd (cc)

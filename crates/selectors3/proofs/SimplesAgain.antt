@@ -1,18 +1,14 @@
 -- Printed simple selectors read back.
 -- Serves `printing_laws::printing_law`.
-use Rattle.std.proofs.Common.{◌≡◌, ℕ, zero, suc, ◌<◌, ◌≤◌, ◌==◌, ◌||◌, ◌&&◌, not, Bool, true, false, List, [], ◌∷◌, ◌++◌, Option, None, Some, All, length, length-append, flat_map, append_assoc, arith, refl, sym, ap, ◌∙◌, subst, eqb-true}
-use Rattle.std.specs.Prelude.{codes, if◌then◌else◌}
-use Rattle.std.specs.Option.{is_some}
-use Rattle.std.proofs.lemmas.List.Elements.{All-cons, All-head, All-tail}
-use Rattle.simplecss_text.specs.AsciiBytes.{asterisk, backslash, close_bracket, close_parenthesis, colon, comma, double_quote, form_feed, full_stop, hyphen, newline, carriage_return, number_sign, open_bracket, open_parenthesis, slash, space, tab}
-use Rattle.simplecss_text.specs.Bytes.{starts_by, starts, past_one}
+use Rattle.std.proofs.Common.{◌≡◌, ℕ, zero, suc, ◌<◌, ◌≤◌, ◌==◌, ◌||◌, ◌&&◌, not, Bool, true, false, List, [], ◌∷◌, ◌++◌, None, Some, length, length-append, flat_map, append_assoc, arith, refl, sym, ap, ◌∙◌, subst, eqb-true}
+use Rattle.std.specs.Prelude.{codes}
+use Rattle.simplecss_text.specs.AsciiBytes.{backslash, close_bracket, close_parenthesis, colon, comma, double_quote, form_feed, full_stop, hyphen, newline, carriage_return, number_sign, open_bracket, open_parenthesis, slash, space, tab}
+use Rattle.simplecss_text.specs.Bytes.{starts_by, starts}
 use Rattle.simplecss_text.proofs.bytes.GapLemmas.{NoGap, no_gap-byte}
 use Rattle.css_syntax.specs.Tokens.{is_name_byte}
 use Rattle.selectors3.specs.declared.components.Numbering.{Numbering}
 use Rattle.selectors3.specs.declared.components.Numbering.TheVariants.{Child as OfChild, LastChild as OfLastChild, OfType, LastOfType as OfLastType}
 use Rattle.selectors3.specs.declared.components.Function.TheVariants.{Numbered, Language}
-use Rattle.selectors3.specs.declared.components.ListKind.{ListKind}
-use Rattle.selectors3.specs.declared.components.ListKind.TheVariants.{Not, Is, Where}
 use Rattle.selectors3.specs.Components.{Comparison, Progression, Structure, Simple, Condition}
 use Rattle.selectors3.specs.Components.Comparison.{equals, has_word, has_subtag, starts as starts_with, ends as ends_with, contains}
 use Rattle.selectors3.specs.Components.Structure.{root, empty, first_child, last_child, only_child, first_of_type, last_of_type, only_of_type, nth_child, nth_last_child, nth_of_type, nth_last_of_type}
