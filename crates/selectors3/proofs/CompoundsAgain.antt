@@ -28,7 +28,8 @@ Starts text = starts_by is_start text ≡ true
 
 start_ends : (text rest : List ℕ) → Starts text → ends (text ++ rest) ≡ true
 start_ends [] rest h = absurd (cc)
-start_ends (b ∷ text) rest h = by_start (λ d. ends (d ∷ (text ++ rest)) ≡ true) refl refl refl refl b h
+start_ends (b ∷ text) rest h =
+    by_start (λ d. ends (d ∷ (text ++ rest)) ≡ true) refl refl refl refl b h
 
 start_some : (text : List ℕ) → Starts text → 1 ≤ length text
 start_some [] h = absurd (cc)
@@ -119,7 +120,7 @@ row_begins n (c ∷ cs) rest w h =
     by (inl t) = t.begins
     by (inr f) = start_begins (condition_text c) (row_text cs ++ rest) (condition_starts n c f)
 
--- what is read after a type or without one; `accept` judges the conditions that are read without one
+-- what is read after a type or without one; `accept` judges conditions that are read without one
 abbrev pub Accept : Type 0
 Accept = List ℕ → Reading (List Condition) → Reading (List Condition)
 

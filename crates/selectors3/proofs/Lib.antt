@@ -13,4 +13,5 @@ mod NumbersAgain
 mod SimplesAgain
 mod CompoundsAgain
 mod SelectorsAgain
+mod ReadSimples
 mod ReadWellFormed

@@ -71,8 +71,10 @@ module _ (n : ℕ) where
   further_in : (cs : List Condition) → All (IsFurtherCondition n) cs
       → AreFurther n (conditions_from cs)
   further_in [] w = tt
-  further_in (c ∷ cs) w =
-      (All-head (IsFurtherCondition n) c cs w, further_in cs (All-tail (IsFurtherCondition n) c cs w))
+  further_in (c ∷ cs) w = (
+    All-head (IsFurtherCondition n) c cs w,
+    further_in cs (All-tail (IsFurtherCondition n) c cs w),
+  )
 
   row_out : (cs : List Condition) → IsCompound n (conditions_from cs) → IsRow n cs
   row_out [] w = w
