@@ -70,6 +70,24 @@ made make (got x mid) y rest h =
     record { value = x; first = ap (got x) same; is = cc }
 made make (refused why mid) y rest h = absurd (cc)
 
+-- a first value and those that were read after it
+pub record FirstOf {A : Type 0} (x : A) (r : Reading (List A)) (xs : List A) (rest : List ℕ)
+    : Type 0 where
+  pub others : List A
+  pub reads : r ≡ got others rest
+  pub is : x ∷ others ≡ xs
+
+pub first_of_all : {A : Type 0} (x : A) (r : Reading (List A)) (xs : List A) (rest : List ℕ)
+    → with_first x r ≡ got xs rest → FirstOf x r xs rest
+first_of_all x (got ys mid) xs rest h =
+    let same : mid ≡ rest = cc in
+    record { others = ys; reads = ap (got ys) same; is = cc }
+first_of_all x (refused why mid) xs rest h = absurd (cc)
+
+some_first : {A : Type 0} (x : A) (r : Reading (List A)) (xs : List A) (rest : List ℕ)
+    → FirstOf x r xs rest → 0 < length xs
+some_first x r xs rest f = subst (λ l. 0 < length l) f.is (omega arith)
+
 module _ {A : Type 0} (read : List ℕ → Step A) (P : A → Type 0)
     (each : (text : List ℕ) (x : A) (rest : List ℕ) → read text ≡ item x rest → P x) where
   all_up_to : (n : ℕ) (text : List ℕ) (xs : List A) (rest : List ℕ)
@@ -84,14 +102,10 @@ module _ {A : Type 0} (read : List ℕ → Step A) (P : A → Type 0)
           → All P xs
       by none e k more = let nothing : [] ≡ xs = cc in subst (All P) nothing (All-nil P)
       by (stop why t) e k more = absurd (cc)
-      by (item x t) e k more = found (items_up_to n read t) refl k
-        where
-          found : (r : Reading (List A)) → items_up_to n read t ≡ r
-              → with_first x r ≡ got xs rest → All P xs
-          found (refused why u) f g = absurd (cc)
-          found (got ys u) f g =
-              let is : x ∷ ys ≡ xs = cc in
-              subst (All P) is (All-cons P x ys (each text x t e) (more t ys u f))
+      by (item x t) e k more =
+          let f = first_of_all x (items_up_to n read t) xs rest k in
+          subst (All P) f.is
+          (All-cons P x f.others (each text x t e) (more t f.others rest f.reads))
 
   pub all_items : (text : List ℕ) (xs : List A) (rest : List ℕ) → items read text ≡ got xs rest
       → All P xs
@@ -106,11 +120,9 @@ nothing_read {A} read (suc n) text rest h = by (read text) h
     by : (s : Step A) → go_on text s (items_up_to n read) ≡ got [] rest → rest ≡ text
     by none k = cc
     by (stop why t) k = absurd (cc)
-    by (item x t) k = found (items_up_to n read t) k
-      where
-        found : (r : Reading (List A)) → with_first x r ≡ got [] rest → rest ≡ text
-        found (got ys u) k = absurd (cc)
-        found (refused why u) k = absurd (cc)
+    by (item x t) k =
+        let f = first_of_all x (items_up_to n read t) [] rest k in
+        absurd (let is = f.is in cc)
 
 -- ---- names
 
@@ -316,12 +328,15 @@ progression_well text p rest h =
 
 -- ---- simple selectors
 
-pub closing_gives : {A : Type 0} (opened : List ℕ) (byte : ℕ) (x y : A) (text rest : List ℕ)
-    → follow (gap text) (λ z. closing opened byte >> give x) ≡ got y rest → x ≡ y
-closing_gives opened byte x y text rest h =
+-- what is given after a closing byte was there before it
+pub closed_well : {A : Type 0} (P : A → Type 0) (opened : List ℕ) (byte : ℕ) (x y : A)
+    (text rest : List ℕ) → follow (gap text) (λ z. closing opened byte >> give x) ≡ got y rest
+    → P x → P y
+closed_well P opened byte x y text rest h =
     let f = followed (gap text) (λ z. closing opened byte >> give x) y rest h in
     let g = followed (closing opened byte f.middle) (λ z. give x) y rest f.second in
-    let k = g.second in cc
+    let is : x ≡ y = (let k = g.second in cc) in
+    subst P is
 
 attribute_well : (opened text : List ℕ) (s : Simple) (rest : List ℕ)
     → attribute_selector opened text ≡ got s rest → IsFurther s
@@ -354,9 +369,8 @@ attribute_well opened text s rest h =
         (closing opened close_bracket >> give (attribute n c g.value i))) s rest g.second in
         let l = followed (flag opened j.middle) (λ i. gap >>
         (closing opened close_bracket >> give (attribute n c g.value i))) s rest j.second in
-        let made_of : Simple = attribute n c g.value l.value in
-        subst IsFurther {x = made_of}
-        (closing_gives opened close_bracket made_of s l.middle rest l.second) some
+        closed_well IsFurther opened close_bracket (attribute n c g.value l.value) s l.middle rest
+        l.second some
 
 ranges_well : (opened text : List ℕ) (ranges : List (List ℕ)) (rest : List ℕ)
     → language_ranges opened text ≡ got ranges rest → 0 < length ranges
@@ -369,15 +383,9 @@ ranges_well opened text ranges rest h =
     gap >> (closing opened close_parenthesis >> give all)) ranges rest f.second in
     let i = followed (one_more g.value (items next_range) g.middle) (λ all.
     gap >> (closing opened close_parenthesis >> give all)) ranges rest g.second in
-    subst (λ (l : List (List ℕ)). 0 < length l)
-    (closing_gives opened close_parenthesis i.value ranges i.middle rest i.second)
-    (first_some g.value (items next_range g.middle) i.value i.middle i.first)
-  where
-    first_some : {A : Type 0} (x : A) (r : Reading (List A)) (xs : List A) (mid : List ℕ)
-        → with_first x r ≡ got xs mid → 0 < length xs
-    first_some x (got ys t) xs mid k =
-        let is : x ∷ ys ≡ xs = cc in subst (λ l. 0 < length l) is (omega arith)
-    first_some x (refused why t) xs mid k = absurd (cc)
+    let all = first_of_all g.value (items next_range g.middle) i.value i.middle i.first in
+    closed_well (λ (l : List (List ℕ)). 0 < length l) opened close_parenthesis i.value ranges
+    i.middle rest i.second (some_first g.value (items next_range g.middle) i.value i.middle all)
 
 pub functional_well : (opened text : List ℕ) (kind : Option Function) (s : Simple) (rest : List ℕ)
     → functional opened kind text ≡ got s rest → IsFurther s
@@ -391,9 +399,8 @@ functional_well opened text (Some (Numbered kind)) s rest h =
     (closing opened close_parenthesis >> give (structure (numbered_by kind p)))) s rest h in
     let g = followed (progression f.middle) (λ p. gap >>
     (closing opened close_parenthesis >> give (structure (numbered_by kind p)))) s rest f.second in
-    subst IsFurther
-    (closing_gives opened close_parenthesis (structure (numbered_by kind g.value)) s g.middle rest
-    g.second)
+    closed_well IsFurther opened close_parenthesis (structure (numbered_by kind g.value)) s g.middle
+    rest g.second
     (by kind g.value (progression_well f.middle g.value g.middle g.first))
   where
     by : (k : Numbering) (p : Progression) → IsProgression p

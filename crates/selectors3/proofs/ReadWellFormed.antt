@@ -12,14 +12,14 @@ use Rattle.selectors3.specs.declared.components.ListKind.{ListKind}
 use Rattle.selectors3.specs.declared.components.ListKind.TheVariants.{Not, Is, Where}
 use Rattle.selectors3.specs.Components.{Simple, Condition, compounds_from, Part, Selector}
 use Rattle.selectors3.specs.Components.Condition.{simple, negation, any_of, where_any}
-use Rattle.selectors3.specs.Readings.{Reading, got, refused, follow, give, ◌>>=◌, ◌>>◌, Step, item, none, stop, step_after, as_item, with_first, go_on, items, items_up_to}
+use Rattle.selectors3.specs.Readings.{Reading, got, refused, follow, give, ◌>>=◌, ◌>>◌, Step, item, none, stop, step_after, as_item, go_on, items, items_up_to, with_first}
 use Rattle.selectors3.specs.Grammar.{gap, name, begins_compound, closing, one_more, list_kind, function_named, functional, named_pseudo, type_selector, next_simple, some_of, Finder, compound, comma_compound, next_compound, after_gap, listed, compound_list, ListReader, begins_pseudo_class, simple_item, with_argument, pseudo_condition, condition_by, deepest, too_deep, next_condition, some_or_element, conditions, first_sign, joined_by, signed_part, by_sign, part_after, next_part, pseudo_element, selector_with, at_end, parts, listed_selector, selector}
-use Rattle.selectors3.specs.WellFormed.{IsName, IsFurther, IsFirst, IsFurtherCondition, IsFirstCondition, IsList, AreConditions, AreParts, BeginsPlain, IsWellFormed}
+use Rattle.selectors3.specs.WellFormed.{IsName, IsFurther, IsFurtherCondition, IsFirstCondition, IsList, AreConditions, AreParts, BeginsPlain, IsWellFormed}
 use Rattle.simplecss_text.proofs.bytes.GapLemmas.{no_gap-byte}
 use Rattle.selectors3.proofs.NestedLists.{IsRow, AreRows, rows_in}
 use Rattle.selectors3.proofs.CompoundsAgain.{Accept, row_after, some_after, some_or_element_after}
 use Rattle.selectors3.proofs.NumbersAgain.{no_gap}
-use Rattle.selectors3.proofs.ReadSimples.{followed, found_after, made, all_items, nothing_read, name_well, closing_gives, functional_well, named_pseudo_well, next_simple_well, type_well, first_of_further}
+use Rattle.selectors3.proofs.ReadSimples.{followed, found_after, made, all_items, nothing_read, first_of_all, name_well, closed_well, functional_well, named_pseudo_well, next_simple_well, type_well, first_of_further}
 
 -- ---- compound selectors, at a depth
 
@@ -61,15 +61,6 @@ module _ (n : ℕ) (well : FurtherWell n) where
       → Row n accept text cs rest
   row_well accept keeps text cs rest h = by (type_selector text) refl h
     where
-      typed : (s : Simple) → IsFirst s → (t : List ℕ) (r : Reading (List Condition))
-          → items (next_condition n) t ≡ r → with_first (simple s) r ≡ got cs rest
-          → Row n accept text cs rest
-      typed s w t (refused why u) e k = absurd (cc)
-      typed s w t (got ds u) e k =
-          let is : simple s ∷ ds ≡ cs = cc in
-          inl (subst (IsRow n) is
-          (w, all_items (next_condition n) (IsFurtherCondition n) well t ds u e))
-
       untyped : (ds : List Condition) → items (next_condition n) text ≡ got ds rest
           → accept text (got ds rest) ≡ got ds rest → Row n accept text ds rest
       untyped [] e k = inr (refl, nothing_read (next_condition n) (length text) text rest e, k)
@@ -83,7 +74,10 @@ module _ (n : ℕ) (well : FurtherWell n) where
       by : (step : Step Simple) → type_selector text ≡ step
           → row_after accept (next_condition n) text step ≡ got cs rest
           → Row n accept text cs rest
-      by (item s t) e k = typed s (type_well text s t e) t (items (next_condition n) t) refl k
+      by (item s t) e k =
+          let f = first_of_all (simple s) (items (next_condition n) t) cs rest k in
+          let all = all_items (next_condition n) (IsFurtherCondition n) well t f.others rest f.reads in
+          inl (subst (IsRow n) f.is (type_well text s t e, all))
       by none e k =
           let kept = keeps text (items (next_condition n) text) cs rest k in
           untyped cs kept (ap (accept text) (sym kept) ∙ k)
@@ -119,6 +113,18 @@ module _ (n : ℕ) (well : FurtherWell n) where
               m.first in
               subst (IsRow n) m.is (compound_well f.middle m.value rest f.second)
 
+  rows_well : (cs : List Condition) (text : List ℕ) (css : List (List Condition)) (rest : List ℕ)
+      → IsRow n cs → with_first cs (items (next_compound (next_condition n)) text) ≡ got css rest
+      → AreRows n css
+  rows_well cs text css rest w h =
+      let next : List ℕ → Step (List Condition) = next_compound (next_condition n) in
+      let f = first_of_all cs (items next text) css rest h in
+      subst (AreRows n) f.is (
+        omega arith,
+        All-cons (IsRow n) cs f.others w
+            (all_items next (IsRow n) next_compound_well text f.others rest f.reads),
+      )
+
   compounds_well : (opened text : List ℕ) (css : List (List Condition)) (rest : List ℕ)
       → compound_list (next_condition n) opened text ≡ got css rest → AreRows n css
   unfolding compound_list
@@ -132,23 +138,9 @@ module _ (n : ℕ) (well : FurtherWell n) where
       gap >> (closing opened close_parenthesis >> give all)) css rest f.second in
       let i = followed (one_more g.value (items (next_compound next)) g.middle) (λ all.
       gap >> (closing opened close_parenthesis >> give all)) css rest g.second in
-      subst (AreRows n)
-      (closing_gives opened close_parenthesis i.value css i.middle rest i.second)
-      (front g.value (compound_well f.middle g.value g.middle g.first) g.middle
-      (items (next_compound next) g.middle) refl i.value i.middle i.first)
-    where
-      front : (cs : List Condition) → IsRow n cs → (t : List ℕ)
-          (r : Reading (List (List Condition))) → items (next_compound (next_condition n)) t ≡ r
-          → (all : List (List Condition)) (mid : List ℕ) → with_first cs r ≡ got all mid
-          → AreRows n all
-      front cs w t (refused why u) e all mid k = absurd (cc)
-      front cs w t (got ds u) e all mid k =
-          let is : cs ∷ ds ≡ all = cc in
-          subst (AreRows n) is (
-            omega arith,
-            All-cons (IsRow n) cs ds w (all_items (next_compound (next_condition n)) (IsRow n)
-                next_compound_well t ds u e),
-          )
+      closed_well (AreRows n) opened close_parenthesis i.value css i.middle rest i.second
+      (rows_well g.value g.middle i.value i.middle
+      (compound_well f.middle g.value g.middle g.first) i.first)
 
 -- ---- conditions
 
@@ -328,24 +320,25 @@ parts_up_to (suc n) p text ps end w h = by (next_part text) refl h (parts_up_to 
           tt,
         )
     by (stop why t) e k more = absurd (cc)
-    by (item s t) e k more = found (items_up_to n next_part t) refl k
-      where
-        found : (r : Reading (List Part)) → items_up_to n next_part t ≡ r
-            → with_first s r ≡ got ps end → AreParts (starts colon end) (p ∷ ps)
-        found (refused why u) f g = absurd (cc)
-        found (got qs u) f g =
-            let is : s ∷ qs ≡ ps = cc in
-            let same : u ≡ end = cc in
-            let rest = more s t qs u (part_well text s t e) f in
-            subst (λ (l : List Part). AreParts (starts colon end) (p ∷ l)) is (
-              any_conditions (starts colon end && false) p.conditions (front s t e w),
-              subst (λ (v : List ℕ). AreParts (starts colon v) (s ∷ qs)) same rest,
-            )
+    by (item s t) e k more =
+        let f = first_of_all s (items_up_to n next_part t) ps end k in
+        subst (λ (l : List Part). AreParts (starts colon end) (p ∷ l)) f.is (
+          any_conditions (starts colon end && false) p.conditions (front s t e w),
+          more s t f.others end (part_well text s t e) f.reads,
+        )
 
 -- the compound selectors of a selector
 record PartsWell (ps : List Part) (end : List ℕ) : Type 0 where
   pub plain : BeginsPlain ps
   pub are : AreParts (starts colon end) ps
+
+first_parts : (p : Part) (text : List ℕ) (ps : List Part) (end : List ℕ)
+    → p.combinator ≡ Descendant → Conditions p.conditions text
+    → with_first p (items next_part text) ≡ got ps end → PartsWell ps end
+first_parts p text ps end plain w h =
+    let f = first_of_all p (items next_part text) ps end h in
+    subst (λ (l : List Part). PartsWell l end) f.is
+    (record { plain = plain; are = parts_up_to (length text) p text f.others end w f.reads })
 
 parts_well : (text : List ℕ) (ps : List Part) (end : List ℕ) → parts text ≡ got ps end
     → PartsWell ps end
@@ -355,22 +348,8 @@ parts_well text ps end h =
     one_more (joined_by Descendant first) (items next_part)) ps end h in
     let g = followed (conditions f.middle) (λ first.
     one_more (joined_by Descendant first) (items next_part)) ps end f.second in
-    front g.value g.middle (conditions_well f.middle g.value g.middle g.first)
-    (items next_part g.middle) refl g.second
-  where
-    front : (cs : List Condition) (t : List ℕ) → Conditions cs t → (r : Reading (List Part))
-        → items next_part t ≡ r → with_first (joined_by Descendant cs) r ≡ got ps end
-        → PartsWell ps end
-    front cs t w (refused why u) e k = absurd (cc)
-    front cs t w (got qs u) e k =
-        let is : joined_by Descendant cs ∷ qs ≡ ps = cc in
-        let same : u ≡ end = cc in
-        subst (λ (l : List Part). PartsWell l end) is (record {
-          plain = refl;
-          are = subst (λ (v : List ℕ). AreParts (starts colon v)
-              (joined_by Descendant cs ∷ qs)) same
-              (parts_up_to (length t) (joined_by Descendant cs) t qs u w e);
-        })
+    first_parts (joined_by Descendant g.value) g.middle ps end refl
+    (conditions_well f.middle g.value g.middle g.first) g.second
 
 -- the pseudo-element, if there is one
 record ElementWell (text : List ℕ) (element : Option (List ℕ)) : Type 0 where
