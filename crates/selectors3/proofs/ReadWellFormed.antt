@@ -383,17 +383,16 @@ unfolding selector listed_selector
 selector-well text s rest h =
     let f = followed (listed_selector text) (λ x. at_end >> give x) s rest h in
     let end = followed (at_end f.middle) (λ x. give f.value) s rest f.second in
-    let is : f.value ≡ s = (let e = end.second in cc) in
     let g = followed (parts text) (λ all. pseudo_element >>= λ e. gap >> give (selector_with all e))
     f.value f.middle f.first in
     let i = followed (pseudo_element g.middle) (λ e. gap >> give (selector_with g.value e)) f.value
     f.middle g.second in
     let k = followed (gap i.middle) (λ x. give (selector_with g.value i.value)) f.value f.middle
     i.second in
-    let made_of : selector_with g.value i.value ≡ f.value = (let e = k.second in cc) in
+    let is : selector_with g.value i.value ≡ s = (let e = k.second in let d = end.second in cc) in
     let p = parts_well text g.value g.middle g.first in
     let e = element_well g.middle i.value i.middle i.first in
-    subst IsWellFormed (made_of ∙ is) (
+    subst IsWellFormed {x = selector_with g.value i.value} is (
       p.plain,
       subst (λ (t : Bool). AreParts t g.value) e.there p.are,
       e.named,
