@@ -72,22 +72,22 @@ mutual
 
   -- a compound selector in a list: its conditions, one after another
   pub data Conditions : Type 0 where
-    no_conditions : Conditions
+    end_of_compound : Conditions
     with_condition : Condition → Conditions → Conditions
 
   -- a list of compound selectors, one after another
   pub data Compounds : Type 0 where
-    no_compounds : Compounds
+    end_of_list : Compounds
     with_compound : Conditions → Compounds → Compounds
 
 -- the compound selector of these conditions
 abbrev pub conditions_from : List Condition → Conditions
-conditions_from [] = no_conditions
+conditions_from [] = end_of_compound
 conditions_from (c ∷ conditions) = with_condition c (conditions_from conditions)
 
 -- the list of these compound selectors
 abbrev pub compounds_from : List (List Condition) → Compounds
-compounds_from [] = no_compounds
+compounds_from [] = end_of_list
 compounds_from (c ∷ compounds) = with_compound (conditions_from c) (compounds_from compounds)
 
 -- a compound selector, and how it is joined to the one before it

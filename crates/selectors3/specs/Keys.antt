@@ -5,8 +5,8 @@ use Rattle.selectors3.specs.Documents.{Document}
 use Rattle.selectors3.specs.Components.{Simple, Condition, Conditions, Compounds, Selector}
 use Rattle.selectors3.specs.Components.Simple.{universal, type_name, id, class, has_attribute, attribute, structure, language, state}
 use Rattle.selectors3.specs.Components.Condition.{simple, negation, any_of, where_any}
-use Rattle.selectors3.specs.Components.Conditions.{no_conditions, with_condition}
-use Rattle.selectors3.specs.Components.Compounds.{no_compounds, with_compound}
+use Rattle.selectors3.specs.Components.Conditions.{end_of_compound, with_condition}
+use Rattle.selectors3.specs.Components.Compounds.{end_of_list, with_compound}
 use Rattle.selectors3.specs.Meanings.{holds, conditions_at}
 
 -- an id, a class, a type name, the name of an attribute, or no condition
@@ -58,7 +58,7 @@ lone_key (where_any compounds) = by_nothing
 
 -- the first key of the greatest rank among this one and those of conditions
 abbrev pub best_key : Key → Conditions → Key
-best_key best no_conditions = best
+best_key best end_of_compound = best
 best_key best (with_condition c conditions) = best_key (better_key best (lone_key c)) conditions
 
 -- the key of a compound selector in a list
@@ -67,7 +67,7 @@ compound_key conditions = best_key by_nothing conditions
 
 -- those of the compound selectors of a list
 abbrev pub compound_keys : Compounds → List Key
-compound_keys no_compounds = []
+compound_keys end_of_list = []
 compound_keys (with_compound c compounds) = compound_key c ∷ compound_keys compounds
 
 -- the keys of a condition, of which a node that satisfies it has one; nothing within `:not()` is a

@@ -11,8 +11,8 @@ use Rattle.selectors3.specs.Components.Comparison.{equals, has_word}
 use Rattle.selectors3.specs.Components.Structure.{root, empty, first_child, last_child, only_child, first_of_type, last_of_type, only_of_type, nth_child, nth_last_child, nth_of_type, nth_last_of_type}
 use Rattle.selectors3.specs.Components.Simple.{universal, type_name, id, class, has_attribute, attribute, structure, language, state}
 use Rattle.selectors3.specs.Components.Condition.{simple, negation, any_of, where_any}
-use Rattle.selectors3.specs.Components.Conditions.{no_conditions, with_condition}
-use Rattle.selectors3.specs.Components.Compounds.{no_compounds, with_compound}
+use Rattle.selectors3.specs.Components.Conditions.{end_of_compound, with_condition}
+use Rattle.selectors3.specs.Components.Compounds.{end_of_list, with_compound}
 use Rattle.selectors3.specs.AttributeTests.{is_satisfied}
 use Rattle.selectors3.specs.Numbers.{is_numbered}
 
@@ -59,12 +59,12 @@ abbrev mutual
 
   -- all conditions of a compound selector in a list
   pub hold : {Node : Type 0} → Document Node → Node → Conditions → Bool
-  hold document n no_conditions = true
+  hold document n end_of_compound = true
   hold document n (with_condition c conditions) = is_met document n c && hold document n conditions
 
   -- one of the compound selectors
   pub holds_any : {Node : Type 0} → Document Node → Node → Compounds → Bool
-  holds_any document n no_compounds = false
+  holds_any document n end_of_list = false
   holds_any document n (with_compound c compounds) =
       hold document n c || holds_any document n compounds
 

@@ -15,8 +15,8 @@ use Rattle.selectors3.specs.Components.Comparison.{equals, has_word, has_subtag,
 use Rattle.selectors3.specs.Components.Structure.{root, empty, first_child, last_child, only_child, first_of_type, last_of_type, only_of_type, nth_child, nth_last_child, nth_of_type, nth_last_of_type}
 use Rattle.selectors3.specs.Components.Simple.{universal, type_name, id, class, has_attribute, attribute, structure, language, state}
 use Rattle.selectors3.specs.Components.Condition.{simple, negation, any_of, where_any}
-use Rattle.selectors3.specs.Components.Conditions.{no_conditions, with_condition}
-use Rattle.selectors3.specs.Components.Compounds.{no_compounds, with_compound}
+use Rattle.selectors3.specs.Components.Conditions.{end_of_compound, with_condition}
+use Rattle.selectors3.specs.Components.Compounds.{end_of_list, with_compound}
 
 -- ---- identifiers and strings
 
@@ -157,17 +157,17 @@ abbrev mutual
 
   -- a compound selector in a list
   pub compound_text : Conditions → List ℕ
-  compound_text no_conditions = []
+  compound_text end_of_compound = []
   compound_text (with_condition c conditions) = condition_text c ++ compound_text conditions
 
   -- "serialize a comma-separated list"
   pub compounds_text : Compounds → List ℕ
-  compounds_text no_compounds = []
+  compounds_text end_of_list = []
   compounds_text (with_compound c compounds) = compound_text c ++ further_compounds_text compounds
 
   -- what follows the first of a list
   pub further_compounds_text : Compounds → List ℕ
-  further_compounds_text no_compounds = []
+  further_compounds_text end_of_list = []
   further_compounds_text (with_compound c compounds) =
       codes ", " ++ compound_text c ++ further_compounds_text compounds
 

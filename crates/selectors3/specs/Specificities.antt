@@ -3,8 +3,8 @@ use Rattle.std.specs.Prelude.{ℕ, ◌+◌, Bool, ◌&&◌, ◌||◌, ◌==◌, 
 use Rattle.selectors3.specs.Components.{Simple, Condition, Conditions, Compounds, Part, Selector}
 use Rattle.selectors3.specs.Components.Simple.{universal, type_name, id, class, has_attribute, attribute, structure, language, state}
 use Rattle.selectors3.specs.Components.Condition.{simple, negation, any_of, where_any}
-use Rattle.selectors3.specs.Components.Conditions.{no_conditions, with_condition}
-use Rattle.selectors3.specs.Components.Compounds.{no_compounds, with_compound}
+use Rattle.selectors3.specs.Components.Conditions.{end_of_compound, with_condition}
+use Rattle.selectors3.specs.Components.Compounds.{end_of_list, with_compound}
 
 -- the numbers of ids, of classes, attributes and pseudo-classes, and of type names and pseudo-elements
 pub record Counts : Type 0 where
@@ -66,13 +66,13 @@ abbrev mutual
 
   -- what is counted so far, and a compound selector in a list
   pub of_compound : Counts → Conditions → Counts
-  of_compound so_far no_conditions = so_far
+  of_compound so_far end_of_compound = so_far
   of_compound so_far (with_condition c conditions) =
       of_compound (plus so_far (of_condition c)) conditions
 
   -- the greatest of a list, and of what is greatest so far
   pub greatest : Counts → Compounds → Counts
-  greatest so_far no_compounds = so_far
+  greatest so_far end_of_list = so_far
   greatest so_far (with_compound c compounds) =
       greatest (greater so_far (of_compound nothing c)) compounds
 

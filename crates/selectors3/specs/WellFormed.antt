@@ -6,8 +6,8 @@ use Rattle.selectors3.specs.Components.{Signed, Progression, Structure, Simple, 
 use Rattle.selectors3.specs.Components.Structure.{nth_child, nth_last_child, nth_of_type, nth_last_of_type}
 use Rattle.selectors3.specs.Components.Simple.{universal, type_name, id, class, has_attribute, attribute, structure, language, state}
 use Rattle.selectors3.specs.Components.Condition.{simple, negation, any_of, where_any}
-use Rattle.selectors3.specs.Components.Conditions.{no_conditions, with_condition}
-use Rattle.selectors3.specs.Components.Compounds.{no_compounds, with_compound}
+use Rattle.selectors3.specs.Components.Conditions.{end_of_compound, with_condition}
+use Rattle.selectors3.specs.Components.Compounds.{end_of_list, with_compound}
 use Rattle.selectors3.specs.Grammar.{plain_structure, is_old_element, deepest}
 
 -- a name is not empty
@@ -67,20 +67,20 @@ abbrev mutual
   -- a list is not empty; it is one of those that are nested
   pub IsList : ℕ → Compounds → Type 0
   IsList zero compounds = ⊥
-  IsList (suc n) no_compounds = ⊥
+  IsList (suc n) end_of_list = ⊥
   IsList (suc n) (with_compound c compounds) = IsCompound n c × AreCompounds n compounds
 
   pub AreCompounds : ℕ → Compounds → Type 0
-  AreCompounds n no_compounds = Unit {0}
+  AreCompounds n end_of_list = Unit {0}
   AreCompounds n (with_compound c compounds) = IsCompound n c × AreCompounds n compounds
 
   -- a compound selector in a list has a condition at least
   pub IsCompound : ℕ → Conditions → Type 0
-  IsCompound n no_conditions = ⊥
+  IsCompound n end_of_compound = ⊥
   IsCompound n (with_condition c conditions) = IsFirstCondition n c × AreFurther n conditions
 
   pub AreFurther : ℕ → Conditions → Type 0
-  AreFurther n no_conditions = Unit {0}
+  AreFurther n end_of_compound = Unit {0}
   AreFurther n (with_condition c conditions) = IsFurtherCondition n c × AreFurther n conditions
 
 -- the conditions of a compound selector: only before a pseudo-element there may be none

@@ -8,8 +8,9 @@ ghost use Rattle.std.specs.Option.{option_map};
 ghost use Rattle.std.specs.Result.{IsOk};
 ghost use Rattle.selectors3.specs.Printing.{minus_text, signed_text, is_zero as is_zero_number, size_text, plus_text, offset_text, progression_text};
 ghost use Rattle.selectors3.specs.Printing.{comparison_text, flag_text, function_text, structure_text, list_text, further_text, string_text, identifier_text};
-ghost use Rattle.selectors3.specs.Printing.{simple_text, compound_text, compounds_text, condition_text, combinator_text, part_text, parts_text};
+ghost use Rattle.selectors3.specs.Printing.{simple_text, compounds_text, further_compounds_text, condition_text, combinator_text, part_text, parts_text};
 ghost use Rattle.selectors3.specs.Printing.{pseudo_element_text, selector_text};
+ghost use Rattle.selectors3.specs.Components.{compounds_from};
 ghost use Rattle.selectors3.specs.Views.{comparison_of, signed_of, progression_of, structure_of, simple_of, compound_of, condition_of, part_of};
 
 use crate::components::{

@@ -29,3 +29,28 @@ invariant-read_compounds-compounds l = record {
 
 abbrev pub decreases-read_compounds-compounds : goal.decreases-read_compounds-compounds
 decreases-read_compounds-compounds l = l.left
+
+-- each function calls those before it at the same depth, and `read_list` all at one less
+abbrev pub decreases-read_list : goal.decreases-read_list
+decreases-read_list l = 8 * l.depth
+
+abbrev pub decreases-read_argument : goal.decreases-read_argument
+decreases-read_argument l = 8 * l.depth + 1
+
+abbrev pub decreases-read_pseudo_condition : goal.decreases-read_pseudo_condition
+decreases-read_pseudo_condition l = 8 * l.depth + 2
+
+abbrev pub decreases-next_condition : goal.decreases-next_condition
+decreases-next_condition l = 8 * l.depth + 3
+
+abbrev pub decreases-read_more : goal.decreases-read_more
+decreases-read_more l = 8 * l.depth + 4
+
+abbrev pub decreases-read_compound : goal.decreases-read_compound
+decreases-read_compound l = 8 * l.depth + 5
+
+abbrev pub decreases-next_compound : goal.decreases-next_compound
+decreases-next_compound l = 8 * l.depth + 6
+
+abbrev pub decreases-read_compounds : goal.decreases-read_compounds
+decreases-read_compounds l = 8 * l.depth + 7
