@@ -4,25 +4,25 @@ use Rattle.std.proofs.Common.{◌≡◌, ℕ, suc, ◌<◌, List, [], ◌∷◌,
 use Rattle.std.specs.Prelude.{codes}
 use Rattle.std.proofs.lemmas.List.Elements.{All-nil, All-cons, All-head, All-tail}
 use Rattle.selectors3.specs.Components.{Condition, Conditions, Compounds, conditions_from, compounds_from}
-use Rattle.selectors3.specs.Components.Conditions.{no_conditions, with_condition}
-use Rattle.selectors3.specs.Components.Compounds.{no_compounds, with_compound}
+use Rattle.selectors3.specs.Components.Conditions.{end_of_compound, with_condition}
+use Rattle.selectors3.specs.Components.Compounds.{end_of_list, with_compound}
 use Rattle.selectors3.specs.Printing.{condition_text, compound_text, compounds_text, further_compounds_text, further_text, list_text}
 use Rattle.selectors3.specs.WellFormed.{IsFurtherCondition, IsFirstCondition, IsList, AreCompounds, IsCompound, AreFurther}
 
 abbrev pub conditions_in : Conditions → List Condition
-conditions_in no_conditions = []
+conditions_in end_of_compound = []
 conditions_in (with_condition c cs) = c ∷ conditions_in cs
 
 abbrev pub compounds_in : Compounds → List (List Condition)
-compounds_in no_compounds = []
+compounds_in end_of_list = []
 compounds_in (with_compound c cs) = conditions_in c ∷ compounds_in cs
 
 conditions_from-in : (cs : Conditions) → conditions_from (conditions_in cs) ≡ cs
-conditions_from-in no_conditions = refl
+conditions_from-in end_of_compound = refl
 conditions_from-in (with_condition c cs) = ap (with_condition c) (conditions_from-in cs)
 
 pub compounds_from-in : (cs : Compounds) → compounds_from (compounds_in cs) ≡ cs
-compounds_from-in no_compounds = refl
+compounds_from-in end_of_list = refl
 compounds_from-in (with_compound c cs) =
     ap (λ d. with_compound d (compounds_from (compounds_in cs))) (conditions_from-in c)
     ∙ ap (with_compound c) (compounds_from-in cs)
