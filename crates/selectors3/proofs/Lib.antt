@@ -8,6 +8,7 @@ pub mod EscapeLemmas
 pub mod PrintLemmas
 pub mod NestedLists
 pub mod KeyLemmas
+pub mod ListLemmas
 mod SpelledAgain
 mod NumbersAgain
 mod SimplesAgain

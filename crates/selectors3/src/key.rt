@@ -133,12 +133,35 @@ fn push_compounds<'s>(
     keys: &mut Vec<Key<'s>>,
 ) -> Result<(), AllocError>
     ensures { OnOk result (map key_of keys.new.items ≡ map key_of keys.old.items
-        ++ compound_keys (compounds_from (map compound_of compounds.now))) }
+        ++ map (λ c. compound_key (conditions_from (compound_of c))) compounds.now) }
 {
     for compound in compounds {
         keys.push(key_of_compound(compound))?;
     }
     Ok(())
+}
+
+/// Appends the keys of a condition.
+fn push_condition<'s>(
+    condition: &'s Condition<'_>,
+    keys: &mut Vec<Key<'s>>,
+) -> Result<(), AllocError>
+    ensures { OnOk result (map key_of keys.new.items ≡ map key_of keys.old.items
+        ++ condition_keys (condition_of condition.now)) }
+{
+    match condition {
+        Condition::Simple(simple) => {
+            keys.push(key_of_simple(simple))?;
+            Ok(())
+        }
+        Condition::Not(_) => {
+            keys.push(Key::Any)?;
+            Ok(())
+        }
+        Condition::Is(compounds) | Condition::Where(compounds) => {
+            push_compounds(compounds.as_slice(), keys)
+        }
+    }
 }
 
 /// Appends the keys of a condition, if there is one, or the key that each element has.
@@ -147,17 +170,11 @@ fn push_best<'s>(best: Option<&'s Condition<'_>>, keys: &mut Vec<Key<'s>>) -> Re
         ++ keys_of_best best.entry) }
 {
     match best {
-        None | Some(Condition::Not(_)) => {
+        None => {
             keys.push(Key::Any)?;
             Ok(())
         }
-        Some(Condition::Simple(simple)) => {
-            keys.push(key_of_simple(simple))?;
-            Ok(())
-        }
-        Some(Condition::Is(compounds) | Condition::Where(compounds)) => {
-            push_compounds(compounds.as_slice(), keys)
-        }
+        Some(condition) => push_condition(condition, keys),
     }
 }
 

@@ -3,9 +3,7 @@ ghost use Rattle.std.specs.Prelude.{◌≡◌, ◌+◌, map, Option, option_map}
 ghost use Rattle.std.specs.List.{list_any};
 ghost use Rattle.std.specs.Cow.{cow_str_bytes};
 ghost use Rattle.selectors3.specs.Meanings.{satisfies, is_placed, holds as holds_on};
-ghost use Rattle.selectors3.specs.Meanings.{holds_any as holds_any_on};
 ghost use Rattle.selectors3.specs.Meanings.{is_met as is_met_on, are_met as are_met_on};
-ghost use Rattle.selectors3.specs.Components.{compounds_from};
 ghost use Rattle.selectors3.specs.Views.{comparison_of, structure_of, simple_of, compound_of, condition_of};
 
 use crate::attributes::is_satisfied;
@@ -95,8 +93,8 @@ fn holds<E: Element3>(simple: &Simple<'_>, element: &E) -> bool
 /// Whether the element satisfies one of the compound selectors.
 #[cycle(meeting)]
 fn holds_any<E: Element3>(compounds: &[Compound<'_>], element: &E) -> bool
-    ensures { result ≡ holds_any_on E.document (E.node element.now)
-        (compounds_from (map compound_of compounds.now)) }
+    ensures { result
+        ≡ list_any (are_met_on E.document (E.node element.now)) (map compound_of compounds.now) }
 {
     for compound in compounds {
         if are_met(compound.conditions.as_slice(), element) {

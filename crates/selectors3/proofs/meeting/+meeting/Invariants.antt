@@ -1,6 +1,6 @@
 use Rattle.std.proofs.Common.{◌≡◌, drop, map}
-use Rattle.selectors3.specs.Components.{compounds_from}
-use Rattle.selectors3.specs.Meanings.{are_met, holds_any}
+use Rattle.std.specs.List.{list_any}
+use Rattle.selectors3.specs.Meanings.{are_met}
 use Rattle.selectors3.specs.Views.{compound_of, condition_of}
 use Rattle.selectors3.proofs.meeting.+meeting.Given as goal
 
@@ -10,6 +10,5 @@ invariant-are_met-loop-condition g l = (let n = g.E.Element3.node l.element in
     ≡ are_met g.E.Element3.document n (map condition_of l.conditions))
 
 abbrev pub invariant-holds_any-loop-compound : goal.invariant-holds_any-loop-compound
-invariant-holds_any-loop-compound g l = (let n = g.E.Element3.node l.element in
-    holds_any g.E.Element3.document n (compounds_from (map compound_of (drop l.compound-index l.compounds)))
-    ≡ holds_any g.E.Element3.document n (compounds_from (map compound_of l.compounds)))
+invariant-holds_any-loop-compound g l = (let met = are_met g.E.Element3.document (g.E.Element3.node l.element) in
+    list_any met (map compound_of (drop l.compound-index l.compounds)) ≡ list_any met (map compound_of l.compounds))
