@@ -1,12 +1,11 @@
 -- The compound selectors of a list within a condition, as lists.
--- Serves `printing` and `printing_laws::printing_law`.
-use Rattle.std.proofs.Common.{◌≡◌, ℕ, suc, ◌<◌, List, [], ◌∷◌, ◌++◌, All, length, flat_map, arith, refl, ap, ◌∙◌}
-use Rattle.std.specs.Prelude.{codes}
+-- Serves `printing_laws::printing_law`.
+use Rattle.std.proofs.Common.{◌≡◌, ℕ, suc, ◌<◌, List, [], ◌∷◌, All, length, flat_map, arith, refl, ap, ◌∙◌}
 use Rattle.std.proofs.lemmas.List.Elements.{All-nil, All-cons, All-head, All-tail}
 use Rattle.selectors3.specs.Components.{Condition, Conditions, Compounds, conditions_from, compounds_from}
 use Rattle.selectors3.specs.Components.Conditions.{end_of_compound, with_condition}
 use Rattle.selectors3.specs.Components.Compounds.{end_of_list, with_compound}
-use Rattle.selectors3.specs.Printing.{condition_text, compound_text, compounds_text, further_compounds_text, further_text, list_text}
+use Rattle.selectors3.specs.Printing.{condition_text}
 use Rattle.selectors3.specs.WellFormed.{IsFurtherCondition, IsFirstCondition, IsList, AreCompounds, IsCompound, AreFurther}
 
 abbrev pub conditions_in : Conditions → List Condition
@@ -27,29 +26,9 @@ compounds_from-in (with_compound c cs) =
     ap (λ d. with_compound d (compounds_from (compounds_in cs))) (conditions_from-in c)
     ∙ ap (with_compound c) (compounds_from-in cs)
 
--- ---- texts
-
+-- the text of a compound selector
 abbrev pub row_text : List Condition → List ℕ
 row_text cs = flat_map condition_text cs
-
-pub compound_text-from : (cs : List Condition)
-    → compound_text (conditions_from cs) ≡ flat_map condition_text cs
-compound_text-from [] = refl
-compound_text-from (c ∷ cs) = ap (λ l. condition_text c ++ l) (compound_text-from cs)
-
-pub further_compounds_text-from : (css : List (List Condition))
-    → further_compounds_text (compounds_from css) ≡ flat_map (further_text row_text) css
-further_compounds_text-from [] = refl
-further_compounds_text-from (cs ∷ css) =
-    ap (λ l. codes ", " ++ l ++ further_compounds_text (compounds_from css)) (compound_text-from cs)
-    ∙ ap (λ l. (codes ", " ++ row_text cs) ++ l) (further_compounds_text-from css)
-
-pub compounds_text-from : (css : List (List Condition))
-    → compounds_text (compounds_from css) ≡ list_text row_text css
-compounds_text-from [] = refl
-compounds_text-from (cs ∷ css) =
-    ap (λ l. l ++ further_compounds_text (compounds_from css)) (compound_text-from cs)
-    ∙ ap (λ l. row_text cs ++ l) (further_compounds_text-from css)
 
 -- ---- well-formed lists
 
