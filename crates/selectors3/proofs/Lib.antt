@@ -6,11 +6,11 @@ pub mod ItemLemmas
 pub mod GapLemmas
 pub mod EscapeLemmas
 pub mod PrintLemmas
-pub mod NestedLists
 pub mod KeyLemmas
 pub mod ListLemmas
 mod SpelledAgain
 mod NumbersAgain
+mod NestedLists
 mod SimplesAgain
 mod CompoundsAgain
 mod SelectorsAgain
