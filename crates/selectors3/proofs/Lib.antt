@@ -8,6 +8,7 @@ pub mod EscapeLemmas
 pub mod PrintLemmas
 pub mod KeyLemmas
 pub mod ListLemmas
+pub mod NestLemmas
 mod SpelledAgain
 mod NumbersAgain
 mod NestedLists
