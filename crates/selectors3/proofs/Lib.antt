@@ -11,6 +11,9 @@ pub mod ListLemmas
 pub mod NestLemmas
 mod SpelledAgain
 mod NumbersAgain
+mod NestedLists
+mod SimplesAgain
 mod CompoundsAgain
 mod SelectorsAgain
+mod ReadSimples
 mod ReadWellFormed
