@@ -1,4 +1,5 @@
 pub mod AttributeTests
+pub mod Codes
 pub mod Components
 pub mod Documents
 pub mod Grammar
