@@ -6,6 +6,7 @@ pub mod KeyViews
 pub mod Keys
 pub mod Meanings
 pub mod Numbers
+pub mod Occurrences
 pub mod Printing
 pub mod ReadSelectors
 pub mod ReadViews

@@ -8,6 +8,7 @@ ghost use Rattle.selectors3.specs.AttributeTests.{is_hyphen};
 ghost use Rattle.selectors3.specs.Views.{comparison_of};
 
 use crate::Comparison;
+use crate::occurrences::has_occurrence;
 
 /// Whether the byte is white space.
 pub(crate) fn is_space(byte: u8) -> bool
@@ -83,10 +84,17 @@ fn is_word(ignores_case: bool, text: &[u8], value: &[u8]) -> bool
     false
 }
 
-/// Whether the text occurs in the value.
+/// Up to this length a text is compared at each place of a value, which costs less than to prepare a
+/// search.
+const MOST_COMPARED: usize = 16;
+
+/// Whether the text occurs in the value. This takes time that grows as the value and the text.
 fn occurs(ignores_case: bool, text: &[u8], value: &[u8]) -> bool
     ensures { result ≡ occurs_in ignores_case text.now value.now }
 {
+    if text.len() > MOST_COMPARED {
+        return has_occurrence(ignores_case, text, value);
+    }
     let mut rest = value;
     'bytes: while let [_, after @ ..] = rest {
         if begins(ignores_case, text, rest) {

@@ -26,6 +26,7 @@ mod languages;
 mod matching;
 mod meeting;
 mod numbers;
+mod occurrences;
 mod printing;
 mod printing_laws;
 mod progression;
