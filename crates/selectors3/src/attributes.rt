@@ -84,8 +84,8 @@ fn is_word(ignores_case: bool, text: &[u8], value: &[u8]) -> bool
     false
 }
 
-/// Up to this length a text is compared at each place of a value, which costs less than to prepare a
-/// search.
+/// Up to this length a text is compared at each place of a value, which costs less than to prepare
+/// a search.
 const MOST_COMPARED: usize = 16;
 
 /// Whether the text occurs in the value. This takes time that grows as the value and the text.
