@@ -11,6 +11,7 @@ pub mod PrintLemmas
 pub mod KeyLemmas
 pub mod ListLemmas
 pub mod NestLemmas
+pub mod OccurrenceLemmas
 mod SpelledAgain
 mod NumbersAgain
 mod NestedLists

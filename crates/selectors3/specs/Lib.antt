@@ -8,6 +8,7 @@ pub mod Keys
 pub mod Meanings
 pub mod Numbers
 pub mod PlacementLists
+pub mod Occurrences
 pub mod Printing
 pub mod ReadSelectors
 pub mod ReadViews

@@ -27,6 +27,7 @@ mod matching;
 mod matching_laws;
 mod meeting;
 mod numbers;
+mod occurrences;
 mod printing;
 mod printing_laws;
 mod progression;
