@@ -12,31 +12,30 @@ ghost use Rattle.selectors3_index.specs.internal.Filed.{AreWords, AreClasses, Ar
 use crate::table::{Entry, filed, is_same, place_of};
 use crate::words::split_word;
 use crate::{HasSelector3, Keyed3};
-use selectors3::Key;
+use selectors3::{Key, Selector3};
 use std::alloc::{AllocError, Global};
 use std::marker::Model;
 
-/// An index of rules by the keys of their selectors. It borrows the rules; a change of them needs a
-/// new index.
+/// An index of selectors by their keys. It borrows the selectors; a change of them needs a new index.
 #[derive(Drop)]
-pub struct SelectorIndex<'s, T: HasSelector3> {
-    /// The rules.
-    rules: &'s [T],
-    /// The keys of the rules, each at its place.
+pub struct SelectorIndex<'s> {
+    /// The selectors.
+    selectors: Vec<&'s Selector3<'s>>,
+    /// The keys of the selectors, each at its place.
     buckets: Vec<Vec<Entry<'s>>>,
 }
 
-impl<'s, T: HasSelector3> Model for SelectorIndex<'s, T> {
+impl<'s> Model for SelectorIndex<'s> {
     ghost use Rattle.std.specs.Prelude.{List, map};
     ghost use Rattle.selectors3.specs.Components.{Selector};
     ghost use Rattle.selectors3_index.specs.internal.Filed.{AreFiled, entries_of};
 
     ghost Value = { List Selector };
 
-    ghost view = { λ index. map T.selector_in index.rules.now };
+    ghost view = { λ index. map (λ s. s.now) index.selectors.items };
 
     ghost invariant = { λ index.
-        AreFiled (entries_of (map T.selector_in index.rules.now)) index.buckets.items };
+        AreFiled (entries_of (map (λ s. s.now) index.selectors.items)) index.buckets.items };
 }
 
 /// Puts the indices in order, each once.
@@ -49,14 +48,44 @@ fn sort_once(indices: &mut Vec<usize>)
     indices.dedup();
 }
 
-impl<'s, T: HasSelector3> SelectorIndex<'s, T> {
-    /// Returns an index of the rules, which it borrows. It holds an entry for each key of each rule.
-    /// Fails only if an allocation fails.
-    pub fn new(alloc: Global, rules: &'s [T]) -> Result<SelectorIndex<'s, T>, AllocError>
+/// Returns the selectors of rules.
+fn selectors_of<'s, T: HasSelector3>(
+    alloc: Global,
+    rules: &'s [T],
+) -> Result<Vec<&'s Selector3<'s>>, AllocError>
+    ensures { IfOk result (λ selectors. map (λ s. s.now) selectors.items
+        ≡ map T.selector_in rules.now) }
+{
+    let mut selectors = Vec::with_capacity(alloc, rules.len())?;
+    for rule in rules {
+        selectors.push(rule.selector())?;
+    }
+    Ok(selectors)
+}
+
+impl<'s> SelectorIndex<'s> {
+    /// Returns an index of the selectors of rules, which it borrows. It holds an entry for each key
+    /// of each selector. Fails only if an allocation fails.
+    pub fn new<T: HasSelector3>(
+        alloc: Global,
+        rules: &'s [T],
+    ) -> Result<SelectorIndex<'s>, AllocError>
         ensures { IfOk result (λ index. index ≡ map T.selector_in rules.now) }
     {
-        let buckets = filed(alloc, rules)?;
-        Ok(SelectorIndex { rules, buckets })
+        let selectors = selectors_of(alloc, rules)?;
+        SelectorIndex::from_selectors(alloc, selectors)
+    }
+
+    /// Returns an index of the selectors, as [`SelectorIndex::new`] does. So selectors of several
+    /// lists, or of rules of several types, can have one index.
+    pub fn from_selectors(
+        alloc: Global,
+        selectors: Vec<&'s Selector3<'s>>,
+    ) -> Result<SelectorIndex<'s>, AllocError>
+        ensures { IfOk result (λ index. index ≡ map (λ s. s.now) selectors.entry.items) }
+    {
+        let buckets = filed(alloc, selectors.as_slice())?;
+        Ok(SelectorIndex { selectors, buckets })
     }
 
     /// Appends the indices of the rules with this key.
@@ -146,8 +175,8 @@ impl<'s, T: HasSelector3> SelectorIndex<'s, T> {
     fn matches_at<E: Keyed3>(&self, index: usize, element: &E) -> bool
         ensures { IsTrue result ↔ MatchesAt E.document (E.node element.now) self.now index }
     {
-        match self.rules.get(index) {
-            Some(rule) => rule.selector().matches(element),
+        match self.selectors.get(index) {
+            Some(selector) => selector.matches(element),
             None => false,
         }
     }

@@ -8,8 +8,7 @@ ghost use Rattle.selectors3_index.specs.internal.Filed.{place_of as place_of_key
 ghost use Rattle.selectors3_index.specs.internal.Filed.{with_index, AreFiledAt, AreFiled};
 ghost use Rattle.selectors3_index.specs.internal.Filed.{entries_of as entries_of_selectors};
 
-use crate::HasSelector3;
-use selectors3::Key;
+use selectors3::{Key, Selector3};
 use std::alloc::{AllocError, Global};
 
 /// A key of a rule.
@@ -87,18 +86,18 @@ fn enter<'s>(keys: &[Key<'s>], rule: usize, entries: &mut Vec<Entry<'s>>) -> Res
 }
 
 /// Returns the keys of rules.
-fn entries_of<'s, T: HasSelector3>(
+fn entries_of<'s>(
     alloc: Global,
-    rules: &'s [T],
+    selectors: &[&'s Selector3<'s>],
 ) -> Result<Vec<Entry<'s>>, AllocError>
     ensures { IfOk result (λ entries. map entry_of entries.items
-        ≡ entries_of_selectors (map T.selector_in rules.now)) }
+        ≡ entries_of_selectors (map (λ s. s.now) selectors.now)) }
 {
-    let mut entries = Vec::with_capacity(alloc, rules.len())?;
+    let mut entries = Vec::with_capacity(alloc, selectors.len())?;
     let mut keys = Vec::new(alloc);
-    for rule in 0..rules.len() {
+    for rule in 0..selectors.len() {
         keys.clear();
-        rules[rule].selector().push_keys(&mut keys)?;
+        selectors[rule].push_keys(&mut keys)?;
         enter(keys.as_slice(), rule, &mut entries)?;
     }
     Ok(entries)
@@ -129,14 +128,14 @@ fn file<'s>(entries: &[Entry<'s>], buckets: &mut Vec<Vec<Entry<'s>>>) -> Result<
 }
 
 /// Returns the keys of rules, filed.
-pub(crate) fn filed<'s, T: HasSelector3>(
+pub(crate) fn filed<'s>(
     alloc: Global,
-    rules: &'s [T],
+    selectors: &[&'s Selector3<'s>],
 ) -> Result<Vec<Vec<Entry<'s>>>, AllocError>
     ensures { IfOk result (λ buckets.
-        AreFiled (entries_of_selectors (map T.selector_in rules.now)) buckets.items) }
+        AreFiled (entries_of_selectors (map (λ s. s.now) selectors.now)) buckets.items) }
 {
-    let entries = entries_of(alloc, rules)?;
+    let entries = entries_of(alloc, selectors)?;
     let mut buckets = empty_buckets(alloc, entries.len().saturating_mul(2).max(1))?;
     file(entries.as_slice(), &mut buckets)?;
     Ok(buckets)

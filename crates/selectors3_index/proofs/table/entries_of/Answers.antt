@@ -6,14 +6,13 @@ use Rattle.selectors3_index.proofs.FileLemmas.{entries_more}
 use Rattle.selectors3_index.proofs.table.entries_of.Goals as goal
 
 pub loop-rule-preserved : goal.loop-rule-preserved
-loop-rule-preserved g c =
-    let of = g.T.HasSelector3.selector_in in
+loop-rule-preserved c =
     let rule = c.loop-rule.rule in
-    let before = entries_of (map of (take rule c.args.rules.now)) in
-    let keys : map key_of c.as_slice.result.now ≡ keys_of (of c.index-rules-rule.result) =
+    let before = entries_of (map (λ s. s.now) (take rule c.args.selectors.now)) in
+    let s = c.index-selectors-rule.result.now in
+    let keys : map key_of c.as_slice.result.now ≡ keys_of s =
     ap (map key_of) c.as_slice.ensures.value ∙ c.in_ok-push_keys.ensures
-    ∙ ap (λ ks. map key_of ks ++ keys_of c.selector.result.now) c.clear.ensures.items
-    ∙ ap keys_of c.selector.ensures in
+    ∙ ap (λ ks. map key_of ks ++ keys_of s) c.clear.ensures.items in
     c.in_ok-enter.ensures
     ∙ ap (λ es. es ++ with_index rule (map key_of c.as_slice.result.now)) c.loop-rule.invariant
     ∙ ap (λ ks. before ++ with_index rule ks) keys
