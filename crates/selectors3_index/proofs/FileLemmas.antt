@@ -2,7 +2,6 @@
 -- Serves `table` and `selector_index`.
 use Rattle.std.proofs.Common.{◌≡◌, ℕ, ◌+◌, ◌<◌, ◌*◌, ◌/◌, ◌%◌, ◌^◌, ◌==◌, Bool, true, false, cond, List, [], ◌∷◌, ◌++◌, length, map, take, get_or, set, Some, eqb-true, eq-eqb, arith, refl, sym, ap, ◌∙◌, subst, append-nil, append_assoc}
 use Rattle.std.specs.Prelude.{filter}
-use Rattle.std.specs.Char.{to_ascii_lowercase}
 use Rattle.std.specs.Global.{Vec}
 use Rattle.std.specs.List.{slice_get}
 use Rattle.std.proofs.lemmas.Bool.{false≢true}
@@ -15,7 +14,9 @@ use Rattle.selectors3.specs.Keys.{Key, keys_of}
 use Rattle.selectors3.specs.Keys.Key.{by_id, by_class, by_name, by_attribute, by_nothing}
 use Rattle.selectors3.specs.KeyViews.{key_of}
 use Rattle.selectors3_index.specs.declared.table.Entry.{Entry}
-use Rattle.selectors3_index.specs.internal.Filed.{is_same, number_from, number_of, place_of, entry_of, with_index, entries_from, entries_of, entries_at, AreFiled, found_by}
+use Rattle.selectors3_index.specs.KeyBits.{number_from, number_of}
+use Rattle.selectors3_index.specs.internal.Filed.{is_same, place_of, entry_of, with_index, entries_from, entries_of, entries_at, AreFiled, found_by}
+use Rattle.selectors3_index.proofs.BitLemmas.{same_name_number}
 
 entries_from-push : (n : ℕ) (ss : List Selector) (s : Selector)
     → entries_from n (ss ++ s ∷ []) ≡ entries_from n ss ++ with_index (n + length ss) (keys_of s)
@@ -112,27 +113,12 @@ filed_more entries i d buckets place old new filed lt at within was is = record 
         ∙ sym (at_more count p before (entry_of e) false (ap (λ q. q == p) (sym at) ∙ here))
         ∙ ap (entries_at count p) (sym (more_entries entries i d lt))
 
-number_lowered : (n : ℕ) (a b : List ℕ) → map to_ascii_lowercase a ≡ map to_ascii_lowercase b
-    → number_from n a ≡ number_from n b
-number_lowered n [] [] e = refl
-number_lowered n [] (y ∷ b) e = absurd (cc)
-number_lowered n (x ∷ a) [] e = absurd (cc)
-number_lowered n (x ∷ a) (y ∷ b) e =
-    let first : to_ascii_lowercase x ≡ to_ascii_lowercase y = cc in
-    let rest : map to_ascii_lowercase a ≡ map to_ascii_lowercase b = cc in
-    ap (λ k. number_from ((n * 37 % 2 ^ 64 + k) % 2 ^ 64) a) first
-    ∙ number_lowered ((n * 37 % 2 ^ 64 + to_ascii_lowercase y) % 2 ^ 64) a b rest
-
 -- keys that are the same have the same number
 same_number : (own key : Key) → is_same own key ≡ true → number_of own ≡ number_of key
 same_number (by_id a) (by_id b) h = ap (number_from 1) ((bytes_eq-Decides a b).0 h)
 same_number (by_class a) (by_class b) h = ap (number_from 2) ((bytes_eq-Decides a b).0 h)
-same_number (by_name a) (by_name b) h =
-    number_lowered 3 a b
-    ((bytes_eq-Decides (map to_ascii_lowercase a) (map to_ascii_lowercase b)).0 h)
-same_number (by_attribute a) (by_attribute b) h =
-    number_lowered 4 a b
-    ((bytes_eq-Decides (map to_ascii_lowercase a) (map to_ascii_lowercase b)).0 h)
+same_number (by_name a) (by_name b) h = same_name_number 3 a b h
+same_number (by_attribute a) (by_attribute b) h = same_name_number 4 a b h
 same_number by_nothing by_nothing h = refl
 same_number (by_id a) (by_class b) h = absurd (cc)
 same_number (by_id a) (by_name b) h = absurd (cc)

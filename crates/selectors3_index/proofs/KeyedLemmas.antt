@@ -195,7 +195,7 @@ and_swap true b c = refl
 and_swap false true c = refl
 and_swap false false c = refl
 
-equals_is : (a v : List ℕ) → (length a == length v && begins false a v) ≡ bytes_eq a v
+pub equals_is : (a v : List ℕ) → (length a == length v && begins false a v) ≡ bytes_eq a v
 equals_is [] [] = refl
 equals_is [] (y ∷ v) = ap (λ t. t && true) (eqb-zero-suc (length v))
 equals_is (x ∷ a) [] = and_false (length (x ∷ a) == 0)

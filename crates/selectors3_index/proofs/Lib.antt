@@ -3,3 +3,4 @@ mod KeptLemmas
 mod KeyedLemmas
 mod WordLemmas
 mod FileLemmas
+mod BitLemmas

@@ -19,11 +19,13 @@
 #![tactic(auto)]
 
 mod has_selector;
+mod key_bits;
 mod keyed;
 mod selector_index;
 mod table;
 mod words;
 
 pub use has_selector::HasSelector3;
+pub use key_bits::element_bits;
 pub use keyed::Keyed3;
 pub use selector_index::SelectorIndex;

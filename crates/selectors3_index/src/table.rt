@@ -2,12 +2,11 @@
 ghost use Rattle.std.specs.Prelude.{◌≡◌, ◌<◌, ◌++◌, [], length, map, IfOk, OnOk};
 ghost use Rattle.selectors3.specs.KeyViews.{key_of};
 ghost use Rattle.selectors3_index.specs.internal.Filed.{is_same as is_same_key};
-ghost use Rattle.selectors3_index.specs.internal.Filed.{number_from as number_from_text};
-ghost use Rattle.selectors3_index.specs.internal.Filed.{number_of as number_of_key};
 ghost use Rattle.selectors3_index.specs.internal.Filed.{place_of as place_of_key, entry_of};
 ghost use Rattle.selectors3_index.specs.internal.Filed.{with_index, AreFiledAt, AreFiled};
 ghost use Rattle.selectors3_index.specs.internal.Filed.{entries_of as entries_of_selectors};
 
+use crate::key_bits::number_of;
 use selectors3::{Key, Selector3};
 use std::alloc::{AllocError, Global};
 
@@ -33,34 +32,6 @@ pub(crate) fn is_same(one: &Key<'_>, other: &Key<'_>) -> bool
         (Key::Attribute(a), Key::Attribute(b)) => a.eq_ignore_ascii_case(b),
         (Key::Any, Key::Any) => true,
         _ => false,
-    }
-}
-
-/// Returns a number for a text, counted from the number of a kind of key.
-#[inline(always)]
-fn number_from(kind: u64, text: &str) -> u64
-    ensures { result ≡ number_from_text kind text.now }
-{
-    let mut number = kind;
-    for byte in text.as_bytes() {
-        number = number
-            .wrapping_mul(37)
-            .wrapping_add(u64::from(byte.to_ascii_lowercase()));
-    }
-    number
-}
-
-/// Returns a number for a key.
-#[inline(always)]
-fn number_of(key: &Key<'_>) -> u64
-    ensures { result ≡ number_of_key (key_of key.now) }
-{
-    match key {
-        Key::Id(text) => number_from(1, text),
-        Key::Class(text) => number_from(2, text),
-        Key::Name(text) => number_from(3, text),
-        Key::Attribute(text) => number_from(4, text),
-        Key::Any => 0,
     }
 }
 

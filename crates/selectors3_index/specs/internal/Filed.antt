@@ -1,6 +1,5 @@
 -- Keys of selectors, filed by a number of each.
 use Rattle.std.specs.Prelude.{◌≡◌, ℕ, ◌+◌, ◌*◌, ◌/◌, ◌%◌, ◌^◌, ◌<◌, ◌↔◌, ◌==◌, Bool, true, false, List, [], ◌∷◌, ◌++◌, map, length, Option, None, Some, Contains, IsTrue, bytes_eq, filter}
-use Rattle.std.specs.Char.{to_ascii_lowercase}
 use Rattle.std.specs.List.{slice_get, flat_map, list_any}
 use Rattle.std.specs.Str.{str_eq_ignore_ascii_case}
 use Rattle.std.specs.Global.{Vec}
@@ -12,6 +11,7 @@ use Rattle.selectors3.specs.Keys.{Key, keys_of}
 use Rattle.selectors3.specs.Keys.Key.{by_id, by_class, by_name, by_attribute, by_nothing}
 use Rattle.selectors3.specs.Meanings.{satisfies}
 use Rattle.selectors3.specs.KeyViews.{key_of}
+use Rattle.selectors3_index.specs.KeyBits.{number_of}
 use Rattle.selectors3_index.specs.Reported.{Reported, reports_key}
 use Rattle.selectors3_index.specs.declared.table.Entry.{Entry}
 
@@ -23,19 +23,6 @@ is_same (by_name a) (by_name b) = str_eq_ignore_ascii_case a b
 is_same (by_attribute a) (by_attribute b) = str_eq_ignore_ascii_case a b
 is_same by_nothing by_nothing = true
 is_same a b = false
-
--- a number for a text, counted from another, without regard to the case of ASCII letters
-abbrev pub number_from : ℕ → List ℕ → ℕ
-number_from n [] = n
-number_from n (b ∷ text) = number_from ((n * 37 % 2 ^ 64 + to_ascii_lowercase b) % 2 ^ 64) text
-
--- a number for a key
-abbrev pub number_of : Key → ℕ
-number_of (by_id text) = number_from 1 text
-number_of (by_class text) = number_from 2 text
-number_of (by_name text) = number_from 3 text
-number_of (by_attribute text) = number_from 4 text
-number_of by_nothing = 0
 
 -- the place of a key among so many, by the upper half of a multiple of its number
 abbrev pub place_of : ℕ → Key → ℕ
