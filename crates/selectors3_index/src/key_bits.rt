@@ -1,6 +1,6 @@
 //! Sets of keys as 64 bits. By these an index leaves out selectors that need an ancestor which the
 //! element lacks.
-ghost use Rattle.std.specs.Prelude.{◌≡◌, ℕ, false, List, IsTrue};
+ghost use Rattle.std.specs.Prelude.{◌≡◌, ℕ, false, List, IsTrue, map};
 ghost use Rattle.std.specs.Option.{option_map};
 ghost use Rattle.selectors3.specs.AttributeTests.{is_satisfied};
 ghost use Rattle.selectors3.specs.Components.Comparison.{equals, has_word};
@@ -12,6 +12,7 @@ ghost use Rattle.selectors3_index.specs.KeyBits.{number_from as number_from_text
 ghost use Rattle.selectors3_index.specs.KeyBits.{number_of as number_of_key};
 ghost use Rattle.selectors3_index.specs.KeyBits.{bit_by as bit_by_number};
 ghost use Rattle.selectors3_index.specs.KeyBits.{key_bits as key_bits_of, Covers, CoversKeys};
+ghost use Rattle.selectors3_index.specs.internal.NeededBits.{bits_from};
 
 use crate::Keyed3;
 use crate::words::split_word;
@@ -117,6 +118,17 @@ pub fn element_bits<E: Keyed3>(element: &E) -> u64
     let id = id_bits(element.attribute("id"));
     let classes = class_bits(element.attribute("class"));
     name | id | classes
+}
+
+/// Returns the bits of keys.
+pub(crate) fn bits_of(keys: &[Key<'_>]) -> u64
+    ensures { result ≡ bits_from 0 (map key_of keys.now) }
+{
+    let mut bits = 0;
+    for key in keys {
+        bits |= key_bits(key);
+    }
+    bits
 }
 
 /// Returns the bits of all keys.
