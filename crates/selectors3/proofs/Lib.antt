@@ -8,6 +8,7 @@ pub mod EscapeLemmas
 pub mod PrintLemmas
 pub mod KeyLemmas
 pub mod AncestorKeyLemmas
+pub mod ListLemmas
 mod SpelledAgain
 mod NumbersAgain
 mod CompoundsAgain

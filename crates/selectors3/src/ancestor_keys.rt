@@ -3,14 +3,15 @@
 ghost use Rattle.std.specs.Prelude.{◌≡◌, ◌++◌, IsTrue, OnOk, List, map};
 ghost use Rattle.std.specs.List.{list_any, list_all, Contains};
 ghost use Rattle.selectors3.specs.AncestorKeys.{keys_among, alone, step_keys, ancestor_keys};
-ghost use Rattle.selectors3.specs.AncestorKeys.{SomeAncestorHas, is_exact, is_one_exact};
+ghost use Rattle.selectors3.specs.AncestorKeys.{SomeAncestorHas, is_exact_condition, are_exact};
+ghost use Rattle.selectors3.specs.AncestorKeys.{is_one_exact as is_one_exact_compound};
 ghost use Rattle.selectors3.specs.AncestorKeys.{is_exact_key, is_only_keys};
 ghost use Rattle.selectors3.specs.AncestorKeys.{is_only_key as is_only_condition};
-ghost use Rattle.selectors3.specs.Components.{Selector};
+ghost use Rattle.selectors3.specs.Components.{Selector, conditions_from, compounds_from};
 ghost use Rattle.selectors3.specs.Keys.{Key as KeyOf, has_key, keys_of};
 ghost use Rattle.selectors3.specs.KeyViews.{key_of};
 ghost use Rattle.selectors3.specs.Meanings.{Matches};
-ghost use Rattle.selectors3.specs.Views.{simple_of, compound_of, condition_of};
+ghost use Rattle.selectors3.specs.Views.{compound_of, condition_of};
 
 use crate::key::{best_condition, push_best};
 use crate::{Combinator, Compound, Condition, Element3, Key, Selector3, Simple};
@@ -49,22 +50,29 @@ fn push_step<'s>(
 }
 
 /// Whether it is an id or a class.
-fn is_id_or_class(simple: &Simple<'_>) -> bool
-    ensures { result ≡ is_exact (simple_of simple.now) }
+fn is_id_or_class(condition: &Condition<'_>) -> bool
+    ensures { result ≡ is_exact_condition (condition_of condition.now) }
 {
-    matches!(simple, Simple::Id(_) | Simple::Class(_))
+    matches!(condition, Condition::Simple(Simple::Id(_) | Simple::Class(_)))
+}
+
+/// Whether it is one id or one class.
+fn is_one_exact(compound: &Compound<'_>) -> bool
+    ensures { result ≡ is_one_exact_compound (conditions_from (compound_of compound.now)) }
+{
+    let [condition] = compound.conditions.as_slice() else {
+        return false;
+    };
+    is_id_or_class(condition)
 }
 
 /// Whether each is one id or one class.
 fn are_ids_or_classes(compounds: &[Compound<'_>]) -> bool
-    ensures { result ≡ list_all is_one_exact (map compound_of compounds.now) }
+    ensures { result ≡ are_exact (compounds_from (map compound_of compounds.now)) }
 {
     let mut rest = compounds;
     'compounds: while let [compound, after @ ..] = rest {
-        let [simple] = compound.simples.as_slice() else {
-            return false;
-        };
-        if !is_id_or_class(simple) {
+        if !is_one_exact(compound) {
             return false;
         }
         rest = after;

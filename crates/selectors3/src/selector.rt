@@ -15,10 +15,15 @@ pub struct Selector3<'a> {
 impl<'a> Model for Selector3<'a> {
     ghost use Rattle.std.specs.Prelude.{◌<◌, length, map, option_map};
     ghost use Rattle.std.specs.Cow.{cow_str_bytes};
-    ghost use Rattle.selectors3.specs.Components.{Selector};
+    ghost use Rattle.std.specs.Coded.{Coded, codes};
+    ghost use Rattle.selectors3.specs.Codes.{condition_code};
+    ghost use Rattle.selectors3.specs.Components.{Simple, Selector};
     ghost use Rattle.selectors3.specs.Views.{part_of};
 
     ghost Value = { Selector };
+
+    ghost coded = { let simples : Coded Simple = Prim.hlevel codes in
+      Prim.hlevel (codes, condition_code simples) };
 
     ghost view = { λ s. record {
       parts = map part_of s.parts.items;
