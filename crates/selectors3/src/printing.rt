@@ -8,9 +8,8 @@ ghost use Rattle.std.specs.Option.{option_map};
 ghost use Rattle.std.specs.Result.{IsOk};
 ghost use Rattle.selectors3.specs.Printing.{minus_text, signed_text, is_zero as is_zero_number, size_text, plus_text, offset_text, progression_text};
 ghost use Rattle.selectors3.specs.Printing.{comparison_text, flag_text, function_text, structure_text, list_text, further_text, string_text, identifier_text};
-ghost use Rattle.selectors3.specs.Printing.{simple_text, compounds_text, further_compounds_text, condition_text, combinator_text, part_text, parts_text};
+ghost use Rattle.selectors3.specs.Printing.{simple_text, condition_text, combinator_text, part_text, parts_text};
 ghost use Rattle.selectors3.specs.Printing.{pseudo_element_text, selector_text};
-ghost use Rattle.selectors3.specs.Components.{compounds_from};
 ghost use Rattle.selectors3.specs.Views.{comparison_of, signed_of, progression_of, structure_of, simple_of, compound_of, condition_of, part_of};
 
 use crate::components::{
@@ -263,30 +262,19 @@ fn write_simple<W: fmt::Write>(f: &mut fmt::Formatter<W>, simple: &Simple) -> fm
     }
 }
 
-/// Writes the compound selectors after the first of a list.
-#[cycle(printing)]
-fn write_further<W: fmt::Write>(f: &mut fmt::Formatter<W>, compounds: &[Compound]) -> fmt::Result
-    ensures { WritesStyledOnOk W.write_str_gives f.old result
-        (further_compounds_text (compounds_from (map compound_of compounds.now))) f.new }
-{
-    for compound in compounds {
-        f.write_str(", ")?;
-        write_conditions(f, compound.conditions.as_slice())?;
-    }
-    Ok(())
-}
-
 /// Writes compound selectors with commas between them.
 #[cycle(printing)]
 fn write_compounds<W: fmt::Write>(f: &mut fmt::Formatter<W>, compounds: &[Compound]) -> fmt::Result
     ensures { WritesStyledOnOk W.write_str_gives f.old result
-        (compounds_text (compounds_from (map compound_of compounds.now))) f.new }
+        (list_text (λ c. flat_map condition_text (compound_of c)) compounds.now) f.new }
 {
-    let Some((first, rest)) = compounds.split_first() else {
-        return Ok(());
-    };
-    write_conditions(f, first.conditions.as_slice())?;
-    write_further(f, rest)
+    let mut separator = "";
+    for compound in compounds {
+        f.write_str(separator)?;
+        write_conditions(f, compound.conditions.as_slice())?;
+        separator = ", ";
+    }
+    Ok(())
 }
 
 /// Writes a pseudo-class with a list of compound selectors.
@@ -297,8 +285,8 @@ fn write_list<W: fmt::Write>(
     compounds: &[Compound],
 ) -> fmt::Result
     ensures { WritesStyledOnOk W.write_str_gives f.old result
-        (function_text name.now (compounds_text (compounds_from (map compound_of compounds.now))))
-        f.new }
+        (function_text name.now
+        (list_text (λ c. flat_map condition_text (compound_of c)) compounds.now)) f.new }
 {
     f.write_str(name)?;
     write_compounds(f, compounds)?;

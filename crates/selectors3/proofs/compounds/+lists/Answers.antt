@@ -1,9 +1,11 @@
-use Rattle.std.proofs.Common.{arith, rules}
+use Rattle.std.proofs.Common.{subst, ◌∙◌, arith, rules}
 use Rattle.std.proofs.lemmas.Grind.{common_steps}
 use Rattle.std.proofs.lemmas.Result.{err_from_is_err_and}
-use Rattle.selectors3.specs.Grammar.{next_condition, next_compound}
-use Rattle.selectors3.specs.Views.{compound_of, condition_of}
+use Rattle.selectors3.specs.Grammar.{next_simple, next_condition, next_compound}
+use Rattle.selectors3.specs.Reads.{Finds}
+use Rattle.selectors3.specs.Views.{simple_of, compound_of, condition_of}
 use Rattle.selectors3.proofs.ItemLemmas.{loop_item, loop_none, loop_over, loop_stop, finds_some, finds_none}
+use Rattle.selectors3.proofs.NestLemmas.{condition_within, condition_plain}
 use Rattle.selectors3.proofs.compounds.+lists.Goals as goal
 
 pub read_more-returns-in_err-condition : goal.read_more-returns-in_err-condition
@@ -75,3 +77,24 @@ pub read_compounds-returns : goal.read_compounds-returns
 read_compounds-returns t c =
     loop_over compound_of (next_compound (next_condition c.args.depth)) c.compounds.compounds.items c.compounds.left c.compounds.rest.now _
     (omega (arith, c.compounds-test.false)) c.compounds.invariant.found
+
+pub next_condition-returns-then-begins_pseudo_class :
+    goal.next_condition-returns-then-begins_pseudo_class
+next_condition-returns-then-begins_pseudo_class t c =
+    subst (λ s. Finds condition_of c.read_pseudo_condition.result s)
+    (condition_within c.args.depth c.args.text.now) (search rules)
+
+pub next_condition-returns-in_err-simple : goal.next_condition-returns-in_err-simple
+next_condition-returns-in_err-simple t c =
+    subst (λ s. Finds condition_of c.from_residual.result s)
+    (condition_within c.args.depth c.args.text.now) (search rules)
+
+pub next_condition-returns-in-Some : goal.next_condition-returns-in-Some
+next_condition-returns-in-Some t c =
+    condition_plain c.args.depth c.args.text.now c.in-Some.rest.now c.in-Some.simple (search rules)
+    (finds_some simple_of (next_simple c.args.text.now) c.in_ok-simple.field-0
+    c.in-Some.simple c.in-Some.rest c.in-Some.is c.in_ok-simple.ensures)
+
+pub next_condition-returns-in-None : goal.next_condition-returns-in-None
+next_condition-returns-in-None t c =
+    (search rules) ∙ condition_within c.args.depth c.args.text.now
