@@ -65,11 +65,10 @@ more_entries entries i d lt =
 -- one more entry, at its place
 pub filed_more : (entries : List Entry) (i : ℕ) (d : Entry) (buckets : List (Vec Entry)) (place : ℕ)
     (old new : Vec Entry) → AreFiled (map entry_of (take i entries)) buckets → i < length entries
-    → place ≡ place_by (length buckets) (get_or entries i d).number
+    → d ≡ get_or entries i d → place ≡ place_by (length buckets) d.number
     → place < length buckets → old ≡ get_or buckets place old
-    → new.items ≡ old.items ++ get_or entries i d ∷ []
-    → AreFiled (map entry_of (take (i + 1) entries)) (set buckets place new)
-filed_more entries i d buckets place old new filed lt by_number within was is = record {
+    → new.items ≡ old.items ++ d ∷ [] → AreFiled (map entry_of (take (i + 1) entries)) (set buckets place new)
+filed_more entries i d buckets place old new filed lt read by_number within was pushed = record {
   some = let some = filed.some in omega (arith, some, same);
   filed = λ p b there. subst (λ n. map entry_of b.items
       ≡ entries_at n p (map entry_of (take (i + 1) entries))) (sym same)
@@ -86,7 +85,11 @@ filed_more entries i d buckets place old new filed lt by_number within was is = 
     count = length buckets
 
     at : place ≡ place_of (length buckets) (key_of (get_or entries i d).key)
-    at = by_number ∙ ap (place_by (length buckets)) (get_or entries i d).numbered
+    at = by_number ∙ ap (λ x. place_by (length buckets) x.number) read
+        ∙ ap (place_by (length buckets)) (get_or entries i d).numbered
+
+    is : new.items ≡ old.items ++ get_or entries i d ∷ []
+    is = pushed ∙ ap (λ x. old.items ++ x ∷ []) read
 
     before : List (Key × ℕ × ℕ)
     before = map entry_of (take i entries)
@@ -216,11 +219,21 @@ found_more entries i d key above t lt is =
 -- one more entry was looked at
 pub found_step : (old before after : List ℕ) (entries : List Entry) (i : ℕ) (d : Entry) (key : Key)
     (above : ℕ) (t : Bool) → before ≡ old ++ found_by (map entry_of (take i entries)) above key
-    → after ≡ before ++ cond t ((get_or entries i d).rule ∷ []) [] → i < length entries
-    → is_found_by key above (entry_of (get_or entries i d)) ≡ t
+    → after ≡ before ++ cond t (d.rule ∷ []) [] → i < length entries → d ≡ get_or entries i d
+    → is_found_by key above (entry_of d) ≡ t
     → after ≡ old ++ found_by (map entry_of (take (i + 1) entries)) above key
-found_step old before after entries i d key above t known next lt is =
-    next ∙ ap (λ xs. xs ++ cond t ((get_or entries i d).rule ∷ []) []) known
+found_step old before after entries i d key above t known next lt read is =
+    next ∙ ap (λ x. before ++ cond t (x.rule ∷ []) []) read ∙ ap (λ xs. xs ++ cond t ((get_or entries i d).rule ∷ []) []) known
     ∙ append_assoc old (found_by (map entry_of (take i entries)) above key)
     (cond t ((get_or entries i d).rule ∷ []) [])
-    ∙ ap (λ xs. old ++ xs) (sym (found_more entries i d key above t lt is))
+    ∙ ap (λ xs. old ++ xs) (sym (found_more entries i d key above t lt
+    (ap (λ x. is_found_by key above (entry_of x)) (sym read) ∙ is)))
+
+-- an entry whose number is not that of the key is not found
+pub other_number : (e : Entry) (key : Key) (above number : ℕ) → number ≡ number_of key
+    → (e.number ≡ number → ⊥) → false ≡ is_found_by key above (entry_of e)
+other_number e key above number is ne = by (is_same (key_of e.key) key) refl
+  where
+    by : (t : Bool) → is_same (key_of e.key) key ≡ t → false ≡ (t && covers above e.needed)
+    by true h = absurd (ne (e.numbered ∙ same_number (key_of e.key) key h ∙ sym is))
+    by false h = refl

@@ -80,12 +80,12 @@ module _ (above : ℕ) (key : Key) (index : ℕ) where
           → HasEntry (λ own. is_same own key) above (e ∷ es) index
       by true is k ih = elim ((contains_cons e.1 (found_by es above key) index).0 k) [
         | inl q ↦ (
-            e.0,
-            e.2,
-            (contains_cons e es (e.0, index, e.2)).1 (inl (ap (λ i. (e.0, i, e.2)) q)),
-            and_first (is_same e.0 key) (covers above e.2) is,
-            and_second (is_same e.0 key) (covers above e.2) is,
-          )
+          e.0,
+          e.2,
+          (contains_cons e es (e.0, index, e.2)).1 (inl (ap (λ i. (e.0, i, e.2)) q)),
+          and_first (is_same e.0 key) (covers above e.2) is,
+          and_second (is_same e.0 key) (covers above e.2) is,
+        )
         | inr l ↦ (let r = ih l in
             (r.0, r.1, (contains_cons e es (r.0, index, r.1)).1 (inr r.2), r.3, r.4))
       ]
@@ -149,10 +149,10 @@ with_index_from n b [] own index needed c = absurd (contains_none (own, index, n
 with_index_from n b (key ∷ keys) own index needed c =
     elim ((contains_cons (key, n, b) (with_index n b keys) (own, index, needed)).0 c) [
       | inl e ↦ (
-          ap (λ x. x.1) e,
-          ap (λ x. x.2) e,
-          (contains_cons key keys own).1 (inl (ap (λ x. x.0) e)),
-        )
+        ap (λ x. x.1) e,
+        ap (λ x. x.2) e,
+        (contains_cons key keys own).1 (inl (ap (λ x. x.0) e)),
+      )
       | inr h ↦ (let r = with_index_from n b keys own index needed h in
           (r.0, r.1, (contains_cons key keys own).1 (inr r.2)))
     ]

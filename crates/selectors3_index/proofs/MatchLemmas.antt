@@ -94,14 +94,18 @@ module _ {Node : Type 0} (document : Document Node) (n : Node) (reported : Repor
     -- one that is found and passes matches
     pub passed_matches : IsKeyedAt document n reported above selectors index
         → PassesAt document n selectors index → MatchesAt document n selectors index
-    passed_matches keyed passes = (passes.0, passes.1, elim passes.2 [
-      | inl only ↦ (let same : keyed.0 ≡ passes.0 = some_same (sym keyed.1 ∙ passes.1) in
-          only_matches document n passes.0 only (exacts_had (keys_of passes.0)
-          (only_exact passes.0 only)
-          (subst (λ s. IsTrue (list_any (reports_key document n reported) (keys_of s))) same
-          (filed_any keyed.0 (reports_key document n reported) keyed.2))))
-      | inr m ↦ m
-    ])
+    passed_matches keyed passes = (
+      passes.0,
+      passes.1,
+      elim passes.2 [
+        | inl only ↦ (let same : keyed.0 ≡ passes.0 = some_same (sym keyed.1 ∙ passes.1) in
+            only_matches document n passes.0 only (exacts_had (keys_of passes.0)
+            (only_exact passes.0 only)
+            (subst (λ s. IsTrue (list_any (reports_key document n reported) (keys_of s))) same
+            (filed_any keyed.0 (reports_key document n reported) keyed.2))))
+        | inr m ↦ m
+      ],
+    )
 
     pub matched_passes : MatchesAt document n selectors index → PassesAt document n selectors index
     matched_passes m = (m.0, m.1, inr m.2)

@@ -47,7 +47,13 @@ pub(crate) fn is_found(entry: &Entry<'_>, key: &Key<'_>, number: u64, above: u64
     requires { number ≡ number_of_key (key_of key.now) }
     ensures { result ≡ is_found_by (key_of key.now) above (entry_of entry.now) }
 {
-    entry.number == number && above | entry.needed == above && is_same(&entry.key, key)
+    if entry.number != number {
+        return false;
+    }
+    if above | entry.needed != above {
+        return false;
+    }
+    is_same(&entry.key, key)
 }
 
 /// Appends an entry for each key of a rule that needs ancestors with keys of these bits.
