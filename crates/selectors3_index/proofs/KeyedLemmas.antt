@@ -14,7 +14,7 @@ use Rattle.selectors3.specs.AttributeTests.{begins}
 use Rattle.selectors3.specs.Components.{Selector}
 use Rattle.selectors3.specs.Components.Comparison.{equals}
 use Rattle.selectors3.specs.Documents.{Document}
-use Rattle.selectors3.specs.Keys.{Key, has_key}
+use Rattle.selectors3.specs.Keys.{Key}
 use Rattle.selectors3.specs.Keys.Key.{by_id, by_class, by_name, by_attribute, by_nothing}
 use Rattle.selectors3.specs.Meanings.{satisfies}
 use Rattle.selectors3_index.specs.Reported.{Reported, reports_key}

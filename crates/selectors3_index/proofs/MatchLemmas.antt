@@ -1,20 +1,19 @@
 -- Selectors that match are found, and those that are found and need no test match.
 -- Serves `SelectorIndex::matching`.
-use Rattle.std.proofs.Common.{◌≡◌, ℕ, ◌||◌, ◌&&◌, ◌⊎◌, inl, inr, Bool, true, false, IsTrue, List, [], ◌∷◌, Option, None, Some, refl, sym, ap, ◌∙◌, subst}
+use Rattle.std.proofs.Common.{◌≡◌, ℕ, ◌||◌, ◌&&◌, ◌⊎◌, inl, inr, Bool, true, false, IsTrue, List, [], ◌∷◌, None, refl, sym, ap, ◌∙◌, subst}
 use Rattle.std.specs.Prelude.{is_none, if◌then◌else◌}
-use Rattle.std.specs.List.{Contains, list_any, list_all, slice_get}
+use Rattle.std.specs.List.{Contains, list_any, list_all}
 use Rattle.std.specs.Int.Bits.{bit_or}
-use Rattle.selectors3.specs.AncestorKeys.{ancestor_keys, is_exact_key, is_only_keys, SomeAncestorHas}
+use Rattle.selectors3.specs.AncestorKeys.{ancestor_keys, is_exact_key}
 use Rattle.selectors3.specs.Components.{Selector}
 use Rattle.selectors3.specs.Documents.{Document, shape}
 use Rattle.selectors3.specs.Keys.{Key, has_key, keys_of}
 use Rattle.selectors3.specs.Keys.Key.{by_id, by_class, by_name, by_attribute, by_nothing}
-use Rattle.selectors3.specs.Meanings.{Matches}
 use Rattle.selectors3.proofs.AncestorKeyLemmas.{matched_above, only_matches, only_exact}
 use Rattle.selectors3.proofs.KeyLemmas.{matched_has}
 use Rattle.sibling_matching.specs.Trees.{SiblingsShareParent}
 use Rattle.selectors3_index.specs.Found.{MatchesAt}
-use Rattle.selectors3_index.specs.KeyBits.{key_bits, Covers, covers, CoversAncestors}
+use Rattle.selectors3_index.specs.KeyBits.{key_bits, Covers, CoversAncestors}
 use Rattle.selectors3_index.specs.Reported.{Reported, reports_key, ReportsKeys}
 use Rattle.selectors3_index.specs.internal.Candidates.{IsKeyedAt, PassesAt}
 use Rattle.selectors3_index.specs.internal.Filed.{filed_keys}
