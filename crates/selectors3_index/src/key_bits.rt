@@ -13,9 +13,10 @@ ghost use Rattle.selectors3_index.specs.KeyBits.{number_of as number_of_key};
 ghost use Rattle.selectors3_index.specs.KeyBits.{word_bits as word_bits_of};
 ghost use Rattle.selectors3_index.specs.KeyBits.{name_bit as name_bit_of};
 ghost use Rattle.selectors3_index.specs.KeyBits.{key_bits as key_bits_of, Covers, CoversKeys};
-ghost use Rattle.selectors3_index.specs.internal.NeededBits.{bits_from};
+ghost use Rattle.selectors3_index.specs.internal.NeededBits.{bits_from, CoversParent, CoversAbove};
 
 use crate::Keyed3;
+use crate::above::Above;
 use crate::words::split_word;
 use selectors3::Key;
 
@@ -130,6 +131,27 @@ pub fn element_bits<E: Keyed3>(element: &E) -> u64
     let id = id_bits(element.attribute("id"));
     let classes = class_bits(element.attribute("class"));
     name | id | classes
+}
+
+/// Returns the bits of the keys of an element's parent, if it has one.
+fn parent_bits<E: Keyed3>(element: &E) -> u64
+    ensures { CoversParent E.document (E.node element.now) result }
+{
+    match element.parent() {
+        Some(parent) => element_bits(&parent),
+        None => 0,
+    }
+}
+
+/// Returns the bits of the keys of an element's ancestors, and of its parent.
+#[inline(always)]
+pub(crate) fn above_of<E: Keyed3>(element: &E) -> Above
+    ensures { CoversAbove E.document (E.node element.now) result }
+{
+    Above {
+        ancestors: element.ancestor_bits(),
+        parent: parent_bits(element),
+    }
 }
 
 /// Returns the bits of keys.

@@ -12,7 +12,7 @@ loop-entry-preserved c =
     let old = c.args.indices.now.items in
     let before = c.loop-entry.indices.items in
     let key = key_of c.args.key.now in
-    let above = c.args.above in
+    let above = c.args.above.now in
     let entries = c.deref-entry-items.result.now in
     let i = c.loop-entry.entry-index in
     elim c.if-is_found.branch [
@@ -31,7 +31,7 @@ loop-entry-preserved c =
 pub returns : goal.returns
 returns c =
     let key = key_of c.args.key.now in
-    let above = c.args.above in
+    let above = c.args.above.now in
     let len : c.len.result ≡ length c.self.inside.buckets.items = search rules in
     c.loop-entry.invariant
     ∙ ap (λ xs. c.args.indices.now.items ++ xs) (
