@@ -16,7 +16,7 @@ use Rattle.sibling_matching.specs.Trees.{Tree, SiblingsShareParent}
 use Rattle.sibling_matching.specs.declared.Combinator.{Combinator}
 use Rattle.sibling_matching.specs.declared.Combinator.TheVariants.{Descendant, Child, Adjacent, Sibling}
 use Rattle.sibling_matching.proofs.Steps.{sibling_parent, beyond_parent}
-use Rattle.selectors3.specs.AncestorKeys.{keys_among, alone, step_keys, keys_before, ancestor_keys, SomeAncestorHas, is_exact, is_whole, is_exact_key, is_one_exact, are_exact, is_only_key, are_only_keys, are_only_part, is_only_keys}
+use Rattle.selectors3.specs.AncestorKeys.{keys_among, alone, step_keys, keys_before, ancestor_keys, SomeAncestorHas, parent_step_keys, keys_of_parent, parent_keys, ParentHas, is_exact, is_whole, is_exact_key, is_one_exact, are_exact, is_only_key, are_only_keys, are_only_part, is_only_keys}
 use Rattle.selectors3.specs.declared.components.Part.{Part as PartOf}
 use Rattle.selectors3.specs.Views.{condition_of, part_of}
 use Rattle.selectors3.specs.Documents.{Document, shape}
@@ -144,6 +144,38 @@ module _ {Node : Type 0} (d : Document Node) where
         let last = length s.parts - 1 in
         subst (λ e. SomeAncestorHas d e key) m.1.1.ends
         (before_has s.parts last n m.1.0 m.1.1 last (omega arith) key c)
+
+module _ {Node : Type 0} (d : Document Node) where
+  parent_step_has : (c : Combinator) (conditions : List Condition) (m n : Node) (key : Key)
+      → Relates (shape d) c m n → IsTrue (are_met d m conditions)
+      → Contains (parent_step_keys c conditions) key → ParentHas d n key
+  parent_step_has Descendant conditions m n key r met there = absurd (none_there key there)
+  parent_step_has Child conditions m n key r met there =
+      (m, r, alone_has (has_key d m) (keys_among conditions) key (met_has d conditions m met) there)
+  parent_step_has Adjacent conditions m n key r met there = absurd (none_there key there)
+  parent_step_has Sibling conditions m n key r met there = absurd (none_there key there)
+
+  module _ (parts : List Part) (last : ℕ) (end : Node) (place : ℕ → Node)
+      (placed : IsPlacement (shape d) (combinator_at parts) (MeetsPart d parts) last end place) where
+    parent_has : (i : ℕ) → i ≤ last → (key : Key) → Contains (keys_of_parent parts i) key
+        → ParentHas d (place i) key
+    parent_has zero le key c = absurd (none_there key c)
+    parent_has (suc i) le key c =
+        let lt : i < last = omega (arith, le) in
+        let within : i ≤ last = omega (arith, le) in
+        let next : i + 1 ≡ suc i = omega arith in
+        let r : Relates (shape d) (combinator_at parts (suc i)) (place i) (place (suc i)) =
+        subst (λ j. Relates (shape d) (combinator_at parts j) (place i) (place j)) next
+        (placed.relates i lt) in
+        parent_step_has (combinator_at parts (suc i)) (conditions_at parts i) (place i)
+        (place (suc i)) key r (placed.meets i within) c
+
+  pub matched_parent : (s : Selector) (n : Node) → Matches d s n → (key : Key)
+      → Contains (parent_keys s) key → ParentHas d n key
+  matched_parent s n m key c =
+      let last = length s.parts - 1 in
+      subst (λ e. ParentHas d e key) m.1.1.ends
+      (parent_has s.parts last n m.1.0 m.1.1 last (omega arith) key c)
 
 -- ---- selectors that require nothing but one of their keys
 
@@ -373,6 +405,14 @@ module _ {X : Type 0} (f : X → Key) (old new : List X) (keys : List Key)
       ∙ take-append_seam (map f old) keys ∙ sym (append-nil (map f old))
       ∙ ap (λ ks. map f old ++ ks) (sym (alone_none keys (λ one. e (omega (arith, l, one)))))
 
+-- the part at an index
+part_there : (ps : List PartOf) (parts : List Part) → map part_of ps ≡ parts → (j : ℕ) (r : PartOf)
+    → j < length ps → r ≡ get_or ps j r → slice_get parts j ≡ Some (part_of r)
+part_there ps parts are j r within read =
+    subst (λ xs. slice_get xs j ≡ Some (part_of r)) are
+    (slice_get-map part_of ps j
+    ∙ ap (option_map part_of) (slice_get_read ps (length ps) j r refl within read))
+
 -- the keys before one part more
 pub keys_before-more : (ps : List PartOf) (parts : List Part) → map part_of ps ≡ parts → (i : ℕ)
     → (p q : PartOf) → i + 1 < length ps → p ≡ get_or ps i p → q ≡ get_or ps (i + 1) q
@@ -381,21 +421,14 @@ pub keys_before-more : (ps : List PartOf) (parts : List Part) → map part_of ps
 keys_before-more ps parts are i p q lt here next =
     let more : i + 1 ≡ suc i = omega arith in
     let within : i < length ps = omega (arith, lt) in
-    let first : slice_get parts i ≡ Some (part_of p) = there i p within here in
+    let first : slice_get parts i ≡ Some (part_of p) = part_there ps parts are i p within here in
     let second : slice_get parts (suc i) ≡ Some (part_of q) =
-    ap (slice_get parts) (sym more) ∙ there (i + 1) q lt next in
+    ap (slice_get parts) (sym more) ∙ part_there ps parts are (i + 1) q lt next in
     ap (keys_before parts) more
     ∙ ap (λ o. keys_before parts i ++ step_keys (option_map_or (λ x. x.combinator) o Descendant)
     (conditions_at parts i)) second
     ∙ ap (λ o. keys_before parts i
     ++ step_keys q.combinator (option_map_or (λ x. x.conditions) o [])) first
-  where
-    there : (j : ℕ) (r : PartOf) → j < length ps → r ≡ get_or ps j r
-        → slice_get parts j ≡ Some (part_of r)
-    there j r within read =
-        subst (λ xs. slice_get xs j ≡ Some (part_of r)) are
-        (slice_get-map part_of ps j
-        ∙ ap (option_map part_of) (slice_get_read ps (length ps) j r refl within read))
 
 -- two conditions or more are not one
 pub not_one : (cs : List ConditionOf) → 2 ≤ length cs
@@ -403,3 +436,24 @@ pub not_one : (cs : List ConditionOf) → 2 ≤ length cs
 not_one [] h = absurd (omega (arith, h))
 not_one (c ∷ []) h = absurd (omega (arith, h))
 not_one (c ∷ d ∷ cs) h = refl
+
+-- the keys of a selector's parent, from its last two parts
+pub parent_keys_are : (ps : List PartOf) (parts : List Part) → map part_of ps ≡ parts
+    → (p q : PartOf) → 2 ≤ length ps → p ≡ get_or ps (length ps - 2) p
+    → q ≡ get_or ps (length ps - 1) q
+    → keys_of_parent parts (length parts - 1)
+    ≡ parent_step_keys q.combinator (map condition_of p.conditions.items)
+parent_keys_are ps parts are p q some here next =
+    let same : length parts ≡ length ps = sym (sym (length-map ps part_of) ∙ ap length are) in
+    let more : length parts - 1 ≡ suc (length ps - 2) = omega (arith, same, some) in
+    let last : length ps - 1 ≡ suc (length ps - 2) = omega (arith, some) in
+    let before : length ps - 2 < length ps = omega (arith, some) in
+    let end : length ps - 1 < length ps = omega (arith, some) in
+    let first : slice_get parts (length ps - 2) ≡ Some (part_of p) =
+    part_there ps parts are (length ps - 2) p before here in
+    let second : slice_get parts (suc (length ps - 2)) ≡ Some (part_of q) =
+    ap (slice_get parts) (sym last) ∙ part_there ps parts are (length ps - 1) q end next in
+    ap (keys_of_parent parts) more
+    ∙ ap (λ o. parent_step_keys (option_map_or (λ x. x.combinator) o Descendant)
+    (conditions_at parts (length ps - 2))) second
+    ∙ ap (λ o. parent_step_keys q.combinator (option_map_or (λ x. x.conditions) o [])) first

@@ -1,6 +1,6 @@
 -- The keys that a selector requires of an element's ancestors, and selectors that require nothing
 -- but one of their keys.
-use Rattle.std.specs.Prelude.{ℕ, zero, suc, ◌-◌, ◌&&◌, Bool, true, false, List, [], ◌∷◌, ◌++◌, length, IsTrue, is_none}
+use Rattle.std.specs.Prelude.{◌≡◌, ℕ, zero, suc, ◌-◌, ◌&&◌, Bool, true, false, List, [], ◌∷◌, ◌++◌, length, IsTrue, Some, is_none}
 use Rattle.sibling_matching.specs.Placements.{IsBeyond}
 use Rattle.sibling_matching.specs.declared.Combinator.{Combinator}
 use Rattle.sibling_matching.specs.declared.Combinator.TheVariants.{Descendant, Child, Adjacent, Sibling}
@@ -41,6 +41,27 @@ keys_before parts (suc i) =
 -- the keys that an element's ancestors must have for the selector to match it
 abbrev pub ancestor_keys : Selector → List Key
 ancestor_keys s = keys_before s.parts (length s.parts - 1)
+
+-- the key of the part before, if the combinator leads to the parent
+abbrev pub parent_step_keys : Combinator → List Condition → List Key
+parent_step_keys Descendant conditions = []
+parent_step_keys Child conditions = alone (keys_among conditions)
+parent_step_keys Adjacent conditions = []
+parent_step_keys Sibling conditions = []
+
+-- the key of the part before the one at an index, if the combinator leads to the parent
+abbrev pub keys_of_parent : List Part → ℕ → List Key
+keys_of_parent parts zero = []
+keys_of_parent parts (suc i) = parent_step_keys (combinator_at parts (suc i)) (conditions_at parts i)
+
+-- the keys that an element's parent must have for the selector to match it
+abbrev pub parent_keys : Selector → List Key
+parent_keys s = keys_of_parent s.parts (length s.parts - 1)
+
+-- the node has a parent, which has the key
+abbrev pub ParentHas : {Node : Type 0} → Document Node → Node → Key → Type 0
+ParentHas {Node} document n key =
+    (a : Node) × (document.parent n ≡ Some a) × IsTrue (has_key document a key)
 
 -- an ancestor of the node has the key
 abbrev pub SomeAncestorHas : {Node : Type 0} → Document Node → Node → Key → Type 0

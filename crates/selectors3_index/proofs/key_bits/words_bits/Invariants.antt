@@ -5,7 +5,7 @@ use Rattle.selectors3.specs.AttributeTests.{is_satisfied}
 use Rattle.selectors3.specs.Components.Comparison.{has_word}
 use Rattle.selectors3.specs.Keys.Key.{by_class}
 use Rattle.selectors3_index.specs.KeyBits.{key_bits, Covers}
-use Rattle.selectors3_index.proofs.key_bits.word_bits.Given as goal
+use Rattle.selectors3_index.proofs.key_bits.words_bits.Given as goal
 
 -- the bits of the words so far are there; the others are those of the rest
 abbrev pub invariant-words : goal.invariant-words

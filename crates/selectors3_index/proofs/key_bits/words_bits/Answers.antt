@@ -5,7 +5,7 @@ use Rattle.selectors3.specs.Components.Comparison.{has_word}
 use Rattle.selectors3.specs.Keys.Key.{by_class}
 use Rattle.selectors3_index.specs.KeyBits.{key_bits, Covers}
 use Rattle.selectors3_index.proofs.BitLemmas.{covers_no_word, covers_word_more, covers_words}
-use Rattle.selectors3_index.proofs.key_bits.word_bits.Goals as goal
+use Rattle.selectors3_index.proofs.key_bits.words_bits.Goals as goal
 
 pub words-init : goal.words-init
 words-init c = (c.utf8.value, covers_no_word c.args.value.now)
