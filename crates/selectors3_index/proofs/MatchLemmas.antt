@@ -13,7 +13,7 @@ use Rattle.selectors3.proofs.AncestorKeyLemmas.{matched_above, matched_parent, o
 use Rattle.selectors3.proofs.KeyLemmas.{matched_has}
 use Rattle.sibling_matching.specs.Trees.{SiblingsShareParent}
 use Rattle.selectors3_index.specs.Found.{MatchesAt}
-use Rattle.selectors3_index.specs.KeyBits.{key_bits, Covers, CoversAncestors}
+use Rattle.selectors3_index.specs.KeyBits.{key_bits, Covers, covers}
 use Rattle.selectors3_index.specs.declared.above.Above.{Above}
 use Rattle.selectors3_index.specs.Reported.{Reported, reports_key, ReportsKeys}
 use Rattle.selectors3_index.specs.internal.Candidates.{IsKeyedAt, PassesAt}

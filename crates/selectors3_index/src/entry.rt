@@ -28,7 +28,7 @@ impl<'s> Entry<'s> {
     pub(crate) fn new(key: Key<'s>, rule: usize, needed: Above) -> Entry<'s>
         ensures key { key_of result.key ≡ key_of key.entry }
         ensures rule { result.rule ≡ rule }
-        ensures needed { result.needed ≡ needed.entry }
+        ensures needed { result.needed ≡ needed }
     {
         let number = number_of(&key);
         Entry {

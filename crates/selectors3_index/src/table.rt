@@ -65,7 +65,7 @@ fn enter<'s>(
     entries: &mut Vec<Entry<'s>>,
 ) -> Result<(), AllocError>
     ensures { OnOk result (map entry_of entries.new.items
-        ≡ map entry_of entries.old.items ++ with_index rule needed.entry (map key_of keys.now)) }
+        ≡ map entry_of entries.old.items ++ with_index rule needed (map key_of keys.now)) }
 {
     for key in keys {
         entries.push(Entry::new(*key, rule, needed))?;
