@@ -1,3 +1,4 @@
+pub mod AncestorKeys
 pub mod AttributeTests
 pub mod Components
 pub mod Documents
