@@ -56,3 +56,14 @@ pub last_below-before : (test : ℕ → Bool) (n p : ℕ) → last_below test n 
 last_below-before test zero p is = absurd (cc)
 last_below-before test (suc n) p is =
     chosen_before (test n) n p (last_below test n) (last_below-before test n p) is
+
+passed : (b : Bool) (test : ℕ → Bool) (n p : ℕ) (r : Option ℕ) → test n ≡ b
+    → (r ≡ Some p → test p ≡ true) → (if b then Some n else r) ≡ Some p → test p ≡ true
+passed true test n p r own before is = ap test (sym (some_same is)) ∙ own
+passed false test n p r own before is = before is
+
+-- and it passes the test
+pub last_below-passes : (test : ℕ → Bool) (n p : ℕ) → last_below test n ≡ Some p → test p ≡ true
+last_below-passes test zero p is = absurd (cc)
+last_below-passes test (suc n) p is =
+    passed (test n) test n p (last_below test n) refl (last_below-passes test n p) is
