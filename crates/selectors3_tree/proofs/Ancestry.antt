@@ -107,3 +107,20 @@ module _ (rows : List Row) where
             subst (CoversAbove rows i) (sym (ap (λ xs. get_or xs i 0) is
             ∙ get_or-append above (bits ∷ []) 0 i within)) (are i within))
       ]
+
+-- the parent that an element of the tree itself reports
+module _ (rows : List Row) (r : Option (List Row × ℕ)) (q : Option ℕ)
+    (reported : option_map (λ node. node) r ≡ option_map (spot rows) q) where
+  pub parent-none : r ≡ None → q ≡ None
+  parent-none none = of q (sym reported ∙ ap (option_map (λ node. node)) none)
+    where
+      of : (o : Option ℕ) → option_map (spot rows) o ≡ None → o ≡ None
+      of None e = refl
+      of (Some p) e = absurd (cc)
+
+  pub parent-some : (parent : List Row × ℕ) → r ≡ Some parent → q ≡ Some parent.1
+  parent-some parent some = of q (sym reported ∙ ap (option_map (λ node. node)) some)
+    where
+      of : (o : Option ℕ) → option_map (spot rows) o ≡ Some parent → o ≡ Some parent.1
+      of None e = absurd (cc)
+      of (Some p) e = ap (λ n. Some n.1) (some_same e)

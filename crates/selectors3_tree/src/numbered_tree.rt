@@ -1,6 +1,6 @@
 //! Trees whose siblings are counted.
 ghost use Rattle.std.specs.Prelude.{◌≡◌, ◌<◌, ◌≤◌, ◌^◌, ℕ, length, slice_index_or};
-ghost use Rattle.std.specs.Prelude.{IfOk, IfErr, MatchOption, slice_set, true, false};
+ghost use Rattle.std.specs.Prelude.{IfOk, IfErr, IfSome, MatchOption, slice_set, true, false};
 ghost use Rattle.sibling_matching.specs.ListTrees.{spot};
 ghost use Rattle.simplecss.specs.ListTrees.{spot as plain_spot};
 ghost use Rattle.simplecss_tree.specs.TreeNodes.{name_at};
@@ -240,6 +240,7 @@ impl<'p, 't> NumberedTree<'p, 't> {
         requires { index < length self.now.rows }
         ensures count { result.count ≡ count_below (is_sibling self.now.rows index) index }
         ensures last { result.last ≡ last_below (is_sibling self.now.rows index) index }
+        ensures earlier { IfSome result.last (λ last. last < index) }
     {
         self.families.before(index)
     }
