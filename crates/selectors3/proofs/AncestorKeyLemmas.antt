@@ -16,14 +16,17 @@ use Rattle.sibling_matching.specs.Trees.{Tree, SiblingsShareParent}
 use Rattle.sibling_matching.specs.declared.Combinator.{Combinator}
 use Rattle.sibling_matching.specs.declared.Combinator.TheVariants.{Descendant, Child, Adjacent, Sibling}
 use Rattle.sibling_matching.proofs.Steps.{sibling_parent, beyond_parent}
-use Rattle.selectors3.specs.AncestorKeys.{keys_among, alone, step_keys, keys_before, ancestor_keys, SomeAncestorHas, is_exact, is_whole, is_exact_key, is_one_exact, is_only_key, are_only_keys, are_only_part, is_only_keys}
+use Rattle.selectors3.specs.AncestorKeys.{keys_among, alone, step_keys, keys_before, ancestor_keys, SomeAncestorHas, parent_step_keys, keys_of_parent, parent_keys, ParentHas, is_exact, is_whole, is_exact_key, is_one_exact, are_exact, is_only_key, are_only_keys, are_only_part, is_only_keys}
 use Rattle.selectors3.specs.declared.components.Part.{Part as PartOf}
 use Rattle.selectors3.specs.Views.{condition_of, part_of}
 use Rattle.selectors3.specs.Documents.{Document, shape}
-use Rattle.selectors3.specs.Components.{Simple, Condition, Part, Selector}
+use Rattle.selectors3.specs.declared.components.Condition.{Condition as ConditionOf}
+use Rattle.selectors3.specs.Components.{Simple, Condition, Conditions, Compounds, conditions_from, Part, Selector}
 use Rattle.selectors3.specs.Components.Simple.{universal, type_name, id, class, has_attribute, attribute, structure, language, state}
 use Rattle.selectors3.specs.Components.Condition.{simple, negation, any_of, where_any}
-use Rattle.selectors3.specs.Keys.{Key, has_key, simple_key, rank, compound_key, condition_keys, least_rank, better_keys, keys_of}
+use Rattle.selectors3.specs.Components.Conditions.{end_of_compound, with_condition}
+use Rattle.selectors3.specs.Components.Compounds.{end_of_list, with_compound}
+use Rattle.selectors3.specs.Keys.{Key, has_key, simple_key, rank, compound_key, compound_keys, condition_keys, least_rank, better_keys, keys_of}
 use Rattle.selectors3.specs.Keys.Key.{by_id, by_class, by_name, by_attribute, by_nothing}
 use Rattle.selectors3.specs.Meanings.{holds, hold, holds_any, is_met, are_met, combinator_at, conditions_at, MeetsPart, Matches}
 use Rattle.selectors3.proofs.KeyLemmas.{matched_has}
@@ -142,11 +145,44 @@ module _ {Node : Type 0} (d : Document Node) where
         subst (λ e. SomeAncestorHas d e key) m.1.1.ends
         (before_has s.parts last n m.1.0 m.1.1 last (omega arith) key c)
 
+module _ {Node : Type 0} (d : Document Node) where
+  parent_step_has : (c : Combinator) (conditions : List Condition) (m n : Node) (key : Key)
+      → Relates (shape d) c m n → IsTrue (are_met d m conditions)
+      → Contains (parent_step_keys c conditions) key → ParentHas d n key
+  parent_step_has Descendant conditions m n key r met there = absurd (none_there key there)
+  parent_step_has Child conditions m n key r met there =
+      (m, r, alone_has (has_key d m) (keys_among conditions) key (met_has d conditions m met) there)
+  parent_step_has Adjacent conditions m n key r met there = absurd (none_there key there)
+  parent_step_has Sibling conditions m n key r met there = absurd (none_there key there)
+
+  module _ (parts : List Part) (last : ℕ) (end : Node) (place : ℕ → Node)
+      (placed : IsPlacement (shape d) (combinator_at parts) (MeetsPart d parts) last end place) where
+    parent_has : (i : ℕ) → i ≤ last → (key : Key) → Contains (keys_of_parent parts i) key
+        → ParentHas d (place i) key
+    parent_has zero le key c = absurd (none_there key c)
+    parent_has (suc i) le key c =
+        let lt : i < last = omega (arith, le) in
+        let within : i ≤ last = omega (arith, le) in
+        let next : i + 1 ≡ suc i = omega arith in
+        let r : Relates (shape d) (combinator_at parts (suc i)) (place i) (place (suc i)) =
+        subst (λ j. Relates (shape d) (combinator_at parts j) (place i) (place j)) next
+        (placed.relates i lt) in
+        parent_step_has (combinator_at parts (suc i)) (conditions_at parts i) (place i)
+        (place (suc i)) key r (placed.meets i within) c
+
+  pub matched_parent : (s : Selector) (n : Node) → Matches d s n → (key : Key)
+      → Contains (parent_keys s) key → ParentHas d n key
+  matched_parent s n m key c =
+      let last = length s.parts - 1 in
+      subst (λ e. ParentHas d e key) m.1.1.ends
+      (parent_has s.parts last n m.1.0 m.1.1 last (omega arith) key c)
+
 -- ---- selectors that require nothing but one of their keys
 
 -- the key of one id or class is that, and is an id or a class
 exact_key : (s : Simple) → IsTrue (is_exact s)
-    → IsTrue (is_exact_key (simple_key s)) × (compound_key (s ∷ []) ≡ simple_key s)
+    → IsTrue (is_exact_key (simple_key s))
+    × (compound_key (with_condition (simple s) end_of_compound) ≡ simple_key s)
     × (3 ≤ rank (simple_key s))
 exact_key universal h = absurd (cc)
 exact_key (type_name name) h = absurd (cc)
@@ -158,23 +194,26 @@ exact_key (structure s) h = absurd (cc)
 exact_key (language ranges) h = absurd (cc)
 exact_key (state name) h = absurd (cc)
 
-exact_compound : (simples : List Simple) → IsTrue (is_one_exact simples)
-    → IsTrue (is_exact_key (compound_key simples)) × (3 ≤ rank (compound_key simples))
-exact_compound [] h = absurd (cc)
-exact_compound (s ∷ []) h =
+exact_compound : (c : Conditions) → IsTrue (is_one_exact c)
+    → IsTrue (is_exact_key (compound_key c)) × (3 ≤ rank (compound_key c))
+exact_compound end_of_compound h = absurd (cc)
+exact_compound (with_condition (simple s) end_of_compound) h =
     let e = exact_key s h in
     subst (λ k. IsTrue (is_exact_key k) × (3 ≤ rank k)) (sym e.1) (e.0, e.2)
-exact_compound (s ∷ t ∷ simples) h = absurd (cc)
+exact_compound (with_condition c (with_condition x conditions)) h = absurd (cc)
+exact_compound (with_condition (negation compounds) end_of_compound) h = absurd (cc)
+exact_compound (with_condition (any_of compounds) end_of_compound) h = absurd (cc)
+exact_compound (with_condition (where_any compounds) end_of_compound) h = absurd (cc)
 
-exact_compounds : (compounds : List (List Simple)) → IsTrue (list_all is_one_exact compounds)
-    → IsTrue (list_all is_exact_key (map compound_key compounds))
-    × (3 ≤ least_rank (map compound_key compounds))
-exact_compounds [] h = (refl, omega arith)
-exact_compounds (c ∷ cs) h =
-    let one = exact_compound c (and_first (is_one_exact c) (list_all is_one_exact cs) h) in
-    let more = exact_compounds cs (and_second (is_one_exact c) (list_all is_one_exact cs) h) in (
-      both (is_exact_key (compound_key c)) (list_all is_exact_key (map compound_key cs)) one.0 more.0,
-      least (rank (compound_key c)) (least_rank (map compound_key cs)) one.1 more.1,
+exact_compounds : (compounds : Compounds) → IsTrue (are_exact compounds)
+    → IsTrue (list_all is_exact_key (compound_keys compounds))
+    × (3 ≤ least_rank (compound_keys compounds))
+exact_compounds end_of_list h = (refl, omega arith)
+exact_compounds (with_compound c cs) h =
+    let one = exact_compound c (and_first (is_one_exact c) (are_exact cs) h) in
+    let more = exact_compounds cs (and_second (is_one_exact c) (are_exact cs) h) in (
+      both (is_exact_key (compound_key c)) (list_all is_exact_key (compound_keys cs)) one.0 more.0,
+      least (rank (compound_key c)) (least_rank (compound_keys cs)) one.1 more.1,
     )
   where
     both : (a b : Bool) → IsTrue a → IsTrue b → IsTrue (a && b)
@@ -185,13 +224,13 @@ exact_compounds (c ∷ cs) h =
     least m n h k = grind arith
 
 -- the keys of such a condition are those of its selector
-list_keys : (compounds : List (List Simple)) → IsTrue (list_all is_one_exact compounds)
-    → better_keys (by_nothing ∷ []) (map compound_key compounds) ≡ map compound_key compounds
+list_keys : (compounds : Compounds) → IsTrue (are_exact compounds)
+    → better_keys (by_nothing ∷ []) (compound_keys compounds) ≡ compound_keys compounds
 list_keys compounds h =
     let some = (exact_compounds compounds h).1 in
-    let less : nat_lt 0 (least_rank (map compound_key compounds)) ≡ true =
+    let less : nat_lt 0 (least_rank (compound_keys compounds)) ≡ true =
     grind (arith, nat_tests, some) in
-    ap (λ b. if b then map compound_key compounds else (by_nothing ∷ [])) less
+    ap (λ b. if b then compound_keys compounds else (by_nothing ∷ [])) less
 
 keys_are : (c : Condition) → IsTrue (is_only_key c) → keys_among (c ∷ []) ≡ condition_keys c
 keys_are (simple universal) h = refl
@@ -266,26 +305,28 @@ module _ {Node : Type 0} (d : Document Node) (n : Node) where
   whole_holds (language ranges) h = absurd (cc)
   whole_holds (state name) h = absurd (cc)
 
-  compound_holds : (simples : List Simple) → IsTrue (is_one_exact simples)
-      → has_key d n (compound_key simples) ≡ hold d n simples
-  compound_holds [] h = absurd (cc)
-  compound_holds (s ∷ []) h =
+  compound_holds : (c : Conditions) → IsTrue (is_one_exact c)
+      → has_key d n (compound_key c) ≡ hold d n c
+  compound_holds end_of_compound h = absurd (cc)
+  compound_holds (with_condition (simple s) end_of_compound) h =
       ap (has_key d n) (exact_key s h).1 ∙ whole_holds s (exact_whole s h)
       ∙ sym (and_all (holds d n s))
     where
       and_all : (b : Bool) → (b && true) ≡ b
       and_all true = refl
       and_all false = refl
-  compound_holds (s ∷ t ∷ simples) h = absurd (cc)
+  compound_holds (with_condition c (with_condition x conditions)) h = absurd (cc)
+  compound_holds (with_condition (negation compounds) end_of_compound) h = absurd (cc)
+  compound_holds (with_condition (any_of compounds) end_of_compound) h = absurd (cc)
+  compound_holds (with_condition (where_any compounds) end_of_compound) h = absurd (cc)
 
-  compounds_hold : (compounds : List (List Simple)) → IsTrue (list_all is_one_exact compounds)
-      → list_any (has_key d n) (map compound_key compounds) ≡ holds_any d n compounds
-  compounds_hold [] h = refl
-  compounds_hold (c ∷ cs) h =
-      ap (λ b. b || list_any (has_key d n) (map compound_key cs))
-      (compound_holds c (and_first (is_one_exact c) (list_all is_one_exact cs) h))
-      ∙ ap (λ b. hold d n c || b)
-      (compounds_hold cs (and_second (is_one_exact c) (list_all is_one_exact cs) h))
+  compounds_hold : (compounds : Compounds) → IsTrue (are_exact compounds)
+      → list_any (has_key d n) (compound_keys compounds) ≡ holds_any d n compounds
+  compounds_hold end_of_list h = refl
+  compounds_hold (with_compound c cs) h =
+      ap (λ b. b || list_any (has_key d n) (compound_keys cs))
+      (compound_holds c (and_first (is_one_exact c) (are_exact cs) h))
+      ∙ ap (λ b. hold d n c || b) (compounds_hold cs (and_second (is_one_exact c) (are_exact cs) h))
 
   condition_met : (c : Condition) → IsTrue (is_only_key c)
       → IsTrue (list_any (has_key d n) (condition_keys c)) → IsTrue (is_met d n c)
@@ -364,6 +405,14 @@ module _ {X : Type 0} (f : X → Key) (old new : List X) (keys : List Key)
       ∙ take-append_seam (map f old) keys ∙ sym (append-nil (map f old))
       ∙ ap (λ ks. map f old ++ ks) (sym (alone_none keys (λ one. e (omega (arith, l, one)))))
 
+-- the part at an index
+part_there : (ps : List PartOf) (parts : List Part) → map part_of ps ≡ parts → (j : ℕ) (r : PartOf)
+    → j < length ps → r ≡ get_or ps j r → slice_get parts j ≡ Some (part_of r)
+part_there ps parts are j r within read =
+    subst (λ xs. slice_get xs j ≡ Some (part_of r)) are
+    (slice_get-map part_of ps j
+    ∙ ap (option_map part_of) (slice_get_read ps (length ps) j r refl within read))
+
 -- the keys before one part more
 pub keys_before-more : (ps : List PartOf) (parts : List Part) → map part_of ps ≡ parts → (i : ℕ)
     → (p q : PartOf) → i + 1 < length ps → p ≡ get_or ps i p → q ≡ get_or ps (i + 1) q
@@ -372,18 +421,39 @@ pub keys_before-more : (ps : List PartOf) (parts : List Part) → map part_of ps
 keys_before-more ps parts are i p q lt here next =
     let more : i + 1 ≡ suc i = omega arith in
     let within : i < length ps = omega (arith, lt) in
-    let first : slice_get parts i ≡ Some (part_of p) = there i p within here in
+    let first : slice_get parts i ≡ Some (part_of p) = part_there ps parts are i p within here in
     let second : slice_get parts (suc i) ≡ Some (part_of q) =
-    ap (slice_get parts) (sym more) ∙ there (i + 1) q lt next in
+    ap (slice_get parts) (sym more) ∙ part_there ps parts are (i + 1) q lt next in
     ap (keys_before parts) more
     ∙ ap (λ o. keys_before parts i ++ step_keys (option_map_or (λ x. x.combinator) o Descendant)
     (conditions_at parts i)) second
     ∙ ap (λ o. keys_before parts i
     ++ step_keys q.combinator (option_map_or (λ x. x.conditions) o [])) first
-  where
-    there : (j : ℕ) (r : PartOf) → j < length ps → r ≡ get_or ps j r
-        → slice_get parts j ≡ Some (part_of r)
-    there j r within read =
-        subst (λ xs. slice_get xs j ≡ Some (part_of r)) are
-        (slice_get-map part_of ps j
-        ∙ ap (option_map part_of) (slice_get_read ps (length ps) j r refl within read))
+
+-- two conditions or more are not one
+pub not_one : (cs : List ConditionOf) → 2 ≤ length cs
+    → false ≡ is_one_exact (conditions_from (map condition_of cs))
+not_one [] h = absurd (omega (arith, h))
+not_one (c ∷ []) h = absurd (omega (arith, h))
+not_one (c ∷ d ∷ cs) h = refl
+
+-- the keys of a selector's parent, from its last two parts
+pub parent_keys_are : (ps : List PartOf) (parts : List Part) → map part_of ps ≡ parts
+    → (p q : PartOf) → 2 ≤ length ps → p ≡ get_or ps (length ps - 2) p
+    → q ≡ get_or ps (length ps - 1) q
+    → keys_of_parent parts (length parts - 1)
+    ≡ parent_step_keys q.combinator (map condition_of p.conditions.items)
+parent_keys_are ps parts are p q some here next =
+    let same : length parts ≡ length ps = sym (sym (length-map ps part_of) ∙ ap length are) in
+    let more : length parts - 1 ≡ suc (length ps - 2) = omega (arith, same, some) in
+    let last : length ps - 1 ≡ suc (length ps - 2) = omega (arith, some) in
+    let before : length ps - 2 < length ps = omega (arith, some) in
+    let end : length ps - 1 < length ps = omega (arith, some) in
+    let first : slice_get parts (length ps - 2) ≡ Some (part_of p) =
+    part_there ps parts are (length ps - 2) p before here in
+    let second : slice_get parts (suc (length ps - 2)) ≡ Some (part_of q) =
+    ap (slice_get parts) (sym last) ∙ part_there ps parts are (length ps - 1) q end next in
+    ap (keys_of_parent parts) more
+    ∙ ap (λ o. parent_step_keys (option_map_or (λ x. x.combinator) o Descendant)
+    (conditions_at parts (length ps - 2))) second
+    ∙ ap (λ o. parent_step_keys q.combinator (option_map_or (λ x. x.conditions) o [])) first

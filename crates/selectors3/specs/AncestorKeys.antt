@@ -1,14 +1,15 @@
 -- The keys that a selector requires of an element's ancestors, and selectors that require nothing
 -- but one of their keys.
-use Rattle.std.specs.Prelude.{ℕ, zero, suc, ◌-◌, ◌&&◌, Bool, true, false, List, [], ◌∷◌, ◌++◌, length, IsTrue, is_none}
-use Rattle.std.specs.List.{list_all}
+use Rattle.std.specs.Prelude.{◌≡◌, ℕ, zero, suc, ◌-◌, ◌&&◌, Bool, true, false, List, [], ◌∷◌, ◌++◌, length, IsTrue, Some, is_none}
 use Rattle.sibling_matching.specs.Placements.{IsBeyond}
 use Rattle.sibling_matching.specs.declared.Combinator.{Combinator}
 use Rattle.sibling_matching.specs.declared.Combinator.TheVariants.{Descendant, Child, Adjacent, Sibling}
 use Rattle.selectors3.specs.Documents.{Document}
-use Rattle.selectors3.specs.Components.{Simple, Condition, Part, Selector}
+use Rattle.selectors3.specs.Components.{Simple, Condition, Conditions, Compounds, Part, Selector}
 use Rattle.selectors3.specs.Components.Simple.{universal, type_name, id, class, has_attribute, attribute, structure, language, state}
 use Rattle.selectors3.specs.Components.Condition.{simple, negation, any_of, where_any}
+use Rattle.selectors3.specs.Components.Conditions.{end_of_compound, with_condition}
+use Rattle.selectors3.specs.Components.Compounds.{end_of_list, with_compound}
 use Rattle.selectors3.specs.Keys.{Key, has_key, best_keys}
 use Rattle.selectors3.specs.Keys.Key.{by_id, by_class, by_name, by_attribute, by_nothing}
 use Rattle.selectors3.specs.Meanings.{combinator_at, conditions_at}
@@ -40,6 +41,27 @@ keys_before parts (suc i) =
 -- the keys that an element's ancestors must have for the selector to match it
 abbrev pub ancestor_keys : Selector → List Key
 ancestor_keys s = keys_before s.parts (length s.parts - 1)
+
+-- the key of the part before, if the combinator leads to the parent
+abbrev pub parent_step_keys : Combinator → List Condition → List Key
+parent_step_keys Descendant conditions = []
+parent_step_keys Child conditions = alone (keys_among conditions)
+parent_step_keys Adjacent conditions = []
+parent_step_keys Sibling conditions = []
+
+-- the key of the part before the one at an index, if the combinator leads to the parent
+abbrev pub keys_of_parent : List Part → ℕ → List Key
+keys_of_parent parts zero = []
+keys_of_parent parts (suc i) = parent_step_keys (combinator_at parts (suc i)) (conditions_at parts i)
+
+-- the keys that an element's parent must have for the selector to match it
+abbrev pub parent_keys : Selector → List Key
+parent_keys s = keys_of_parent s.parts (length s.parts - 1)
+
+-- the node has a parent, which has the key
+abbrev pub ParentHas : {Node : Type 0} → Document Node → Node → Key → Type 0
+ParentHas {Node} document n key =
+    (a : Node) × (document.parent n ≡ Some a) × IsTrue (has_key document a key)
 
 -- an ancestor of the node has the key
 abbrev pub SomeAncestorHas : {Node : Type 0} → Document Node → Node → Key → Type 0
@@ -78,18 +100,29 @@ is_exact_key (by_name name) = false
 is_exact_key (by_attribute name) = false
 is_exact_key by_nothing = true
 
+abbrev pub is_exact_condition : Condition → Bool
+is_exact_condition (simple s) = is_exact s
+is_exact_condition (negation compounds) = false
+is_exact_condition (any_of compounds) = false
+is_exact_condition (where_any compounds) = false
+
 -- whether it is one id or one class
-abbrev pub is_one_exact : List Simple → Bool
-is_one_exact [] = false
-is_one_exact (s ∷ []) = is_exact s
-is_one_exact (s ∷ t ∷ simples) = false
+abbrev pub is_one_exact : Conditions → Bool
+is_one_exact end_of_compound = false
+is_one_exact (with_condition c end_of_compound) = is_exact_condition c
+is_one_exact (with_condition c (with_condition d conditions)) = false
+
+-- whether each is one id or one class
+abbrev pub are_exact : Compounds → Bool
+are_exact end_of_list = true
+are_exact (with_compound c compounds) = is_one_exact c && are_exact compounds
 
 -- whether it is an id, a class, `*`, or a list of ids and classes
 abbrev pub is_only_key : Condition → Bool
 is_only_key (simple s) = is_whole s
 is_only_key (negation compounds) = false
-is_only_key (any_of compounds) = list_all is_one_exact compounds
-is_only_key (where_any compounds) = list_all is_one_exact compounds
+is_only_key (any_of compounds) = are_exact compounds
+is_only_key (where_any compounds) = are_exact compounds
 
 -- whether it is one such condition
 abbrev pub are_only_keys : List Condition → Bool

@@ -1,6 +1,6 @@
 -- Entries, and their places.
 -- Serves `table` and `selector_index`.
-use Rattle.std.proofs.Common.{◌≡◌, ℕ, ◌+◌, ◌<◌, ◌*◌, ◌/◌, ◌%◌, ◌^◌, ◌==◌, ◌&&◌, Bool, true, false, cond, List, [], ◌∷◌, ◌++◌, length, map, take, get_or, set, Some, IsTrue, eqb-true, eq-eqb, arith, refl, sym, ap, ◌∙◌, subst, append-nil, append_assoc}
+use Rattle.std.proofs.Common.{◌≡◌, ℕ, ◌+◌, ◌<◌, ◌==◌, ◌&&◌, Bool, true, false, cond, List, [], ◌∷◌, ◌++◌, length, map, take, get_or, set, Some, IsTrue, eqb-true, eq-eqb, arith, refl, sym, ap, ◌∙◌, subst, append-nil, append_assoc}
 use Rattle.std.specs.Prelude.{filter}
 use Rattle.std.specs.Global.{Vec}
 use Rattle.std.specs.List.{slice_get}
@@ -13,10 +13,11 @@ use Rattle.selectors3.specs.Components.{Selector}
 use Rattle.selectors3.specs.Keys.{Key}
 use Rattle.selectors3.specs.Keys.Key.{by_id, by_class, by_name, by_attribute, by_nothing}
 use Rattle.selectors3.specs.KeyViews.{key_of}
+use Rattle.selectors3_index.specs.declared.above.Above.{Above}
 use Rattle.selectors3_index.specs.declared.entry.Entry.{Entry}
-use Rattle.selectors3_index.specs.KeyBits.{number_from, number_of, covers}
+use Rattle.selectors3_index.specs.KeyBits.{number_from, number_of}
 use Rattle.selectors3_index.specs.internal.Filed.{is_same, place_by, place_of, entry_of, with_index, filed_keys, entries_from, entries_of, entries_at, AreFiled, is_found_by, found_by}
-use Rattle.selectors3_index.specs.internal.NeededBits.{needed_bits}
+use Rattle.selectors3_index.specs.internal.NeededBits.{needed_bits, is_covered}
 use Rattle.selectors3_index.proofs.BitLemmas.{same_name_number}
 
 entries_from-push : (n : ℕ) (ss : List Selector) (s : Selector)
@@ -48,7 +49,7 @@ entries_more f vs i v lt read =
     ∙ entries_from-push 0 (map f (take i vs)) (f v)
     ∙ ap (λ n. entries_of (map f (take i vs)) ++ with_index n (needed_bits (f v)) (filed_keys (f v))) e
 
-at_more : (count place : ℕ) (xs : List (Key × ℕ × ℕ)) (e : Key × ℕ × ℕ) (t : Bool)
+at_more : (count place : ℕ) (xs : List (Key × ℕ × Above)) (e : Key × ℕ × Above) (t : Bool)
     → (place_of count e.0 == place) ≡ t
     → entries_at count place (xs ++ e ∷ []) ≡ entries_at count place xs ++ cond t (e ∷ []) []
 at_more count place xs e t is =
@@ -65,11 +66,10 @@ more_entries entries i d lt =
 -- one more entry, at its place
 pub filed_more : (entries : List Entry) (i : ℕ) (d : Entry) (buckets : List (Vec Entry)) (place : ℕ)
     (old new : Vec Entry) → AreFiled (map entry_of (take i entries)) buckets → i < length entries
-    → place ≡ place_by (length buckets) (get_or entries i d).number
+    → d ≡ get_or entries i d → place ≡ place_by (length buckets) d.number
     → place < length buckets → old ≡ get_or buckets place old
-    → new.items ≡ old.items ++ get_or entries i d ∷ []
-    → AreFiled (map entry_of (take (i + 1) entries)) (set buckets place new)
-filed_more entries i d buckets place old new filed lt by_number within was is = record {
+    → new.items ≡ old.items ++ d ∷ [] → AreFiled (map entry_of (take (i + 1) entries)) (set buckets place new)
+filed_more entries i d buckets place old new filed lt read by_number within was pushed = record {
   some = let some = filed.some in omega (arith, some, same);
   filed = λ p b there. subst (λ n. map entry_of b.items
       ≡ entries_at n p (map entry_of (take (i + 1) entries))) (sym same)
@@ -86,9 +86,13 @@ filed_more entries i d buckets place old new filed lt by_number within was is = 
     count = length buckets
 
     at : place ≡ place_of (length buckets) (key_of (get_or entries i d).key)
-    at = by_number ∙ ap (place_by (length buckets)) (get_or entries i d).numbered
+    at = by_number ∙ ap (λ x. place_by (length buckets) x.number) read
+        ∙ ap (place_by (length buckets)) (get_or entries i d).numbered
 
-    before : List (Key × ℕ × ℕ)
+    is : new.items ≡ old.items ++ get_or entries i d ∷ []
+    is = pushed ∙ ap (λ x. old.items ++ x ∷ []) read
+
+    before : List (Key × ℕ × Above)
     before = map entry_of (take i entries)
 
     in_bucket : (p : ℕ) (b : Vec Entry) → slice_get (set buckets place new) p ≡ Some b → (t : Bool)
@@ -158,7 +162,7 @@ and_first true b h = refl
 and_first false b h = absurd (cc)
 
 -- those at the place of a key are all that are the same
-same_at : (count : ℕ) (key : Key) (above : ℕ) (es : List (Key × ℕ × ℕ))
+same_at : (count : ℕ) (key : Key) (above : Above) (es : List (Key × ℕ × Above))
     → filter (is_found_by key above) (entries_at count (place_of count key) es)
     ≡ filter (is_found_by key above) es
 same_at count key above [] = refl
@@ -177,11 +181,11 @@ same_at count key above (e ∷ es) =
         (entries_at count (place_of count key) es))
         (filter (is_found_by key above) (entries_at count (place_of count key) es))) is
         ∙ ap (λ xs. cond s (e ∷ xs) xs) ih
-    by false true at is ih = absurd (false≢true (sym at ∙ same_place count e.0 key (and_first (is_same e.0 key) (covers above e.2) is)))
+    by false true at is ih = absurd (false≢true (sym at ∙ same_place count e.0 key (and_first (is_same e.0 key) (is_covered above e.2) is)))
     by false false at is ih = ih
 
 -- what the list at the place of a key has for it
-pub found_there : (entries : List (Key × ℕ × ℕ)) (buckets : List (Vec Entry)) (key : Key) (above place : ℕ)
+pub found_there : (entries : List (Key × ℕ × Above)) (buckets : List (Vec Entry)) (key : Key) (above : Above) (place : ℕ)
     (bucket : Vec Entry) → AreFiled entries buckets → place ≡ place_of (length buckets) key
     → place < length buckets → bucket ≡ get_or buckets place bucket
     → found_by (map entry_of bucket.items) above key ≡ found_by entries above key
@@ -192,7 +196,7 @@ found_there entries buckets key above place bucket filed at within was =
     ∙ ap (map (λ e. e.1)) (same_at (length buckets) key above entries)
 
 -- one more entry
-pub found_more : (entries : List Entry) (i : ℕ) (d : Entry) (key : Key) (above : ℕ) (t : Bool)
+pub found_more : (entries : List Entry) (i : ℕ) (d : Entry) (key : Key) (above : Above) (t : Bool)
     → i < length entries → is_found_by key above (entry_of (get_or entries i d)) ≡ t
     → found_by (map entry_of (take (i + 1) entries)) above key
     ≡ found_by (map entry_of (take i entries)) above key
@@ -215,12 +219,22 @@ found_more entries i d key above t lt is =
 
 -- one more entry was looked at
 pub found_step : (old before after : List ℕ) (entries : List Entry) (i : ℕ) (d : Entry) (key : Key)
-    (above : ℕ) (t : Bool) → before ≡ old ++ found_by (map entry_of (take i entries)) above key
-    → after ≡ before ++ cond t ((get_or entries i d).rule ∷ []) [] → i < length entries
-    → is_found_by key above (entry_of (get_or entries i d)) ≡ t
+    (above : Above) (t : Bool) → before ≡ old ++ found_by (map entry_of (take i entries)) above key
+    → after ≡ before ++ cond t (d.rule ∷ []) [] → i < length entries → d ≡ get_or entries i d
+    → is_found_by key above (entry_of d) ≡ t
     → after ≡ old ++ found_by (map entry_of (take (i + 1) entries)) above key
-found_step old before after entries i d key above t known next lt is =
-    next ∙ ap (λ xs. xs ++ cond t ((get_or entries i d).rule ∷ []) []) known
+found_step old before after entries i d key above t known next lt read is =
+    next ∙ ap (λ x. before ++ cond t (x.rule ∷ []) []) read ∙ ap (λ xs. xs ++ cond t ((get_or entries i d).rule ∷ []) []) known
     ∙ append_assoc old (found_by (map entry_of (take i entries)) above key)
     (cond t ((get_or entries i d).rule ∷ []) [])
-    ∙ ap (λ xs. old ++ xs) (sym (found_more entries i d key above t lt is))
+    ∙ ap (λ xs. old ++ xs) (sym (found_more entries i d key above t lt
+    (ap (λ x. is_found_by key above (entry_of x)) (sym read) ∙ is)))
+
+-- an entry whose number is not that of the key is not found
+pub other_number : (e : Entry) (key : Key) (above : Above) (number : ℕ) → number ≡ number_of key
+    → (e.number ≡ number → ⊥) → false ≡ is_found_by key above (entry_of e)
+other_number e key above number is ne = by (is_same (key_of e.key) key) refl
+  where
+    by : (t : Bool) → is_same (key_of e.key) key ≡ t → false ≡ (t && is_covered above e.needed)
+    by true h = absurd (ne (e.numbered ∙ same_number (key_of e.key) key h ∙ sym is))
+    by false h = refl

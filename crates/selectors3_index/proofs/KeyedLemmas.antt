@@ -14,13 +14,13 @@ use Rattle.selectors3.specs.AttributeTests.{begins}
 use Rattle.selectors3.specs.Components.{Selector}
 use Rattle.selectors3.specs.Components.Comparison.{equals}
 use Rattle.selectors3.specs.Documents.{Document}
-use Rattle.selectors3.specs.Keys.{Key, has_key}
+use Rattle.selectors3.specs.Keys.{Key}
 use Rattle.selectors3.specs.Keys.Key.{by_id, by_class, by_name, by_attribute, by_nothing}
 use Rattle.selectors3.specs.Meanings.{satisfies}
 use Rattle.selectors3_index.specs.Reported.{Reported, reports_key}
-use Rattle.selectors3_index.specs.KeyBits.{covers}
+use Rattle.selectors3_index.specs.declared.above.Above.{Above}
 use Rattle.selectors3_index.specs.internal.Candidates.{IsKeyedAt}
-use Rattle.selectors3_index.specs.internal.NeededBits.{needed_bits}
+use Rattle.selectors3_index.specs.internal.NeededBits.{needed_bits, is_covered}
 use Rattle.selectors3_index.specs.internal.Filed.{is_same, is_found_by, filed_keys, with_index, entries_from, entries_of, found_by, found_by_any, id_keys, AreClasses, AreReported}
 use Rattle.selectors3_index.proofs.KeptLemmas.{contains_none, contains_cons}
 
@@ -61,14 +61,14 @@ and_both true b h k = k
 and_both false b h k = absurd (cc)
 
 -- an entry of the index that passes the test
-abbrev HasEntry : (Key → Bool) → ℕ → List (Key × ℕ × ℕ) → ℕ → Type 0
+abbrev HasEntry : (Key → Bool) → Above → List (Key × ℕ × Above) → ℕ → Type 0
 HasEntry test above es index =
-    (own : Key) × (needed : ℕ) × Contains es (own, index, needed) × IsTrue (test own)
-    × IsTrue (covers above needed)
+    (own : Key) × (needed : Above) × Contains es (own, index, needed) × IsTrue (test own)
+    × IsTrue (is_covered above needed)
 
 -- what a key finds
-module _ (above : ℕ) (key : Key) (index : ℕ) where
-  found_from : (es : List (Key × ℕ × ℕ)) → Contains (found_by es above key) index
+module _ (above : Above) (key : Key) (index : ℕ) where
+  found_from : (es : List (Key × ℕ × Above)) → Contains (found_by es above key) index
       → HasEntry (λ own. is_same own key) above es index
   found_from [] c = absurd (contains_none index c)
   found_from (e ∷ es) c = by (is_found_by key above e) refl c (found_from es)
@@ -80,27 +80,27 @@ module _ (above : ℕ) (key : Key) (index : ℕ) where
           → HasEntry (λ own. is_same own key) above (e ∷ es) index
       by true is k ih = elim ((contains_cons e.1 (found_by es above key) index).0 k) [
         | inl q ↦ (
-            e.0,
-            e.2,
-            (contains_cons e es (e.0, index, e.2)).1 (inl (ap (λ i. (e.0, i, e.2)) q)),
-            and_first (is_same e.0 key) (covers above e.2) is,
-            and_second (is_same e.0 key) (covers above e.2) is,
-          )
+          e.0,
+          e.2,
+          (contains_cons e es (e.0, index, e.2)).1 (inl (ap (λ i. (e.0, i, e.2)) q)),
+          and_first (is_same e.0 key) (is_covered above e.2) is,
+          and_second (is_same e.0 key) (is_covered above e.2) is,
+        )
         | inr l ↦ (let r = ih l in
             (r.0, r.1, (contains_cons e es (r.0, index, r.1)).1 (inr r.2), r.3, r.4))
       ]
       by false is k ih =
           let r = ih k in (r.0, r.1, (contains_cons e es (r.0, index, r.1)).1 (inr r.2), r.3, r.4)
 
-  found_to : (es : List (Key × ℕ × ℕ)) (own : Key) (needed : ℕ) → Contains es (own, index, needed)
-      → IsTrue (is_same own key) → IsTrue (covers above needed)
+  found_to : (es : List (Key × ℕ × Above)) (own : Key) (needed : Above) → Contains es (own, index, needed)
+      → IsTrue (is_same own key) → IsTrue (is_covered above needed)
       → Contains (found_by es above key) index
   found_to [] own needed c h k = absurd (contains_none (own, index, needed) c)
   found_to (e ∷ es) own needed c h k = by (is_found_by key above e) refl (found_to es own needed)
     where
       by : (t : Bool) → is_found_by key above e ≡ t
           → (Contains es (own, index, needed) → IsTrue (is_same own key)
-          → IsTrue (covers above needed) → Contains (found_by es above key) index)
+          → IsTrue (is_covered above needed) → Contains (found_by es above key) index)
           → Contains (map (λ x. x.1) (cond t (e ∷ filter (is_found_by key above) es)
           (filter (is_found_by key above) es))) index
       by true is ih = elim ((contains_cons e es (own, index, needed)).0 c) [
@@ -109,12 +109,12 @@ module _ (above : ℕ) (key : Key) (index : ℕ) where
       ]
       by false is ih = elim ((contains_cons e es (own, index, needed)).0 c) [
         | inl q ↦ absurd (false≢true (sym is ∙ ap (is_found_by key above) q
-            ∙ and_both (is_same own key) (covers above needed) h k))
+            ∙ and_both (is_same own key) (is_covered above needed) h k))
         | inr l ↦ ih l h k
       ]
 
 -- what several keys find
-pub any_found_from : (es : List (Key × ℕ × ℕ)) (above : ℕ) (keys : List Key) (index : ℕ)
+pub any_found_from : (es : List (Key × ℕ × Above)) (above : Above) (keys : List Key) (index : ℕ)
     → Contains (found_by_any es above keys) index
     → HasEntry (λ own. list_any (is_same own) keys) above es index
 any_found_from es above [] index c = absurd (contains_none index c)
@@ -126,9 +126,9 @@ any_found_from es above (key ∷ keys) index c =
           (r.0, r.1, r.2, or_second (is_same r.0 key) (list_any (is_same r.0) keys) r.3, r.4))
     ]
 
-pub any_found_to : (es : List (Key × ℕ × ℕ)) (above : ℕ) (keys : List Key) (index : ℕ) (own : Key)
-    (needed : ℕ) → Contains es (own, index, needed) → IsTrue (list_any (is_same own) keys)
-    → IsTrue (covers above needed) → Contains (found_by_any es above keys) index
+pub any_found_to : (es : List (Key × ℕ × Above)) (above : Above) (keys : List Key) (index : ℕ) (own : Key)
+    (needed : Above) → Contains es (own, index, needed) → IsTrue (list_any (is_same own) keys)
+    → IsTrue (is_covered above needed) → Contains (found_by_any es above keys) index
 any_found_to es above [] index own needed c h k = absurd (cc)
 any_found_to es above (key ∷ keys) index own needed c h k =
     by (is_same own key) refl h (λ l. any_found_to es above keys index own needed c l k)
@@ -142,22 +142,22 @@ any_found_to es above (key ∷ keys) index own needed c h k =
         Contains-append_right (found_by es above key) (found_by_any es above keys) index (ih l)
 
 -- the entries of a selector
-with_index_from : (n b : ℕ) (keys : List Key) (own : Key) (index needed : ℕ)
+with_index_from : (n : ℕ) (b : Above) (keys : List Key) (own : Key) (index : ℕ) (needed : Above)
     → Contains (with_index n b keys) (own, index, needed)
     → (n ≡ index) × (b ≡ needed) × Contains keys own
 with_index_from n b [] own index needed c = absurd (contains_none (own, index, needed) c)
 with_index_from n b (key ∷ keys) own index needed c =
     elim ((contains_cons (key, n, b) (with_index n b keys) (own, index, needed)).0 c) [
       | inl e ↦ (
-          ap (λ x. x.1) e,
-          ap (λ x. x.2) e,
-          (contains_cons key keys own).1 (inl (ap (λ x. x.0) e)),
-        )
+        ap (λ x. x.1) e,
+        ap (λ x. x.2) e,
+        (contains_cons key keys own).1 (inl (ap (λ x. x.0) e)),
+      )
       | inr h ↦ (let r = with_index_from n b keys own index needed h in
           (r.0, r.1, (contains_cons key keys own).1 (inr r.2)))
     ]
 
-with_index_to : (n b : ℕ) (keys : List Key) (own : Key) → Contains keys own
+with_index_to : (n : ℕ) (b : Above) (keys : List Key) (own : Key) → Contains keys own
     → Contains (with_index n b keys) (own, n, b)
 with_index_to n b [] own c = absurd (contains_none own c)
 with_index_to n b (key ∷ keys) own c = elim ((contains_cons key keys own).0 c) [
@@ -167,7 +167,7 @@ with_index_to n b (key ∷ keys) own c = elim ((contains_cons key keys own).0 c)
       (inr (with_index_to n b keys own h))
 ]
 
-entries_have : (n : ℕ) (ss : List Selector) (own : Key) (index needed : ℕ)
+entries_have : (n : ℕ) (ss : List Selector) (own : Key) (index : ℕ) (needed : Above)
     → Contains (entries_from n ss) (own, index, needed)
     → (j : ℕ) × (index ≡ n + j) × (s : Selector) × (slice_get ss j ≡ Some s)
     × Contains (filed_keys s) own × (needed_bits s ≡ needed)
@@ -356,7 +356,7 @@ pub on_ok : {T E P Q : Type 0} (r : Result T E) → (P → Q) → OnOk r P → O
 on_ok (Ok x) f h = f h
 on_ok (Err e) f h = h
 
-module _ {Node : Type 0} (document : Document Node) (n : Node) (reported : Reported) (above : ℕ) where
+module _ {Node : Type 0} (document : Document Node) (n : Node) (reported : Reported) (above : Above) where
   -- what is found by the keys that an element reports
   pub keyed_found : (ss : List Selector) (keys : List Key) → AreReported document n reported keys
       → (index : ℕ)
@@ -374,7 +374,7 @@ module _ {Node : Type 0} (document : Document Node) (n : Node) (reported : Repor
             e.2,
             subst (λ j. slice_get ss j ≡ Some e.2) at e.3,
             any_to (reports_key document n reported) (filed_keys e.2) r.0 e.4 ((are r.0).1 r.3),
-            subst (λ b. IsTrue (covers above b)) (sym e.5) r.4,
+            subst (λ b. IsTrue (is_covered above b)) (sym e.5) r.4,
           )
 
       back : IsKeyedAt document n reported above ss index

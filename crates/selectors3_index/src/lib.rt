@@ -18,6 +18,7 @@
 //! for each candidate; a selector with many keys, as `:is(.a, .b)`, is filed once for each.
 #![tactic(auto)]
 
+mod above;
 mod entry;
 mod has_selector;
 mod kept;

@@ -10,9 +10,10 @@ ghost use Rattle.selectors3_index.specs.internal.Candidates.{AreCandidates, Pass
 ghost use Rattle.selectors3_index.specs.internal.Filed.{entries_of, found_by, found_by_any};
 ghost use Rattle.selectors3_index.specs.internal.Filed.{AreWords, AreClasses, AreReported, id_keys};
 
+use crate::above::Above;
 use crate::entry::Entry;
 use crate::kept::Kept;
-use crate::key_bits::number_of;
+use crate::key_bits::{above_of, number_of};
 use crate::table::{filed, is_found, place_of};
 use crate::words::split_word;
 use crate::{HasSelector3, Keyed3};
@@ -109,11 +110,11 @@ impl<'s> SelectorIndex<'s> {
     fn push_found(
         &self,
         key: &Key<'_>,
-        above: u64,
+        above: &Above,
         indices: &mut Vec<usize>,
     ) -> Result<(), AllocError>
         ensures { OnOk result (indices.new.items
-            ≡ indices.old.items ++ found_by (entries_of self.now) above (key_of key.now)) }
+            ≡ indices.old.items ++ found_by (entries_of self.now) above.now (key_of key.now)) }
     {
         let number = number_of(key);
         let place = place_of(number, self.buckets.len());
@@ -130,11 +131,11 @@ impl<'s> SelectorIndex<'s> {
     fn push_id(
         &self,
         id: Option<&str>,
-        above: u64,
+        above: &Above,
         indices: &mut Vec<usize>,
     ) -> Result<(), AllocError>
         ensures { OnOk result (indices.new.items ≡ indices.old.items
-            ++ found_by_any (entries_of self.now) above
+            ++ found_by_any (entries_of self.now) above.now
             (id_keys (option_map (λ text. text.now) id.entry))) }
     {
         match id {
@@ -148,12 +149,12 @@ impl<'s> SelectorIndex<'s> {
     fn push_words(
         &self,
         value: &str,
-        above: u64,
+        above: &Above,
         indices: &mut Vec<usize>,
     ) -> Result<(), AllocError>
         ensures { OnOk result ((words : List (List ℕ)) × AreWords value.now words
             × (indices.new.items ≡ indices.old.items
-            ++ found_by_any (entries_of self.now) above (map by_class words))) }
+            ++ found_by_any (entries_of self.now) above.now (map by_class words))) }
     {
         let mut rest = value;
         'words: while let Some((word, after)) = split_word(rest) {
@@ -168,13 +169,13 @@ impl<'s> SelectorIndex<'s> {
     fn push_classes(
         &self,
         class: Option<&str>,
-        above: u64,
+        above: &Above,
         indices: &mut Vec<usize>,
     ) -> Result<(), AllocError>
         ensures { OnOk result ((words : List (List ℕ))
             × AreClasses (option_map (λ value. value.now) class.entry) words
             × (indices.new.items ≡ indices.old.items
-            ++ found_by_any (entries_of self.now) above (map by_class words))) }
+            ++ found_by_any (entries_of self.now) above.now (map by_class words))) }
     {
         match class {
             Some(value) => self.push_words(value, above, indices),
@@ -187,11 +188,11 @@ impl<'s> SelectorIndex<'s> {
     fn push_attributes<E: Keyed3>(
         &self,
         element: &E,
-        above: u64,
+        above: &Above,
         indices: &mut Vec<usize>,
     ) -> Result<(), AllocError>
         ensures { OnOk result (indices.new.items ≡ indices.old.items
-            ++ found_by_any (entries_of self.now) above
+            ++ found_by_any (entries_of self.now) above.now
             (map by_attribute (E.reported element.now).attributes)) }
     {
         for index in 0..element.attribute_count() {
@@ -209,13 +210,13 @@ impl<'s> SelectorIndex<'s> {
     fn push_keyed<E: Keyed3>(
         &self,
         element: &E,
-        above: u64,
+        above: &Above,
         indices: &mut Vec<usize>,
     ) -> Result<(), AllocError>
         ensures { OnOk result ((keys : List KeyOf)
             × AreReported E.document (E.node element.now) (E.reported element.now) keys
             × (indices.new.items
-            ≡ indices.old.items ++ found_by_any (entries_of self.now) above keys)) }
+            ≡ indices.old.items ++ found_by_any (entries_of self.now) above.now keys)) }
     {
         self.push_found(&Key::Any, above, indices)?;
         self.push_found(&Key::Name(element.local_name()), above, indices)?;
@@ -241,11 +242,11 @@ impl<'s> SelectorIndex<'s> {
     fn candidates<E: Keyed3>(
         &self,
         element: &E,
-        above: u64,
+        above: &Above,
         indices: &mut Vec<usize>,
     ) -> Result<(), AllocError>
         ensures candidates { OnOk result (AreCandidates E.document (E.node element.now)
-            (E.reported element.now) above self.now indices.new.items) }
+            (E.reported element.now) above.now self.now indices.new.items) }
         ensures err { OnErr result (indices.new.items ≡ []) }
     {
         indices.clear();
@@ -275,7 +276,7 @@ impl<'s> SelectorIndex<'s> {
             (AreMatches E.document (E.node element.now) self.now indices.new.items) }
         ensures err { OnErr result (indices.new.items ≡ []) }
     {
-        self.candidates(element, element.ancestor_bits(), indices)?;
+        self.candidates(element, &above_of(element), indices)?;
         indices.retain(|index| self.passes_at(*index, element));
         Ok(())
     }

@@ -9,6 +9,7 @@ ghost use Rattle.selectors3_index.specs.internal.NeededBits.{needed_bits};
 ghost use Rattle.selectors3_index.specs.KeyBits.{number_of as number_of_key};
 ghost use Rattle.selectors3_index.specs.internal.Filed.{entries_of as entries_of_selectors};
 
+use crate::above::Above;
 use crate::entry::Entry;
 use crate::key_bits::bits_of;
 use selectors3::{Key, Selector3};
@@ -41,20 +42,26 @@ pub(crate) fn place_of(number: u64, count: usize) -> usize
 }
 
 /// Whether the entry's key is the same as this one, which has this number, and its rule needs no key
-/// of ancestors that the bits do not cover.
+/// above an element that the bits do not cover.
 #[inline(always)]
-pub(crate) fn is_found(entry: &Entry<'_>, key: &Key<'_>, number: u64, above: u64) -> bool
+pub(crate) fn is_found(entry: &Entry<'_>, key: &Key<'_>, number: u64, above: &Above) -> bool
     requires { number ≡ number_of_key (key_of key.now) }
-    ensures { result ≡ is_found_by (key_of key.now) above (entry_of entry.now) }
+    ensures { result ≡ is_found_by (key_of key.now) above.now (entry_of entry.now) }
 {
-    entry.number == number && above | entry.needed == above && is_same(&entry.key, key)
+    if entry.number != number {
+        return false;
+    }
+    if !above.covers(&entry.needed) {
+        return false;
+    }
+    is_same(&entry.key, key)
 }
 
-/// Appends an entry for each key of a rule that needs ancestors with keys of these bits.
+/// Appends an entry for each key of a rule that needs keys of these bits above an element.
 fn enter<'s>(
     keys: &[Key<'s>],
     rule: usize,
-    needed: u64,
+    needed: Above,
     entries: &mut Vec<Entry<'s>>,
 ) -> Result<(), AllocError>
     ensures { OnOk result (map entry_of entries.new.items
@@ -64,6 +71,20 @@ fn enter<'s>(
         entries.push(Entry::new(*key, rule, needed))?;
     }
     Ok(())
+}
+
+/// Returns the bits of the keys that an element's ancestors and its parent must have for the selector
+/// to match it. What was in `keys` is dropped.
+fn needed_by<'s>(selector: &'s Selector3<'s>, keys: &mut Vec<Key<'s>>) -> Result<Above, AllocError>
+    ensures { IfOk result (λ needed. needed ≡ needed_bits selector.now) }
+{
+    keys.clear();
+    selector.push_ancestor_keys(keys)?;
+    let ancestors = bits_of(keys.as_slice());
+    keys.clear();
+    selector.push_parent_keys(keys)?;
+    let parent = bits_of(keys.as_slice());
+    Ok(Above { ancestors, parent })
 }
 
 /// Appends an entry for each key of a selector, unless it matches no element. What was in `keys` is
@@ -81,9 +102,7 @@ fn enter_selector<'s>(
     if selector.pseudo_element().is_some() {
         return Ok(());
     }
-    keys.clear();
-    selector.push_ancestor_keys(keys)?;
-    let needed = bits_of(keys.as_slice());
+    let needed = needed_by(selector, keys)?;
     keys.clear();
     selector.push_keys(keys)?;
     enter(keys.as_slice(), rule, needed, entries)

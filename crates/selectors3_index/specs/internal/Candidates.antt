@@ -6,22 +6,22 @@ use Rattle.selectors3.specs.Components.{Selector}
 use Rattle.selectors3.specs.Documents.{Document}
 use Rattle.selectors3.specs.Meanings.{Matches}
 use Rattle.selectors3_index.specs.Found.{AreAll}
-use Rattle.selectors3_index.specs.KeyBits.{covers}
+use Rattle.selectors3_index.specs.declared.above.Above.{Above}
 use Rattle.selectors3_index.specs.Reported.{Reported, reports_key}
 use Rattle.selectors3_index.specs.internal.Filed.{filed_keys}
-use Rattle.selectors3_index.specs.internal.NeededBits.{needed_bits}
+use Rattle.selectors3_index.specs.internal.NeededBits.{needed_bits, is_covered}
 
 -- there is a selector at the index, one of the keys by which it is filed is reported, and the bits
--- cover those that it needs of ancestors
-abbrev pub IsKeyedAt : {Node : Type 0} → Document Node → Node → Reported → ℕ → List Selector → ℕ
+-- cover those that it needs of ancestors and of the parent
+abbrev pub IsKeyedAt : {Node : Type 0} → Document Node → Node → Reported → Above → List Selector → ℕ
     → Type 0
 IsKeyedAt document n reported above selectors index =
     (s : Selector) × (slice_get selectors index ≡ Some s)
     × IsTrue (list_any (reports_key document n reported) (filed_keys s))
-    × IsTrue (covers above (needed_bits s))
+    × IsTrue (is_covered above (needed_bits s))
 
 -- the indices, in order, of exactly these selectors
-abbrev pub AreCandidates : {Node : Type 0} → Document Node → Node → Reported → ℕ → List Selector
+abbrev pub AreCandidates : {Node : Type 0} → Document Node → Node → Reported → Above → List Selector
     → List ℕ → Type 0
 AreCandidates document n reported above selectors =
     AreAll (IsKeyedAt document n reported above selectors)

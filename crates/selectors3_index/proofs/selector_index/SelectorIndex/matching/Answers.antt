@@ -11,7 +11,7 @@ returns-clause-matches g c =
     let n = g.E.Element3.node element in
     let reported = g.E.Keyed3.reported element in
     let selectors = c.args.self.now in
-    let above = c.ancestor_bits.result in
+    let above = c.above_of.result in
     let found = c.candidates.new.indices.items in
     let kept = c.retain.new.self.items in
     let candidates = c.in_ok-candidates.ensures.candidates in
@@ -27,7 +27,7 @@ returns-clause-matches g c =
         λ m. (exactly index).1 (
           (candidates.exactly index).1 (match_keyed document n reported above selectors index
               g.met.E.Element3.sibling_law (g.met.E.Keyed3.reported_law element)
-              c.ancestor_bits.ensures m),
+              c.above_of.ensures m),
           matched_passes document n reported above selectors index m,
         ),
       );

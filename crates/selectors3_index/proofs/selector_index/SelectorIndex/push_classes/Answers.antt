@@ -10,5 +10,5 @@ returns-in-Some c =
     subst (λ class. OnOk c.push_words.result ((words : List (List ℕ))
     × AreClasses (option_map (λ value. value.now) class) words
     × (c.push_words.new.indices.items ≡ c.args.indices.now.items
-    ++ found_by_any (entries_of c.args.self.now) c.args.above (map by_class words)))) (sym c.in-Some.is)
+    ++ found_by_any (entries_of c.args.self.now) c.args.above.now (map by_class words)))) (sym c.in-Some.is)
     c.push_words.ensures

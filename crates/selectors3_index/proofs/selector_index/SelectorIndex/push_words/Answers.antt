@@ -21,9 +21,9 @@ words-preserved c =
         word_more c.args.value.now words word c.words.rest.now c.in-Some.after.now
             c.words.invariant.1.1 c.in-Some.ensures.words,
         c.in_ok-push_found.ensures
-            ∙ ap (λ xs. xs ++ found_by es c.args.above (by_class word)) c.words.invariant.1.2
-            ∙ flat_map_more (found_by es c.args.above) old (map by_class words) (by_class word)
-            ∙ ap (λ ks. old ++ found_by_any es c.args.above ks) (sym (map-append by_class words (word ∷ []))),
+            ∙ ap (λ xs. xs ++ found_by es c.args.above.now (by_class word)) c.words.invariant.1.2
+            ∙ flat_map_more (found_by es c.args.above.now) old (map by_class words) (by_class word)
+            ∙ ap (λ ks. old ++ found_by_any es c.args.above.now ks) (sym (map-append by_class words (word ∷ []))),
       ),
     )
 
