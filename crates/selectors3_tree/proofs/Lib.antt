@@ -4,3 +4,4 @@ mod Numbering
 mod Reporting
 mod HtmlLemmas
 mod LanguageLemmas
+mod Ancestry

@@ -1,3 +1,4 @@
+pub mod Above
 pub mod Counts
 pub mod GroupViews
 pub mod Html

@@ -110,7 +110,7 @@ impl<'n, 'p, 't> Element3 for NumberedNode<'n, 'p, 't> {
     }
 }
 
-/// Reports the names of the element and of its attributes.
+/// Reports the names of the element and of its attributes, and the bits of its ancestors' keys.
 impl<'n, 'p, 't> Keyed3 for NumberedNode<'n, 'p, 't> {
     ghost use Rattle.selectors3_tree.specs.Reports.{reported_of, keys_reported};
 
@@ -129,6 +129,10 @@ impl<'n, 'p, 't> Keyed3 for NumberedNode<'n, 'p, 't> {
     fn attribute_name(&self, index: usize) -> &str {
         let attributes = self.tree.plain(self.index).attributes();
         attributes[index].0
+    }
+
+    fn ancestor_bits(&self) -> u64 {
+        self.tree.ancestor_bits(self.index)
     }
 }
 
