@@ -92,6 +92,9 @@ DIFFERENCES: Tuple[Tuple[str, Dict[str, Sequence[str]]], ...] = (
         "cascadia": ("div:example", ":example", "div::example", "::example"),
     }),
     ("a selector may have a pseudo-element (Selectors 3, section 7)", {"css-select": ("::after",)}),
+    ("a list may have functions with lists (Selectors 4, sections 4.2 and 4.3)", {
+        "cssselect": (":not(:not(a))",),
+    }),
     ("a type selector is of the local name (Selectors 3, section 6.1.1)", {
         "css-select": ("soap\\:Envelope",),
     }),
@@ -144,20 +147,13 @@ def has_complex(text: str) -> bool:
     return False
 
 
-def has_nested(text: str) -> bool:
-    """Whether a list within a function has a list within a function."""
-    return any(LIST.search(argument(text, found.end())) for found in LIST.finditer(text))
-
-
 def outside(text: str, kind: str) -> Optional[str]:
     """What puts a text outside the grammar, of which this is expected."""
     shown = blanked(text)
     for reason, pattern, kinds in OUTSIDE:
         if kind in kinds and pattern.search(shown):
             return reason
-    if has_complex(shown):
-        return "a combinator within a list"
-    return "a list within a list" if has_nested(shown) else None
+    return "a combinator within a list" if has_complex(shown) else None
 
 
 class Judge:
