@@ -28,15 +28,10 @@ pub struct SelectorIndex<'s, T: HasSelector3> {
 
 impl<'s, T: HasSelector3> Model for SelectorIndex<'s, T> {
     ghost use Rattle.std.specs.Prelude.{List, map};
-    ghost use Rattle.std.specs.Coded.{Coded, codes};
-    ghost use Rattle.selectors3.specs.Codes.{condition_code};
-    ghost use Rattle.selectors3.specs.Components.{Simple, Selector};
+    ghost use Rattle.selectors3.specs.Components.{Selector};
     ghost use Rattle.selectors3_index.specs.internal.Filed.{AreFiled, entries_of};
 
     ghost Value = { List Selector };
-
-    ghost coded = { let simples : Coded Simple = Prim.hlevel codes in
-      Prim.hlevel (codes, condition_code simples) };
 
     ghost view = { λ index. map T.selector_in index.rules.now };
 
