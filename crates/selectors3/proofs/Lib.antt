@@ -7,6 +7,7 @@ pub mod GapLemmas
 pub mod EscapeLemmas
 pub mod PrintLemmas
 pub mod KeyLemmas
+pub mod AncestorKeyLemmas
 pub mod ListLemmas
 pub mod NestLemmas
 mod SpelledAgain

@@ -1,3 +1,4 @@
+pub mod AncestorKeys
 pub mod AttributeTests
 pub mod Codes
 pub mod Components

@@ -212,9 +212,7 @@ fn read_pseudo_condition<'a>(
     let (name, rest) = read_name(alloc, text)?;
     if let Some((b'(', after)) = split_ascii(rest) {
         let (kind, function) = (list_kind(name.as_str()), function_named(name.as_str()));
-        return Ok(Some(read_argument(
-            alloc, depth, opened, kind, function, after,
-        )?));
+        return Ok(Some(read_argument(alloc, depth, opened, kind, function, after)?));
     }
     if is_old_element(name.as_str()) {
         return Ok(None);

@@ -109,7 +109,7 @@ fn rank_of_condition(condition: &Condition<'_>) -> u8
 }
 
 /// Returns the first condition whose keys have the greatest least rank, unless that is 0.
-fn best_condition<'s, 'a>(conditions: &'s [Condition<'a>]) -> Option<&'s Condition<'a>>
+pub(crate) fn best_condition<'s, 'a>(conditions: &'s [Condition<'a>]) -> Option<&'s Condition<'a>>
     ensures { best_keys (by_nothing ∷ []) (map condition_of conditions.now)
         ≡ keys_of_best result }
 {
@@ -165,7 +165,10 @@ fn push_condition<'s>(
 }
 
 /// Appends the keys of a condition, if there is one, or the key that each element has.
-fn push_best<'s>(best: Option<&'s Condition<'_>>, keys: &mut Vec<Key<'s>>) -> Result<(), AllocError>
+pub(crate) fn push_best<'s>(
+    best: Option<&'s Condition<'_>>,
+    keys: &mut Vec<Key<'s>>,
+) -> Result<(), AllocError>
     ensures { OnOk result (map key_of keys.new.items ≡ map key_of keys.old.items
         ++ keys_of_best best.entry) }
 {

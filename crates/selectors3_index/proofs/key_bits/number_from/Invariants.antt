@@ -1,6 +1,6 @@
 use Rattle.std.proofs.Common.{◌≡◌, drop}
-use Rattle.selectors3_index.specs.internal.Filed.{number_from}
-use Rattle.selectors3_index.proofs.table.number_from.Given as goal
+use Rattle.selectors3_index.specs.KeyBits.{number_from}
+use Rattle.selectors3_index.proofs.key_bits.number_from.Given as goal
 
 -- the number is that of what is left, from the number so far on
 abbrev pub invariant-loop-byte : goal.invariant-loop-byte
