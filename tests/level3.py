@@ -318,8 +318,11 @@ def front_of(text: str, reply: str) -> str:
     row, column = (int(number) for number in reply.split(":")[1:3])
     lines = text.split("\n")[:row]
     front = "\n".join(lines[:-1] + [lines[-1][:column - 1]])
-    for pattern, shown in ((r"\\.", ""), (r"/\*.*?\*/", "/**/"), (r"\([^()]*\)", ""), (r"\([^()]*\)", "")):
+    for pattern, shown in ((r"\\.", ""), (r"/\*.*?\*/", "/**/")):
         front = re.sub(pattern, shown, front, flags=re.DOTALL)
+    inside = 1
+    while inside:
+        front, inside = re.subn(r"\([^()]*\)", "", front)
     return front
 
 
