@@ -8,8 +8,14 @@ pub mod EscapeLemmas
 pub mod PrintLemmas
 pub mod KeyLemmas
 pub mod OccurrenceLemmas
+pub mod AncestorKeyLemmas
+pub mod ListLemmas
+pub mod NestLemmas
 mod SpelledAgain
 mod NumbersAgain
+mod NestedLists
+mod SimplesAgain
 mod CompoundsAgain
 mod SelectorsAgain
+mod ReadSimples
 mod ReadWellFormed

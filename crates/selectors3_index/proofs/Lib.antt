@@ -3,3 +3,5 @@ mod KeptLemmas
 mod KeyedLemmas
 mod WordLemmas
 mod FileLemmas
+mod BitLemmas
+mod MatchLemmas

@@ -1,3 +1,4 @@
 pub mod Reported
+pub mod KeyBits
 pub mod Found
 pub mod internal

@@ -1,4 +1,5 @@
 //! Elements that report their names.
+use crate::key_bits::all_key_bits;
 use selectors3::Element3;
 
 /// An element that reports its name and the names of its attributes, so that an index finds the
@@ -11,6 +12,7 @@ use selectors3::Element3;
 /// ones.
 pub trait Keyed3: Element3 {
     ghost use Rattle.std.specs.Prelude.{◌≡◌, ◌<◌, length, slice_index_or};
+    ghost use Rattle.selectors3_index.specs.KeyBits.{CoversAncestors};
     ghost use Rattle.selectors3_index.specs.Reported.{Reported, ReportsKeys};
 
     ghost reported: { Self → Reported };
@@ -28,6 +30,15 @@ pub trait Keyed3: Element3 {
         requires { index < length (reported self.now).attributes }
         ensures { result.now
             ≡ slice_index_or (reported self.now).attributes index result.now };
+
+    /// Returns bits that cover the keys of all ancestors: those of `element_bits` of each, or, by
+    /// default, all bits. With fewer an index tests fewer selectors. It is called once for each
+    /// element.
+    fn ancestor_bits(&self) -> u64
+        ensures { CoversAncestors Self.document (Self.node self.now) result }
+    {
+        all_key_bits()
+    }
 
     ghost reported_law: { (element : Self)
         → ReportsKeys Self.document (Self.node element) (reported element) };

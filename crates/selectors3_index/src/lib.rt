@@ -18,12 +18,17 @@
 //! for each candidate; a selector with many keys, as `:is(.a, .b)`, is filed once for each.
 #![tactic(auto)]
 
+mod above;
+mod entry;
 mod has_selector;
+mod kept;
+mod key_bits;
 mod keyed;
 mod selector_index;
 mod table;
 mod words;
 
 pub use has_selector::HasSelector3;
+pub use key_bits::element_bits;
 pub use keyed::Keyed3;
 pub use selector_index::SelectorIndex;

@@ -4,5 +4,5 @@ use Rattle.selectors3_index.proofs.table.entries_of.Given as goal
 
 -- the entries of the rules so far
 abbrev pub invariant-loop-rule : goal.invariant-loop-rule
-invariant-loop-rule g l =
-    map entry_of l.entries.items ≡ entries_of (map g.T.HasSelector3.selector_in (take l.rule l.rules))
+invariant-loop-rule l =
+    map entry_of l.entries.items ≡ entries_of (map (λ s. s.now) (take l.rule l.selectors))
