@@ -1,14 +1,16 @@
 -- A node that satisfies a condition has one of its keys.
 -- Serves `key_laws::key_law`.
-use Rattle.std.proofs.Common.{◌≡◌, ℕ, ◌-◌, ◌≤◌, Bool, true, false, not, ◌&&◌, ◌||◌, List, [], ◌∷◌, length, map, Option, None, Some, IsTrue, refl, subst, arith}
+use Rattle.std.proofs.Common.{◌≡◌, ℕ, ◌-◌, ◌≤◌, Bool, true, false, not, ◌&&◌, ◌||◌, List, [], ◌∷◌, length, Option, None, Some, IsTrue, refl, subst, arith}
 use Rattle.std.specs.Prelude.{is_none, nat_lt, min, if◌then◌else◌}
 use Rattle.std.specs.List.{list_any}
 use Rattle.selectors3.specs.Documents.{Document}
-use Rattle.selectors3.specs.Components.{Comparison, Simple, Condition, Selector}
+use Rattle.selectors3.specs.Components.{Comparison, Simple, Condition, Conditions, Compounds, Selector}
 use Rattle.selectors3.specs.Components.Simple.{universal, type_name, id, class, has_attribute, attribute, structure, language, state}
 use Rattle.selectors3.specs.Components.Condition.{simple, negation, any_of, where_any}
+use Rattle.selectors3.specs.Components.Conditions.{end_of_compound, with_condition}
+use Rattle.selectors3.specs.Components.Compounds.{end_of_list, with_compound}
 use Rattle.selectors3.specs.Meanings.{satisfies, holds, hold, holds_any, is_met, are_met, conditions_at, Matches}
-use Rattle.selectors3.specs.Keys.{Key, has_key, simple_key, rank, better_key, best_key, compound_key, condition_keys, least_rank, better_keys, best_keys, keys_of}
+use Rattle.selectors3.specs.Keys.{Key, has_key, simple_key, lone_key, rank, better_key, best_key, compound_key, compound_keys, condition_keys, least_rank, better_keys, best_keys, keys_of}
 use Rattle.selectors3.specs.Keys.Key.{by_nothing}
 
 and_first : (a b : Bool) → IsTrue (a && b) → IsTrue a
@@ -49,31 +51,38 @@ module _ {Node : Type 0} (d : Document Node) (n : Node) where
   chosen true one other h g = g
   chosen false one other h g = h
 
-  best_has : (best : Key) (simples : List Simple) → IsTrue (has_key d n best)
-      → IsTrue (hold d n simples) → IsTrue (has_key d n (best_key best simples))
-  best_has best [] h all = h
-  best_has best (s ∷ ss) h all =
-      best_has (better_key best (simple_key s)) ss
-      (chosen (nat_lt (rank best) (rank (simple_key s))) best (simple_key s) h
-      (simple_has s (and_first (holds d n s) (hold d n ss) all)))
-      (and_second (holds d n s) (hold d n ss) all)
+  lone_has : (c : Condition) → IsTrue (is_met d n c) → IsTrue (has_key d n (lone_key c))
+  lone_has (simple s) h = simple_has s h
+  lone_has (negation compounds) h = refl
+  lone_has (any_of compounds) h = refl
+  lone_has (where_any compounds) h = refl
 
-  one_has : (c : List Simple) (cs : List (List Simple)) (b : Bool) → hold d n c ≡ b
+  best_has : (best : Key) (conditions : Conditions) → IsTrue (has_key d n best)
+      → IsTrue (hold d n conditions) → IsTrue (has_key d n (best_key best conditions))
+  best_has best end_of_compound h all = h
+  best_has best (with_condition c cs) h all =
+      best_has (better_key best (lone_key c)) cs
+      (chosen (nat_lt (rank best) (rank (lone_key c))) best (lone_key c) h
+      (lone_has c (and_first (is_met d n c) (hold d n cs) all)))
+      (and_second (is_met d n c) (hold d n cs) all)
+
+  one_has : (c : Conditions) (cs : Compounds) (b : Bool) → hold d n c ≡ b
       → IsTrue (b || holds_any d n cs)
-      → (IsTrue (holds_any d n cs) → IsTrue (list_any (has_key d n) (map compound_key cs)))
-      → IsTrue (list_any (has_key d n) (map compound_key (c ∷ cs)))
+      → (IsTrue (holds_any d n cs) → IsTrue (list_any (has_key d n) (compound_keys cs)))
+      → IsTrue (list_any (has_key d n) (compound_keys (with_compound c cs)))
   one_has c cs true is h more =
-      or_first (has_key d n (compound_key c)) (list_any (has_key d n) (map compound_key cs))
+      or_first (has_key d n (compound_key c)) (list_any (has_key d n) (compound_keys cs))
       (best_has by_nothing c refl is)
   one_has c cs false is h more =
-      or_second (has_key d n (compound_key c)) (list_any (has_key d n) (map compound_key cs)) (more h)
+      or_second (has_key d n (compound_key c)) (list_any (has_key d n) (compound_keys cs)) (more h)
 
-  compounds_have : (compounds : List (List Simple)) → IsTrue (holds_any d n compounds)
-      → IsTrue (list_any (has_key d n) (map compound_key compounds))
-  compounds_have [] h = absurd (cc)
-  compounds_have (c ∷ cs) h = one_has c cs (hold d n c) refl h (compounds_have cs)
+  compounds_have : (compounds : Compounds) → IsTrue (holds_any d n compounds)
+      → IsTrue (list_any (has_key d n) (compound_keys compounds))
+  compounds_have end_of_list h = absurd (cc)
+  compounds_have (with_compound c cs) h = one_has c cs (hold d n c) refl h (compounds_have cs)
 
-  condition_has : (c : Condition) → IsTrue (is_met d n c)
+  -- a node that satisfies a condition has one of its keys
+  pub condition_has : (c : Condition) → IsTrue (is_met d n c)
       → IsTrue (list_any (has_key d n) (condition_keys c))
   condition_has (simple s) h = or_first _ _ (simple_has s h)
   condition_has (negation compounds) h = refl

@@ -7,8 +7,14 @@ pub mod GapLemmas
 pub mod EscapeLemmas
 pub mod PrintLemmas
 pub mod KeyLemmas
+pub mod AncestorKeyLemmas
+pub mod ListLemmas
+pub mod NestLemmas
 mod SpelledAgain
 mod NumbersAgain
+mod NestedLists
+mod SimplesAgain
 mod CompoundsAgain
 mod SelectorsAgain
+mod ReadSimples
 mod ReadWellFormed

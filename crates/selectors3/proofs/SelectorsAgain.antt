@@ -12,12 +12,13 @@ use Rattle.sibling_matching.specs.declared.Combinator.{Combinator}
 use Rattle.sibling_matching.specs.declared.Combinator.TheVariants.{Descendant, Child, Adjacent, Sibling}
 use Rattle.selectors3.specs.Components.{Condition, Part, Selector}
 use Rattle.selectors3.specs.Readings.{got, follow, give, ◌>>=◌, ◌>>◌, item, none, as_item, with_first, items}
-use Rattle.selectors3.specs.Grammar.{gap, name, begins_compound, next_condition, next_simple, conditions, sign_combinator, first_sign, joined_by, by_sign, part_after, next_part, one_more, pseudo_element, selector_with, at_end, parts, listed_selector, selector}
+use Rattle.selectors3.specs.Grammar.{gap, name, begins_compound, begins_pseudo_class, next_condition, next_simple, deepest, conditions, sign_combinator, first_sign, joined_by, by_sign, part_after, next_part, one_more, pseudo_element, selector_with, at_end, parts, listed_selector, selector}
 use Rattle.selectors3.specs.Printing.{identifier_text, condition_text, combinator_text, part_text, parts_text, pseudo_element_text, selector_text}
 use Rattle.selectors3.specs.WellFormed.{IsName, AreConditions, is_last, AreParts, BeginsPlain, IsWellFormed}
 use Rattle.selectors3.proofs.SpelledAgain.{name-again}
 use Rattle.selectors3.proofs.NumbersAgain.{no_gap, one_blank}
-use Rattle.selectors3.proofs.CompoundsAgain.{EachReads, items-again, differ, begins_solid, Follows, conditions-again, conditions_begin}
+use Rattle.selectors3.proofs.SimplesAgain.{EachReads, items-again, ends, differ, begins_solid}
+use Rattle.selectors3.proofs.CompoundsAgain.{none_read, Follows, conditions-again, conditions_begin}
 
 -- a compound selector after another
 part_joined : (e : Bool) (c : Combinator) (cs : List Condition) (rest : List ℕ)
@@ -68,20 +69,40 @@ part_joined e c cs rest w f = by c
 
 -- ---- the end of a selector
 
+-- nothing more is read there
+last_read : (text : List ℕ) → begins_pseudo_class text ≡ false → next_simple text ≡ none
+    → next_condition deepest text ≡ none
+last_read = none_read deepest
+
 nothing_follows : Follows false []
-unfolding next_condition next_simple
-nothing_follows = record { ended = refl; last = refl; element = λ e. absurd (cc) }
+unfolding next_simple
+nothing_follows =
+    record { ended = refl; last = last_read [] refl refl; element = λ e. absurd (cc) }
 
 element_follows : (e : Bool) (text : List ℕ) → Follows e (colon ∷ colon ∷ text)
-unfolding next_condition next_simple
-element_follows e text = record { ended = refl; last = refl; element = λ h. refl }
+unfolding next_simple
+element_follows e text =
+    record { ended = refl; last = last_read (colon ∷ colon ∷ text) refl refl; element = λ h. refl }
 
 part_follows : (c : Combinator) (text : List ℕ) → Follows false (combinator_text c ++ text)
-unfolding next_condition next_simple
-part_follows Descendant text = record { ended = refl; last = refl; element = λ e. absurd (cc) }
-part_follows Child text = record { ended = refl; last = refl; element = λ e. absurd (cc) }
-part_follows Adjacent text = record { ended = refl; last = refl; element = λ e. absurd (cc) }
-part_follows Sibling text = record { ended = refl; last = refl; element = λ e. absurd (cc) }
+unfolding next_simple
+part_follows c text = record {
+  ended = by c;
+  last = last_by c;
+  element = λ e. absurd (cc);
+}
+  where
+    by : (c : Combinator) → ends (combinator_text c ++ text) ≡ true
+    by Descendant = refl
+    by Child = refl
+    by Adjacent = refl
+    by Sibling = refl
+
+    last_by : (c : Combinator) → next_condition deepest (combinator_text c ++ text) ≡ none
+    last_by Descendant = last_read _ refl refl
+    last_by Child = last_read _ refl refl
+    last_by Adjacent = last_read _ refl refl
+    last_by Sibling = last_read _ refl refl
 
 end_follows : (element : Option (List ℕ)) → Follows (is_some element) (pseudo_element_text element)
 end_follows None = nothing_follows

@@ -179,7 +179,7 @@ record Spells (quote : Option ℕ) (text value rest : List ℕ) : Type 0 where
 
 whole : (quote : Option ℕ) (text value rest : List ℕ) → Spells quote text value rest
     → spelled quote text ≡ (value, rest)
-whole quote text value rest s = s.reads (length text) s.within
+whole quote text _ rest s = s.reads (length text) s.within
 
 no_run : (quote : Option ℕ) (rest : List ℕ) → starts_by (is_bare quote) rest ≡ false
     → ◌≡◌ {A = List ℕ × List ℕ} (run (is_bare quote) rest, past (is_bare quote) rest) ([], rest)

@@ -1,5 +1,5 @@
 -- The parts of a selector. Names and values are bytes, without the escapes that spelled them.
-use Rattle.std.specs.Prelude.{ℕ, List, Bool, Option}
+use Rattle.std.specs.Prelude.{ℕ, List, [], ◌∷◌, Bool, Option}
 use Rattle.sibling_matching.specs.declared.Combinator.{Combinator}
 
 -- how an attribute's value is compared with the text of a selector (sections 6.3.1 and 6.3.2)
@@ -59,15 +59,36 @@ pub data Simple : Type 0 where
   -- any other pseudo-class, with its name
   state : List ℕ → Simple
 
--- a simple selector, or a pseudo-class with a list of compound selectors
-pub data Condition : Type 0 where
-  simple : Simple → Condition
-  -- `:not(..)`
-  negation : List (List Simple) → Condition
-  -- `:is(..)`
-  any_of : List (List Simple) → Condition
-  -- `:where(..)`, which counts nothing
-  where_any : List (List Simple) → Condition
+mutual
+  -- a simple selector, or a pseudo-class with a list of compound selectors
+  pub data Condition : Type 0 where
+    simple : Simple → Condition
+    -- `:not(..)`
+    negation : Compounds → Condition
+    -- `:is(..)`
+    any_of : Compounds → Condition
+    -- `:where(..)`, which counts nothing
+    where_any : Compounds → Condition
+
+  -- a compound selector in a list: its conditions, one after another
+  pub data Conditions : Type 0 where
+    end_of_compound : Conditions
+    with_condition : Condition → Conditions → Conditions
+
+  -- a list of compound selectors, one after another
+  pub data Compounds : Type 0 where
+    end_of_list : Compounds
+    with_compound : Conditions → Compounds → Compounds
+
+-- the compound selector of these conditions
+abbrev pub conditions_from : List Condition → Conditions
+conditions_from [] = end_of_compound
+conditions_from (c ∷ conditions) = with_condition c (conditions_from conditions)
+
+-- the list of these compound selectors
+abbrev pub compounds_from : List (List Condition) → Compounds
+compounds_from [] = end_of_list
+compounds_from (c ∷ compounds) = with_compound (conditions_from c) (compounds_from compounds)
 
 -- a compound selector, and how it is joined to the one before it
 pub record Part : Type 0 where

@@ -1,5 +1,5 @@
 -- The grammar of selectors (Selectors 3, section 10).
-use Rattle.std.specs.Prelude.{ℕ, ◌+◌, ◌-◌, ◌*◌, Bool, true, false, not, ◌&&◌, ◌||◌, ◌==◌, min, if◌then◌else◌, List, [], ◌∷◌, codes, Option, Some, None, nat_le}
+use Rattle.std.specs.Prelude.{ℕ, zero, suc, ◌+◌, ◌-◌, ◌*◌, Bool, true, false, not, ◌&&◌, ◌||◌, ◌==◌, min, if◌then◌else◌, List, [], ◌∷◌, codes, Option, Some, None, nat_le}
 use Rattle.std.specs.Option.{option_map}
 use Rattle.std.specs.Str.{str_eq_ignore_ascii_case}
 use Rattle.simplecss_text.specs.AsciiBytes.{asterisk, backslash, close_bracket, close_parenthesis, colon, comma, equals_sign, full_stop, greater_than_sign, hyphen, number_sign, open_bracket, open_parenthesis, plus_sign, tilde, underscore, vertical_bar}
@@ -17,8 +17,8 @@ use Rattle.selectors3.specs.declared.components.Function.{Function}
 use Rattle.selectors3.specs.declared.components.Function.TheVariants.{Numbered, Language}
 use Rattle.selectors3.specs.declared.components.ListKind.{ListKind}
 use Rattle.selectors3.specs.declared.components.ListKind.TheVariants.{Not, Is, Where}
-use Rattle.selectors3.specs.declared.refusal.Why.TheVariants.{NoSelector, NoName, NotClosed, BrokenString, NoOperator, NoValue, UnknownFlag, NoProgression, UnknownFunction, Unexpected}
-use Rattle.selectors3.specs.Components.{Comparison, Signed, Progression, Structure, Simple, Condition, Part, Selector}
+use Rattle.selectors3.specs.declared.refusal.Why.TheVariants.{NoSelector, NoName, NotClosed, BrokenString, NoOperator, NoValue, UnknownFlag, NoProgression, UnknownFunction, TooDeep, Unexpected}
+use Rattle.selectors3.specs.Components.{Comparison, Signed, Progression, Structure, Simple, Condition, compounds_from, Part, Selector}
 use Rattle.selectors3.specs.Components.Comparison.{equals, has_word, has_subtag, starts as starts_with, ends as ends_with, contains}
 use Rattle.selectors3.specs.Components.Structure.{root, empty, first_child, last_child, only_child, first_of_type, last_of_type, only_of_type, nth_child, nth_last_child, nth_of_type, nth_last_of_type}
 use Rattle.selectors3.specs.Components.Simple.{universal, type_name, id, class, has_attribute, attribute, structure, language, state}
@@ -316,17 +316,6 @@ abbrev pub named_pseudo : List ℕ → List ℕ → Step Simple
 named_pseudo n text =
     if is_old_element n then none else item (plain_pseudo n (plain_structure n)) text
 
--- after the name of a pseudo-class without a list
-abbrev pub pseudo_by : List ℕ → List ℕ → List ℕ → Step Simple
-pseudo_by opened n text =
-    if starts open_parenthesis text
-    then as_item (λ s. s) (functional opened (function_named n) (past_one text))
-    else named_pseudo n text
-
--- a pseudo-class without a list, from after its colon; `opened` is the text from the colon on
-unfoldable pub pseudo_class : List ℕ → List ℕ → Step Simple
-pseudo_class opened text = step_after (name text) (pseudo_by opened)
-
 -- ---- compound selectors
 
 -- `*` or a name
@@ -335,15 +324,14 @@ type_selector text =
     if starts asterisk text then item universal (past_one text)
     else (if begins_name text then as_item type_name (name text) else none)
 
--- the next simple selector of a compound selector
+-- the next simple selector of a compound selector, if it is no pseudo-class
 unfoldable pub next_simple : List ℕ → Step Simple
 next_simple [] = none
 next_simple (b ∷ text) =
     if b == full_stop then as_item class (name text)
     else (if b == number_sign then as_item id (name text)
     else (if b == open_bracket then as_item (λ s. s) (attribute_selector (b ∷ text) text)
-    else (if b == colon && not (starts colon text)
-    then pseudo_class (b ∷ text) text else none)))
+    else none))
 
 -- there is one
 abbrev pub some_of : {A : Type 0} → List ℕ → Reading (List A) → Reading (List A)
@@ -351,41 +339,50 @@ some_of text (got [] rest) = refused NoSelector text
 some_of text (got (x ∷ xs) rest) = got (x ∷ xs) rest
 some_of text (refused why rest) = refused why rest
 
-abbrev pub after_type : List ℕ → Step Simple → Reading (List Simple)
-after_type text (item s rest) = with_first s (items next_simple rest)
-after_type text none = some_of text (items next_simple text)
-after_type text (stop why rest) = refused why rest
+-- what finds the next condition of a compound selector
+abbrev pub Finder : Type 0
+Finder = List ℕ → Step Condition
 
--- a compound selector in a list
-unfoldable pub compound : Reader (List Simple)
-compound text = after_type text (type_selector text)
+abbrev pub after_type : Finder → List ℕ → Step Simple → Reading (List Condition)
+after_type next text (item s rest) = with_first (simple s) (items next rest)
+after_type next text none = some_of text (items next text)
+after_type next text (stop why rest) = refused why rest
+
+-- a compound selector in a list, by what finds a condition
+unfoldable pub compound : Finder → Reader (List Condition)
+compound next text = after_type next text (type_selector text)
 
 -- a further one, after a comma
-abbrev pub comma_compound : Reader (List Simple)
-comma_compound = gap >> compound
+abbrev pub comma_compound : Finder → Reader (List Condition)
+comma_compound next = gap >> compound next
 
-abbrev pub after_gap : Reading Bool → Step (List Simple)
-after_gap (refused why rest) = stop why rest
-after_gap (got spaced rest) =
-    if starts comma rest then as_item (λ c. c) (comma_compound (past_one rest)) else none
+abbrev pub after_gap : Finder → Reading Bool → Step (List Condition)
+after_gap next (refused why rest) = stop why rest
+after_gap next (got spaced rest) =
+    if starts comma rest then as_item (λ c. c) (comma_compound next (past_one rest)) else none
 
-unfoldable pub next_compound : List ℕ → Step (List Simple)
-next_compound text = after_gap (gap text)
+unfoldable pub next_compound : Finder → List ℕ → Step (List Condition)
+next_compound next text = after_gap next (gap text)
 
-abbrev pub listed : ListKind → List (List Simple) → Condition
-listed Not compounds = negation compounds
-listed Is compounds = any_of compounds
-listed Where compounds = where_any compounds
+abbrev pub listed : ListKind → List (List Condition) → Condition
+listed Not compounds = negation (compounds_from compounds)
+listed Is compounds = any_of (compounds_from compounds)
+listed Where compounds = where_any (compounds_from compounds)
 
--- the list of a pseudo-class, from after its parenthesis; `opened` is the text from its colon on
-unfoldable pub compound_list : List ℕ → Reader (List (List Simple))
-compound_list opened = do
+-- The list of a pseudo-class, from after its parenthesis, by what finds a condition; `opened` is the
+-- text from the colon of the pseudo-class on.
+unfoldable pub compound_list : Finder → List ℕ → Reader (List (List Condition))
+compound_list next opened = do
   gap
-  c ← compound
-  compounds ← one_more c (items next_compound)
+  c ← compound next
+  compounds ← one_more c (items (next_compound next))
   gap
   closing opened close_parenthesis
   give compounds
+
+-- what reads the list of a pseudo-class, given the text from its colon on
+abbrev pub ListReader : Type 0
+ListReader = List ℕ → Reader (List (List Condition))
 
 -- one colon
 abbrev pub begins_pseudo_class : List ℕ → Bool
@@ -396,25 +393,45 @@ simple_item (item s rest) = item (simple s) rest
 simple_item none = none
 simple_item (stop why rest) = stop why rest
 
--- the argument of a functional pseudo-class, from after its parenthesis
-abbrev pub with_argument : List ℕ → Option ListKind → Option Function → Reader Condition
-with_argument opened None kind = functional opened kind >>= λ s. give (simple s)
-with_argument opened (Some kind) other =
-    compound_list opened >>= λ compounds. give (listed kind compounds)
+-- the argument of a functional pseudo-class, from after its parenthesis, by what reads a list
+abbrev pub with_argument
+    : ListReader → List ℕ → Option ListKind → Option Function → Reader Condition
+with_argument list opened None kind = functional opened kind >>= λ s. give (simple s)
+with_argument list opened (Some kind) other =
+    list opened >>= λ compounds. give (listed kind compounds)
 
 -- after the name of a pseudo-class
-abbrev pub pseudo_condition : List ℕ → List ℕ → List ℕ → Step Condition
-pseudo_condition opened n text =
+abbrev pub pseudo_condition : ListReader → List ℕ → List ℕ → List ℕ → Step Condition
+pseudo_condition list opened n text =
     if starts open_parenthesis text
-    then as_item (λ c. c) (with_argument opened (list_kind n) (function_named n) (past_one text))
+    then as_item (λ c. c)
+    (with_argument list opened (list_kind n) (function_named n) (past_one text))
     else simple_item (named_pseudo n text)
 
--- the next condition of a compound selector
-unfoldable pub next_condition : List ℕ → Step Condition
-next_condition text =
+-- the next condition, by what reads a list
+abbrev pub condition_by : ListReader → Finder
+condition_by list text =
     if begins_pseudo_class text
-    then step_after (name (past_one text)) (pseudo_condition text)
+    then step_after (name (past_one text)) (pseudo_condition list text)
     else simple_item (next_simple text)
+
+-- How many lists may be open at once. (Selectors 4 has no limit.)
+abbrev pub deepest : ℕ
+deepest = 32
+
+-- a list more: its pseudo-class is refused
+abbrev pub too_deep : ListReader
+too_deep opened text = refused TooDeep opened
+
+-- the next condition of a compound selector, with lists nested at most `n` deep
+unfoldable pub next_condition : ℕ → Finder
+next_condition zero text = condition_by too_deep text
+next_condition (suc n) text = condition_by (compound_list (next_condition n)) text
+
+-- the list of a pseudo-class, with lists nested at most `n` deep, itself included
+abbrev pub list_within : ℕ → ListReader
+list_within zero = too_deep
+list_within (suc n) = compound_list (next_condition n)
 
 -- A compound selector may be empty before a pseudo-element, which a colon begins that begins no
 -- condition.
@@ -422,8 +439,8 @@ abbrev pub some_or_element : List ℕ → Reading (List Condition) → Reading (
 some_or_element text reading = if starts colon text then reading else some_of text reading
 
 abbrev pub after_type_name : List ℕ → Step Simple → Reading (List Condition)
-after_type_name text (item s rest) = with_first (simple s) (items next_condition rest)
-after_type_name text none = some_or_element text (items next_condition text)
+after_type_name text (item s rest) = with_first (simple s) (items (next_condition deepest) rest)
+after_type_name text none = some_or_element text (items (next_condition deepest) text)
 after_type_name text (stop why rest) = refused why rest
 
 -- a compound selector

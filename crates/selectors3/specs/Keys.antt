@@ -1,10 +1,12 @@
 -- Keys: conditions of which each element that a selector matches satisfies one. By these an index
 -- finds the selectors that can match an element.
-use Rattle.std.specs.Prelude.{ℕ, ◌-◌, Bool, true, List, [], ◌∷◌, map, length, min, nat_lt, if◌then◌else◌}
+use Rattle.std.specs.Prelude.{ℕ, ◌-◌, Bool, true, List, [], ◌∷◌, length, min, nat_lt, if◌then◌else◌}
 use Rattle.selectors3.specs.Documents.{Document}
-use Rattle.selectors3.specs.Components.{Simple, Condition, Selector}
+use Rattle.selectors3.specs.Components.{Simple, Condition, Conditions, Compounds, Selector}
 use Rattle.selectors3.specs.Components.Simple.{universal, type_name, id, class, has_attribute, attribute, structure, language, state}
 use Rattle.selectors3.specs.Components.Condition.{simple, negation, any_of, where_any}
+use Rattle.selectors3.specs.Components.Conditions.{end_of_compound, with_condition}
+use Rattle.selectors3.specs.Components.Compounds.{end_of_list, with_compound}
 use Rattle.selectors3.specs.Meanings.{holds, conditions_at}
 
 -- an id, a class, a type name, the name of an attribute, or no condition
@@ -47,22 +49,34 @@ rank by_nothing = 0
 abbrev pub better_key : Key → Key → Key
 better_key one other = if nat_lt (rank one) (rank other) then other else one
 
--- the first key of the greatest rank among this one and those of simple selectors
-abbrev pub best_key : Key → List Simple → Key
-best_key best [] = best
-best_key best (s ∷ ss) = best_key (better_key best (simple_key s)) ss
+-- the key that a condition of a compound selector in a list requires: a list in it has none
+abbrev pub lone_key : Condition → Key
+lone_key (simple s) = simple_key s
+lone_key (negation compounds) = by_nothing
+lone_key (any_of compounds) = by_nothing
+lone_key (where_any compounds) = by_nothing
+
+-- the first key of the greatest rank among this one and those of conditions
+abbrev pub best_key : Key → Conditions → Key
+best_key best end_of_compound = best
+best_key best (with_condition c conditions) = best_key (better_key best (lone_key c)) conditions
 
 -- the key of a compound selector in a list
-abbrev pub compound_key : List Simple → Key
-compound_key simples = best_key by_nothing simples
+abbrev pub compound_key : Conditions → Key
+compound_key conditions = best_key by_nothing conditions
+
+-- those of the compound selectors of a list
+abbrev pub compound_keys : Compounds → List Key
+compound_keys end_of_list = []
+compound_keys (with_compound c compounds) = compound_key c ∷ compound_keys compounds
 
 -- the keys of a condition, of which a node that satisfies it has one; nothing within `:not()` is a
 -- key
 abbrev pub condition_keys : Condition → List Key
 condition_keys (simple s) = simple_key s ∷ []
 condition_keys (negation compounds) = by_nothing ∷ []
-condition_keys (any_of compounds) = map compound_key compounds
-condition_keys (where_any compounds) = map compound_key compounds
+condition_keys (any_of compounds) = compound_keys compounds
+condition_keys (where_any compounds) = compound_keys compounds
 
 -- the least rank of keys
 abbrev pub least_rank : List Key → ℕ

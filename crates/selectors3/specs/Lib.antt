@@ -1,4 +1,6 @@
+pub mod AncestorKeys
 pub mod AttributeTests
+pub mod Codes
 pub mod Components
 pub mod Documents
 pub mod Grammar

@@ -1,16 +1,18 @@
 -- What a selector means on a node of a document, and when it matches.
-use Rattle.std.specs.Prelude.{◌≡◌, ℕ, ◌+◌, ◌-◌, Bool, true, false, not, ◌&&◌, ◌==◌, List, [], length, slice_get, Option, None, codes, is_none, IsTrue}
+use Rattle.std.specs.Prelude.{◌≡◌, ℕ, ◌+◌, ◌-◌, Bool, true, false, not, ◌&&◌, ◌||◌, ◌==◌, List, [], length, slice_get, Option, None, codes, is_none, IsTrue}
 use Rattle.std.specs.Option.{option_map_or}
 use Rattle.std.specs.List.{list_all, list_any}
 use Rattle.sibling_matching.specs.declared.Combinator.{Combinator}
 use Rattle.sibling_matching.specs.declared.Combinator.TheVariants.{Descendant}
 use Rattle.sibling_matching.specs.Placements.{HasPlacement}
 use Rattle.selectors3.specs.Documents.{Document, shape}
-use Rattle.selectors3.specs.Components.{Comparison, Structure, Simple, Condition, Part, Selector}
+use Rattle.selectors3.specs.Components.{Comparison, Structure, Simple, Condition, Conditions, Compounds, Part, Selector}
 use Rattle.selectors3.specs.Components.Comparison.{equals, has_word}
 use Rattle.selectors3.specs.Components.Structure.{root, empty, first_child, last_child, only_child, first_of_type, last_of_type, only_of_type, nth_child, nth_last_child, nth_of_type, nth_last_of_type}
 use Rattle.selectors3.specs.Components.Simple.{universal, type_name, id, class, has_attribute, attribute, structure, language, state}
 use Rattle.selectors3.specs.Components.Condition.{simple, negation, any_of, where_any}
+use Rattle.selectors3.specs.Components.Conditions.{end_of_compound, with_condition}
+use Rattle.selectors3.specs.Components.Compounds.{end_of_list, with_compound}
 use Rattle.selectors3.specs.AttributeTests.{is_satisfied}
 use Rattle.selectors3.specs.Numbers.{is_numbered}
 
@@ -47,20 +49,24 @@ holds document n (structure s) = is_placed document n s
 holds document n (language ranges) = list_any (document.is_in_language n) ranges
 holds document n (state name) = document.is_in_state n name
 
--- all of them
-abbrev pub hold : {Node : Type 0} → Document Node → Node → List Simple → Bool
-hold document n simples = list_all (holds document n) simples
+abbrev mutual
+  -- the node satisfies the condition
+  pub is_met : {Node : Type 0} → Document Node → Node → Condition → Bool
+  is_met document n (simple s) = holds document n s
+  is_met document n (negation compounds) = not (holds_any document n compounds)
+  is_met document n (any_of compounds) = holds_any document n compounds
+  is_met document n (where_any compounds) = holds_any document n compounds
 
--- one of the compound selectors
-abbrev pub holds_any : {Node : Type 0} → Document Node → Node → List (List Simple) → Bool
-holds_any document n compounds = list_any (hold document n) compounds
+  -- all conditions of a compound selector in a list
+  pub hold : {Node : Type 0} → Document Node → Node → Conditions → Bool
+  hold document n end_of_compound = true
+  hold document n (with_condition c conditions) = is_met document n c && hold document n conditions
 
--- the node satisfies the condition
-abbrev pub is_met : {Node : Type 0} → Document Node → Node → Condition → Bool
-is_met document n (simple s) = holds document n s
-is_met document n (negation compounds) = not (holds_any document n compounds)
-is_met document n (any_of compounds) = holds_any document n compounds
-is_met document n (where_any compounds) = holds_any document n compounds
+  -- one of the compound selectors
+  pub holds_any : {Node : Type 0} → Document Node → Node → Compounds → Bool
+  holds_any document n end_of_list = false
+  holds_any document n (with_compound c compounds) =
+      hold document n c || holds_any document n compounds
 
 -- all conditions of a compound selector
 abbrev pub are_met : {Node : Type 0} → Document Node → Node → List Condition → Bool

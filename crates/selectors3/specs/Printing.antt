@@ -10,11 +10,13 @@ use Rattle.simplecss_text.specs.Bytes.{is_digit, is_within, past_one, starts}
 use Rattle.css_syntax.specs.Tokens.{is_name_byte}
 use Rattle.sibling_matching.specs.declared.Combinator.{Combinator}
 use Rattle.sibling_matching.specs.declared.Combinator.TheVariants.{Descendant, Child, Adjacent, Sibling}
-use Rattle.selectors3.specs.Components.{Comparison, Signed, Progression, Structure, Simple, Condition, Part, Selector}
+use Rattle.selectors3.specs.Components.{Comparison, Signed, Progression, Structure, Simple, Condition, Conditions, Compounds, Part, Selector}
 use Rattle.selectors3.specs.Components.Comparison.{equals, has_word, has_subtag, starts as starts_with, ends as ends_with, contains}
 use Rattle.selectors3.specs.Components.Structure.{root, empty, first_child, last_child, only_child, first_of_type, last_of_type, only_of_type, nth_child, nth_last_child, nth_of_type, nth_last_of_type}
 use Rattle.selectors3.specs.Components.Simple.{universal, type_name, id, class, has_attribute, attribute, structure, language, state}
 use Rattle.selectors3.specs.Components.Condition.{simple, negation, any_of, where_any}
+use Rattle.selectors3.specs.Components.Conditions.{end_of_compound, with_condition}
+use Rattle.selectors3.specs.Components.Compounds.{end_of_list, with_compound}
 
 -- ---- identifiers and strings
 
@@ -146,17 +148,28 @@ simple_text (structure s) = structure_text s
 simple_text (language ranges) = function_text (codes ":lang(") (list_text string_text ranges)
 simple_text (state name) = codes ":" ++ identifier_text name
 
-abbrev pub compound_text : List Simple → List ℕ
-compound_text simples = flat_map simple_text simples
+abbrev mutual
+  pub condition_text : Condition → List ℕ
+  condition_text (simple s) = simple_text s
+  condition_text (negation compounds) = function_text (codes ":not(") (compounds_text compounds)
+  condition_text (any_of compounds) = function_text (codes ":is(") (compounds_text compounds)
+  condition_text (where_any compounds) = function_text (codes ":where(") (compounds_text compounds)
 
-abbrev pub compounds_text : List (List Simple) → List ℕ
-compounds_text compounds = list_text compound_text compounds
+  -- a compound selector in a list
+  pub compound_text : Conditions → List ℕ
+  compound_text end_of_compound = []
+  compound_text (with_condition c conditions) = condition_text c ++ compound_text conditions
 
-abbrev pub condition_text : Condition → List ℕ
-condition_text (simple s) = simple_text s
-condition_text (negation compounds) = function_text (codes ":not(") (compounds_text compounds)
-condition_text (any_of compounds) = function_text (codes ":is(") (compounds_text compounds)
-condition_text (where_any compounds) = function_text (codes ":where(") (compounds_text compounds)
+  -- "serialize a comma-separated list"
+  pub compounds_text : Compounds → List ℕ
+  compounds_text end_of_list = []
+  compounds_text (with_compound c compounds) = compound_text c ++ further_compounds_text compounds
+
+  -- what follows the first of a list
+  pub further_compounds_text : Compounds → List ℕ
+  further_compounds_text end_of_list = []
+  further_compounds_text (with_compound c compounds) =
+      codes ", " ++ compound_text c ++ further_compounds_text compounds
 
 -- ---- selectors
 

@@ -1,8 +1,10 @@
 -- Specificity (section 9; Selectors 4, section 17, for lists). Each count stops at 4,294,967,295.
 use Rattle.std.specs.Prelude.{ℕ, ◌+◌, Bool, ◌&&◌, ◌||◌, ◌==◌, nat_lt, min, if◌then◌else◌, List, [], ◌∷◌, Option, None, Some}
-use Rattle.selectors3.specs.Components.{Simple, Condition, Part, Selector}
+use Rattle.selectors3.specs.Components.{Simple, Condition, Conditions, Compounds, Part, Selector}
 use Rattle.selectors3.specs.Components.Simple.{universal, type_name, id, class, has_attribute, attribute, structure, language, state}
 use Rattle.selectors3.specs.Components.Condition.{simple, negation, any_of, where_any}
+use Rattle.selectors3.specs.Components.Conditions.{end_of_compound, with_condition}
+use Rattle.selectors3.specs.Components.Compounds.{end_of_list, with_compound}
 
 -- the numbers of ids, of classes, attributes and pseudo-classes, and of type names and pseudo-elements
 pub record Counts : Type 0 where
@@ -54,23 +56,27 @@ of_simple (structure s) = one_class
 of_simple (language ranges) = one_class
 of_simple (state name) = one_class
 
+abbrev mutual
+  -- `:not()` and `:is()` count as the greatest of their lists, `:where()` counts nothing
+  pub of_condition : Condition → Counts
+  of_condition (simple s) = of_simple s
+  of_condition (negation compounds) = greatest nothing compounds
+  of_condition (any_of compounds) = greatest nothing compounds
+  of_condition (where_any compounds) = nothing
+
+  -- what is counted so far, and a compound selector in a list
+  pub of_compound : Counts → Conditions → Counts
+  of_compound so_far end_of_compound = so_far
+  of_compound so_far (with_condition c conditions) =
+      of_compound (plus so_far (of_condition c)) conditions
+
+  -- the greatest of a list, and of what is greatest so far
+  pub greatest : Counts → Compounds → Counts
+  greatest so_far end_of_list = so_far
+  greatest so_far (with_compound c compounds) =
+      greatest (greater so_far (of_compound nothing c)) compounds
+
 -- what is counted so far, and all of these
-abbrev pub with_simples : Counts → List Simple → Counts
-with_simples so_far [] = so_far
-with_simples so_far (s ∷ simples) = with_simples (plus so_far (of_simple s)) simples
-
--- the greatest of a list, and of what is greatest so far
-abbrev pub greatest : Counts → List (List Simple) → Counts
-greatest so_far [] = so_far
-greatest so_far (c ∷ compounds) = greatest (greater so_far (with_simples nothing c)) compounds
-
--- `:not()` and `:is()` count as the greatest of their lists, `:where()` counts nothing
-abbrev pub of_condition : Condition → Counts
-of_condition (simple s) = of_simple s
-of_condition (negation compounds) = greatest nothing compounds
-of_condition (any_of compounds) = greatest nothing compounds
-of_condition (where_any compounds) = nothing
-
 abbrev pub with_conditions : Counts → List Condition → Counts
 with_conditions so_far [] = so_far
 with_conditions so_far (c ∷ conditions) = with_conditions (plus so_far (of_condition c)) conditions

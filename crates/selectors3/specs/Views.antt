@@ -10,10 +10,10 @@ use Rattle.selectors3.specs.declared.components.Structure.TheVariants.{Root, Emp
 use Rattle.selectors3.specs.declared.components.Simple.{Simple as SimpleOf}
 use Rattle.selectors3.specs.declared.components.Simple.TheVariants.{Universal, TypeName, Id, Class, HasAttribute, Attribute, Structure as StructureIs, Language, State}
 use Rattle.selectors3.specs.declared.components.Compound.{Compound}
-use Rattle.selectors3.specs.declared.components.Condition.{Condition as ConditionOf}
-use Rattle.selectors3.specs.declared.components.Condition.TheVariants.{Simple as SimpleIs, Not, Is, Where}
+use Rattle.selectors3.specs.declared.components.Condition.{Condition as ConditionOf, fold-Condition}
+use Rattle.selectors3.specs.declared.components.Condition.TheOpen.{Condition-F, Compound-F}
 use Rattle.selectors3.specs.declared.components.Part.{Part as PartOf}
-use Rattle.selectors3.specs.Components.{Comparison, Signed, Progression, Structure, Simple, Condition, Part}
+use Rattle.selectors3.specs.Components.{Comparison, Signed, Progression, Structure, Simple, Condition, compounds_from, Part}
 use Rattle.selectors3.specs.Components.Comparison.{equals, has_word, has_subtag, starts, ends, contains}
 use Rattle.selectors3.specs.Components.Structure.{root, empty, first_child, last_child, only_child, first_of_type, last_of_type, only_of_type, nth_child, nth_last_child, nth_of_type, nth_last_of_type}
 use Rattle.selectors3.specs.Components.Simple.{universal, type_name, id, class, has_attribute, attribute, structure, language, state}
@@ -60,14 +60,21 @@ simple_of (StructureIs s) = structure (structure_of s)
 simple_of (Language ranges) = language (map cow_str_bytes ranges.items)
 simple_of (State name) = state (cow_str_bytes name)
 
-abbrev pub compound_of : Compound → List Simple
-compound_of c = map simple_of c.simples.items
+-- one level, with what is within its lists already seen as the definitions see it
+abbrev pub condition_step : Condition-F Condition (List Condition) → Condition
+condition_step (Condition-F.Simple s) = simple (simple_of s)
+condition_step (Condition-F.Not compounds) = negation (compounds_from compounds.items)
+condition_step (Condition-F.Is compounds) = any_of (compounds_from compounds.items)
+condition_step (Condition-F.Where compounds) = where_any (compounds_from compounds.items)
+
+abbrev pub compound_step : Compound-F Condition (List Condition) → List Condition
+compound_step c = c.conditions.items
 
 abbrev pub condition_of : ConditionOf → Condition
-condition_of (SimpleIs s) = simple (simple_of s)
-condition_of (Not compounds) = negation (map compound_of compounds.items)
-condition_of (Is compounds) = any_of (map compound_of compounds.items)
-condition_of (Where compounds) = where_any (map compound_of compounds.items)
+condition_of = fold-Condition Condition (List Condition) condition_step compound_step
+
+abbrev pub compound_of : Compound → List Condition
+compound_of c = map condition_of c.conditions.items
 
 abbrev pub part_of : PartOf → Part
 part_of p = record { combinator = p.combinator; conditions = map condition_of p.conditions.items }

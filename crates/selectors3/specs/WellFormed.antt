@@ -1,12 +1,14 @@
 -- Selectors that some text reads as.
-use Rattle.std.specs.Prelude.{◌≡◌, ◌<◌, ◌≤◌, ◌&&◌, ℕ, Bool, true, false, List, [], ◌∷◌, length, All, None}
+use Rattle.std.specs.Prelude.{◌≡◌, ◌<◌, ◌≤◌, ◌&&◌, ℕ, zero, suc, Bool, true, false, List, [], ◌∷◌, length, All, None}
 use Rattle.std.specs.Option.{ForSome, is_some}
 use Rattle.sibling_matching.specs.declared.Combinator.TheVariants.{Descendant}
-use Rattle.selectors3.specs.Components.{Signed, Progression, Structure, Simple, Condition, Part, Selector}
+use Rattle.selectors3.specs.Components.{Signed, Progression, Structure, Simple, Condition, Conditions, Compounds, Part, Selector}
 use Rattle.selectors3.specs.Components.Structure.{nth_child, nth_last_child, nth_of_type, nth_last_of_type}
 use Rattle.selectors3.specs.Components.Simple.{universal, type_name, id, class, has_attribute, attribute, structure, language, state}
 use Rattle.selectors3.specs.Components.Condition.{simple, negation, any_of, where_any}
-use Rattle.selectors3.specs.Grammar.{plain_structure, is_old_element}
+use Rattle.selectors3.specs.Components.Conditions.{end_of_compound, with_condition}
+use Rattle.selectors3.specs.Components.Compounds.{end_of_list, with_compound}
+use Rattle.selectors3.specs.Grammar.{plain_structure, is_old_element, deepest}
 
 -- a name is not empty
 abbrev pub IsName : List ℕ → Type 0
@@ -47,30 +49,45 @@ IsFirst universal = Unit {0}
 IsFirst (type_name name) = IsName name
 IsFirst s = IsFurther s
 
--- a compound selector of a list has a simple selector at least
-abbrev pub IsCompound : List Simple → Type 0
-IsCompound [] = ⊥
-IsCompound (s ∷ simples) = IsFirst s × All IsFurther simples
+abbrev mutual
+  -- a condition that may follow others, with lists nested at most `n` deep
+  pub IsFurtherCondition : ℕ → Condition → Type 0
+  IsFurtherCondition n (simple s) = IsFurther s
+  IsFurtherCondition n (negation compounds) = IsList n compounds
+  IsFurtherCondition n (any_of compounds) = IsList n compounds
+  IsFurtherCondition n (where_any compounds) = IsList n compounds
 
--- a list is not empty
-abbrev pub AreCompounds : List (List Simple) → Type 0
-AreCompounds compounds = (0 < length compounds) × All IsCompound compounds
+  -- a condition that may be the first
+  pub IsFirstCondition : ℕ → Condition → Type 0
+  IsFirstCondition n (simple s) = IsFirst s
+  IsFirstCondition n (negation compounds) = IsList n compounds
+  IsFirstCondition n (any_of compounds) = IsList n compounds
+  IsFirstCondition n (where_any compounds) = IsList n compounds
 
-abbrev pub IsFurtherCondition : Condition → Type 0
-IsFurtherCondition (simple s) = IsFurther s
-IsFurtherCondition (negation compounds) = AreCompounds compounds
-IsFurtherCondition (any_of compounds) = AreCompounds compounds
-IsFurtherCondition (where_any compounds) = AreCompounds compounds
+  -- a list is not empty; it is one of those that are nested
+  pub IsList : ℕ → Compounds → Type 0
+  IsList zero compounds = ⊥
+  IsList (suc n) end_of_list = ⊥
+  IsList (suc n) (with_compound c compounds) = IsCompound n c × AreCompounds n compounds
 
-abbrev pub IsFirstCondition : Condition → Type 0
-IsFirstCondition (simple s) = IsFirst s
-IsFirstCondition c = IsFurtherCondition c
+  pub AreCompounds : ℕ → Compounds → Type 0
+  AreCompounds n end_of_list = Unit {0}
+  AreCompounds n (with_compound c compounds) = IsCompound n c × AreCompounds n compounds
+
+  -- a compound selector in a list has a condition at least
+  pub IsCompound : ℕ → Conditions → Type 0
+  IsCompound n end_of_compound = ⊥
+  IsCompound n (with_condition c conditions) = IsFirstCondition n c × AreFurther n conditions
+
+  pub AreFurther : ℕ → Conditions → Type 0
+  AreFurther n end_of_compound = Unit {0}
+  AreFurther n (with_condition c conditions) = IsFurtherCondition n c × AreFurther n conditions
 
 -- the conditions of a compound selector: only before a pseudo-element there may be none
 abbrev pub AreConditions : Bool → List Condition → Type 0
 AreConditions before_element [] = before_element ≡ true
 AreConditions before_element (c ∷ conditions) =
-    IsFirstCondition c × All IsFurtherCondition conditions
+    IsFirstCondition deepest c × All (IsFurtherCondition deepest) conditions
 
 abbrev pub is_last : List Part → Bool
 is_last [] = true

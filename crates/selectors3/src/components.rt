@@ -135,14 +135,16 @@ pub enum Simple<'a> {
     State(CowStr<'a>),
 }
 
-/// Simple selectors that all must hold.
+/// A compound selector in a list.
+#[cycle(lists)]
 #[derive(Drop)]
 pub struct Compound<'a> {
-    /// The simple selectors.
-    pub simples: Vec<Simple<'a>>,
+    /// What an element must satisfy.
+    pub conditions: Vec<Condition<'a>>,
 }
 
 /// A simple selector, or a pseudo-class with a list of compound selectors.
+#[cycle(lists)]
 #[derive(Drop)]
 pub enum Condition<'a> {
     /// A simple selector.

@@ -1,9 +1,10 @@
 //! The keys of a selector: conditions of which each element that it matches satisfies one.
 ghost use Rattle.std.specs.Prelude.{◌≡◌, ◌++◌, ◌∷◌, [], OnOk, MatchOption, List, map};
-ghost use Rattle.selectors3.specs.Keys.{Key as KeyOf, simple_key, best_key, compound_key};
+ghost use Rattle.selectors3.specs.Keys.{simple_key, lone_key, compound_key, compound_keys};
 ghost use Rattle.selectors3.specs.Keys.{condition_keys, least_rank, best_keys, keys_of};
 ghost use Rattle.selectors3.specs.Keys.{rank as rank_of};
 ghost use Rattle.selectors3.specs.Keys.Key.{by_nothing};
+ghost use Rattle.selectors3.specs.Components.{conditions_from, compounds_from};
 ghost use Rattle.selectors3.specs.KeyViews.{key_of, keys_of_best};
 ghost use Rattle.selectors3.specs.Views.{simple_of, compound_of, condition_of};
 
@@ -56,14 +57,24 @@ fn key_of_simple<'s>(simple: &'s Simple<'_>) -> Key<'s>
     }
 }
 
-/// Returns the first key of the greatest rank of simple selectors.
+/// Returns the key that a condition of a compound selector in a list requires.
+fn lone_key_of<'s>(condition: &'s Condition<'_>) -> Key<'s>
+    ensures { key_of result ≡ lone_key (condition_of condition.now) }
+{
+    match condition {
+        Condition::Simple(simple) => key_of_simple(simple),
+        Condition::Not(_) | Condition::Is(_) | Condition::Where(_) => Key::Any,
+    }
+}
+
+/// Returns the first key of the greatest rank of conditions.
 fn key_of_compound<'s>(compound: &'s Compound<'_>) -> Key<'s>
-    ensures { key_of result ≡ compound_key (compound_of compound.now) }
+    ensures { key_of result ≡ compound_key (conditions_from (compound_of compound.now)) }
 {
     let mut best = Key::Any;
-    let mut rest = compound.simples.as_slice();
-    'simples: while let [simple, after @ ..] = rest {
-        let key = key_of_simple(simple);
+    let mut rest = compound.conditions.as_slice();
+    'conditions: while let [condition, after @ ..] = rest {
+        let key = lone_key_of(condition);
         if best.rank() < key.rank() {
             best = key;
         }
@@ -74,7 +85,8 @@ fn key_of_compound<'s>(compound: &'s Compound<'_>) -> Key<'s>
 
 /// Returns the least rank of the keys of compound selectors, at most 4.
 fn least_of(compounds: &[Compound<'_>]) -> u8
-    ensures { result ≡ least_rank (map compound_key (map compound_of compounds.now)) }
+    ensures { result
+        ≡ least_rank (compound_keys (compounds_from (map compound_of compounds.now))) }
 {
     let mut least = 4;
     let mut rest = compounds;
@@ -97,7 +109,7 @@ fn rank_of_condition(condition: &Condition<'_>) -> u8
 }
 
 /// Returns the first condition whose keys have the greatest least rank, unless that is 0.
-fn best_condition<'s, 'a>(conditions: &'s [Condition<'a>]) -> Option<&'s Condition<'a>>
+pub(crate) fn best_condition<'s, 'a>(conditions: &'s [Condition<'a>]) -> Option<&'s Condition<'a>>
     ensures { best_keys (by_nothing ∷ []) (map condition_of conditions.now)
         ≡ keys_of_best result }
 {
@@ -121,7 +133,7 @@ fn push_compounds<'s>(
     keys: &mut Vec<Key<'s>>,
 ) -> Result<(), AllocError>
     ensures { OnOk result (map key_of keys.new.items ≡ map key_of keys.old.items
-        ++ map compound_key (map compound_of compounds.now)) }
+        ++ map (λ c. compound_key (conditions_from (compound_of c))) compounds.now) }
 {
     for compound in compounds {
         keys.push(key_of_compound(compound))?;
@@ -129,23 +141,43 @@ fn push_compounds<'s>(
     Ok(())
 }
 
+/// Appends the keys of a condition.
+fn push_condition<'s>(
+    condition: &'s Condition<'_>,
+    keys: &mut Vec<Key<'s>>,
+) -> Result<(), AllocError>
+    ensures { OnOk result (map key_of keys.new.items ≡ map key_of keys.old.items
+        ++ condition_keys (condition_of condition.now)) }
+{
+    match condition {
+        Condition::Simple(simple) => {
+            keys.push(key_of_simple(simple))?;
+            Ok(())
+        }
+        Condition::Not(_) => {
+            keys.push(Key::Any)?;
+            Ok(())
+        }
+        Condition::Is(compounds) | Condition::Where(compounds) => {
+            push_compounds(compounds.as_slice(), keys)
+        }
+    }
+}
+
 /// Appends the keys of a condition, if there is one, or the key that each element has.
-fn push_best<'s>(best: Option<&'s Condition<'_>>, keys: &mut Vec<Key<'s>>) -> Result<(), AllocError>
+pub(crate) fn push_best<'s>(
+    best: Option<&'s Condition<'_>>,
+    keys: &mut Vec<Key<'s>>,
+) -> Result<(), AllocError>
     ensures { OnOk result (map key_of keys.new.items ≡ map key_of keys.old.items
         ++ keys_of_best best.entry) }
 {
     match best {
-        None | Some(Condition::Not(_)) => {
+        None => {
             keys.push(Key::Any)?;
             Ok(())
         }
-        Some(Condition::Simple(simple)) => {
-            keys.push(key_of_simple(simple))?;
-            Ok(())
-        }
-        Some(Condition::Is(compounds) | Condition::Where(compounds)) => {
-            push_compounds(compounds.as_slice(), keys)
-        }
+        Some(condition) => push_condition(condition, keys),
     }
 }
 

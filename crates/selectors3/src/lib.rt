@@ -14,6 +14,7 @@
 //! Namespaces, and lists within the lists of `:not()`, `:is()` and `:where()` are not read.
 #![tactic(auto)]
 
+mod ancestor_keys;
 mod attribute_selectors;
 mod attributes;
 mod components;

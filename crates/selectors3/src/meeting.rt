@@ -3,7 +3,6 @@ ghost use Rattle.std.specs.Prelude.{◌≡◌, ◌+◌, map, Option, option_map}
 ghost use Rattle.std.specs.List.{list_any};
 ghost use Rattle.std.specs.Cow.{cow_str_bytes};
 ghost use Rattle.selectors3.specs.Meanings.{satisfies, is_placed, holds as holds_on};
-ghost use Rattle.selectors3.specs.Meanings.{hold as hold_on, holds_any as holds_any_on};
 ghost use Rattle.selectors3.specs.Meanings.{is_met as is_met_on, are_met as are_met_on};
 ghost use Rattle.selectors3.specs.Views.{comparison_of, structure_of, simple_of, compound_of, condition_of};
 
@@ -91,35 +90,22 @@ fn holds<E: Element3>(simple: &Simple<'_>, element: &E) -> bool
     }
 }
 
-/// Whether the element satisfies all simple selectors.
-fn hold<E: Element3>(simples: &[Simple<'_>], element: &E) -> bool
-    ensures { result ≡ hold_on E.document (E.node element.now) (map simple_of simples.now) }
-{
-    let mut rest = simples;
-    'simples: while let [simple, after @ ..] = rest {
-        if !holds(simple, element) {
-            return false;
-        }
-        rest = after;
-    }
-    true
-}
-
 /// Whether the element satisfies one of the compound selectors.
+#[cycle(meeting)]
 fn holds_any<E: Element3>(compounds: &[Compound<'_>], element: &E) -> bool
-    ensures { result ≡ holds_any_on E.document (E.node element.now) (map compound_of compounds.now) }
+    ensures { result
+        ≡ list_any (are_met_on E.document (E.node element.now)) (map compound_of compounds.now) }
 {
-    let mut rest = compounds;
-    'compounds: while let [compound, after @ ..] = rest {
-        if hold(compound.simples.as_slice(), element) {
+    for compound in compounds {
+        if are_met(compound.conditions.as_slice(), element) {
             return true;
         }
-        rest = after;
     }
     false
 }
 
 /// Whether the element satisfies the condition.
+#[cycle(meeting)]
 fn is_met<E: Element3>(condition: &Condition<'_>, element: &E) -> bool
     ensures { result ≡ is_met_on E.document (E.node element.now) (condition_of condition.now) }
 {
@@ -133,15 +119,14 @@ fn is_met<E: Element3>(condition: &Condition<'_>, element: &E) -> bool
 }
 
 /// Whether the element satisfies all conditions.
+#[cycle(meeting)]
 pub(crate) fn are_met<E: Element3>(conditions: &[Condition<'_>], element: &E) -> bool
     ensures { result ≡ are_met_on E.document (E.node element.now) (map condition_of conditions.now) }
 {
-    let mut rest = conditions;
-    'conditions: while let [condition, after @ ..] = rest {
+    for condition in conditions {
         if !is_met(condition, element) {
             return false;
         }
-        rest = after;
     }
     true
 }

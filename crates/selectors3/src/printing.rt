@@ -8,7 +8,7 @@ ghost use Rattle.std.specs.Option.{option_map};
 ghost use Rattle.std.specs.Result.{IsOk};
 ghost use Rattle.selectors3.specs.Printing.{minus_text, signed_text, is_zero as is_zero_number, size_text, plus_text, offset_text, progression_text};
 ghost use Rattle.selectors3.specs.Printing.{comparison_text, flag_text, function_text, structure_text, list_text, further_text, string_text, identifier_text};
-ghost use Rattle.selectors3.specs.Printing.{simple_text, compound_text, compounds_text, condition_text, combinator_text, part_text, parts_text};
+ghost use Rattle.selectors3.specs.Printing.{simple_text, condition_text, combinator_text, part_text, parts_text};
 ghost use Rattle.selectors3.specs.Printing.{pseudo_element_text, selector_text};
 ghost use Rattle.selectors3.specs.Views.{comparison_of, signed_of, progression_of, structure_of, simple_of, compound_of, condition_of, part_of};
 
@@ -262,57 +262,31 @@ fn write_simple<W: fmt::Write>(f: &mut fmt::Formatter<W>, simple: &Simple) -> fm
     }
 }
 
-/// Writes simple selectors one after another.
-fn write_simples<W: fmt::Write>(f: &mut fmt::Formatter<W>, simples: &[Simple]) -> fmt::Result
-    ensures { WritesStyledOnOk W.write_str_gives f.old result
-        (compound_text (map simple_of simples.now)) f.new }
-{
-    for simple in simples {
-        write_simple(f, simple)?;
-    }
-    Ok(())
-}
-
-/// Writes a compound selector of a list.
-fn write_compound<W: fmt::Write>(f: &mut fmt::Formatter<W>, compound: &Compound) -> fmt::Result
-    ensures { WritesStyledOnOk W.write_str_gives f.old result
-        (compound_text (compound_of compound.now)) f.new }
-{
-    write_simples(f, compound.simples.as_slice())
-}
-
-/// Writes the compound selectors after the first of a list.
-fn write_further<W: fmt::Write>(f: &mut fmt::Formatter<W>, compounds: &[Compound]) -> fmt::Result
-    ensures { WritesStyledOnOk W.write_str_gives f.old result
-        (flat_map (further_text compound_text) (map compound_of compounds.now)) f.new }
-{
-    for compound in compounds {
-        f.write_str(", ")?;
-        write_compound(f, compound)?;
-    }
-    Ok(())
-}
-
 /// Writes compound selectors with commas between them.
+#[cycle(printing)]
 fn write_compounds<W: fmt::Write>(f: &mut fmt::Formatter<W>, compounds: &[Compound]) -> fmt::Result
     ensures { WritesStyledOnOk W.write_str_gives f.old result
-        (compounds_text (map compound_of compounds.now)) f.new }
+        (list_text (λ c. flat_map condition_text (compound_of c)) compounds.now) f.new }
 {
-    let Some((first, rest)) = compounds.split_first() else {
-        return Ok(());
-    };
-    write_compound(f, first)?;
-    write_further(f, rest)
+    let mut separator = "";
+    for compound in compounds {
+        f.write_str(separator)?;
+        write_conditions(f, compound.conditions.as_slice())?;
+        separator = ", ";
+    }
+    Ok(())
 }
 
 /// Writes a pseudo-class with a list of compound selectors.
+#[cycle(printing)]
 fn write_list<W: fmt::Write>(
     f: &mut fmt::Formatter<W>,
     name: &str,
     compounds: &[Compound],
 ) -> fmt::Result
     ensures { WritesStyledOnOk W.write_str_gives f.old result
-        (function_text name.now (compounds_text (map compound_of compounds.now))) f.new }
+        (function_text name.now
+        (list_text (λ c. flat_map condition_text (compound_of c)) compounds.now)) f.new }
 {
     f.write_str(name)?;
     write_compounds(f, compounds)?;
@@ -320,6 +294,7 @@ fn write_list<W: fmt::Write>(
 }
 
 /// Writes a condition.
+#[cycle(printing)]
 fn write_condition<W: fmt::Write>(f: &mut fmt::Formatter<W>, condition: &Condition) -> fmt::Result
     ensures { WritesStyledOnOk W.write_str_gives f.old result
         (condition_text (condition_of condition.now)) f.new }
@@ -333,6 +308,7 @@ fn write_condition<W: fmt::Write>(f: &mut fmt::Formatter<W>, condition: &Conditi
 }
 
 /// Writes the conditions of a compound selector.
+#[cycle(printing)]
 fn write_conditions<W: fmt::Write>(
     f: &mut fmt::Formatter<W>,
     conditions: &[Condition],

@@ -2,10 +2,11 @@
 ghost use Rattle.std.specs.Prelude.{◌≡◌, map};
 ghost use Rattle.selectors3.specs.Specificities.{Counts, nothing, one_id, one_class, one_name};
 ghost use Rattle.selectors3.specs.Specificities.{plus as sum_of, greater as greater_of, is_less};
-ghost use Rattle.selectors3.specs.Specificities.{of_simple as counts_of_simple, with_simples};
+ghost use Rattle.selectors3.specs.Specificities.{of_simple as counts_of_simple};
 ghost use Rattle.selectors3.specs.Specificities.{greatest as greatest_of};
 ghost use Rattle.selectors3.specs.Specificities.{of_condition as counts_of_condition, with_conditions};
 ghost use Rattle.selectors3.specs.Specificities.{with_parts, specificity as specificity_of};
+ghost use Rattle.selectors3.specs.Components.{compounds_from};
 ghost use Rattle.selectors3.specs.SpecificityViews.{counts_of};
 ghost use Rattle.selectors3.specs.Views.{simple_of, compound_of, condition_of, part_of};
 
@@ -84,33 +85,21 @@ fn of_simple(simple: &Simple<'_>) -> Specificity
     }
 }
 
-/// Returns what simple selectors count together.
-fn of_simples(simples: &[Simple<'_>]) -> Specificity
-    ensures { counts_of result ≡ with_simples nothing (map simple_of simples.now) }
-{
-    let mut counted = NOTHING;
-    let mut rest = simples;
-    'simples: while let [simple, after @ ..] = rest {
-        counted = plus(counted, of_simple(simple));
-        rest = after;
-    }
-    counted
-}
-
 /// Returns the greatest that one of the compound selectors counts.
+#[cycle(counting)]
 fn greatest(compounds: &[Compound<'_>]) -> Specificity
-    ensures { counts_of result ≡ greatest_of nothing (map compound_of compounds.now) }
+    ensures { counts_of result
+        ≡ greatest_of nothing (compounds_from (map compound_of compounds.now)) }
 {
     let mut most = NOTHING;
-    let mut rest = compounds;
-    'compounds: while let [compound, after @ ..] = rest {
-        most = greater(most, of_simples(compound.simples.as_slice()));
-        rest = after;
+    for compound in compounds {
+        most = greater(most, with_each(NOTHING, compound.conditions.as_slice()));
     }
     most
 }
 
 /// Returns what a condition counts.
+#[cycle(counting)]
 fn of_condition(condition: &Condition<'_>) -> Specificity
     ensures { counts_of result ≡ counts_of_condition (condition_of condition.now) }
 {
@@ -122,15 +111,14 @@ fn of_condition(condition: &Condition<'_>) -> Specificity
 }
 
 /// Adds what conditions count.
+#[cycle(counting)]
 fn with_each(so_far: Specificity, conditions: &[Condition<'_>]) -> Specificity
     ensures { counts_of result
         ≡ with_conditions (counts_of so_far) (map condition_of conditions.now) }
 {
     let mut counted = so_far;
-    let mut rest = conditions;
-    'conditions: while let [condition, after @ ..] = rest {
+    for condition in conditions {
         counted = plus(counted, of_condition(condition));
-        rest = after;
     }
     counted
 }

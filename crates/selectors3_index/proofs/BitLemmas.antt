@@ -1,6 +1,6 @@
 -- Bits of keys, and which sets of bits cover them.
 -- Serves `key_bits` and `selector_index`.
-use Rattle.std.proofs.Common.{◌≡◌, ℕ, ◌+◌, ◌*◌, ◌/◌, ◌%◌, ◌^◌, ◌-◌, ◌<◌, ◌≤◌, ◌⊎◌, ◌↔◌, inl, inr, false, IsTrue, List, [], ◌∷◌, map, Option, None, Some, refl, sym, ap, ◌∙◌, subst, arith}
+use Rattle.std.proofs.Common.{◌≡◌, ℕ, ◌+◌, ◌*◌, ◌/◌, ◌%◌, ◌^◌, ◌-◌, ◌<◌, ◌≤◌, ◌⊎◌, ◌↔◌, inl, inr, false, IsTrue, List, [], ◌∷◌, map, Some, refl, sym, ap, ◌∙◌, subst, arith}
 use Rattle.std.proofs.Math.Nat.{mod-lt}
 use Rattle.std.specs.Char.{to_ascii_lowercase}
 use Rattle.std.specs.Int.{bit_at}
@@ -15,7 +15,7 @@ use Rattle.selectors3.specs.Documents.{Document}
 use Rattle.selectors3.specs.Keys.{Key, has_key}
 use Rattle.selectors3.specs.Keys.Key.{by_id, by_class, by_name, by_attribute, by_nothing}
 use Rattle.selectors3.specs.Meanings.{satisfies}
-use Rattle.selectors3_index.specs.KeyBits.{number_from, bit_by, key_bits, Covers, covers, CoversKeys}
+use Rattle.selectors3_index.specs.KeyBits.{number_from, word_bits, name_bit, key_bits, Covers, covers, CoversKeys}
 use Rattle.selectors3_index.specs.Reported.{Reported, ReportsKeys}
 use Rattle.selectors3_index.proofs.KeyedLemmas.{equals_is}
 
@@ -126,7 +126,7 @@ covers_element document n reported name id class law is ids classes (by_class wo
     (covers_right (bit_or name id) class) (classes word h)
 covers_element document n reported name id class law is ids classes (by_name other) h =
     let same : name ≡ key_bits (by_name other) =
-    is ∙ ap bit_by (sym (same_name_number 3 other reported.name (law (by_name other) h))) in
+    is ∙ ap name_bit (sym (same_name_number 3 other reported.name (law (by_name other) h))) in
     covers_more (bit_or (bit_or name id) class) name (key_bits (by_name other))
     (covers_more (bit_or (bit_or name id) class) (bit_or name id) name
     (covers_left (bit_or name id) class) (covers_left name id))
@@ -137,25 +137,34 @@ covers_element document n reported name id class law is ids classes by_nothing h
     covers_none (bit_or (bit_or name id) class)
 
 -- all bits cover each key
-bit_within : (number : ℕ) → bit_by number < 2 ^ 64
-bit_within number = mod-lt (1 * 2 ^ (number * 11400714819323198485 % 2 ^ 64 / 2 ^ 58)) (omega arith)
-
-key_within : (key : Key) → key_bits key < 2 ^ 64
-key_within (by_id text) = bit_within (number_from 1 text)
-key_within (by_class word) = bit_within (number_from 2 word)
-key_within (by_name name) = bit_within (number_from 3 name)
-key_within (by_attribute name) = omega arith
-key_within by_nothing = omega arith
-
-pub all_cover : (key : Key) → Covers (2 ^ 64 - 1) (key_bits key)
-all_cover key i = at (order i 64)
+ones_cover : (place : ℕ) → Covers (2 ^ 64 - 1) (1 * 2 ^ place % 2 ^ 64)
+ones_cover place i = at (order i 64)
   where
     order : (m n : ℕ) → (m < n) ⊎ (n ≤ m)
     order m n = grind arith
 
-    at : (i < 64) ⊎ (64 ≤ i) → bit_at (key_bits key) i ≤ bit_at (2 ^ 64 - 1) i
+    within : 1 * 2 ^ place % 2 ^ 64 < 2 ^ 64
+    within = mod-lt (1 * 2 ^ place) (omega arith)
+
+    at : (i < 64) ⊎ (64 ≤ i) → bit_at (1 * 2 ^ place % 2 ^ 64) i ≤ bit_at (2 ^ 64 - 1) i
     at (inl lt) =
         let one = bit_at_ones 64 i lt in
-        let few = bit_at-lt (key_bits key) i in
+        let few = bit_at-lt (1 * 2 ^ place % 2 ^ 64) i in
         omega (arith, one, few)
-    at (inr le) = let z = bit_at_above (key_bits key) 64 i (key_within key) le in omega (arith, z)
+    at (inr le) =
+        let z = bit_at_above (1 * 2 ^ place % 2 ^ 64) 64 i within le in omega (arith, z)
+
+words_cover : (number : ℕ) → Covers (2 ^ 64 - 1) (word_bits number)
+words_cover number =
+    covers_both (2 ^ 64 - 1)
+    (1 * 2 ^ (number * 11400714819323198485 % 2 ^ 64 / 2 ^ 59) % 2 ^ 64)
+    (1 * 2 ^ (32 + number * 14029467366897019727 % 2 ^ 64 / 2 ^ 60) % 2 ^ 64)
+    (ones_cover (number * 11400714819323198485 % 2 ^ 64 / 2 ^ 59))
+    (ones_cover (32 + number * 14029467366897019727 % 2 ^ 64 / 2 ^ 60))
+
+pub all_cover : (key : Key) → Covers (2 ^ 64 - 1) (key_bits key)
+all_cover (by_id text) = words_cover (number_from 1 text)
+all_cover (by_class word) = words_cover (number_from 2 word)
+all_cover (by_name name) = ones_cover (48 + number_from 3 name * 11400714819323198485 % 2 ^ 64 / 2 ^ 60)
+all_cover (by_attribute name) = covers_none (2 ^ 64 - 1)
+all_cover by_nothing = covers_none (2 ^ 64 - 1)

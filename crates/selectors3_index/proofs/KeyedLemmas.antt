@@ -14,13 +14,14 @@ use Rattle.selectors3.specs.AttributeTests.{begins}
 use Rattle.selectors3.specs.Components.{Selector}
 use Rattle.selectors3.specs.Components.Comparison.{equals}
 use Rattle.selectors3.specs.Documents.{Document}
-use Rattle.selectors3.specs.Keys.{Key, has_key, keys_of}
+use Rattle.selectors3.specs.Keys.{Key}
 use Rattle.selectors3.specs.Keys.Key.{by_id, by_class, by_name, by_attribute, by_nothing}
 use Rattle.selectors3.specs.Meanings.{satisfies}
-use Rattle.selectors3.proofs.KeyLemmas.{matched_has}
-use Rattle.selectors3_index.specs.Reported.{Reported, reports_key, ReportsKeys}
-use Rattle.selectors3_index.specs.Found.{IsKeyedAt, MatchesAt}
-use Rattle.selectors3_index.specs.internal.Filed.{is_same, with_index, entries_from, entries_of, found_by, found_by_any, id_keys, AreClasses, AreReported}
+use Rattle.selectors3_index.specs.Reported.{Reported, reports_key}
+use Rattle.selectors3_index.specs.declared.above.Above.{Above}
+use Rattle.selectors3_index.specs.internal.Candidates.{IsKeyedAt}
+use Rattle.selectors3_index.specs.internal.NeededBits.{needed_bits, is_covered}
+use Rattle.selectors3_index.specs.internal.Filed.{is_same, is_found_by, filed_keys, with_index, entries_from, entries_of, found_by, found_by_any, id_keys, AreClasses, AreReported}
 use Rattle.selectors3_index.proofs.KeptLemmas.{contains_none, contains_cons}
 
 -- a list has an element that passes the test
@@ -35,6 +36,10 @@ any_from {X} p (x ∷ xs) h = by (p x) refl (any_from p xs) h
     by true is ih k = (x, (contains_cons x xs x).1 (inl refl), is)
     by false is ih k = let r = ih k in (r.0, (contains_cons x xs r.0).1 (inr r.1), r.2)
 
+or_second : (a b : Bool) → IsTrue b → IsTrue (a || b)
+or_second true b k = refl
+or_second false b k = k
+
 pub any_to : {X : Type 0} (p : X → Bool) (xs : List X) (x : X) → Contains xs x → IsTrue (p x)
     → IsTrue (list_any p xs)
 any_to p [] x c h = absurd (contains_none x c)
@@ -42,129 +47,158 @@ any_to p (y ∷ xs) x c h = elim ((contains_cons y xs x).0 c) [
   | inl e ↦ ap (λ t. t || list_any p xs) (subst (λ z. IsTrue (p z)) (sym e) h)
   | inr k ↦ or_second (p y) (list_any p xs) (any_to p xs x k h)
 ]
-  where
-    or_second : (a b : Bool) → IsTrue b → IsTrue (a || b)
-    or_second true b k = refl
-    or_second false b k = k
+
+and_first : (a b : Bool) → IsTrue (a && b) → IsTrue a
+and_first true b h = refl
+and_first false b h = absurd (cc)
+
+and_second : (a b : Bool) → IsTrue (a && b) → IsTrue b
+and_second true b h = h
+and_second false b h = absurd (cc)
+
+and_both : (a b : Bool) → IsTrue a → IsTrue b → IsTrue (a && b)
+and_both true b h k = k
+and_both false b h k = absurd (cc)
+
+-- an entry of the index that passes the test
+abbrev HasEntry : (Key → Bool) → Above → List (Key × ℕ × Above) → ℕ → Type 0
+HasEntry test above es index =
+    (own : Key) × (needed : Above) × Contains es (own, index, needed) × IsTrue (test own)
+    × IsTrue (is_covered above needed)
 
 -- what a key finds
-module _ (key : Key) (index : ℕ) where
-  pub found_from : (es : List (Key × ℕ)) → Contains (found_by es key) index
-      → (own : Key) × Contains es (own, index) × IsTrue (is_same own key)
+module _ (above : Above) (key : Key) (index : ℕ) where
+  found_from : (es : List (Key × ℕ × Above)) → Contains (found_by es above key) index
+      → HasEntry (λ own. is_same own key) above es index
   found_from [] c = absurd (contains_none index c)
-  found_from (e ∷ es) c = by (is_same e.0 key) refl c (found_from es)
+  found_from (e ∷ es) c = by (is_found_by key above e) refl c (found_from es)
     where
-      by : (t : Bool) → is_same e.0 key ≡ t
-          → Contains (map (λ x. x.1) (cond t (e ∷ filter (λ x. is_same x.0 key) es)
-          (filter (λ x. is_same x.0 key) es))) index
-          → (Contains (found_by es key) index
-          → (own : Key) × Contains es (own, index) × IsTrue (is_same own key))
-          → (own : Key) × Contains (e ∷ es) (own, index) × IsTrue (is_same own key)
-      by true is k ih = elim ((contains_cons e.1 (found_by es key) index).0 k) [
-        | inl q ↦ (e.0, (contains_cons e es (e.0, index)).1 (inl (ap (λ i. (e.0, i)) q)), is)
-        | inr l ↦
-            (let r = ih l in (r.0, (contains_cons e es (r.0, index)).1 (inr r.1), r.2))
+      by : (t : Bool) → is_found_by key above e ≡ t
+          → Contains (map (λ x. x.1) (cond t (e ∷ filter (is_found_by key above) es)
+          (filter (is_found_by key above) es))) index
+          → (Contains (found_by es above key) index → HasEntry (λ own. is_same own key) above es index)
+          → HasEntry (λ own. is_same own key) above (e ∷ es) index
+      by true is k ih = elim ((contains_cons e.1 (found_by es above key) index).0 k) [
+        | inl q ↦ (
+          e.0,
+          e.2,
+          (contains_cons e es (e.0, index, e.2)).1 (inl (ap (λ i. (e.0, i, e.2)) q)),
+          and_first (is_same e.0 key) (is_covered above e.2) is,
+          and_second (is_same e.0 key) (is_covered above e.2) is,
+        )
+        | inr l ↦ (let r = ih l in
+            (r.0, r.1, (contains_cons e es (r.0, index, r.1)).1 (inr r.2), r.3, r.4))
       ]
       by false is k ih =
-          let r = ih k in (r.0, (contains_cons e es (r.0, index)).1 (inr r.1), r.2)
+          let r = ih k in (r.0, r.1, (contains_cons e es (r.0, index, r.1)).1 (inr r.2), r.3, r.4)
 
-  pub found_to : (es : List (Key × ℕ)) (own : Key) → Contains es (own, index)
-      → IsTrue (is_same own key) → Contains (found_by es key) index
-  found_to [] own c h = absurd (contains_none (own, index) c)
-  found_to (e ∷ es) own c h = by (is_same e.0 key) refl (found_to es own)
+  found_to : (es : List (Key × ℕ × Above)) (own : Key) (needed : Above) → Contains es (own, index, needed)
+      → IsTrue (is_same own key) → IsTrue (is_covered above needed)
+      → Contains (found_by es above key) index
+  found_to [] own needed c h k = absurd (contains_none (own, index, needed) c)
+  found_to (e ∷ es) own needed c h k = by (is_found_by key above e) refl (found_to es own needed)
     where
-      by : (t : Bool) → is_same e.0 key ≡ t
-          → (Contains es (own, index) → IsTrue (is_same own key) → Contains (found_by es key) index)
-          → Contains (map (λ x. x.1) (cond t (e ∷ filter (λ x. is_same x.0 key) es)
-          (filter (λ x. is_same x.0 key) es))) index
-      by true is ih = elim ((contains_cons e es (own, index)).0 c) [
-        | inl q ↦ (contains_cons e.1 (found_by es key) index).1 (inl (ap (λ x. x.1) q))
-        | inr k ↦ (contains_cons e.1 (found_by es key) index).1 (inr (ih k h))
+      by : (t : Bool) → is_found_by key above e ≡ t
+          → (Contains es (own, index, needed) → IsTrue (is_same own key)
+          → IsTrue (is_covered above needed) → Contains (found_by es above key) index)
+          → Contains (map (λ x. x.1) (cond t (e ∷ filter (is_found_by key above) es)
+          (filter (is_found_by key above) es))) index
+      by true is ih = elim ((contains_cons e es (own, index, needed)).0 c) [
+        | inl q ↦ (contains_cons e.1 (found_by es above key) index).1 (inl (ap (λ x. x.1) q))
+        | inr l ↦ (contains_cons e.1 (found_by es above key) index).1 (inr (ih l h k))
       ]
-      by false is ih = elim ((contains_cons e es (own, index)).0 c) [
-        | inl q ↦ absurd (false≢true (sym is ∙ ap (λ x. is_same x.0 key) q ∙ h))
-        | inr k ↦ ih k h
+      by false is ih = elim ((contains_cons e es (own, index, needed)).0 c) [
+        | inl q ↦ absurd (false≢true (sym is ∙ ap (is_found_by key above) q
+            ∙ and_both (is_same own key) (is_covered above needed) h k))
+        | inr l ↦ ih l h k
       ]
 
 -- what several keys find
-pub any_found_from : (es : List (Key × ℕ)) (keys : List Key) (index : ℕ)
-    → Contains (found_by_any es keys) index
-    → (own : Key) × Contains es (own, index) × IsTrue (list_any (is_same own) keys)
-any_found_from es [] index c = absurd (contains_none index c)
-any_found_from es (key ∷ keys) index c =
-    elim (Contains-append_cases (found_by es key) (found_by_any es keys) index c) [
-      | inl h ↦ (let r = found_from key index es h in
-          (r.0, r.1, ap (λ t. t || list_any (is_same r.0) keys) r.2))
-      | inr h ↦ (let r = any_found_from es keys index h in
-          (r.0, r.1, or_second (is_same r.0 key) (list_any (is_same r.0) keys) r.2))
+pub any_found_from : (es : List (Key × ℕ × Above)) (above : Above) (keys : List Key) (index : ℕ)
+    → Contains (found_by_any es above keys) index
+    → HasEntry (λ own. list_any (is_same own) keys) above es index
+any_found_from es above [] index c = absurd (contains_none index c)
+any_found_from es above (key ∷ keys) index c =
+    elim (Contains-append_cases (found_by es above key) (found_by_any es above keys) index c) [
+      | inl h ↦ (let r = found_from above key index es h in
+          (r.0, r.1, r.2, ap (λ t. t || list_any (is_same r.0) keys) r.3, r.4))
+      | inr h ↦ (let r = any_found_from es above keys index h in
+          (r.0, r.1, r.2, or_second (is_same r.0 key) (list_any (is_same r.0) keys) r.3, r.4))
     ]
-  where
-    or_second : (a b : Bool) → IsTrue b → IsTrue (a || b)
-    or_second true b k = refl
-    or_second false b k = k
 
-pub any_found_to : (es : List (Key × ℕ)) (keys : List Key) (index : ℕ) (own : Key)
-    → Contains es (own, index) → IsTrue (list_any (is_same own) keys)
-    → Contains (found_by_any es keys) index
-any_found_to es [] index own c h = absurd (cc)
-any_found_to es (key ∷ keys) index own c h =
-    by (is_same own key) refl (any_found_to es keys index own c) h
+pub any_found_to : (es : List (Key × ℕ × Above)) (above : Above) (keys : List Key) (index : ℕ) (own : Key)
+    (needed : Above) → Contains es (own, index, needed) → IsTrue (list_any (is_same own) keys)
+    → IsTrue (is_covered above needed) → Contains (found_by_any es above keys) index
+any_found_to es above [] index own needed c h k = absurd (cc)
+any_found_to es above (key ∷ keys) index own needed c h k =
+    by (is_same own key) refl h (λ l. any_found_to es above keys index own needed c l k)
   where
-    by : (t : Bool) → is_same own key ≡ t
-        → (IsTrue (list_any (is_same own) keys) → Contains (found_by_any es keys) index)
-        → IsTrue (t || list_any (is_same own) keys)
-        → Contains (found_by_any es (key ∷ keys)) index
-    by true is ih k =
-        Contains-append_left (found_by es key) (found_by_any es keys) index
-        (found_to key index es own c is)
-    by false is ih k =
-        Contains-append_right (found_by es key) (found_by_any es keys) index (ih k)
+    by : (t : Bool) → is_same own key ≡ t → IsTrue (t || list_any (is_same own) keys)
+        → (IsTrue (list_any (is_same own) keys) → Contains (found_by_any es above keys) index)
+        → Contains (found_by es above key ++ found_by_any es above keys) index
+    by true is l ih = Contains-append_left (found_by es above key) (found_by_any es above keys) index
+        (found_to above key index es own needed c is k)
+    by false is l ih =
+        Contains-append_right (found_by es above key) (found_by_any es above keys) index (ih l)
 
 -- the entries of a selector
-with_index_from : (n : ℕ) (keys : List Key) (own : Key) (index : ℕ)
-    → Contains (with_index n keys) (own, index) → (n ≡ index) × Contains keys own
-with_index_from n [] own index c = absurd (contains_none (own, index) c)
-with_index_from n (key ∷ keys) own index c =
-    elim ((contains_cons (key, n) (with_index n keys) (own, index)).0 c) [
-      | inl e ↦ (ap (λ x. x.1) e, (contains_cons key keys own).1 (inl (ap (λ x. x.0) e)))
-      | inr h ↦ (let r = with_index_from n keys own index h in
-          (r.0, (contains_cons key keys own).1 (inr r.1)))
+with_index_from : (n : ℕ) (b : Above) (keys : List Key) (own : Key) (index : ℕ) (needed : Above)
+    → Contains (with_index n b keys) (own, index, needed)
+    → (n ≡ index) × (b ≡ needed) × Contains keys own
+with_index_from n b [] own index needed c = absurd (contains_none (own, index, needed) c)
+with_index_from n b (key ∷ keys) own index needed c =
+    elim ((contains_cons (key, n, b) (with_index n b keys) (own, index, needed)).0 c) [
+      | inl e ↦ (
+        ap (λ x. x.1) e,
+        ap (λ x. x.2) e,
+        (contains_cons key keys own).1 (inl (ap (λ x. x.0) e)),
+      )
+      | inr h ↦ (let r = with_index_from n b keys own index needed h in
+          (r.0, r.1, (contains_cons key keys own).1 (inr r.2)))
     ]
 
-with_index_to : (n : ℕ) (keys : List Key) (own : Key) → Contains keys own
-    → Contains (with_index n keys) (own, n)
-with_index_to n [] own c = absurd (contains_none own c)
-with_index_to n (key ∷ keys) own c = elim ((contains_cons key keys own).0 c) [
-  | inl e ↦ (contains_cons (key, n) (with_index n keys) (own, n)).1 (inl (ap (λ k. (k, n)) e))
-  | inr h ↦
-      (contains_cons (key, n) (with_index n keys) (own, n)).1 (inr (with_index_to n keys own h))
+with_index_to : (n : ℕ) (b : Above) (keys : List Key) (own : Key) → Contains keys own
+    → Contains (with_index n b keys) (own, n, b)
+with_index_to n b [] own c = absurd (contains_none own c)
+with_index_to n b (key ∷ keys) own c = elim ((contains_cons key keys own).0 c) [
+  | inl e ↦
+      (contains_cons (key, n, b) (with_index n b keys) (own, n, b)).1 (inl (ap (λ k. (k, n, b)) e))
+  | inr h ↦ (contains_cons (key, n, b) (with_index n b keys) (own, n, b)).1
+      (inr (with_index_to n b keys own h))
 ]
 
-entries_have : (n : ℕ) (ss : List Selector) (own : Key) (index : ℕ)
-    → Contains (entries_from n ss) (own, index)
-    → (j : ℕ) × (index ≡ n + j) × (s : Selector) × (slice_get ss j ≡ Some s) × Contains (keys_of s) own
-entries_have n [] own index c = absurd (contains_none (own, index) c)
-entries_have n (s ∷ ss) own index c =
-    elim (Contains-append_cases (with_index n (keys_of s)) (entries_from (n + 1) ss) (own, index) c) [
-      | inl h ↦ (let r = with_index_from n (keys_of s) own index h in
-          let e = r.0 in (0, omega (arith, e), s, refl, r.1))
-      | inr h ↦ (let r = entries_have (n + 1) ss own index h in
-          let e = r.1 in (suc r.0, omega (arith, e), r.2, r.3, r.4))
+entries_have : (n : ℕ) (ss : List Selector) (own : Key) (index : ℕ) (needed : Above)
+    → Contains (entries_from n ss) (own, index, needed)
+    → (j : ℕ) × (index ≡ n + j) × (s : Selector) × (slice_get ss j ≡ Some s)
+    × Contains (filed_keys s) own × (needed_bits s ≡ needed)
+entries_have n [] own index needed c = absurd (contains_none (own, index, needed) c)
+entries_have n (s ∷ ss) own index needed c =
+    elim (Contains-append_cases (with_index n (needed_bits s) (filed_keys s)) (entries_from (n + 1) ss)
+    (own, index, needed) c) [
+      | inl h ↦ (let r = with_index_from n (needed_bits s) (filed_keys s) own index needed h in
+          let e = r.0 in (0, omega (arith, e), s, refl, r.2, r.1))
+      | inr h ↦ (let r = entries_have (n + 1) ss own index needed h in
+          let e = r.1 in (suc r.0, omega (arith, e), r.2, r.3, r.4, r.5))
     ]
 
 have_entries : (n : ℕ) (ss : List Selector) (own : Key) (j : ℕ) (s : Selector)
-    → slice_get ss j ≡ Some s → Contains (keys_of s) own → Contains (entries_from n ss) (own, n + j)
+    → slice_get ss j ≡ Some s → Contains (filed_keys s) own
+    → Contains (entries_from n ss) (own, n + j, needed_bits s)
 have_entries n [] own j s is c = absurd (cc)
 have_entries n (s ∷ ss) own zero t is c =
     let same : s ≡ t = cc in
     let here : n ≡ n + 0 = omega arith in
-    Contains-append_left (with_index n (keys_of s)) (entries_from (n + 1) ss) (own, n + 0)
-    (subst (λ i. Contains (with_index n (keys_of s)) (own, i)) here
-    (with_index_to n (keys_of s) own (subst (λ x. Contains (keys_of x) own) (sym same) c)))
+    Contains-append_left (with_index n (needed_bits s) (filed_keys s)) (entries_from (n + 1) ss)
+    (own, n + 0, needed_bits t)
+    (subst (λ x. Contains (with_index n (needed_bits s) (filed_keys s)) (own, n + 0, needed_bits x)) same
+    (subst (λ i. Contains (with_index n (needed_bits s) (filed_keys s)) (own, i, needed_bits s)) here
+    (with_index_to n (needed_bits s) (filed_keys s) own
+    (subst (λ x. Contains (filed_keys x) own) (sym same) c))))
 have_entries n (s ∷ ss) own (suc j) t is c =
     let there : n + 1 + j ≡ n + suc j = omega arith in
-    Contains-append_right (with_index n (keys_of s)) (entries_from (n + 1) ss) (own, n + suc j)
-    (subst (λ i. Contains (entries_from (n + 1) ss) (own, i)) there
+    Contains-append_right (with_index n (needed_bits s) (filed_keys s)) (entries_from (n + 1) ss)
+    (own, n + suc j, needed_bits t)
+    (subst (λ i. Contains (entries_from (n + 1) ss) (own, i, needed_bits t)) there
     (have_entries (n + 1) ss own j t is c))
 
 -- the keys that an element reports, with the classes and the id that it has
@@ -322,40 +356,32 @@ pub on_ok : {T E P Q : Type 0} (r : Result T E) → (P → Q) → OnOk r P → O
 on_ok (Ok x) f h = f h
 on_ok (Err e) f h = h
 
-module _ {Node : Type 0} (document : Document Node) (n : Node) (reported : Reported) where
+module _ {Node : Type 0} (document : Document Node) (n : Node) (reported : Reported) (above : Above) where
   -- what is found by the keys that an element reports
   pub keyed_found : (ss : List Selector) (keys : List Key) → AreReported document n reported keys
       → (index : ℕ)
-      → Contains (found_by_any (entries_of ss) keys) index ↔ IsKeyedAt document n reported ss index
+      → Contains (found_by_any (entries_of ss) above keys) index
+      ↔ IsKeyedAt document n reported above ss index
   keyed_found ss keys are index = (there, back)
     where
-      there : Contains (found_by_any (entries_of ss) keys) index
-          → IsKeyedAt document n reported ss index
+      there : Contains (found_by_any (entries_of ss) above keys) index
+          → IsKeyedAt document n reported above ss index
       there c =
-          let r = any_found_from (entries_of ss) keys index c in
-          let e = entries_have 0 ss r.0 index r.1 in
+          let r = any_found_from (entries_of ss) above keys index c in
+          let e = entries_have 0 ss r.0 index r.1 r.2 in
           let i = e.1 in
           let at : e.0 ≡ index = omega (arith, i) in (
             e.2,
             subst (λ j. slice_get ss j ≡ Some e.2) at e.3,
-            any_to (reports_key document n reported) (keys_of e.2) r.0 e.4 ((are r.0).1 r.2),
+            any_to (reports_key document n reported) (filed_keys e.2) r.0 e.4 ((are r.0).1 r.3),
+            subst (λ b. IsTrue (is_covered above b)) (sym e.5) r.4,
           )
 
-      back : IsKeyedAt document n reported ss index
-          → Contains (found_by_any (entries_of ss) keys) index
-      back (s, is, h) =
-          let r = any_from (reports_key document n reported) (keys_of s) h in
+      back : IsKeyedAt document n reported above ss index
+          → Contains (found_by_any (entries_of ss) above keys) index
+      back (s, is, h, covered) =
+          let r = any_from (reports_key document n reported) (filed_keys s) h in
           let at : 0 + index ≡ index = omega arith in
-          any_found_to (entries_of ss) keys index r.0
-          (subst (λ i. Contains (entries_of ss) (r.0, i)) at (have_entries 0 ss r.0 index s is r.1))
-          ((are r.0).0 r.2)
-
-  -- a selector that matches has a key that is reported
-  pub match_keyed : ReportsKeys document n reported → (ss : List Selector) (index : ℕ)
-      → MatchesAt document n ss index → IsKeyedAt document n reported ss index
-  match_keyed law ss index (s, is, m) =
-      let r = any_from (has_key document n) (keys_of s) (matched_has document n s m) in (
-        s,
-        is,
-        any_to (reports_key document n reported) (keys_of s) r.0 r.1 (law r.0 r.2),
-      )
+          any_found_to (entries_of ss) above keys index r.0 (needed_bits s)
+          (subst (λ i. Contains (entries_of ss) (r.0, i, needed_bits s)) at
+          (have_entries 0 ss r.0 index s is r.1)) ((are r.0).0 r.2) covered

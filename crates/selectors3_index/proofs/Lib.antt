@@ -4,3 +4,4 @@ mod KeyedLemmas
 mod WordLemmas
 mod FileLemmas
 mod BitLemmas
+mod MatchLemmas

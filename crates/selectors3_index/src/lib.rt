@@ -18,7 +18,10 @@
 //! for each candidate; a selector with many keys, as `:is(.a, .b)`, is filed once for each.
 #![tactic(auto)]
 
+mod above;
+mod entry;
 mod has_selector;
+mod kept;
 mod key_bits;
 mod keyed;
 mod selector_index;

@@ -5,11 +5,16 @@ ghost use Rattle.std.specs.List.Sorted.{IsStrictlyIncreasing};
 ghost use Rattle.selectors3.specs.Keys.{Key as KeyOf};
 ghost use Rattle.selectors3.specs.Keys.Key.{by_class, by_attribute};
 ghost use Rattle.selectors3.specs.KeyViews.{key_of};
-ghost use Rattle.selectors3_index.specs.Found.{AreMatches, AreCandidates, MatchesAt};
+ghost use Rattle.selectors3_index.specs.Found.{AreMatches};
+ghost use Rattle.selectors3_index.specs.internal.Candidates.{AreCandidates, PassesAt};
 ghost use Rattle.selectors3_index.specs.internal.Filed.{entries_of, found_by, found_by_any};
 ghost use Rattle.selectors3_index.specs.internal.Filed.{AreWords, AreClasses, AreReported, id_keys};
 
-use crate::table::{Entry, filed, is_same, place_of};
+use crate::above::Above;
+use crate::entry::Entry;
+use crate::kept::Kept;
+use crate::key_bits::{above_of, number_of};
+use crate::table::{filed, is_found, place_of};
 use crate::words::split_word;
 use crate::{HasSelector3, Keyed3};
 use selectors3::{Key, Selector3};
@@ -20,7 +25,7 @@ use std::marker::Model;
 #[derive(Drop)]
 pub struct SelectorIndex<'s> {
     /// The selectors.
-    selectors: Vec<&'s Selector3<'s>>,
+    rules: Vec<Kept<'s>>,
     /// The keys of the selectors, each at its place.
     buckets: Vec<Vec<Entry<'s>>>,
 }
@@ -32,10 +37,10 @@ impl<'s> Model for SelectorIndex<'s> {
 
     ghost Value = { List Selector };
 
-    ghost view = { λ index. map (λ s. s.now) index.selectors.items };
+    ghost view = { λ index. map (λ rule. rule.selector.now) index.rules.items };
 
-    ghost invariant = { λ index.
-        AreFiled (entries_of (map (λ s. s.now) index.selectors.items)) index.buckets.items };
+    ghost invariant = { λ index. AreFiled
+        (entries_of (map (λ rule. rule.selector.now) index.rules.items)) index.buckets.items };
 }
 
 /// Puts the indices in order, each once.
@@ -63,6 +68,18 @@ fn selectors_of<'s, T: HasSelector3>(
     Ok(selectors)
 }
 
+/// Returns what an index keeps of selectors.
+fn kept_of<'s>(alloc: Global, selectors: &[&'s Selector3<'s>]) -> Result<Vec<Kept<'s>>, AllocError>
+    ensures { IfOk result (λ rules. map (λ rule. rule.selector.now) rules.items
+        ≡ map (λ s. s.now) selectors.now) }
+{
+    let mut rules = Vec::with_capacity(alloc, selectors.len())?;
+    for selector in selectors {
+        rules.push(Kept::new(selector))?;
+    }
+    Ok(rules)
+}
+
 impl<'s> SelectorIndex<'s> {
     /// Returns an index of the selectors of rules, which it borrows. It holds an entry for each key
     /// of each selector. Fails only if an allocation fails.
@@ -84,119 +101,156 @@ impl<'s> SelectorIndex<'s> {
     ) -> Result<SelectorIndex<'s>, AllocError>
         ensures { IfOk result (λ index. index ≡ map (λ s. s.now) selectors.entry.items) }
     {
+        let rules = kept_of(alloc, selectors.as_slice())?;
         let buckets = filed(alloc, selectors.as_slice())?;
-        Ok(SelectorIndex { selectors, buckets })
+        Ok(SelectorIndex { rules, buckets })
     }
 
-    /// Appends the indices of the rules with this key.
-    fn push_found(&self, key: &Key<'_>, indices: &mut Vec<usize>) -> Result<(), AllocError>
+    /// Appends the indices of the rules with this key whose needed bits are covered.
+    fn push_found(
+        &self,
+        key: &Key<'_>,
+        above: &Above,
+        indices: &mut Vec<usize>,
+    ) -> Result<(), AllocError>
         ensures { OnOk result (indices.new.items
-            ≡ indices.old.items ++ found_by (entries_of self.now) (key_of key.now)) }
+            ≡ indices.old.items ++ found_by (entries_of self.now) above.now (key_of key.now)) }
     {
-        let place = place_of(key, self.buckets.len());
+        let number = number_of(key);
+        let place = place_of(number, self.buckets.len());
         for entry in &self.buckets[place] {
-            if is_same(&entry.key, key) {
+            if is_found(entry, key, number, above) {
                 indices.push(entry.rule)?;
             }
         }
         Ok(())
     }
 
-    /// Appends the indices of the rules with this id as a key, if there is one.
-    fn push_id(&self, id: Option<&str>, indices: &mut Vec<usize>) -> Result<(), AllocError>
+    /// Appends the indices of the rules with this id as a key, if there is one, whose needed bits are
+    /// covered.
+    fn push_id(
+        &self,
+        id: Option<&str>,
+        above: &Above,
+        indices: &mut Vec<usize>,
+    ) -> Result<(), AllocError>
         ensures { OnOk result (indices.new.items ≡ indices.old.items
-            ++ found_by_any (entries_of self.now)
+            ++ found_by_any (entries_of self.now) above.now
             (id_keys (option_map (λ text. text.now) id.entry))) }
     {
         match id {
-            Some(text) => self.push_found(&Key::Id(text), indices),
+            Some(text) => self.push_found(&Key::Id(text), above, indices),
             None => Ok(()),
         }
     }
 
-    /// Appends the indices of the rules with a word of the value as a key.
-    fn push_words(&self, value: &str, indices: &mut Vec<usize>) -> Result<(), AllocError>
+    /// Appends the indices of the rules with a word of the value as a key, whose needed bits are
+    /// covered.
+    fn push_words(
+        &self,
+        value: &str,
+        above: &Above,
+        indices: &mut Vec<usize>,
+    ) -> Result<(), AllocError>
         ensures { OnOk result ((words : List (List ℕ)) × AreWords value.now words
             × (indices.new.items ≡ indices.old.items
-            ++ found_by_any (entries_of self.now) (map by_class words))) }
+            ++ found_by_any (entries_of self.now) above.now (map by_class words))) }
     {
         let mut rest = value;
         'words: while let Some((word, after)) = split_word(rest) {
-            self.push_found(&Key::Class(word), indices)?;
+            self.push_found(&Key::Class(word), above, indices)?;
             rest = after;
         }
         Ok(())
     }
 
-    /// Appends the indices of the rules with a class of an element as a key, if it has a value.
-    fn push_classes(&self, class: Option<&str>, indices: &mut Vec<usize>) -> Result<(), AllocError>
+    /// Appends the indices of the rules with a class of an element as a key, if it has a value,
+    /// whose needed bits are covered.
+    fn push_classes(
+        &self,
+        class: Option<&str>,
+        above: &Above,
+        indices: &mut Vec<usize>,
+    ) -> Result<(), AllocError>
         ensures { OnOk result ((words : List (List ℕ))
             × AreClasses (option_map (λ value. value.now) class.entry) words
             × (indices.new.items ≡ indices.old.items
-            ++ found_by_any (entries_of self.now) (map by_class words))) }
+            ++ found_by_any (entries_of self.now) above.now (map by_class words))) }
     {
         match class {
-            Some(value) => self.push_words(value, indices),
+            Some(value) => self.push_words(value, above, indices),
             None => Ok(()),
         }
     }
 
-    /// Appends the indices of the rules with the name of an attribute of the element as a key.
+    /// Appends the indices of the rules with the name of an attribute of the element as a key, whose
+    /// needed bits are covered.
     fn push_attributes<E: Keyed3>(
         &self,
         element: &E,
+        above: &Above,
         indices: &mut Vec<usize>,
     ) -> Result<(), AllocError>
         ensures { OnOk result (indices.new.items ≡ indices.old.items
-            ++ found_by_any (entries_of self.now)
+            ++ found_by_any (entries_of self.now) above.now
             (map by_attribute (E.reported element.now).attributes)) }
     {
         for index in 0..element.attribute_count() {
-            self.push_found(&Key::Attribute(element.attribute_name(index)), indices)?;
+            self.push_found(
+                &Key::Attribute(element.attribute_name(index)),
+                above,
+                indices,
+            )?;
         }
         Ok(())
     }
 
-    /// Appends the indices of the rules of which a key is reported.
-    fn push_keyed<E: Keyed3>(&self, element: &E, indices: &mut Vec<usize>) -> Result<(), AllocError>
+    /// Appends the indices of the rules of which a key is reported and whose needed bits are
+    /// covered.
+    fn push_keyed<E: Keyed3>(
+        &self,
+        element: &E,
+        above: &Above,
+        indices: &mut Vec<usize>,
+    ) -> Result<(), AllocError>
         ensures { OnOk result ((keys : List KeyOf)
             × AreReported E.document (E.node element.now) (E.reported element.now) keys
             × (indices.new.items
-            ≡ indices.old.items ++ found_by_any (entries_of self.now) keys)) }
+            ≡ indices.old.items ++ found_by_any (entries_of self.now) above.now keys)) }
     {
-        self.push_found(&Key::Any, indices)?;
-        self.push_found(&Key::Name(element.local_name()), indices)?;
-        self.push_id(element.attribute("id"), indices)?;
-        self.push_classes(element.attribute("class"), indices)?;
-        self.push_attributes(element, indices)
+        self.push_found(&Key::Any, above, indices)?;
+        self.push_found(&Key::Name(element.local_name()), above, indices)?;
+        self.push_id(element.attribute("id"), above, indices)?;
+        self.push_classes(element.attribute("class"), above, indices)?;
+        self.push_attributes(element, above, indices)
     }
 
-    /// Whether there is a rule at the index whose selector matches the element.
-    fn matches_at<E: Keyed3>(&self, index: usize, element: &E) -> bool
-        ensures { IsTrue result ↔ MatchesAt E.document (E.node element.now) self.now index }
+    /// Whether there is a rule at the index, and it requires nothing but its keys or matches the
+    /// element.
+    fn passes_at<E: Keyed3>(&self, index: usize, element: &E) -> bool
+        ensures { IsTrue result ↔ PassesAt E.document (E.node element.now) self.now index }
     {
-        match self.selectors.get(index) {
-            Some(selector) => selector.matches(element),
+        match self.rules.get(index) {
+            Some(rule) => rule.is_only_keys || rule.selector.matches(element),
             None => false,
         }
     }
 
-    /// Finds the indices of the rules of which the element reports a key, in order. They are those
-    /// that [`SelectorIndex::matching`] tests.
-    ///
-    /// The previous items of `indices` are dropped. Only its growth allocates, and fails only if an
-    /// allocation fails; then no items are left.
-    pub fn candidates<E: Keyed3>(
+    /// Finds the indices of the rules of which the element reports a key and whose needed bits are
+    /// covered, in order. The previous items of `indices` are dropped, and none is left after an
+    /// `Err`.
+    fn candidates<E: Keyed3>(
         &self,
         element: &E,
+        above: &Above,
         indices: &mut Vec<usize>,
     ) -> Result<(), AllocError>
         ensures candidates { OnOk result (AreCandidates E.document (E.node element.now)
-            (E.reported element.now) self.now indices.new.items) }
+            (E.reported element.now) above.now self.now indices.new.items) }
         ensures err { OnErr result (indices.new.items ≡ []) }
     {
         indices.clear();
-        if let Err(error) = self.push_keyed(element, indices) {
+        if let Err(error) = self.push_keyed(element, above, indices) {
             indices.clear();
             return Err(error);
         }
@@ -205,8 +259,11 @@ impl<'s> SelectorIndex<'s> {
     }
 
     /// Finds the indices of the rules that match the element, in order: those that testing each
-    /// rule would find. One with a pseudo-element matches none. Only the rules of
-    /// [`SelectorIndex::candidates`] are tested.
+    /// rule would find. One with a pseudo-element matches none.
+    ///
+    /// It costs a look-up for the name, the id, each class and each attribute of the element, a
+    /// comparison for each entry of these keys, and a test for each rule of which a key is found, whose
+    /// needed bits [`Keyed3::ancestor_bits`] covers, and which requires more than one of its keys.
     ///
     /// The previous items of `indices` are dropped. Only its growth allocates, and fails only if an
     /// allocation fails; then no items are left.
@@ -219,8 +276,8 @@ impl<'s> SelectorIndex<'s> {
             (AreMatches E.document (E.node element.now) self.now indices.new.items) }
         ensures err { OnErr result (indices.new.items ≡ []) }
     {
-        self.candidates(element, indices)?;
-        indices.retain(|index| self.matches_at(*index, element));
+        self.candidates(element, &above_of(element), indices)?;
+        indices.retain(|index| self.passes_at(*index, element));
         Ok(())
     }
 }

@@ -2,22 +2,18 @@
 ghost use Rattle.std.specs.Prelude.{◌≡◌, ◌<◌, ◌++◌, [], length, map, IfOk, OnOk};
 ghost use Rattle.selectors3.specs.KeyViews.{key_of};
 ghost use Rattle.selectors3_index.specs.internal.Filed.{is_same as is_same_key};
-ghost use Rattle.selectors3_index.specs.internal.Filed.{place_of as place_of_key, entry_of};
+ghost use Rattle.selectors3_index.specs.internal.Filed.{place_by, entry_of, is_found_by};
 ghost use Rattle.selectors3_index.specs.internal.Filed.{with_index, AreFiledAt, AreFiled};
+ghost use Rattle.selectors3_index.specs.internal.Filed.{filed_keys};
+ghost use Rattle.selectors3_index.specs.internal.NeededBits.{needed_bits};
+ghost use Rattle.selectors3_index.specs.KeyBits.{number_of as number_of_key};
 ghost use Rattle.selectors3_index.specs.internal.Filed.{entries_of as entries_of_selectors};
 
-use crate::key_bits::number_of;
+use crate::above::Above;
+use crate::entry::Entry;
+use crate::key_bits::bits_of;
 use selectors3::{Key, Selector3};
 use std::alloc::{AllocError, Global};
-
-/// A key of a rule.
-#[derive(Clone, Copy, Debug)]
-pub(crate) struct Entry<'s> {
-    /// The key.
-    pub(crate) key: Key<'s>,
-    /// The index of the rule.
-    pub(crate) rule: usize,
-}
 
 /// Whether the keys are of one kind and have the same text, but for the case of ASCII letters in
 /// names.
@@ -35,28 +31,84 @@ pub(crate) fn is_same(one: &Key<'_>, other: &Key<'_>) -> bool
     }
 }
 
-/// Returns the place of a key among so many.
+/// Returns the place of a key, which has this number, among so many.
 #[inline(always)]
-pub(crate) fn place_of(key: &Key<'_>, count: usize) -> usize
+pub(crate) fn place_of(number: u64, count: usize) -> usize
     requires { 0 < count }
-    ensures value { result ≡ place_of_key count (key_of key.now) }
+    ensures value { result ≡ place_by count number }
     ensures within { result < count }
 {
-    (number_of(key).wrapping_mul(0x9E37_79B9_7F4A_7C15) >> 32) as usize % count
+    (number.wrapping_mul(0x9E37_79B9_7F4A_7C15) >> 32) as usize % count
 }
 
-/// Appends an entry for each key of a rule.
-fn enter<'s>(keys: &[Key<'s>], rule: usize, entries: &mut Vec<Entry<'s>>) -> Result<(), AllocError>
+/// Whether the entry's key is the same as this one, which has this number, and its rule needs no key
+/// above an element that the bits do not cover.
+#[inline(always)]
+pub(crate) fn is_found(entry: &Entry<'_>, key: &Key<'_>, number: u64, above: &Above) -> bool
+    requires { number ≡ number_of_key (key_of key.now) }
+    ensures { result ≡ is_found_by (key_of key.now) above.now (entry_of entry.now) }
+{
+    if entry.number != number {
+        return false;
+    }
+    if !above.covers(&entry.needed) {
+        return false;
+    }
+    is_same(&entry.key, key)
+}
+
+/// Appends an entry for each key of a rule that needs keys of these bits above an element.
+fn enter<'s>(
+    keys: &[Key<'s>],
+    rule: usize,
+    needed: Above,
+    entries: &mut Vec<Entry<'s>>,
+) -> Result<(), AllocError>
     ensures { OnOk result (map entry_of entries.new.items
-        ≡ map entry_of entries.old.items ++ with_index rule (map key_of keys.now)) }
+        ≡ map entry_of entries.old.items ++ with_index rule needed (map key_of keys.now)) }
 {
     for key in keys {
-        entries.push(Entry { key: *key, rule })?;
+        entries.push(Entry::new(*key, rule, needed))?;
     }
     Ok(())
 }
 
-/// Returns the keys of rules.
+/// Returns the bits of the keys that an element's ancestors and its parent must have for the selector
+/// to match it. What was in `keys` is dropped.
+fn needed_by<'s>(selector: &'s Selector3<'s>, keys: &mut Vec<Key<'s>>) -> Result<Above, AllocError>
+    ensures { IfOk result (λ needed. needed ≡ needed_bits selector.now) }
+{
+    keys.clear();
+    selector.push_ancestor_keys(keys)?;
+    let ancestors = bits_of(keys.as_slice());
+    keys.clear();
+    selector.push_parent_keys(keys)?;
+    let parent = bits_of(keys.as_slice());
+    Ok(Above { ancestors, parent })
+}
+
+/// Appends an entry for each key of a selector, unless it matches no element. What was in `keys` is
+/// dropped.
+fn enter_selector<'s>(
+    selector: &'s Selector3<'s>,
+    rule: usize,
+    keys: &mut Vec<Key<'s>>,
+    entries: &mut Vec<Entry<'s>>,
+) -> Result<(), AllocError>
+    ensures { OnOk result (map entry_of entries.new.items
+        ≡ map entry_of entries.old.items
+        ++ with_index rule (needed_bits selector.now) (filed_keys selector.now)) }
+{
+    if selector.pseudo_element().is_some() {
+        return Ok(());
+    }
+    let needed = needed_by(selector, keys)?;
+    keys.clear();
+    selector.push_keys(keys)?;
+    enter(keys.as_slice(), rule, needed, entries)
+}
+
+/// Returns the entries of selectors.
 fn entries_of<'s>(
     alloc: Global,
     selectors: &[&'s Selector3<'s>],
@@ -67,9 +119,7 @@ fn entries_of<'s>(
     let mut entries = Vec::with_capacity(alloc, selectors.len())?;
     let mut keys = Vec::new(alloc);
     for rule in 0..selectors.len() {
-        keys.clear();
-        selectors[rule].push_keys(&mut keys)?;
-        enter(keys.as_slice(), rule, &mut entries)?;
+        enter_selector(selectors[rule], rule, &mut keys, &mut entries)?;
     }
     Ok(entries)
 }
@@ -92,7 +142,7 @@ fn file<'s>(entries: &[Entry<'s>], buckets: &mut Vec<Vec<Entry<'s>>>) -> Result<
     ensures { OnOk result (AreFiled (map entry_of entries.now) buckets.new.items) }
 {
     for entry in entries {
-        let place = place_of(&entry.key, buckets.len());
+        let place = place_of(entry.number, buckets.len());
         buckets[place].push(*entry)?;
     }
     Ok(())

@@ -4,9 +4,11 @@
 use Rattle.std.specs.Prelude.{ℕ, Bool, false, ◌||◌, List, [], ◌∷◌, map, bytes_eq, codes}
 use Rattle.std.specs.Char.{to_ascii_lowercase}
 use Rattle.std.specs.List.{list_any}
-use Rattle.selectors3.specs.Components.{Simple, Condition, Part, Selector}
+use Rattle.selectors3.specs.Components.{Simple, Condition, Conditions, Compounds, Part, Selector}
 use Rattle.selectors3.specs.Components.Simple.{universal, type_name, id, class, has_attribute, attribute, structure, language, state}
 use Rattle.selectors3.specs.Components.Condition.{simple, negation, any_of, where_any}
+use Rattle.selectors3.specs.Components.Conditions.{end_of_compound, with_condition}
+use Rattle.selectors3.specs.Components.Compounds.{end_of_list, with_compound}
 use Rattle.selectors3_tree.specs.declared.html.HtmlMode.{HtmlMode}
 use Rattle.selectors3_tree.specs.declared.html.HtmlMode.TheVariants.{NoQuirks, Quirks}
 
@@ -57,15 +59,24 @@ simple_in mode (structure s) = structure s
 simple_in mode (language ranges) = language ranges
 simple_in mode (state name) = state name
 
--- the lists of `:not()` and the like
-abbrev pub compounds_in : HtmlMode → List (List Simple) → List (List Simple)
-compounds_in mode compounds = map (map (simple_in mode)) compounds
+abbrev mutual
+  pub condition_in : HtmlMode → Condition → Condition
+  condition_in mode (simple s) = simple (simple_in mode s)
+  condition_in mode (negation compounds) = negation (compounds_in mode compounds)
+  condition_in mode (any_of compounds) = any_of (compounds_in mode compounds)
+  condition_in mode (where_any compounds) = where_any (compounds_in mode compounds)
 
-abbrev pub condition_in : HtmlMode → Condition → Condition
-condition_in mode (simple s) = simple (simple_in mode s)
-condition_in mode (negation compounds) = negation (compounds_in mode compounds)
-condition_in mode (any_of compounds) = any_of (compounds_in mode compounds)
-condition_in mode (where_any compounds) = where_any (compounds_in mode compounds)
+  -- a compound selector in a list
+  pub compound_in : HtmlMode → Conditions → Conditions
+  compound_in mode end_of_compound = end_of_compound
+  compound_in mode (with_condition c conditions) =
+      with_condition (condition_in mode c) (compound_in mode conditions)
+
+  -- the lists of `:not()` and the like
+  pub compounds_in : HtmlMode → Compounds → Compounds
+  compounds_in mode end_of_list = end_of_list
+  compounds_in mode (with_compound c compounds) =
+      with_compound (compound_in mode c) (compounds_in mode compounds)
 
 abbrev pub part_in : HtmlMode → Part → Part
 part_in mode p = record {

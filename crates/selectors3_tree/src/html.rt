@@ -11,7 +11,7 @@ ghost use Rattle.selectors3.specs.Views.{simple_of, compound_of, condition_of, p
 ghost use Rattle.selectors3.specs.declared.components.Simple.TheVariants.{Attribute};
 ghost use Rattle.selectors3_tree.specs.Html.{caseless_attributes, quirks_attributes, is_among};
 ghost use Rattle.selectors3_tree.specs.Html.{is_caseless};
-ghost use Rattle.selectors3_tree.specs.Html.{lower_case, word_in, simple_in, compounds_in};
+ghost use Rattle.selectors3_tree.specs.Html.{lower_case, word_in, simple_in};
 ghost use Rattle.selectors3_tree.specs.Html.{condition_in, part_in, html_selector};
 
 use selectors3::{AttributeTest, Compound, Condition, Part, Selector3, Simple};
@@ -183,39 +183,26 @@ fn simple_in<'s>(
     }
 }
 
-/// Returns a compound selector as a document reads it.
-fn compound_in<'s>(
-    alloc: Global,
-    mode: HtmlMode,
-    compound: &'s Compound<'_>,
-) -> Result<Compound<'s>, AllocError>
-    ensures { IfOk result (λ read. compound_of read
-        ≡ map (simple_in mode) (compound_of compound.now)) }
-{
-    let mut simples = Vec::with_capacity(alloc, compound.simples.len())?;
-    for simple in &compound.simples {
-        simples.push(simple_in(alloc, mode, simple)?)?;
-    }
-    Ok(Compound { simples })
-}
-
 /// Returns a list of compound selectors as a document reads it.
+#[cycle(lists)]
 fn compounds_in<'s>(
     alloc: Global,
     mode: HtmlMode,
     compounds: &'s [Compound<'_>],
 ) -> Result<Vec<Compound<'s>>, AllocError>
     ensures { IfOk result (λ read. map compound_of read.items
-        ≡ compounds_in mode (map compound_of compounds.now)) }
+        ≡ map (map (condition_in mode)) (map compound_of compounds.now)) }
 {
     let mut read = Vec::with_capacity(alloc, compounds.len())?;
     for compound in compounds {
-        read.push(compound_in(alloc, mode, compound)?)?;
+        let conditions = conditions_in(alloc, mode, compound.conditions.as_slice())?;
+        read.push(Compound { conditions })?;
     }
     Ok(read)
 }
 
 /// Returns a condition as a document reads it.
+#[cycle(lists)]
 fn condition_in<'s>(
     alloc: Global,
     mode: HtmlMode,
@@ -226,23 +213,36 @@ fn condition_in<'s>(
 {
     match condition {
         Condition::Simple(simple) => Ok(Condition::Simple(simple_in(alloc, mode, simple)?)),
-        Condition::Not(list) => Ok(Condition::Not(compounds_in(alloc, mode, list)?)),
-        Condition::Is(list) => Ok(Condition::Is(compounds_in(alloc, mode, list)?)),
-        Condition::Where(list) => Ok(Condition::Where(compounds_in(alloc, mode, list)?)),
+        Condition::Not(list) => Ok(Condition::Not(compounds_in(alloc, mode, list.as_slice())?)),
+        Condition::Is(list) => Ok(Condition::Is(compounds_in(alloc, mode, list.as_slice())?)),
+        Condition::Where(list) => Ok(Condition::Where(compounds_in(alloc, mode, list.as_slice())?)),
     }
+}
+
+/// Returns the conditions of a compound selector as a document reads them.
+#[cycle(lists)]
+fn conditions_in<'s>(
+    alloc: Global,
+    mode: HtmlMode,
+    conditions: &'s [Condition<'_>],
+) -> Result<Vec<Condition<'s>>, AllocError>
+    ensures { IfOk result (λ read. map condition_of read.items
+        ≡ map (condition_in mode) (map condition_of conditions.now)) }
+{
+    let mut read = Vec::with_capacity(alloc, conditions.len())?;
+    for condition in conditions {
+        read.push(condition_in(alloc, mode, condition)?)?;
+    }
+    Ok(read)
 }
 
 /// Returns a part of a selector as a document reads it.
 fn part_in<'s>(alloc: Global, mode: HtmlMode, part: &'s Part<'_>) -> Result<Part<'s>, AllocError>
     ensures { IfOk result (λ read. part_of read ≡ part_in mode (part_of part.now)) }
 {
-    let mut conditions = Vec::with_capacity(alloc, part.conditions.len())?;
-    for condition in &part.conditions {
-        conditions.push(condition_in(alloc, mode, condition)?)?;
-    }
     Ok(Part {
         combinator: part.combinator,
-        conditions,
+        conditions: conditions_in(alloc, mode, part.conditions.as_slice())?,
     })
 }
 

@@ -1,4 +1,4 @@
-use Rattle.std.proofs.Common.{ℕ, false, List, Option, IsTrue, ap, sym, ◌∙◌, subst}
+use Rattle.std.proofs.Common.{ℕ, false, List, Option, IsTrue, ap, ◌∙◌, subst}
 use Rattle.selectors3.specs.Components.Comparison.{equals, has_word}
 use Rattle.selectors3.specs.Keys.Key.{by_id, by_class, by_name}
 use Rattle.selectors3.specs.Meanings.{satisfies}

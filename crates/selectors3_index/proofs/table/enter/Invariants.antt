@@ -8,4 +8,4 @@ abbrev pub invariant-loop-key : goal.invariant-loop-key
 invariant-loop-key l =
     map entry_of l.entries.items
     ≡ map entry_of l.initial.entries.items
-    ++ with_index l.rule (map key_of (take l.key-index l.keys))
+    ++ with_index l.rule l.needed (map key_of (take l.key-index l.keys))

@@ -10,10 +10,10 @@ returns-clause-candidates g c =
     let n = g.E.Element3.node c.args.element.now in
     let reported = g.E.Keyed3.reported c.args.element.now in
     let keys = c.in_default.ensures.0 in
-    let found = found_by_any (entries_of c.args.self.now) keys in
+    let found = found_by_any (entries_of c.args.self.now) c.args.above.now keys in
     let items : c.push_keyed.new.indices.items ≡ found =
     c.in_default.ensures.2 ∙ ap (λ xs. xs ++ found) c.clear.ensures.items in
-    let are = keyed_found document n reported c.args.self.now keys c.in_default.ensures.1 in
+    let are = keyed_found document n reported c.args.above.now c.args.self.now keys c.in_default.ensures.1 in
     record {
       ascending = c.sort_once.ensures.ascending;
       exactly = λ index. (

@@ -7,5 +7,5 @@ use Rattle.selectors3_index.proofs.selector_index.SelectorIndex.push_attributes.
 abbrev pub invariant-loop-index : goal.invariant-loop-index
 invariant-loop-index g l =
     l.indices.items
-    ≡ l.initial.indices.items ++ found_by_any (entries_of l.self)
+    ≡ l.initial.indices.items ++ found_by_any (entries_of l.self) l.above
     (map by_attribute (take l.index (g.E.Keyed3.reported l.element).attributes))

@@ -6,9 +6,9 @@ use Rattle.selectors3_index.specs.internal.Filed.{AreClasses, entries_of, found_
 use Rattle.selectors3_index.proofs.selector_index.SelectorIndex.push_classes.Goals as goal
 
 pub returns-in-Some : goal.returns-in-Some
-returns-in-Some g c =
+returns-in-Some c =
     subst (λ class. OnOk c.push_words.result ((words : List (List ℕ))
     × AreClasses (option_map (λ value. value.now) class) words
     × (c.push_words.new.indices.items ≡ c.args.indices.now.items
-    ++ found_by_any (entries_of c.args.self.now) (map by_class words)))) (sym c.in-Some.is)
+    ++ found_by_any (entries_of c.args.self.now) c.args.above.now (map by_class words)))) (sym c.in-Some.is)
     c.push_words.ensures

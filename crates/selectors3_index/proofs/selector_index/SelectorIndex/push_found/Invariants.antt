@@ -5,7 +5,7 @@ use Rattle.selectors3_index.proofs.selector_index.SelectorIndex.push_found.Given
 
 -- what the entries so far have for the key was appended
 abbrev pub invariant-loop-entry : goal.invariant-loop-entry
-invariant-loop-entry g l =
+invariant-loop-entry l =
     l.indices.items
     ≡ l.initial.indices.items
-    ++ found_by (map entry_of (take l.entry-index l.entry-items)) (key_of l.key)
+    ++ found_by (map entry_of (take l.entry-index l.entry-items)) l.above (key_of l.key)

@@ -16,16 +16,16 @@ returns g c =
       all_keys reported (document.attribute n (codes "id")) words,
       reported_are document n reported words
           (subst (λ class. AreClasses class words) c.attribute-2.ensures c.in_ok-push_classes.ensures.1),
-      found_in_turn (found_by es) c.args.indices.now.items c.push_found.new.indices.items
+      found_in_turn (found_by es c.args.above.now) c.args.indices.now.items c.push_found.new.indices.items
           c.push_found-2.new.indices.items c.push_id.new.indices.items
           c.push_classes.new.indices.items c.push_attributes.new.indices.items by_nothing
           (by_name reported.name) (id_keys (document.attribute n (codes "id"))) (map by_class words)
           (map by_attribute reported.attributes) c.in_ok-push_found.ensures
           (c.in_ok-push_found-2.ensures
-          ∙ ap (λ name. c.push_found.new.indices.items ++ found_by es (by_name name))
+          ∙ ap (λ name. c.push_found.new.indices.items ++ found_by es c.args.above.now (by_name name))
           c.local_name.ensures)
           (c.in_ok-push_id.ensures
-          ∙ ap (λ id. c.push_found-2.new.indices.items ++ found_by_any es (id_keys id))
+          ∙ ap (λ id. c.push_found-2.new.indices.items ++ found_by_any es c.args.above.now (id_keys id))
           c.attribute.ensures)
           c.in_ok-push_classes.ensures.2 last,
     )) c.push_attributes.ensures

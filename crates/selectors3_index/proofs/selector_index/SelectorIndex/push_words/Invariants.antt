@@ -9,11 +9,11 @@ use Rattle.selectors3_index.proofs.selector_index.SelectorIndex.push_words.Given
 
 -- what was found by the words so far was appended; the others are those of the rest
 abbrev pub invariant-words : goal.invariant-words
-invariant-words g l = shadow (Utf8 l.rest) × ((words : List (List ℕ))
+invariant-words l = shadow (Utf8 l.rest) × ((words : List (List ℕ))
     × ((text : List ℕ) → IsTrue (is_satisfied has_word false text l.value)
     ↔ (Contains words text ⊎ IsTrue (is_satisfied has_word false text l.rest)))
     × (l.indices.items
-    ≡ l.initial.indices.items ++ found_by_any (entries_of l.self) (map by_class words)))
+    ≡ l.initial.indices.items ++ found_by_any (entries_of l.self) l.above (map by_class words)))
 
 abbrev pub decreases-words : goal.decreases-words
-decreases-words g l = length l.rest
+decreases-words l = length l.rest

@@ -1,0 +1,28 @@
+//! What an index keeps of a selector.
+ghost use Rattle.std.specs.Prelude.{◌≡◌};
+ghost use Rattle.selectors3.specs.AncestorKeys.{is_only_keys as requires_only_keys};
+
+use selectors3::Selector3;
+
+/// A selector, and whether it has to be tested.
+#[derive(Clone, Copy)]
+pub(crate) struct Kept<'s> {
+    /// The selector.
+    pub(crate) selector: &'s Selector3<'s>,
+    /// Whether it requires nothing but one of its keys.
+    pub(crate) is_only_keys: bool,
+    ghost known: { is_only_keys ≡ requires_only_keys selector.now },
+}
+
+impl<'s> Kept<'s> {
+    /// Returns what is kept of a selector.
+    #[inline(always)]
+    pub(crate) fn new(selector: &'s Selector3<'s>) -> Kept<'s>
+        ensures { result.selector.now ≡ selector.now }
+    {
+        Kept {
+            selector,
+            is_only_keys: selector.is_only_keys(),
+        }
+    }
+}
