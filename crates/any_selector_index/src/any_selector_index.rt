@@ -17,23 +17,29 @@ use std::marker::Model;
 
 /// An index over selectors of both kinds. It borrows them; a change of them needs a new index.
 #[derive(Drop)]
-pub struct AnySelectorIndex<'s> {
+pub struct AnySelectorIndex<'s, 'a> {
     /// The index over the selectors of CSS 2.1.
-    css21: Css21Index<'s>,
+    css21: Css21Index<'s, 'a>,
     /// The index of the rule of each.
     css21_rules: Vec<usize>,
     /// The index over the selectors of level 3.
-    level3: SelectorIndex<'s>,
+    level3: SelectorIndex<'s, 'a>,
     /// The index of the rule of each.
     level3_rules: Vec<usize>,
 }
 
-impl<'s> Model for AnySelectorIndex<'s> {
+impl<'s, 'a> Model for AnySelectorIndex<'s, 'a> {
     ghost use Rattle.std.specs.Prelude.{List};
+    ghost use Rattle.std.specs.Coded.{Coded, codes};
+    ghost use Rattle.selectors3.specs.Codes.{condition_code};
+    ghost use Rattle.selectors3.specs.Components.{Simple};
     ghost use Rattle.any_selector_index.specs.AnySelectors.{AnySelector};
     ghost use Rattle.any_selector_index.specs.internal.Parts.{AreParts, joined};
 
     ghost Value = { List AnySelector };
+
+    ghost coded = { let simples : Coded Simple = Prim.hlevel codes in
+        Prim.hlevel (codes, condition_code simples) };
 
     ghost view = { λ it. joined 0 it.css21_rules.items it.css21 it.level3 };
 
@@ -41,13 +47,13 @@ impl<'s> Model for AnySelectorIndex<'s> {
         it.css21 it.css21_rules.items it.level3 it.level3_rules.items };
 }
 
-impl<'s> AnySelectorIndex<'s> {
+impl<'s, 'a> AnySelectorIndex<'s, 'a> {
     /// Returns an index over the selectors of rules, which it borrows. Fails only if an allocation
     /// fails.
-    pub fn new<T: HasAnySelector>(
+    pub fn new<T: HasAnySelector<'a>>(
         alloc: Global,
         rules: &'s [T],
-    ) -> Result<AnySelectorIndex<'s>, AllocError>
+    ) -> Result<AnySelectorIndex<'s, 'a>, AllocError>
         ensures { IfOk result (λ index. index ≡ map T.selector_in rules.now) }
     {
         let parts = parts_of(alloc, rules)?;

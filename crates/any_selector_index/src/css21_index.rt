@@ -8,30 +8,30 @@ use std::marker::Model;
 
 /// A selector that is borrowed.
 #[derive(Clone, Copy)]
-pub(crate) struct Borrowed<'s> {
+pub(crate) struct Borrowed<'s, 'a> {
     /// The selector.
-    pub(crate) selector: &'s Selector<'s>,
+    pub(crate) selector: &'s Selector<'a>,
 }
 
-impl<'s> HasSelector<'s> for Borrowed<'s> {
+impl<'s, 'a> HasSelector<'a> for Borrowed<'s, 'a> {
     ghost selector_in = { λ borrowed. borrowed.selector.now };
 
     #[inline(always)]
-    fn selector(&self) -> &Selector<'s> {
+    fn selector(&self) -> &Selector<'a> {
         self.selector
     }
 }
 
 /// An index over selectors that it borrows.
 #[derive(Drop)]
-pub(crate) struct Css21Index<'s> {
+pub(crate) struct Css21Index<'s, 'a> {
     /// The selectors.
-    selectors: Vec<Borrowed<'s>>,
+    selectors: Vec<Borrowed<'s, 'a>>,
     /// The index over them.
-    index: RuleIndex<'s>,
+    index: RuleIndex<'a>,
 }
 
-impl<'s> Model for Css21Index<'s> {
+impl<'s, 'a> Model for Css21Index<'s, 'a> {
     ghost use Rattle.std.specs.Prelude.{◌≡◌, List, map};
     ghost use Rattle.simplecss.specs.Components.{Component};
 
@@ -42,12 +42,12 @@ impl<'s> Model for Css21Index<'s> {
     ghost invariant = { λ it. it.index ≡ map (λ s. s.selector.now) it.selectors.items };
 }
 
-impl<'s> Css21Index<'s> {
+impl<'s, 'a> Css21Index<'s, 'a> {
     /// Returns an index over the selectors. Fails only if an allocation fails.
     pub(crate) fn new(
         alloc: Global,
-        selectors: Vec<Borrowed<'s>>,
-    ) -> Result<Css21Index<'s>, AllocError>
+        selectors: Vec<Borrowed<'s, 'a>>,
+    ) -> Result<Css21Index<'s, 'a>, AllocError>
         ensures { IfOk result (λ it. it ≡ map (λ s. s.selector.now) selectors.entry.items) }
     {
         let index = RuleIndex::new(alloc, &selectors)?;

@@ -4,7 +4,7 @@ use selectors3::Selector3;
 use simplecss::{Rule, Selector};
 
 /// Something with a selector of either kind: a selector itself, or a rule.
-pub trait HasAnySelector {
+pub trait HasAnySelector<'a> {
     ghost use Rattle.std.specs.Prelude.{◌≡◌};
     ghost use Rattle.any_selector_index.specs.AnySelectors.{AnySelector as SelectorOf};
     ghost use Rattle.any_selector_index.specs.AnySelectorViews.{any_selector_of};
@@ -12,53 +12,39 @@ pub trait HasAnySelector {
     ghost selector_in: { Self → SelectorOf };
 
     /// Returns the selector.
-    fn selector(&self) -> AnySelector<'_>
+    fn selector(&self) -> AnySelector<'_, 'a>
         ensures { any_selector_of result ≡ selector_in self.now };
 }
 
-impl<'s> HasAnySelector for AnySelector<'s> {
-    ghost use Rattle.any_selector_index.specs.AnySelectorViews.{any_selector_of};
-
-    ghost selector_in = { any_selector_of };
-
-    #[inline(always)]
-    fn selector(&self) -> AnySelector<'_> {
-        match self {
-            AnySelector::Css21(selector) => AnySelector::Css21(selector),
-            AnySelector::Level3(selector) => AnySelector::Level3(selector),
-        }
-    }
-}
-
-impl<'a> HasAnySelector for Selector<'a> {
+impl<'a> HasAnySelector<'a> for Selector<'a> {
     ghost use Rattle.any_selector_index.specs.AnySelectors.AnySelector.{css21};
 
     ghost selector_in = { css21 };
 
     #[inline(always)]
-    fn selector(&self) -> AnySelector<'_> {
+    fn selector(&self) -> AnySelector<'_, 'a> {
         AnySelector::Css21(self)
     }
 }
 
-impl<'a> HasAnySelector for Rule<'a> {
+impl<'a> HasAnySelector<'a> for Rule<'a> {
     ghost use Rattle.any_selector_index.specs.AnySelectors.AnySelector.{css21};
 
     ghost selector_in = { λ rule. css21 rule.selector };
 
     #[inline(always)]
-    fn selector(&self) -> AnySelector<'_> {
+    fn selector(&self) -> AnySelector<'_, 'a> {
         AnySelector::Css21(&self.selector)
     }
 }
 
-impl<'a> HasAnySelector for Selector3<'a> {
+impl<'a> HasAnySelector<'a> for Selector3<'a> {
     ghost use Rattle.any_selector_index.specs.AnySelectors.AnySelector.{level3};
 
     ghost selector_in = { level3 };
 
     #[inline(always)]
-    fn selector(&self) -> AnySelector<'_> {
+    fn selector(&self) -> AnySelector<'_, 'a> {
         AnySelector::Level3(self)
     }
 }

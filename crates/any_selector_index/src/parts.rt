@@ -9,22 +9,22 @@ use std::alloc::{AllocError, Global};
 
 /// The selectors of rules, by their kind, and for each the index of its rule.
 #[derive(Drop)]
-pub(crate) struct Parts<'s> {
+pub(crate) struct Parts<'s, 'a> {
     /// The selectors of CSS 2.1.
-    pub(crate) css21s: Vec<Borrowed<'s>>,
+    pub(crate) css21s: Vec<Borrowed<'s, 'a>>,
     /// The index of the rule of each.
     pub(crate) css21_rules: Vec<usize>,
     /// The selectors of level 3.
-    pub(crate) level3s: Vec<&'s Selector3<'s>>,
+    pub(crate) level3s: Vec<&'s Selector3<'a>>,
     /// The index of the rule of each.
     pub(crate) level3_rules: Vec<usize>,
 }
 
 /// Returns the selectors of rules by their kind.
-pub(crate) fn parts_of<'s, T: HasAnySelector>(
+pub(crate) fn parts_of<'s, 'a, T: HasAnySelector<'a>>(
     alloc: Global,
     rules: &'s [T],
-) -> Result<Parts<'s>, AllocError>
+) -> Result<Parts<'s, 'a>, AllocError>
     ensures { IfOk result (λ parts. AreParts (map T.selector_in rules.now)
         (map (λ s. s.selector.now) parts.css21s.items) parts.css21_rules.items
         (map (λ s. s.now) parts.level3s.items) parts.level3_rules.items) }
