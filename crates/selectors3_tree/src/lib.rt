@@ -9,6 +9,7 @@ mod groups;
 pub mod html;
 mod node;
 mod numbered_tree;
+mod port_element;
 
 pub use node::NumberedNode;
 pub use numbered_tree::{NumberedTree, NumberingError};
