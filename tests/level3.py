@@ -1,6 +1,6 @@
 #!/usr/bin/env python3
-"""Selectors of level 3 beside soupsieve and a browser: what random selectors match, which texts are refused, and how
-selectors are serialized.
+"""Selectors of level 3 beside soupsieve and a browser: what random selectors match, which texts are refused, how
+selectors are serialized, and which languages are in language ranges.
 
     level3.py PROGRAM [--count N]    PROGRAM is the built `tests_selectors3`; N random selectors, else 4000
 
@@ -417,6 +417,99 @@ def compare_printed(program: str, counts: Counts, count: int) -> None:
     print(f"{len(texts)} serialized texts beside chromium; {left_out} left out, of named differences")
 
 
+# Language ranges, tags that are in each, and tags that are not: the examples of RFC 4647, section 3.3.2, and of
+# Selectors 4, section 8.2, tags of RFC 5646, and at least one tag for each step. An element without a language has the
+# tag "".
+GERMAN = ["de-DE", "de-de", "de-Latn-DE", "de-Latf-DE", "de-DE-x-goethe", "de-Latn-DE-1996", "de-Deva-DE"]
+NOT_GERMAN = ["", "de", "de-x-DE", "de-Deva", "de-1-DE", "en-DE", "de-DEU"]
+LANGUAGES = (
+    ("de-*-DE", GERMAN, NOT_GERMAN),
+    ("de-DE", GERMAN, NOT_GERMAN),
+    ("DE-*-*-de-*", GERMAN, NOT_GERMAN),
+    ("*-DE", GERMAN + ["en-DE"], ["", "de", "DE", "de-x-DE", "de-1-DE"]),
+    ("*-*-DE", GERMAN + ["en-DE"], ["", "de", "DE", "de-x-DE", "de-1-DE"]),
+    ("de", GERMAN + ["de", "DE", "de-x-DE", "de-1-DE"], ["", "deu", "en-DE", "i-de"]),
+    ("de-*", GERMAN + ["de", "DE", "de-x-DE", "de-1-DE"], ["", "deu", "en-DE", "i-de"]),
+    ("*-CH", ["de-CH", "it-CH", "fr-CH", "rm-CH", "gsw-Latn-CH"], ["", "de", "CH", "de-x-CH", "de-CHE"]),
+    ("*-Latn", ["sr-Latn", "de-Latn-DE", "gsw-Latn-CH"], ["", "Latn", "de-DE", "sr-x-Latn"]),
+    ("EN-gb", ["en-GB", "EN-GB-oed", "en-Latn-gb"], ["", "en", "en-US", "english-GB", "en-a-GB"]),
+    ("zh-Hans-CN", ["zh-Hans-CN", "zh-cmn-Hans-CN"], ["", "zh-CN-Hans", "zh-Hant-CN", "zh-Hans"]),
+    ("az-x-AZE", ["az-x-AZE", "az-Arab-x-AZE-derbend"], ["", "az-AZE", "az-Arab-a-x-AZE"]),
+    ("az-AZE", ["az-AZE", "az-Arab-AZE"], ["", "az-x-AZE", "az-Arab-x-AZE-derbend"]),
+    ("i-*-klingon", ["i-klingon"], ["", "i", "klingon", "i-x-klingon"]),
+    ("*", GERMAN + ["de", "i-klingon", "x-whine"], [""]),
+    ("", [""], GERMAN + ["de", "i-klingon", "x-whine"]),
+)
+# soupsieve finds nothing by a range that is empty or that ends with `*`.
+ODD_RANGES = re.compile(r"^$|-\*$")
+
+SOUP_LANGUAGES = r"""
+import json, sys
+import soupsieve
+from bs4 import BeautifulSoup
+
+ranges, tags = json.load(sys.stdin)
+answers = []
+for wanted in ranges:
+    selector, found = soupsieve.compile(f':lang("{wanted}")'), []
+    for tag in tags:
+        page = BeautifulSoup("<b></b>", "html.parser")
+        page.b["lang"] = tag
+        if selector.match(page.b):
+            found.append(tag)
+    answers.append(found)
+json.dump(answers, sys.stdout)
+"""
+
+
+def soup_languages(ranges: Sequence[str], tags: Sequence[str]) -> Optional[List[List[str]]]:
+    """The tags that soupsieve finds by each range, or None if it is missing."""
+    words = ["/usr/bin/python3", "-c"]
+    if not os.path.exists(words[0]):
+        return None
+    if subprocess.run(words + ["import soupsieve, bs4"], stderr=subprocess.DEVNULL, check=False).returncode:
+        return None
+    data = json.dumps([ranges, tags])
+    made = subprocess.run(words + [SOUP_LANGUAGES], input=data, stdout=subprocess.PIPE, text=True, check=True)
+    answers: List[List[str]] = json.loads(made.stdout)
+    return answers
+
+
+def ours_in(program: str, texts: Sequence[str], tags: Sequence[str], counts: Counts) -> List[List[str]]:
+    """The tags that the program finds by each text. An element without the attribute has its parent's language, and the
+    root has none."""
+    children: List[Any] = [("b", {"lang": tag}, [("c", {}, [])]) for tag in tags]
+    answers = []
+    for text, reply in zip(texts, ours(program, ("a", {}, children), texts)):
+        numbers = found_of(reply)
+        assert isinstance(numbers, list), (text, reply)
+        found = [tag for at, tag in enumerate(tags) if 2 * at + 1 in numbers]
+        inherited = [tag for at, tag in enumerate(tags) if 2 * at + 2 in numbers]
+        counts.expect(found == inherited and (0 in numbers) == ("" in found), f"{text!r}: parents and roots: {reply!r}")
+        answers.append(found)
+    return answers
+
+
+def compare_languages(program: str, counts: Counts) -> None:
+    """Compares which languages are in ranges."""
+    tags = sorted({tag for _, found, others in LANGUAGES for tag in found + others})
+    ranges = [wanted for wanted, _, _ in LANGUAGES]
+    answers = ours_in(program, [f':lang("{wanted}")' for wanted in ranges], tags, counts)
+    for (wanted, inside, outside), found in zip(LANGUAGES, answers):
+        for tag in inside + outside:
+            counts.expect((tag in found) == (tag in inside), f":lang({wanted!r}) and the language {tag!r}")
+    lists = ours_in(program, [r":lang(\*-CH, 'en-GB')", r":lang(\*-CH)", ":lang(en-GB)"], tags, counts)
+    counts.expect(lists[0] == sorted(lists[1] + lists[2]), ":lang() with two ranges")
+    theirs = soup_languages(ranges, tags)
+    if theirs is None:
+        print("left out: languages beside soupsieve, which is missing")
+        return
+    for wanted, found, other in zip(ranges, answers, theirs):
+        if not ODD_RANGES.search(wanted):
+            counts.expect(found == other, f":lang({wanted!r}): soupsieve has {other}, and not {found}")
+    print(f"{len(ranges)} language ranges and {len(tags)} tags beside soupsieve")
+
+
 def main() -> int:
     parser = argparse.ArgumentParser()
     parser.add_argument("program")
@@ -426,6 +519,7 @@ def main() -> int:
     compare(words.program, counts, words.count, "listed")
     compare(words.program, counts, words.count, "changed")
     compare_printed(words.program, counts, words.count)
+    compare_languages(words.program, counts)
     return counts.end()
 
 

@@ -3,5 +3,5 @@ mod KeptLemmas
 mod KeyedLemmas
 mod WordLemmas
 mod FileLemmas
-mod BitLemmas
+pub mod BitLemmas
 mod MatchLemmas

@@ -1,6 +1,6 @@
 -- Numbers of indices for which a test is true.
 -- Serves `groups` and `numbered_tree` (counts fit their types, and tests that agree count the same).
-use Rattle.std.proofs.Common.{◌≡◌, ℕ, zero, suc, ◌+◌, ◌<◌, ◌≤◌, ◌⊎◌, inl, inr, Bool, true, false, Option, Some, refl, sym, ap, ◌∙◌, arith}
+use Rattle.std.proofs.Common.{◌≡◌, ℕ, zero, suc, ◌+◌, ◌<◌, ◌≤◌, ◌⊎◌, inl, inr, Bool, true, false, Option, None, Some, IfSome, refl, sym, ap, ◌∙◌, arith}
 use Rattle.std.specs.Prelude.{if◌then◌else◌}
 use Rattle.selectors3_tree.specs.Counts.{count_below, last_below}
 
@@ -56,3 +56,21 @@ pub last_below-before : (test : ℕ → Bool) (n p : ℕ) → last_below test n 
 last_below-before test zero p is = absurd (cc)
 last_below-before test (suc n) p is =
     chosen_before (test n) n p (last_below test n) (last_below-before test n p) is
+
+passed : (b : Bool) (test : ℕ → Bool) (n p : ℕ) (r : Option ℕ) → test n ≡ b
+    → (r ≡ Some p → test p ≡ true) → (if b then Some n else r) ≡ Some p → test p ≡ true
+passed true test n p r own before is = ap test (sym (some_same is)) ∙ own
+passed false test n p r own before is = before is
+
+-- and it passes the test
+pub last_below-passes : (test : ℕ → Bool) (n p : ℕ) → last_below test n ≡ Some p → test p ≡ true
+last_below-passes test zero p is = absurd (cc)
+last_below-passes test (suc n) p is =
+    passed (test n) test n p (last_below test n) refl (last_below-passes test n p) is
+
+pub last_below-earlier : (test : ℕ → Bool) (n : ℕ) → IfSome (last_below test n) (λ p. p < n)
+last_below-earlier test n = of (last_below test n) refl
+  where
+    of : (r : Option ℕ) → last_below test n ≡ r → IfSome r (λ p. p < n)
+    of None is = tt
+    of (Some p) is = last_below-before test n p is

@@ -3,3 +3,5 @@ mod Grouping
 mod Numbering
 mod Reporting
 mod HtmlLemmas
+mod LanguageLemmas
+mod Ancestry

@@ -1,15 +1,15 @@
 -- The elements of a tree as nodes of a document. Siblings are elements with the same parent, in the
 -- order of the list.
-use Rattle.std.specs.Prelude.{ℕ, suc, ◌+◌, ◌-◌, Bool, false, ◌&&◌, ◌||◌, ◌==◌, nat_lt, if◌then◌else◌, List, length, Option, None, Some, bytes_eq, codes, slice_index_or}
-use Rattle.std.specs.Option.{option_map}
+use Rattle.std.specs.Prelude.{ℕ, suc, ◌+◌, ◌-◌, Bool, false, ◌&&◌, ◌||◌, ◌==◌, nat_lt, if◌then◌else◌, List, [], length, Option, None, Some, bytes_eq, codes, slice_index_or}
+use Rattle.std.specs.Option.{option_map, unwrap_or}
 use Rattle.std.specs.Str.{str_eq_ignore_ascii_case}
 use Rattle.selectors3.specs.Documents.{Document}
 use Rattle.sibling_matching.specs.ListTrees.{parent_by, steps_from, spot}
-use Rattle.simplecss.specs.Components.KnownPseudoClass.{lang}
 use Rattle.simplecss_tree.specs.Rows.{Row}
-use Rattle.simplecss_tree.specs.TreeNodes.{named_parent, name_at, attribute_at, states_at, is_in}
+use Rattle.simplecss_tree.specs.TreeNodes.{named_parent, name_at, attribute_at, states_at, language_at}
 use Rattle.simplecss_tree.specs.declared.tree.States.{States}
 use Rattle.selectors3_tree.specs.Counts.{count_below, last_below}
+use Rattle.selectors3_tree.specs.Languages.{is_in_range}
 
 -- the elements of a tree, and which of them have a text of their own that is not empty
 pub record Page : Type 0 where
@@ -61,6 +61,11 @@ is_in_state states name =
     else (if str_eq_ignore_ascii_case name (codes "focus") then states.focus
     else str_eq_ignore_ascii_case name (codes "any-link") && (states.link || states.visited)))))
 
+-- The language of an element: the attribute `lang` of the nearest among it and its ancestors that
+-- has one. It is empty if none has one.
+abbrev pub language_of : List Row → ℕ → List ℕ
+language_of rows i = unwrap_or (language_at rows i) []
+
 -- All pages as one document: a node is a page and an index of an element.
 abbrev pub page_document : Document (Page × ℕ)
 page_document = record {
@@ -74,6 +79,6 @@ page_document = record {
   is_named = λ n name. bytes_eq (name_at n.0.rows n.1) name;
   attribute = λ n name. attribute_at n.0.rows n.1 name;
   is_in_state = λ n name. is_in_state (states_at n.0.rows n.1) name;
-  is_in_language = λ n range. is_in n.0.rows n.1 (lang range);
+  is_in_language = λ n range. is_in_range range (language_of n.0.rows n.1);
   has_content = λ n. has_content n.0 n.1;
 }

@@ -7,6 +7,7 @@
 
 mod groups;
 pub mod html;
+pub mod languages;
 mod node;
 mod numbered_tree;
 mod port_element;

@@ -4,6 +4,7 @@ ghost use Rattle.simplecss_tree.specs.TreeNodes.{states_at};
 ghost use Rattle.selectors3_tree.specs.Pages.{is_in_state};
 
 use crate::NumberedTree;
+use crate::languages::is_in_range;
 use selectors3::Element3;
 use selectors3_index::Keyed3;
 use simplecss::{Element, PseudoClass};
@@ -41,8 +42,7 @@ impl<'n, 'p, 't> NumberedNode<'n, 'p, 't> {
 }
 
 /// The language is the attribute `lang` of the nearest among the element and its ancestors that has
-/// one. It is in a range if it is the range, or the range and then a hyphen at its start: `*` is in
-/// no way special.
+/// one; it is empty if none has one. `languages::is_in_range` says which ranges it is in.
 impl<'n, 'p, 't> Element3 for NumberedNode<'n, 'p, 't> {
     ghost use Rattle.std.specs.Prelude.{ℕ};
     ghost use Rattle.selectors3_tree.specs.Pages.{Page, page_document};
@@ -101,8 +101,8 @@ impl<'n, 'p, 't> Element3 for NumberedNode<'n, 'p, 't> {
     }
 
     fn is_in_language(&self, range: &str) -> bool {
-        let class = PseudoClass::Lang(range);
-        self.tree.plain(self.index).pseudo_class_matches(class)
+        let node = self.tree.plain(self.index);
+        is_in_range(range, node.language().unwrap_or(""))
     }
 
     fn has_content(&self) -> bool {
@@ -110,7 +110,7 @@ impl<'n, 'p, 't> Element3 for NumberedNode<'n, 'p, 't> {
     }
 }
 
-/// Reports the names of the element and of its attributes.
+/// Reports the names of the element and of its attributes, and the bits of its ancestors' keys.
 impl<'n, 'p, 't> Keyed3 for NumberedNode<'n, 'p, 't> {
     ghost use Rattle.selectors3_tree.specs.Reports.{reported_of, keys_reported};
 
@@ -129,6 +129,10 @@ impl<'n, 'p, 't> Keyed3 for NumberedNode<'n, 'p, 't> {
     fn attribute_name(&self, index: usize) -> &str {
         let attributes = self.tree.plain(self.index).attributes();
         attributes[index].0
+    }
+
+    fn ancestor_bits(&self) -> u64 {
+        self.tree.ancestor_bits(self.index)
     }
 }
 

@@ -1,6 +1,6 @@
 //! Trees whose siblings are counted.
 ghost use Rattle.std.specs.Prelude.{◌≡◌, ◌<◌, ◌≤◌, ◌^◌, ℕ, length, slice_index_or};
-ghost use Rattle.std.specs.Prelude.{IfOk, IfErr, MatchOption, slice_set, true, false};
+ghost use Rattle.std.specs.Prelude.{IfOk, IfErr, IfSome, MatchOption, slice_set, true, false};
 ghost use Rattle.sibling_matching.specs.ListTrees.{spot};
 ghost use Rattle.simplecss.specs.ListTrees.{spot as plain_spot};
 ghost use Rattle.simplecss_tree.specs.TreeNodes.{name_at};
@@ -8,11 +8,13 @@ ghost use Rattle.selectors3_tree.specs.Counts.{count_below, last_below};
 ghost use Rattle.selectors3_tree.specs.Pages.{family, is_sibling, is_alike, count_after};
 ghost use Rattle.selectors3_tree.specs.Pages.{has_content};
 ghost use Rattle.selectors3_tree.specs.Keys.{AreFamilies, AreKinds};
+ghost use Rattle.selectors3_tree.specs.Above.{AreAbove, CoversAbove};
 ghost use Rattle.selectors3_tree.specs.declared.numbered_tree.NumberingError.TheVariants.{TooManyElements};
 ghost use Rattle.selectors3_tree.specs.declared.numbered_tree.NumberingError.TheVariants.{Memory};
 
 use crate::NumberedNode;
 use crate::groups::{Groups, Seen};
+use selectors3_index::element_bits;
 use simplecss::Element;
 use simplecss_tree::{Node, Tree};
 use std::alloc::{AllocError, AllocFailed, Global};
@@ -56,19 +58,23 @@ pub struct NumberedTree<'p, 't> {
     kinds: Groups<(usize, &'t str)>,
     /// Whether each element has a text of its own that is not empty.
     texts: Vec<bool>,
+    /// For each element bits that cover the keys of its ancestors. It is empty only while they are
+    /// computed.
+    above: Vec<u64>,
 }
 
 impl<'p, 't> Model for NumberedTree<'p, 't> {
     ghost use Rattle.std.specs.Prelude.{◌≡◌, length};
     ghost use Rattle.selectors3_tree.specs.Pages.{Page};
     ghost use Rattle.selectors3_tree.specs.Keys.{AreFamilies, AreKinds};
+    ghost use Rattle.selectors3_tree.specs.Above.{AreAbove};
 
     ghost Value = { Page };
 
     ghost view = { λ t. record { rows = t.tree.now; texts = t.texts.items } };
 
     ghost invariant = { λ t. AreFamilies t.tree.now t.families × AreKinds t.tree.now t.kinds
-        × (length t.texts.items ≡ length t.tree.now) };
+        × (length t.texts.items ≡ length t.tree.now) × AreAbove t.tree.now t.above.items };
 }
 
 /// Returns the number of the family of an element: 0 for those without a parent, or one more than
@@ -132,6 +138,38 @@ fn no_texts(alloc: Global, count: usize) -> Result<Vec<bool>, AllocError>
     Ok(texts)
 }
 
+/// Returns bits that cover the keys of the ancestors of an element, from those of the elements before
+/// it. The bits of the parent are computed only for its first child.
+fn bits_above(page: &NumberedTree<'_, '_>, above: &[u64], index: usize) -> u64
+    requires within { index < length page.now.rows }
+    requires before { index ≤ length above.now }
+    requires above { AreAbove page.now.rows above.now }
+    ensures { CoversAbove page.now.rows index result }
+{
+    if let Some(sibling) = page.before(index).last {
+        return above[sibling];
+    }
+    match page.plain(index).parent_element() {
+        Some(parent) => {
+            let index = parent.index();
+            above[index] | element_bits(&NumberedNode { tree: page, index })
+        }
+        None => 0,
+    }
+}
+
+/// Returns for each element bits that cover the keys of its ancestors.
+fn all_above(alloc: Global, page: &NumberedTree<'_, '_>) -> Result<Vec<u64>, AllocError>
+    ensures { IfOk result (λ above. AreAbove page.now.rows above.items) }
+{
+    let mut above = Vec::with_capacity(alloc, page.len())?;
+    for index in 0..page.len() {
+        let bits = bits_above(page, &above, index);
+        above.push(bits)?;
+    }
+    Ok(above)
+}
+
 impl<'p, 't> NumberedTree<'p, 't> {
     /// Counts the siblings of each element of a tree. No element has a text yet.
     pub fn new(alloc: Global, tree: &'p Tree<'t>) -> Result<NumberedTree<'p, 't>, NumberingError>
@@ -145,12 +183,15 @@ impl<'p, 't> NumberedTree<'p, 't> {
         }
         let families = families_of(alloc, tree)?;
         let kinds = kinds_of(alloc, tree, &families)?;
-        Ok(NumberedTree {
+        let mut page = NumberedTree {
             tree,
             families: Groups::new(alloc, families)?,
             kinds: Groups::new(alloc, kinds)?,
             texts: no_texts(alloc, tree.len())?,
-        })
+            above: Vec::new(alloc),
+        };
+        page.above = all_above(alloc, &page)?;
+        Ok(page)
     }
 
     /// Returns the number of elements.
@@ -199,6 +240,7 @@ impl<'p, 't> NumberedTree<'p, 't> {
         requires { index < length self.now.rows }
         ensures count { result.count ≡ count_below (is_sibling self.now.rows index) index }
         ensures last { result.last ≡ last_below (is_sibling self.now.rows index) index }
+        ensures earlier { IfSome result.last (λ last. last < index) }
     {
         self.families.before(index)
     }
@@ -225,6 +267,17 @@ impl<'p, 't> NumberedTree<'p, 't> {
         ensures { result ≡ count_after (is_alike self.now.rows index) index self.now.rows }
     {
         self.kinds.after(index)
+    }
+
+    /// Returns bits that cover the keys of the ancestors of an element.
+    pub(crate) fn ancestor_bits(&self, index: usize) -> u64
+        requires { index < length self.now.rows }
+        ensures { CoversAbove self.now.rows index result }
+    {
+        match self.above.get(index) {
+            Some(bits) => *bits,
+            None => u64::MAX,
+        }
     }
 
     /// Whether the element has a text, or is the parent of an element.

@@ -56,6 +56,7 @@ pub(crate) fn value_in<'t>(attributes: &[(&'t str, &'t str)], name: &str) -> Opt
 
 impl<'p, 't> Node<'p, 't> {
     ghost use Rattle.simplecss_tree.specs.TreeNodes.{name_at, attribute_at, attributes_at};
+    ghost use Rattle.simplecss_tree.specs.TreeNodes.{language_at};
 
     /// Returns the index among the elements of the tree, in the order in which they were added.
     pub fn index(&self) -> usize
@@ -85,6 +86,14 @@ impl<'p, 't> Node<'p, 't> {
             ≡ attribute_at self.now.0 self.now.1 name.now }
     {
         self.tree.attribute(self.index, name)
+    }
+
+    /// Returns the value of the attribute `lang` of the nearest among the element and its ancestors
+    /// that has one.
+    pub fn language(&self) -> Option<&'t str>
+        ensures { option_map (λ value. value.now) result ≡ language_at self.now.0 self.now.1 }
+    {
+        self.tree.language(self.index)
     }
 }
 
