@@ -6,7 +6,7 @@ use Rattle.simplecss.specs.Components.{Component}
 use Rattle.selectors3.specs.Components.{Selector}
 use Rattle.any_selector_index.specs.AnySelectors.{AnySelector}
 use Rattle.any_selector_index.specs.AnySelectors.AnySelector.{css21, level3}
-use Rattle.any_selector_index.specs.internal.Parts.{as_css21, as_level3, picked, joined, AreParts}
+use Rattle.any_selector_index.specs.internal.Parts.{as_css21, as_level3, picked, indices_of, values_of, joined, AreParts}
 use Rattle.any_selector_index.proofs.Picking.{picked_at}
 
 joined_picked : (n : ℕ) (ss : List AnySelector)
@@ -45,8 +45,8 @@ pub joined_parts : (ss : List AnySelector) (cs : List (List Component)) (is : Li
     (ls : List Selector) (js : List ℕ) → AreParts ss cs is ls js → joined 0 is cs ls ≡ ss
 joined_parts ss cs is ls js are =
     ap (λ xs. joined 0 xs cs ls) are.css21_indices
-    ∙ ap (λ xs. joined 0 (map (λ row. row.0) (picked as_css21 0 ss)) xs ls) are.css21_values
-    ∙ ap (λ xs. joined 0 (map (λ row. row.0) (picked as_css21 0 ss)) (map (λ row. row.1) (picked as_css21 0 ss)) xs) are.level3_values
+    ∙ ap (λ xs. joined 0 (indices_of as_css21 ss) xs ls) are.css21_values
+    ∙ ap (λ xs. joined 0 (indices_of as_css21 ss) (values_of as_css21 ss) xs) are.level3_values
     ∙ joined_picked 0 ss
 
 -- they are the parts of what they make

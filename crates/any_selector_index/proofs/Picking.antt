@@ -103,8 +103,9 @@ module _ {S A : Type 0} (pick : S → Option A) where
           above : (k d : ℕ) → k < length (map (λ row. row.0) (picked pick (suc n) xs))
               → n < get_or (map (λ row. row.0) (picked pick (suc n) xs)) k d
           above k d within =
-              let lt : k < length (picked pick (suc n) xs) = omega (arith, within, length-map (picked pick (suc n) xs) (λ row. row.0)) in
-              let row = row_there (picked pick (suc n) xs) k d lt in
+              let rows = picked pick (suc n) xs in
+              let lt : k < length rows = omega (arith, within, length-map rows (λ row. row.0)) in
+              let row = row_there rows k d lt in
               let h = picked_at (suc n) xs k _ row.0 row.1 in
               omega (arith, h.0)
 

@@ -1,34 +1,17 @@
 -- Two increasing lists of numbers as one.
 -- Serves `merging::merge`.
-use Rattle.std.proofs.Common.{◌≡◌, ℕ, zero, suc, ◌+◌, ◌<◌, ◌≤◌, ◌↔◌, ◌⊎◌, inl, inr, Bool, true, false, cond, List, [], ◌∷◌, ◌++◌, length, get_or, drop, refl, sym, ap, ◌∙◌, subst, arith, append-nil, take, ◌-◌}
+use Rattle.std.proofs.Common.{◌≡◌, ℕ, suc, ◌+◌, ◌<◌, ◌≤◌, ◌↔◌, ◌⊎◌, inl, inr, Bool, true, false, cond, List, [], ◌∷◌, ◌++◌, length, get_or, drop, refl, sym, ap, ◌∙◌, subst, arith, append-nil}
 use Rattle.std.specs.Prelude.{min, nat_le}
 use Rattle.std.specs.Int.{from_bool}
 use Rattle.std.proofs.Math.Seq.{drop-cons}
-use Rattle.std.proofs.lemmas.List.{take_all, length-drop}
-use Rattle.selectors3_index.specs.Found.{AreAll}
 use Rattle.std.specs.List.{AllPairs, Contains}
 use Rattle.std.specs.List.Sorted.{IsStrictlyIncreasing}
-use Rattle.std.proofs.lemmas.List.Elements.{Contains-append_left, Contains-append_right, Contains-append_cases, Contains-get_or}
+use Rattle.std.proofs.lemmas.List.Elements.{Contains-get_or}
 use Rattle.std.proofs.lemmas.List.Kept.{AllPairs-cons, AllPairs-from_increasing}
 use Rattle.std.proofs.lemmas.Bool.Decides.{nat_tests}
-
-pub contains_none : {X : Type 0} (x : X) → Contains [] x → ⊥
-contains_none x c = let l = c.1 in omega (arith, l)
-
-pub contains_cons : {X : Type 0} (x : X) (xs : List X) (y : X)
-    → Contains (x ∷ xs) y ↔ ((x ≡ y) ⊎ Contains xs y)
-contains_cons x xs y = (
-  λ c. elim (Contains-append_cases (x ∷ []) xs y c)
-      [ inl h ↦ inl (only h.0 h.1 h.2) | inr h ↦ inr h ],
-  λ h. elim h [
-    | inl e ↦ Contains-append_left (x ∷ []) xs y (0, omega arith, e)
-    | inr c ↦ Contains-append_right (x ∷ []) xs y c
-  ],
-)
-  where
-    only : (k : ℕ) → k < 1 → get_or (x ∷ []) k y ≡ y → x ≡ y
-    only zero lt e = e
-    only (suc k) lt e = absurd (omega (arith, lt))
+use Rattle.simplecss.proofs.Adding.{contains_none}
+use Rattle.simplecss.proofs.Ascending.{contains_cons}
+use Rattle.selectors3_index.specs.Found.{AreAll}
 
 -- a number and those of two lists, the first of which is in `more` with each second
 joined : ℕ → (List ℕ → List ℕ) → List ℕ → List ℕ
@@ -213,7 +196,7 @@ pub union_increases : (xs ys : List ℕ) → IsStrictlyIncreasing xs → IsStric
     → IsStrictlyIncreasing (union xs ys)
 union_increases xs ys one other =
     let all = pairs (union xs ys) (union_rises xs ys
-        (rises xs (AllPairs-from_increasing xs one)) (rises ys (AllPairs-from_increasing ys other))) in
+    (rises xs (AllPairs-from_increasing xs one)) (rises ys (AllPairs-from_increasing ys other))) in
     λ k within. all k (k + 1) 0 (omega arith) within
 
 pub passed : (n : ℕ) (b : Bool) (l : ℕ) → n < l → n + from_bool b ≤ l
@@ -257,6 +240,3 @@ are_union one other all up down is = record {
   exactly = λ n. subst (λ xs. Contains xs n ↔ (Contains one n ⊎ Contains other n)) (sym is)
       (in_union n one other);
 }
-
-pub rest_of : (xs : List ℕ) (i : ℕ) → take (length xs - i) (drop i xs) ≡ drop i xs
-rest_of xs i = take_all (length xs - i) (drop i xs) (omega (arith, length-drop i xs))

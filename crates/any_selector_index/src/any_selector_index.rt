@@ -65,12 +65,8 @@ impl<'s, 'a> AnySelectorIndex<'s, 'a> {
         })
     }
 
-    /// Finds the indices of the rules with selectors of CSS 2.1 that match the element.
-    fn find_css21<E: Keyed>(
-        &self,
-        element: &E,
-        indices: &mut Vec<usize>,
-    ) -> Result<(), AllocError>
+    /// Finds the indices of the rules with selectors of CSS 2.1 that match the element, in order.
+    fn find_css21<E: Keyed>(&self, element: &E, indices: &mut Vec<usize>) -> Result<(), AllocError>
         ensures matches { OnOk result (AreAll (IsAt (λ s. IsSomeAnd (as_css21 s)
             (λ components. HasPlacement E.tree components (E.node element.now))) self.now)
             indices.new.items) }
@@ -81,7 +77,7 @@ impl<'s, 'a> AnySelectorIndex<'s, 'a> {
         Ok(())
     }
 
-    /// Finds the indices of the rules with selectors of level 3 that match the element.
+    /// Finds the indices of the rules with selectors of level 3 that match the element, in order.
     fn find_level3<E: Keyed3>(
         &self,
         element: &E,
@@ -97,7 +93,8 @@ impl<'s, 'a> AnySelectorIndex<'s, 'a> {
         Ok(())
     }
 
-    /// Finds the indices of all rules that match the element. Both lists are used.
+    /// Finds the indices of the rules that match the element: those of each kind in a list of their
+    /// own, and then both lists in one. After an error `indices` may have items.
     fn find_both<E: Keyed + Keyed3>(
         &self,
         element: &E,
@@ -116,12 +113,12 @@ impl<'s, 'a> AnySelectorIndex<'s, 'a> {
     }
 
     /// Finds the indices of the rules that match the element, in order: those that testing each
-    /// rule would find. A rule with a selector of CSS 2.1 matches by what the element is by
-    /// `simplecss::Element`, and one with a selector of level 3 by `selectors3::Element3`.
+    /// rule would find. A rule with a selector of CSS 2.1 matches by what the element answers as a
+    /// `simplecss::Element`, and one with a selector of level 3 as a `selectors3::Element3`.
     ///
-    /// A search costs a search among the selectors of each kind, unless there are none, and a step
-    /// for each index that is found. The previous items of `indices` are dropped. Fails only if an
-    /// allocation fails; then no items are left.
+    /// It searches the selectors of each kind, unless there are none, and then takes a step for each
+    /// index that was found. The previous items of `indices` are dropped. Fails only if an allocation
+    /// fails; then no items are left.
     pub fn matching<E: Keyed + Keyed3>(
         &self,
         element: &E,
@@ -135,8 +132,8 @@ impl<'s, 'a> AnySelectorIndex<'s, 'a> {
         self.matching_with_spare(element, indices, &mut spare)
     }
 
-    /// Does what [`AnySelectorIndex::matching`] does, with a second list, of which no item is of
-    /// use. Once both have grown, further calls allocate nothing.
+    /// Does what [`AnySelectorIndex::matching`] does, with a second list to work in, whose items are
+    /// of no use before and after. Once both lists have grown, further calls allocate nothing.
     pub fn matching_with_spare<E: Keyed + Keyed3>(
         &self,
         element: &E,

@@ -24,7 +24,7 @@ returns g c =
     let back : c.split_at.result.1.now ≡ other =
     c.split_at.ensures.back ∙ ap (drop count) both ∙ drop_at one other count len in
     on_ok_weaker c.merge.result (λ are. both_found tree m document n self
-        c.split_at.result.0.now c.split_at.result.1.now c.merge.new.merged.items
-        (subst (AreAll (IsCss21At tree m document n self)) (sym front) c.in_ok-find_css21.ensures.matches)
-        (subst (AreAll (IsLevel3At tree m document n self)) (sym back) c.in_ok-find_level3.ensures.matches)
-        are) c.merge.ensures
+    c.split_at.result.0.now c.split_at.result.1.now c.merge.new.merged.items
+    (subst (AreAll (IsCss21At tree m document n self)) (sym front) c.in_ok-find_css21.ensures.matches)
+    (subst (AreAll (IsLevel3At tree m document n self)) (sym back) c.in_ok-find_level3.ensures.matches)
+    are) c.merge.ensures

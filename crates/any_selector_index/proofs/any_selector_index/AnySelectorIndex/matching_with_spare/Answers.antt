@@ -22,8 +22,8 @@ returns-then-is_empty-clause-matches g c =
     ap length (sym parts.level3_indices) ∙ sym it.level3_rules.ok.0
     ∙ eqb-true _ _ (sym c.is_empty.ensures ∙ c.if-is_empty.true) in
     on_ok_weaker c.find_css21.result (λ are. css21_found tree m document n self
-        c.find_css21.new.indices.items are
-        (none_picked as_level3 (λ s. Matches document s n) self none))
+    c.find_css21.new.indices.items are
+    (none_picked as_level3 (λ s. Matches document s n) self none))
     c.find_css21.ensures.matches
 
 pub returns-then-is_empty-2-clause-matches : goal.returns-then-is_empty-2-clause-matches
@@ -40,6 +40,6 @@ returns-then-is_empty-2-clause-matches g c =
     ap length (sym parts.css21_indices) ∙ sym it.css21_rules.ok.0
     ∙ eqb-true _ _ (sym c.is_empty-2.ensures ∙ c.if-is_empty-2.true) in
     on_ok_weaker c.find_level3.result (λ are. level3_found tree m document n self
-        c.find_level3.new.indices.items
-        (none_picked as_css21 (λ cs. HasPlacement tree cs m) self none) are)
+    c.find_level3.new.indices.items
+    (none_picked as_css21 (λ cs. HasPlacement tree cs m) self none) are)
     c.find_level3.ensures.matches
