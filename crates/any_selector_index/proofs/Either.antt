@@ -1,6 +1,6 @@
 -- What was found among the selectors of each kind, in one list.
 -- Serves `AnySelectorIndex::matching`.
-use Rattle.std.proofs.Common.{◌≡◌, ℕ, ◌<◌, ◌↔◌, ◌⊎◌, inl, inr, List, [], Some, get_or, subst, sym, arith}
+use Rattle.std.proofs.Common.{ℕ, ◌↔◌, ◌⊎◌, inl, inr, List, [], get_or, subst, sym, arith}
 use Rattle.std.specs.List.{Contains}
 use Rattle.std.specs.Option.{IsSomeAnd}
 use Rattle.std.proofs.lemmas.Option.{slice_get-get_or, slice_get_within, get_or_from_slice_get}

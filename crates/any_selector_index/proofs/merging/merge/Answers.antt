@@ -1,4 +1,4 @@
-use Rattle.std.proofs.Common.{◌≡◌, ◌≤◌, ◌+◌, ◌-◌, take, [], ◌∷◌, ◌++◌, ◌∙◌, ap, sym, subst, ℕ, length, get_or, drop, append_assoc, ◌⊎◌, inl, inr}
+use Rattle.std.proofs.Common.{◌≡◌, ◌≤◌, ◌+◌, ◌-◌, take, [], ◌∷◌, ◌++◌, ◌∙◌, ap, sym, subst, length, drop, append_assoc, ◌⊎◌, inl, inr}
 use Rattle.std.proofs.lemmas.List.{drop_all, take_rest}
 use Rattle.any_selector_index.proofs.Unions.{union, passed, union_step, union_rest, are_union}
 use Rattle.any_selector_index.proofs.merging.merge.Goals.{then-least-test+else-j-other, else-least-test}

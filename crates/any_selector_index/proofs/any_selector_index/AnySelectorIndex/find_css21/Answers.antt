@@ -1,4 +1,4 @@
-use Rattle.std.proofs.Common.{List, length, map, sym, ap, ◌∙◌, subst}
+use Rattle.std.proofs.Common.{List, length, sym, ap, ◌∙◌, subst}
 use Rattle.simplecss.proofs.Keeping.{written_back}
 use Rattle.simplecss.specs.Components.{Component}
 use Rattle.simplecss.specs.Placements.{HasPlacement}

@@ -1,4 +1,4 @@
-use Rattle.std.proofs.Common.{length, map, sym, ap, ◌∙◌, subst}
+use Rattle.std.proofs.Common.{length, sym, ap, ◌∙◌, subst}
 use Rattle.simplecss.proofs.Keeping.{written_back}
 use Rattle.selectors3.specs.Components.{Selector}
 use Rattle.selectors3.specs.Meanings.{Matches}
