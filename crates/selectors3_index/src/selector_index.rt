@@ -283,8 +283,10 @@ impl<'s, 'a> SelectorIndex<'s, 'a> {
     /// rule would find. One with a pseudo-element matches none.
     ///
     /// It costs a look-up for the name, the id, each class and each attribute of the element, a
-    /// comparison for each entry of these keys, and a test for each rule of which a key is found, whose
-    /// needed bits [`Keyed3::ancestor_bits`] covers, and which requires more than one of its keys.
+    /// comparison of numbers for each entry at the places of these keys, and a test for each rule of
+    /// which a key is found, whose keys of ancestors [`Keyed3::ancestor_bits`] covers, whose key of the
+    /// parent is one of the parent's, and which requires more than its keys. Some that lack such a key
+    /// are tested, too, since different keys may share bits.
     ///
     /// The previous items of `indices` are dropped. Only its growth allocates, and fails only if an
     /// allocation fails; then no items are left.
