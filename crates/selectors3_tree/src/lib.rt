@@ -10,6 +10,7 @@ pub mod html;
 pub mod languages;
 mod node;
 mod numbered_tree;
+mod port_element;
 
 pub use node::NumberedNode;
 pub use numbered_tree::{NumberedTree, NumberingError};
