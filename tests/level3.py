@@ -296,7 +296,7 @@ def browser_texts(texts: Sequence[str]) -> Optional[List[Optional[str]]]:
 
 # Differences that docs/DIFFERENCES.md names, by the words of a refusal and by what is read before its place: a list, or
 # a comment within a compound selector.
-REFUSED_HERE = re.compile(r"is not closed|function that is read|: `(\||/\*|[+-]?\\.*(An\+B|expected here))")
+REFUSED_HERE = re.compile(r"is not closed|: `(\||/\*|[+-]?\\.*(An\+B|expected here))")
 INNER = re.compile(r":(is|where|not)\([^()]*(\([^()]*)*$|\*/$", re.IGNORECASE)
 # A browser knows no flag `s`, and takes a large number for another; it refuses pseudo-classes that it does not know,
 # and reads `:is()` and a further pseudo-element after one.
