@@ -1,4 +1,5 @@
 -- What is picked of a list, each with its index.
+-- Serves `AnySelectorIndex::new` and `AnySelectorIndex::matching`.
 use Rattle.std.proofs.Common.{◌≡◌, ℕ, zero, suc, ◌+◌, ◌-◌, ◌<◌, ◌≤◌, List, [], ◌∷◌, ◌++◌, Option, None, Some, length, map, get_or, refl, sym, ap, ◌∙◌, subst, arith}
 use Rattle.std.specs.List.{slice_get, slice_index, All, AllPairs}
 use Rattle.std.specs.Option.{option_map, IsSomeAnd}

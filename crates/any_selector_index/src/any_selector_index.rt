@@ -15,16 +15,19 @@ use simplecss::Keyed;
 use std::alloc::{AllocError, Global};
 use std::marker::Model;
 
-/// An index over selectors of both kinds. It borrows them; a change of them needs a new index.
+/// An index over selectors of both kinds. It borrows the selectors; a change of them needs a new
+/// index.
+///
+/// It is an index over the selectors of each kind, with the rules that they are of.
 #[derive(Drop)]
 pub struct AnySelectorIndex<'s, 'a> {
-    /// The index over the selectors of CSS 2.1.
+    /// The selectors of CSS 2.1.
     css21: Css21Index<'s, 'a>,
-    /// The index of the rule of each.
+    /// For each of them, in order, which rule has it.
     css21_rules: Vec<usize>,
-    /// The index over the selectors of level 3.
+    /// The selectors of level 3.
     level3: SelectorIndex<'s, 'a>,
-    /// The index of the rule of each.
+    /// For each of them, in order, which rule has it.
     level3_rules: Vec<usize>,
 }
 

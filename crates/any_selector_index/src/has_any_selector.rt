@@ -16,6 +16,17 @@ pub trait HasAnySelector<'a> {
         ensures { any_selector_of result ≡ selector_in self.now };
 }
 
+impl<'s, 'a> HasAnySelector<'a> for AnySelector<'s, 'a> {
+    ghost use Rattle.any_selector_index.specs.AnySelectorViews.{any_selector_of};
+
+    ghost selector_in = { any_selector_of };
+
+    #[inline(always)]
+    fn selector(&self) -> AnySelector<'_, 'a> {
+        *self
+    }
+}
+
 impl<'a> HasAnySelector<'a> for Selector<'a> {
     ghost use Rattle.any_selector_index.specs.AnySelectors.AnySelector.{css21};
 

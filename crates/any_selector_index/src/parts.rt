@@ -1,4 +1,4 @@
-//! The selectors of rules, by their kind.
+//! The selectors of rules by their kind.
 ghost use Rattle.std.specs.Prelude.{IfOk, map};
 ghost use Rattle.any_selector_index.specs.internal.Parts.{AreParts};
 
@@ -7,16 +7,16 @@ use crate::{AnySelector, HasAnySelector};
 use selectors3::Selector3;
 use std::alloc::{AllocError, Global};
 
-/// The selectors of rules, by their kind, and for each the index of its rule.
+/// The selectors of rules by their kind, in order, and for each which rule has it.
 #[derive(Drop)]
 pub(crate) struct Parts<'s, 'a> {
     /// The selectors of CSS 2.1.
     pub(crate) css21s: Vec<Borrowed<'s, 'a>>,
-    /// The index of the rule of each.
+    /// The indices of their rules.
     pub(crate) css21_rules: Vec<usize>,
     /// The selectors of level 3.
     pub(crate) level3s: Vec<&'s Selector3<'a>>,
-    /// The index of the rule of each.
+    /// The indices of their rules.
     pub(crate) level3_rules: Vec<usize>,
 }
 
