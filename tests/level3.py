@@ -15,6 +15,7 @@ import random
 import re
 import subprocess
 import sys
+import time
 from typing import Any, Dict, List, Optional, Sequence, Tuple, Union
 
 from common import Counts, browser_answers
@@ -109,11 +110,12 @@ class Source(random.Random):
         front = self.choice(("", "", "*", self.name(self.choice(NAMES))))
         return front + "".join(self.simple() for _ in range(self.choice((0, 1, 1, 2) if front else (1, 1, 2))))
 
-    def compound(self) -> str:
-        """A compound selector."""
-        if self.random() < 0.7:
+    def compound(self, depth: int = 0) -> str:
+        """A compound selector, with lists up to four deep."""
+        if depth == 4 or self.random() < 0.7:
             return self.plain()
-        parts = self.choice((",", " , ", ", ")).join(self.plain() for _ in range(self.choice((1, 1, 2, 3))))
+        parts = self.choice((",", " , ", ", ")).join(
+            self.compound(depth + 1) for _ in range(self.choice((1, 1, 2, 3))))
         front = self.plain() if self.random() < 0.5 else ""
         name, blank = self.choice(("not", "is", "where", "NOT")), self.choice(("", " "))
         return f"{front}:{name}({blank}{parts}{blank})"
@@ -295,7 +297,7 @@ def browser_texts(texts: Sequence[str]) -> Optional[List[Optional[str]]]:
 # Differences that docs/DIFFERENCES.md names, by the words of a refusal and by what is read before its place: a list, or
 # a comment within a compound selector.
 REFUSED_HERE = re.compile(r"is not closed|function that is read|: `(\||/\*|[+-]?\\.*(An\+B|expected here))")
-INNER = re.compile(r":(is|where|not)\([^()]*(\([^()]*)?$|\*/$", re.IGNORECASE)
+INNER = re.compile(r":(is|where|not)\([^()]*(\([^()]*)*$|\*/$", re.IGNORECASE)
 # A browser knows no flag `s`, and takes a large number for another; it refuses pseudo-classes that it does not know,
 # and reads `:is()` and a further pseudo-element after one.
 ODD_IN_BROWSERS = re.compile(
@@ -374,6 +376,29 @@ def compare(program: str, counts: Counts, count: int, kind: str) -> None:
         print(f"{count // 50 * 50} {kind} texts beside {name}; {judge.left_out} left out, of named differences")
 
 
+# How many lists may be within one another.
+DEEPEST = 32
+
+
+def compare_nested(program: str, counts: Counts) -> None:
+    """Compares lists within lists with their meaning: of `:not()` within `:not()` each other one is the class itself."""
+    tree: Element = ("a", {"class": "c"}, [("b", {}, [])])
+    depths = (1, 2, 3, DEEPEST - 1, DEEPEST, DEEPEST + 1, 100_000)
+    texts = [":not(" * depth + ".c" + ")" * depth for depth in depths]
+    texts += [":is(" * depth + ".c, x" + ")" * depth for depth in depths]
+    start = time.monotonic()
+    replies = ours(program, tree, texts)
+    counts.expect(time.monotonic() - start < 10, "lists within lists took 10 s")
+    for text, reply in zip(texts, replies):
+        depth, name = text.count("("), text.split("(")[0]
+        if depth > DEEPEST:
+            place = 1 + DEEPEST * len(name + "(")
+            wanted = f"refused: 1:{place}: `{name}` is nested too deep"
+        else:
+            wanted = f"0,1,0: {depth % 2 if name == ':not' else 0}\1{text}"
+        counts.expect(reply == wanted, f"{depth} lists of {name} are {reply[:80]!r}, and not {wanted[:80]!r}")
+
+
 # Texts whose serialization shows something: names that need escapes, strings, `An+B`, lists, combinators, blanks.
 SERIALIZED = (
     "*", "*.a", "a.b#c", "a  >  b", "a>b+c~d e", "#\\31 x", ".\\31 23", "#-\\31 ", "#\\-", "#--", ".a\\.b", ".a\\20 b",
@@ -382,7 +407,7 @@ SERIALIZED = (
     '[a*="\\a "]', "[a|='\\7f\\\n']", "[\\31 a='\xe9']", ":ROOT", ":First-Child", ":nth-child(odd)", ":nth-child(even)",
     ":nth-child( 2n + 1 )", ":nth-child(+n)", ":nth-child(-n+3)", ":nth-child(0n+5)", ":nth-child(5)", ":nth-child(n)",
     ":nth-child(2n+0)", ":nth-child(-5)", ":nth-child(-n)", ":nth-last-child(-2n - 1)", ":nth-of-type(3n-1)",
-    ":nth-last-of-type(1n+2)", ":not( .a )", ":not(.a,b)", ":is(*,a)", ":where( a , .b )", ":IS(a)", "a::before", "::before",
+    ":nth-last-of-type(1n+2)", ":not( .a )", ":not(.a,b)", ":is(*,a)", ":where( a , .b )", ":IS(a)", ":not(:not(a))", "a:not( :IS(.a,:Where( b )) , [c] )", "a::before", "::before",
     "a:before", ":AFTER", "a > :first-line", "a:\\66irst-letter, b",
     "a > ::after", "*::after", ":hover", ":not(*)", ":not(*.a)", "a /**/ b", "a,b , c", ":lang(en)",
 )
@@ -518,6 +543,7 @@ def main() -> int:
     counts = Counts()
     compare(words.program, counts, words.count, "listed")
     compare(words.program, counts, words.count, "changed")
+    compare_nested(words.program, counts)
     compare_printed(words.program, counts, words.count)
     compare_languages(words.program, counts)
     return counts.end()

@@ -57,11 +57,11 @@ impl<'a> SheetRule<'a> {
 }
 
 /// An index of rules finds one with a pseudo-element too, where its selector matches.
-impl<'a> HasSelector3 for SheetRule<'a> {
+impl<'a> HasSelector3<'a> for SheetRule<'a> {
     ghost selector_in = { λ rule. rule.selector };
 
     #[inline(always)]
-    fn selector(&self) -> &Selector3<'_> {
+    fn selector(&self) -> &Selector3<'a> {
         &self.selector
     }
 }

@@ -17,8 +17,7 @@ use Rattle.selectors3.specs.Printing.{identifier_text, further_text, list_text, 
 use Rattle.selectors3.specs.WellFormed.{IsName, IsFurtherCondition, IsFirstCondition, IsList, AreConditions}
 use Rattle.selectors3.proofs.SpelledAgain.{name-again}
 use Rattle.selectors3.proofs.NumbersAgain.{no_gap, one_blank}
-use Rattle.selectors3.proofs.ListLemmas.{text_compounds}
-use Rattle.selectors3.proofs.NestedLists.{compounds_in, compounds_from-in, row_text, IsRow, AreRows, rows_out}
+use Rattle.selectors3.proofs.NestedLists.{compounds_in, compounds_from-in, row_text, rows_text, IsRow, AreRows, rows_out}
 use Rattle.selectors3.proofs.SimplesAgain.{EachReads, items-again, ends, ends_name, begins_solid, name_other, name_compound, named_text, is_start, by_start, further_starts, call-again, further-again}
 
 -- ---- how conditions begin
@@ -335,7 +334,7 @@ compound_list-again n reads opened rest compounds w =
     let css : List (List Condition) = compounds_in compounds in
     let same : compounds ≡ compounds_from css = sym (compounds_from-in compounds) in
     ap (λ l. compound_list (next_condition n) opened (l ++ (close_parenthesis ∷ rest)))
-    (ap compounds_text same ∙ text_compounds css)
+    (ap compounds_text same ∙ rows_text css)
     ∙ compounds-again n reads opened rest css (rows_out n css (subst (IsList (suc n)) same w))
 
 pub condition-again : (n : ℕ) → ReadsFurther n

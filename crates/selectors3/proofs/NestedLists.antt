@@ -5,8 +5,9 @@ use Rattle.std.proofs.lemmas.List.Elements.{All-nil, All-cons, All-head, All-tai
 use Rattle.selectors3.specs.Components.{Condition, Conditions, Compounds, conditions_from, compounds_from}
 use Rattle.selectors3.specs.Components.Conditions.{end_of_compound, with_condition}
 use Rattle.selectors3.specs.Components.Compounds.{end_of_list, with_compound}
-use Rattle.selectors3.specs.Printing.{condition_text}
+use Rattle.selectors3.specs.Printing.{condition_text, compounds_text, list_text}
 use Rattle.selectors3.specs.WellFormed.{IsFurtherCondition, IsFirstCondition, IsList, AreCompounds, IsCompound, AreFurther}
+use Rattle.selectors3.proofs.ListLemmas.{compound_text_conditions, further_text_compounds}
 
 abbrev pub conditions_in : Conditions → List Condition
 conditions_in end_of_compound = []
@@ -29,6 +30,11 @@ compounds_from-in (with_compound c cs) =
 -- the text of a compound selector
 abbrev pub row_text : List Condition → List ℕ
 row_text cs = flat_map condition_text cs
+
+pub rows_text : (css : List (List Condition))
+    → compounds_text (compounds_from css) ≡ list_text row_text css
+rows_text [] = refl
+rows_text (cs ∷ css) = rw (compound_text_conditions cs, further_text_compounds css) refl
 
 -- ---- well-formed lists
 

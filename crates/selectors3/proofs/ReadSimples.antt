@@ -51,8 +51,8 @@ pub record FoundAfter {A B : Type 0} (r : Reading A) (next : A → List ℕ → 
   pub first : r ≡ got value middle
   pub second : next value middle ≡ item y rest
 
-pub found_after : {A B : Type 0} (r : Reading A) (next : A → List ℕ → Step B) (y : B) (rest : List ℕ)
-    → step_after r next ≡ item y rest → FoundAfter r next y rest
+pub found_after : {A B : Type 0} (r : Reading A) (next : A → List ℕ → Step B) (y : B)
+    (rest : List ℕ) → step_after r next ≡ item y rest → FoundAfter r next y rest
 found_after (got x mid) next y rest h =
     record { value = x; middle = mid; first = refl; second = h }
 found_after (refused why mid) next y rest h = absurd (cc)

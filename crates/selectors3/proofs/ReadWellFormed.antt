@@ -76,7 +76,8 @@ module _ (n : ℕ) (well : FurtherWell n) where
           → Row n accept text cs rest
       by (item s t) e k =
           let f = first_of_all (simple s) (items (next_condition n) t) cs rest k in
-          let all = all_items (next_condition n) (IsFurtherCondition n) well t f.others rest f.reads in
+          let all =
+          all_items (next_condition n) (IsFurtherCondition n) well t f.others rest f.reads in
           inl (subst (IsRow n) f.is (type_well text s t e, all))
       by none e k =
           let kept = keeps text (items (next_condition n) text) cs rest k in

@@ -11,7 +11,7 @@
 //! each compound selector, related as the combinators say. An element is any type with the trait
 //! `Element3`.
 //!
-//! Namespaces, and lists within the lists of `:not()`, `:is()` and `:where()` are not read.
+//! Lists may be 32 deep within one another. Namespaces are not read.
 #![tactic(auto)]
 
 mod ancestor_keys;

@@ -2,22 +2,22 @@
 use selectors3::Selector3;
 
 /// Something with a selector: a selector itself, or a rule.
-pub trait HasSelector3 {
+pub trait HasSelector3<'a> {
     ghost use Rattle.std.specs.Prelude.{◌≡◌};
     ghost use Rattle.selectors3.specs.Components.{Selector};
 
     ghost selector_in: { Self → Selector };
 
     /// Returns the selector.
-    fn selector(&self) -> &Selector3<'_>
+    fn selector(&self) -> &Selector3<'a>
         ensures { result.now ≡ selector_in self.now };
 }
 
-impl<'a> HasSelector3 for Selector3<'a> {
+impl<'a> HasSelector3<'a> for Selector3<'a> {
     ghost selector_in = { λ selector. selector };
 
     #[inline(always)]
-    fn selector(&self) -> &Selector3<'_> {
+    fn selector(&self) -> &Selector3<'a> {
         self
     }
 }

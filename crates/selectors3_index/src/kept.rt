@@ -6,18 +6,18 @@ use selectors3::Selector3;
 
 /// A selector, and whether it has to be tested.
 #[derive(Clone, Copy)]
-pub(crate) struct Kept<'s> {
+pub(crate) struct Kept<'s, 'a> {
     /// The selector.
-    pub(crate) selector: &'s Selector3<'s>,
+    pub(crate) selector: &'s Selector3<'a>,
     /// Whether it requires nothing but one of its keys.
     pub(crate) is_only_keys: bool,
     ghost known: { is_only_keys ≡ requires_only_keys selector.now },
 }
 
-impl<'s> Kept<'s> {
+impl<'s, 'a> Kept<'s, 'a> {
     /// Returns what is kept of a selector.
     #[inline(always)]
-    pub(crate) fn new(selector: &'s Selector3<'s>) -> Kept<'s>
+    pub(crate) fn new(selector: &'s Selector3<'a>) -> Kept<'s, 'a>
         ensures { result.selector.now ≡ selector.now }
     {
         Kept {

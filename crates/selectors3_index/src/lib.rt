@@ -13,9 +13,12 @@
 //! index.matching(&element, &mut indices)?;
 //! ```
 //!
-//! The items of the index are any type with [`HasSelector3`], as a rule with declarations. A search
-//! costs a look-up for the name, the id, each class and each attribute of the element, and a test
-//! for each candidate; a selector with many keys, as `:is(.a, .b)`, is filed once for each.
+//! The items of the index are any type with [`HasSelector3`], as a rule with declarations, or
+//! references to selectors. A search costs a look-up for the name, the id, each class and each
+//! attribute of the element. A candidate that needs an ancestor or a parent which the element lacks is
+//! left out by the bits of their keys ([`Keyed3::ancestor_bits`], [`element_bits`]), one that requires
+//! nothing but its keys, as `.a` or `:is(.a, .b)`, is not tested, and the others are. A selector with
+//! many keys is filed once for each.
 #![tactic(auto)]
 
 mod above;

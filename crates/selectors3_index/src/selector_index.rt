@@ -1,5 +1,5 @@
 //! An index of rules by the keys of their selectors.
-ghost use Rattle.std.specs.Prelude.{◌≡◌, ◌↔◌, ◌++◌, ℕ, List, [], Contains, IsTrue, IfOk, OnOk, OnErr, map};
+ghost use Rattle.std.specs.Prelude.{◌≡◌, ◌↔◌, ◌++◌, ◌∷◌, ℕ, List, [], Contains, IsTrue, IfOk, OnOk, OnErr, map};
 ghost use Rattle.std.specs.Option.{option_map};
 ghost use Rattle.std.specs.List.Sorted.{IsStrictlyIncreasing};
 ghost use Rattle.selectors3.specs.Keys.{Key as KeyOf};
@@ -23,19 +23,24 @@ use std::marker::Model;
 
 /// An index of selectors by their keys. It borrows the selectors; a change of them needs a new index.
 #[derive(Drop)]
-pub struct SelectorIndex<'s> {
+pub struct SelectorIndex<'s, 'a> {
     /// The selectors.
-    rules: Vec<Kept<'s>>,
+    rules: Vec<Kept<'s, 'a>>,
     /// The keys of the selectors, each at its place.
     buckets: Vec<Vec<Entry<'s>>>,
 }
 
-impl<'s> Model for SelectorIndex<'s> {
+impl<'s, 'a> Model for SelectorIndex<'s, 'a> {
     ghost use Rattle.std.specs.Prelude.{List, map};
-    ghost use Rattle.selectors3.specs.Components.{Selector};
+    ghost use Rattle.std.specs.Coded.{Coded, codes};
+    ghost use Rattle.selectors3.specs.Codes.{condition_code};
+    ghost use Rattle.selectors3.specs.Components.{Simple, Selector};
     ghost use Rattle.selectors3_index.specs.internal.Filed.{AreFiled, entries_of};
 
     ghost Value = { List Selector };
+
+    ghost coded = { let simples : Coded Simple = Prim.hlevel codes in
+        Prim.hlevel (codes, condition_code simples) };
 
     ghost view = { λ index. map (λ rule. rule.selector.now) index.rules.items };
 
@@ -53,40 +58,56 @@ fn sort_once(indices: &mut Vec<usize>)
     indices.dedup();
 }
 
+/// Appends the selector of a rule.
+#[inline(always)]
+fn push_selector<'s, 'a, T: HasSelector3<'a>>(
+    selectors: &mut Vec<&'s Selector3<'a>>,
+    rule: &'s T,
+) -> Result<(), AllocError>
+    ensures { OnOk result (map (λ s. s.now) selectors.new.items
+        ≡ map (λ s. s.now) selectors.old.items ++ T.selector_in rule.now ∷ []) }
+{
+    selectors.push(rule.selector())?;
+    Ok(())
+}
+
 /// Returns the selectors of rules.
-fn selectors_of<'s, T: HasSelector3>(
+fn selectors_of<'s, 'a, T: HasSelector3<'a>>(
     alloc: Global,
     rules: &'s [T],
-) -> Result<Vec<&'s Selector3<'s>>, AllocError>
+) -> Result<Vec<&'s Selector3<'a>>, AllocError>
     ensures { IfOk result (λ selectors. map (λ s. s.now) selectors.items
         ≡ map T.selector_in rules.now) }
 {
-    let mut selectors = Vec::with_capacity(alloc, rules.len())?;
+    let mut selectors: Vec<&'s Selector3<'a>> = Vec::with_capacity(alloc, rules.len())?;
     for rule in rules {
-        selectors.push(rule.selector())?;
+        push_selector(&mut selectors, rule)?;
     }
     Ok(selectors)
 }
 
 /// Returns what an index keeps of selectors.
-fn kept_of<'s>(alloc: Global, selectors: &[&'s Selector3<'s>]) -> Result<Vec<Kept<'s>>, AllocError>
+fn kept_of<'s, 'a>(
+    alloc: Global,
+    selectors: &[&'s Selector3<'a>],
+) -> Result<Vec<Kept<'s, 'a>>, AllocError>
     ensures { IfOk result (λ rules. map (λ rule. rule.selector.now) rules.items
         ≡ map (λ s. s.now) selectors.now) }
 {
-    let mut rules = Vec::with_capacity(alloc, selectors.len())?;
+    let mut rules: Vec<Kept<'s, 'a>> = Vec::with_capacity(alloc, selectors.len())?;
     for selector in selectors {
         rules.push(Kept::new(selector))?;
     }
     Ok(rules)
 }
 
-impl<'s> SelectorIndex<'s> {
+impl<'s, 'a> SelectorIndex<'s, 'a> {
     /// Returns an index of the selectors of rules, which it borrows. It holds an entry for each key
     /// of each selector. Fails only if an allocation fails.
-    pub fn new<T: HasSelector3>(
+    pub fn new<T: HasSelector3<'a>>(
         alloc: Global,
         rules: &'s [T],
-    ) -> Result<SelectorIndex<'s>, AllocError>
+    ) -> Result<SelectorIndex<'s, 'a>, AllocError>
         ensures { IfOk result (λ index. index ≡ map T.selector_in rules.now) }
     {
         let selectors = selectors_of(alloc, rules)?;
@@ -97,8 +118,8 @@ impl<'s> SelectorIndex<'s> {
     /// lists, or of rules of several types, can have one index.
     pub fn from_selectors(
         alloc: Global,
-        selectors: Vec<&'s Selector3<'s>>,
-    ) -> Result<SelectorIndex<'s>, AllocError>
+        selectors: Vec<&'s Selector3<'a>>,
+    ) -> Result<SelectorIndex<'s, 'a>, AllocError>
         ensures { IfOk result (λ index. index ≡ map (λ s. s.now) selectors.entry.items) }
     {
         let rules = kept_of(alloc, selectors.as_slice())?;
@@ -262,8 +283,10 @@ impl<'s> SelectorIndex<'s> {
     /// rule would find. One with a pseudo-element matches none.
     ///
     /// It costs a look-up for the name, the id, each class and each attribute of the element, a
-    /// comparison for each entry of these keys, and a test for each rule of which a key is found, whose
-    /// needed bits [`Keyed3::ancestor_bits`] covers, and which requires more than one of its keys.
+    /// comparison of numbers for each entry at the places of these keys, and a test for each rule of
+    /// which a key is found, whose keys of ancestors [`Keyed3::ancestor_bits`] covers, whose key of the
+    /// parent is one of the parent's, and which requires more than its keys. Some that lack such a key
+    /// are tested, too, since different keys may share bits.
     ///
     /// The previous items of `indices` are dropped. Only its growth allocates, and fails only if an
     /// allocation fails; then no items are left.

@@ -75,7 +75,7 @@ fn enter<'s>(
 
 /// Returns the bits of the keys that an element's ancestors and its parent must have for the selector
 /// to match it. What was in `keys` is dropped.
-fn needed_by<'s>(selector: &'s Selector3<'s>, keys: &mut Vec<Key<'s>>) -> Result<Above, AllocError>
+fn needed_by<'s>(selector: &'s Selector3<'_>, keys: &mut Vec<Key<'s>>) -> Result<Above, AllocError>
     ensures { IfOk result (λ needed. needed ≡ needed_bits selector.now) }
 {
     keys.clear();
@@ -90,7 +90,7 @@ fn needed_by<'s>(selector: &'s Selector3<'s>, keys: &mut Vec<Key<'s>>) -> Result
 /// Appends an entry for each key of a selector, unless it matches no element. What was in `keys` is
 /// dropped.
 fn enter_selector<'s>(
-    selector: &'s Selector3<'s>,
+    selector: &'s Selector3<'_>,
     rule: usize,
     keys: &mut Vec<Key<'s>>,
     entries: &mut Vec<Entry<'s>>,
@@ -111,7 +111,7 @@ fn enter_selector<'s>(
 /// Returns the entries of selectors.
 fn entries_of<'s>(
     alloc: Global,
-    selectors: &[&'s Selector3<'s>],
+    selectors: &[&'s Selector3<'_>],
 ) -> Result<Vec<Entry<'s>>, AllocError>
     ensures { IfOk result (λ entries. map entry_of entries.items
         ≡ entries_of_selectors (map (λ s. s.now) selectors.now)) }
@@ -151,7 +151,7 @@ fn file<'s>(entries: &[Entry<'s>], buckets: &mut Vec<Vec<Entry<'s>>>) -> Result<
 /// Returns the keys of rules, filed.
 pub(crate) fn filed<'s>(
     alloc: Global,
-    selectors: &[&'s Selector3<'s>],
+    selectors: &[&'s Selector3<'_>],
 ) -> Result<Vec<Vec<Entry<'s>>>, AllocError>
     ensures { IfOk result (λ buckets.
         AreFiled (entries_of_selectors (map (λ s. s.now) selectors.now)) buckets.items) }

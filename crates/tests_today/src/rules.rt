@@ -1,6 +1,7 @@
 //! The rules of a sheet in the order of the cascade, and what they are on the elements of a tree.
 
 use css_sheet::{SheetError, SheetRule, read_sheet, winning};
+use selectors3::Selector3;
 use selectors3_index::SelectorIndex;
 use selectors3_tree::NumberedTree;
 use simplecss_tree::Tree;
@@ -118,6 +119,45 @@ fn finds_rules(rt: HostRuntime) -> Result<(), Fail> {
     for (number, (wanted, _, _)) in FOUND.iter().enumerate() {
         let is_found = finds(rt.alloc(), rules.as_slice(), &page, number, wanted)?;
         assert!(rt; is_found, "rules of element {number}");
+    }
+    Ok(())
+}
+
+/// Selectors, of which the sixth matches no element.
+const LIST: &str = "p, *, .b, div > p, :is(.b, #x), p::before, .b > p, div p + p";
+
+/// For each element the indices of those that match it.
+const LISTED: &[&[usize]] = &[&[1], &[0, 1, 2, 3, 4], &[0, 1, 3, 7]];
+
+/// Whether an index of selectors finds those with these indices for an element.
+fn lists(
+    alloc: Global,
+    list: &[Selector3<'_>],
+    page: &NumberedTree<'_, '_>,
+    number: usize,
+    wanted: &[usize],
+) -> Result<bool, Fail> {
+    let mut selectors = Vec::new(alloc);
+    for selector in list {
+        selectors.push(selector)?;
+    }
+    let index = SelectorIndex::from_selectors(alloc, selectors)?;
+    let element = page.node(number).ok_or("no element")?;
+    let mut found = Vec::new(alloc);
+    index.matching(&element, &mut found)?;
+    Ok(found.as_slice() == wanted)
+}
+
+#[test]
+fn finds_selectors(rt: HostRuntime) -> Result<(), Fail> {
+    let list = Selector3::parse_list(rt.alloc(), LIST)
+        .ok()
+        .ok_or("refused")?;
+    let tree = three_elements(rt.alloc())?;
+    let page = NumberedTree::new(rt.alloc(), &tree)?;
+    for (number, wanted) in LISTED.iter().enumerate() {
+        let is_found = lists(rt.alloc(), list.as_slice(), &page, number, wanted)?;
+        assert!(rt; is_found, "selectors of element {number}");
     }
     Ok(())
 }

@@ -52,7 +52,7 @@ pub fn page_of<'p, 't>(
 fn push_line(
     out: &mut String,
     content: LineContent,
-    index: &SelectorIndex<'_>,
+    index: &SelectorIndex<'_, '_>,
     page: &NumberedTree<'_, '_>,
     element: usize,
     indices: &mut Vec<usize>,
@@ -73,7 +73,7 @@ fn push_line(
 fn lines_by(
     alloc: Global,
     content: LineContent,
-    index: &SelectorIndex<'_>,
+    index: &SelectorIndex<'_, '_>,
     page: &NumberedTree<'_, '_>,
 ) -> Result<String, CallError>
     requires { length index.now < 2 ^ 63 }

@@ -9,7 +9,7 @@ pub compounds_in-loop-compound-preserved : goal.compounds_in-loop-compound-prese
 compounds_in-loop-compound-preserved t c =
     read-more compound_of compound_of (map (condition_in c.args.mode)) c.loop-compound.read.items
     c.args.compounds.now c.loop-compound.compound-index c.compound-item.result
-    (record { conditions = c.in_ok-conditions.field-0 }) c.push.new.self.items c.loop-compound-test.true c.loop-compound.invariant
+    (record { conditions = c.in_ok-conditions.conditions }) c.push.new.self.items c.loop-compound-test.true c.loop-compound.invariant
     (c.in_ok-conditions.ensures
     ∙ ap (λ cs. map (condition_in c.args.mode) (map condition_of cs)) c.as_slice.ensures.value
     ∙ ap (λ x. map (condition_in c.args.mode) (compound_of x)) c.compound-item.is)
@@ -37,3 +37,18 @@ conditions_in-returns t c =
     read-all condition_of condition_of (condition_in c.args.mode) c.loop-condition.read.items
     c.args.conditions.now c.args.conditions.now
     c.loop-condition.condition-index c.loop-condition-test.false refl c.loop-condition.invariant
+
+pub condition_in-returns-in_ok-compounds_in-in-Not : goal.condition_in-returns-in_ok-compounds_in-in-Not
+condition_in-returns-in_ok-compounds_in-in-Not t c =
+    read-not c.args.mode c.args.condition.now c.in-Not.list c.in_ok-compounds_in-in-Not.field-0
+    c.as_slice.result.now c.as_slice.ensures.value c.in_ok-compounds_in-in-Not.ensures c.in-Not.is
+
+pub condition_in-returns-in_ok-compounds_in-in-Is : goal.condition_in-returns-in_ok-compounds_in-in-Is
+condition_in-returns-in_ok-compounds_in-in-Is t c =
+    read-is c.args.mode c.args.condition.now c.in-Is.list c.in_ok-compounds_in-in-Is.field-0
+    c.as_slice-in-Is.result.now c.as_slice-in-Is.ensures.value c.in_ok-compounds_in-in-Is.ensures c.in-Is.is
+
+pub condition_in-returns-in_ok-compounds_in-in-Where : goal.condition_in-returns-in_ok-compounds_in-in-Where
+condition_in-returns-in_ok-compounds_in-in-Where t c =
+    read-where c.args.mode c.args.condition.now c.in-Where.list c.in_ok-compounds_in-in-Where.field-0
+    c.as_slice-in-Where.result.now c.as_slice-in-Where.ensures.value c.in_ok-compounds_in-in-Where.ensures c.in-Where.is
