@@ -93,7 +93,11 @@ fn kind_of<'t>(
 }
 
 /// Returns the number of the kind of each element. Kinds are elements with one parent and one name.
-pub(crate) fn kinds_of(alloc: Global, tree: &Tree<'_>, families: &Groups) -> Result<Vec<usize>, AllocError>
+pub(crate) fn kinds_of(
+    alloc: Global,
+    tree: &Tree<'_>,
+    families: &Groups,
+) -> Result<Vec<usize>, AllocError>
     requires { AreFamilies tree.now families.now }
     ensures { IfOk result (λ kinds. AreKinds tree.now kinds.items) }
 {
