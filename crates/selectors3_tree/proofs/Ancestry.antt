@@ -19,10 +19,7 @@ use Rattle.simplecss_tree.specs.Rows.{Row}
 use Rattle.selectors3_tree.specs.Above.{CoversAbove, AreAbove}
 use Rattle.selectors3_tree.specs.Counts.{last_below}
 use Rattle.selectors3_tree.specs.Pages.{Page, page_document, parent_index, family, family_under, is_sibling}
-use Rattle.selectors3_tree.proofs.Counting.{last_or_before, last_below-passes, last_below-before}
-
-some_same : {A : Type 0} {x y : A} → Some x ≡ Some y → x ≡ y
-some_same e = cc
+use Rattle.selectors3_tree.proofs.Counting.{some_same, last_or_before, last_below-passes}
 
 -- the keys of an element, whichever elements have texts
 keys-texts : (rows : List Row) (i bits : ℕ) (some texts : List Bool)
@@ -77,8 +74,8 @@ module _ (rows : List Row) where
   pub above-sibling : (i s bits : ℕ) → last_below (is_sibling rows i) i ≡ Some s
       → CoversAbove rows s bits → CoversAbove rows i bits
   above-sibling i s bits last covers =
-      let passes = last_below-passes (is_sibling rows i) i s last in
-      let same = (Decides-eqb (family rows i) (family rows s)).0 passes in
+      let same = (Decides-eqb (family rows i) (family rows s)).0
+      (last_below-passes (is_sibling rows i) i s last) in
       above-same i s bits (parents-same (parent_index rows s) (parent_index rows i) (sym same)) covers
     where
       parents-same : (p q : Option ℕ) → family_under p ≡ family_under q → p ≡ q

@@ -1,153 +1,118 @@
 -- What is known of each group after one more member.
 -- Serves `groups::{see_all, Groups}`.
-use Rattle.std.proofs.Common.{◌≡◌, ℕ, suc, ◌+◌, ◌-◌, ◌<◌, ◌≤◌, inl, inr, Bool, true, false, cond, List, [], ◌∷◌, ◌++◌, length, get_or, Option, Some, None, refl, sym, ap, ◌∙◌, add-one, arith}
-use Rattle.std.specs.Prelude.{if◌then◌else◌}
+use Rattle.std.proofs.Common.{◌≡◌, ◌≢◌, ℕ, suc, ◌+◌, ◌-◌, ◌<◌, ◌≤◌, inl, inr, Bool, true, false, List, [], ◌∷◌, ◌++◌, length, get_or, Option, Some, None, refl, sym, ap, ◌∙◌, add-one, arith}
+use Rattle.std.specs.Prelude.{◌==◌, if◌then◌else◌, slice_set}
 use Rattle.std.specs.List.{slice_get}
-use Rattle.std.specs.Option.{option_map_or, unwrap_or}
-use Rattle.std.specs.Ordering.{is_eq, ordering_reverse}
-use Rattle.std.specs.declared.cmp.Ordering.{Ordering}
-use Rattle.std.specs.declared.cmp.Ordering.TheVariants.{Less, Equal, Greater}
-use Rattle.std.specs.Cmp.{IsTotalOrder}
-use Rattle.std.specs.BTreeMap.{BTreeMap, get}
+use Rattle.std.specs.Option.{option_map_or}
 use Rattle.selectors3_tree.specs.Counts.{count_below, last_below}
-use Rattle.selectors3_tree.specs.GroupViews.{has_key, seen_below, count_after, nothing_seen, AreBefore, AreAll}
+use Rattle.selectors3_tree.specs.GroupViews.{is_in_group, seen_below, count_after, nothing_seen, AreBefore, AreAll}
 use Rattle.selectors3_tree.specs.declared.groups.Seen.{Seen}
-use Rattle.selectors3_tree.proofs.Counting.{last_or_before, count_below-with, count_below-same}
+use Rattle.selectors3_tree.proofs.Counting.{some_same, last_or_before, count_below-with}
+use Rattle.std.proofs.lemmas.Bool.Decides.{Decides-eqb, not_from_Decides}
+use Rattle.std.proofs.lemmas.List.{get_or-set_other}
+use Rattle.std.proofs.lemmas.Grind.{get_or-set_at}
 use Rattle.std.proofs.lemmas.Option.{slice_get_read, get_or_from_slice_get}
 use Rattle.std.proofs.Math.ListN.{get_or-append}
 use Rattle.std.proofs.Math.Seq.{get_or-append_seam}
 
-pub some_same : {A : Type 0} {x y : A} → Some x ≡ Some y → x ≡ y
-some_same e = cc
+module _ (numbers : List ℕ) where
+  -- whether a member is in a group
+  in_group : (number g i : ℕ) → slice_get numbers i ≡ Some number
+      → is_in_group numbers g i ≡ (g == number)
+  in_group number g i is = ap (λ r. option_map_or (λ n. g == n) r false) is
 
-is_eq-reverse : (r : Ordering) → is_eq (ordering_reverse r) ≡ is_eq r
-is_eq-reverse Less = refl
-is_eq-reverse Equal = refl
-is_eq-reverse Greater = refl
-
-equal_from : (r : Ordering) → is_eq r ≡ true → r ≡ Equal
-equal_from Less h = absurd (cc)
-equal_from Equal h = refl
-equal_from Greater h = absurd (cc)
-
-own_reverse : (r : Ordering) → r ≡ ordering_reverse r → is_eq r ≡ true
-own_reverse Less h = absurd (cc)
-own_reverse Equal h = refl
-own_reverse Greater h = absurd (cc)
-
-module _ {K : Type 0} (cmp : K → K → Ordering) (total : IsTotalOrder cmp) (keys : List K) where
-  is_eq-flip : (x y : K) → is_eq (cmp x y) ≡ is_eq (cmp y x)
-  is_eq-flip x y = ap is_eq (total.antisymm x y) ∙ is_eq-reverse (cmp y x)
-
-  -- a member has its own key
-  pub has_own_key : (key : K) (i : ℕ) → slice_get keys i ≡ Some key → has_key cmp keys key i ≡ true
-  has_own_key key i is =
-      ap (λ r. option_map_or (λ k. is_eq (cmp key k)) r false) is
-      ∙ own_reverse (cmp key key) (total.antisymm key key)
-
-  -- equal keys have the same members
-  same_members : (key q : K) → is_eq (cmp key q) ≡ true → (i : ℕ)
-      → has_key cmp keys key i ≡ has_key cmp keys q i
-  same_members key q equal i = of (slice_get keys i)
-    where
-      of : (r : Option K)
-          → option_map_or (λ k. is_eq (cmp key k)) r false
-          ≡ option_map_or (λ k. is_eq (cmp q k)) r false
-      of None = refl
-      of (Some k) = ap is_eq (total.congr key q k (equal_from (cmp key q) equal))
+  -- a member is in its own group
+  in_own_group : (number i : ℕ) → slice_get numbers i ≡ Some number → is_in_group numbers number i ≡ true
+  in_own_group number i is = in_group number number i is ∙ (Decides-eqb number number).1 refl
 
   -- one more member
-  module _ (old new : BTreeMap K Seen) (n : ℕ) (key : K) (seen : Seen)
-      (is : slice_get keys n ≡ Some key) (known : seen ≡ seen_below cmp keys key n)
-      (updates : (q : K) → get cmp new q ≡ cond (is_eq (cmp key q))
-      (Some (record { count = seen.count + 1; last = Some n })) (get cmp old q))
-      (are : AreAll cmp keys old n) where
-    member : (q : K) → has_key cmp keys q n ≡ is_eq (cmp key q)
-    member q = ap (λ r. option_map_or (λ k. is_eq (cmp q k)) r false) is ∙ is_eq-flip q key
-
-    step : (q : K) (b : Bool) → is_eq (cmp key q) ≡ b
-        → unwrap_or (cond b (Some (record { count = seen.count + 1; last = Some n }))
-        (get cmp old q)) nothing_seen
-        ≡ record {
-          count = count_below (has_key cmp keys q) n + (if b then 1 else 0);
-          last = if b then Some n else last_below (has_key cmp keys q) n;
+  module _ (old new : List Seen) (n number : ℕ) (seen : Seen) (is : slice_get numbers n ≡ Some number)
+      (within : number < length old) (known : seen ≡ seen_below numbers number n)
+      (sets : new ≡ slice_set old number (record { count = seen.count + 1; last = Some n }))
+      (are : AreAll numbers old n) where
+    seen_next : (g : ℕ) (b : Bool) → (g == number) ≡ b
+        → get_or new g nothing_seen ≡ record {
+          count = count_below (is_in_group numbers g) n + (if b then 1 else 0);
+          last = if b then Some n else last_below (is_in_group numbers g) n;
         }
-    step q true equal =
-        ap (λ s. record { count = s.count + 1; last = Some n }) known
-        ∙ ap (λ c. record { count = c + 1; last = Some n })
-        (count_below-same (has_key cmp keys key) (has_key cmp keys q) n
-        (λ i lt. same_members key q equal i))
-    step q false equal =
-        are q ∙ ap (λ c. record { count = c; last = last_below (has_key cmp keys q) n }) (omega arith)
+    seen_next g true same =
+        let e : g ≡ number = (Decides-eqb g number).0 same in
+        ap (λ xs. get_or xs g nothing_seen) sets
+        ∙ get_or-set_at old number g (record { count = seen.count + 1; last = Some n }) nothing_seen e within
+        ∙ ap (λ s. record { count = s.count + 1; last = Some n }) known
+        ∙ ap (λ k. record { count = count_below (is_in_group numbers k) n + 1; last = Some n }) (sym e)
+    seen_next g false other =
+        ap (λ xs. get_or xs g nothing_seen) sets
+        ∙ get_or-set_other old number g (record { count = seen.count + 1; last = Some n }) nothing_seen
+        (not_from_Decides (g == number) (Decides-eqb g number) other)
+        ∙ are g
+        ∙ ap (λ c. record { count = c; last = last_below (is_in_group numbers g) n }) (omega arith)
 
-    all_next : AreAll cmp keys new (suc n)
-    all_next q =
-        ap (λ r. unwrap_or r nothing_seen) (updates q)
-        ∙ step q (is_eq (cmp key q)) refl
+    all_next : AreAll numbers new (suc n)
+    all_next g =
+        seen_next g (g == number) refl
         ∙ ap (λ b. record {
-          count = count_below (has_key cmp keys q) n + (if b then 1 else 0);
-          last = if b then Some n else last_below (has_key cmp keys q) n;
-        }) (sym (member q))
+          count = count_below (is_in_group numbers g) n + (if b then 1 else 0);
+          last = if b then Some n else last_below (is_in_group numbers g) n;
+        }) (sym (in_group number g n is))
 
-    pub all_more : AreAll cmp keys new (n + 1)
+    pub all_more : AreAll numbers new (n + 1)
     all_more = rw add-one all_next
 
--- a member before is counted with its group
-module _ {K : Type 0} (cmp : K → K → Ordering) (total : IsTotalOrder cmp) (keys : List K) where
-  pub counted_with : (key : K) (i n : ℕ) → i < n → slice_get keys i ≡ Some key
-      → count_below (has_key cmp keys key) i + 1 ≤ count_below (has_key cmp keys key) n
-  counted_with key i n lt is =
-      count_below-with (has_key cmp keys key) i n lt (has_own_key cmp total keys key i is)
+  -- those before one more member are those that were known of its group
+  pub before_more : (old new : List Seen) (n number : ℕ) (seen : Seen) → length old ≡ n
+      → new ≡ old ++ seen ∷ [] → slice_get numbers n ≡ Some number
+      → seen ≡ seen_below numbers number n → AreBefore numbers old n → AreBefore numbers new (n + 1)
+  before_more old new n number seen len is at known are i other lt there =
+      elim (last_or_before i n (omega (arith, lt))) [
+        | inl same ↦
+            (let same_number : number ≡ other = some_same (sym at ∙ ap (slice_get numbers) (sym same) ∙ there) in
+            ap (λ xs. get_or xs i nothing_seen) is
+            ∙ ap (λ j. get_or (old ++ seen ∷ []) j nothing_seen) (same ∙ sym len)
+            ∙ get_or-append_seam old seen [] nothing_seen
+            ∙ known
+            ∙ ap (λ k. seen_below numbers k n) same_number
+            ∙ ap (seen_below numbers other) (sym same))
+        | inr less ↦
+            ap (λ xs. get_or xs i nothing_seen) is
+            ∙ get_or-append old (seen ∷ []) nothing_seen i (rw len less)
+            ∙ are i other less there
+      ]
 
--- those before one more member are those that were known of its group
-pub before_more : {K : Type 0} (cmp : K → K → Ordering) (keys : List K) (old new : List Seen) (n : ℕ)
-    (key : K) (seen : Seen) → length old ≡ n → new ≡ old ++ seen ∷ [] → slice_get keys n ≡ Some key
-    → seen ≡ seen_below cmp keys key n → AreBefore cmp keys old n → AreBefore cmp keys new (n + 1)
-before_more cmp keys old new n key seen len is at known are i other lt there =
-    elim (last_or_before i n (omega (arith, lt))) [
-      | inl same ↦
-          (let same_key : key ≡ other = some_same (sym at ∙ ap (slice_get keys) (sym same) ∙ there) in
-          ap (λ xs. get_or xs i nothing_seen) is
-          ∙ ap (λ j. get_or (old ++ seen ∷ []) j nothing_seen) (same ∙ sym len)
-          ∙ get_or-append_seam old seen [] nothing_seen
-          ∙ known
-          ∙ ap (λ k. seen_below cmp keys k n) same_key
-          ∙ ap (seen_below cmp keys other) (sym same))
-      | inr less ↦
-          ap (λ xs. get_or xs i nothing_seen) is
-          ∙ get_or-append old (seen ∷ []) nothing_seen i (rw len less)
-          ∙ are i other less there
-    ]
+-- what is read at an index
+read_at : (before : List Seen) (i : ℕ) (seen : Seen) → i < length before → seen ≡ get_or before i seen
+    → seen ≡ get_or before i nothing_seen
+read_at before i seen within read =
+    sym (get_or_from_slice_get before i seen nothing_seen
+    (slice_get_read before (length before) i seen refl within read))
 
--- the member at an index: its key, those of its group that are before it, and it is counted
-module _ {K : Type 0} (cmp : K → K → Ordering) (total : IsTotalOrder cmp) (keys now : List K)
-    (before : List Seen) (i : ℕ) (key : K) (seen : Seen) (view : keys ≡ now)
-    (len : length before ≡ length keys) (are : AreBefore cmp keys before (length keys))
-    (within : i < length now) (at : key ≡ get_or keys i key) (there : seen ≡ get_or before i seen) where
-  own_key : slice_get keys i ≡ Some key
-  own_key = slice_get_read keys (length now) i key (ap length (sym view)) within at
+pub number_at : (numbers now : List ℕ) (i number : ℕ) → numbers ≡ now → i < length now
+    → number ≡ get_or numbers i number → slice_get now i ≡ Some number
+number_at numbers now i number view within read =
+    ap (λ xs. slice_get xs i) (sym view)
+    ∙ slice_get_read numbers (length now) i number (ap length (sym view)) within read
 
-  pub own_key_now : slice_get now i ≡ Some key
-  own_key_now = ap (λ xs. slice_get xs i) (sym view) ∙ own_key
-
-  own_before : seen ≡ seen_below cmp keys key i
+-- the member at an index: those of its group that are before it, and it is counted
+module _ (numbers now : List ℕ) (before : List Seen) (i number : ℕ) (seen : Seen) (view : numbers ≡ now)
+    (len : length before ≡ length numbers) (are : AreBefore numbers before (length numbers))
+    (within : i < length now) (at : slice_get now i ≡ Some number) (there : seen ≡ get_or before i seen) where
+  own_before : seen ≡ seen_below numbers number i
   own_before =
-      let in_keys : i < length keys = rw (ap length view) within in
-      let read = slice_get_read before (length keys) i seen (sym len) in_keys there in
-      sym (get_or_from_slice_get before i seen nothing_seen read) ∙ are i key in_keys own_key
+      let inside : i < length numbers = rw (ap length view) within in
+      read_at before i seen (omega (arith, inside, len)) there ∙ are i number inside (ap (λ xs. slice_get xs i) view ∙ at)
 
-  pub own_before_now : seen ≡ seen_below cmp now key i
-  own_before_now = own_before ∙ ap (λ xs. seen_below cmp xs key i) view
+  pub own_before_now : seen ≡ seen_below now number i
+  own_before_now = own_before ∙ ap (λ xs. seen_below xs number i) view
 
-  pub own_counted : seen.count + 1 ≤ count_below (has_key cmp now key) (length now)
+  pub own_counted : seen.count + 1 ≤ count_below (is_in_group now number) (length now)
   own_counted =
-      let h = counted_with cmp total now key i (length now) within own_key_now in
+      let h = count_below-with (is_in_group now number) i (length now) within (in_own_group now number i at) in
       let e = ap (λ s. s.count) own_before_now in omega (arith, h, e)
 
-  pub own_after : (other : K) (count : ℕ) → slice_get now i ≡ Some other
-      → count ≡ count_below (has_key cmp now key) (length now)
-      → count - (seen.count + 1) ≡ count_after cmp now other i
+  pub own_after : (other count : ℕ) → slice_get now i ≡ Some other
+      → count ≡ count_below (is_in_group now number) (length now)
+      → count - (seen.count + 1) ≡ count_after now other i
   own_after other count there is =
       ap (λ n. n - (seen.count + 1)) is
-      ∙ ap (λ s. count_below (has_key cmp now key) (length now) - (s.count + 1)) own_before_now
-      ∙ ap (λ k. count_after cmp now k i) (some_same (sym own_key_now ∙ there))
+      ∙ ap (λ s. count_below (is_in_group now number) (length now) - (s.count + 1)) own_before_now
+      ∙ ap (λ k. count_after now k i) (some_same (sym at ∙ there))

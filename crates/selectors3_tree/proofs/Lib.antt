@@ -5,3 +5,4 @@ mod Reporting
 mod HtmlLemmas
 mod LanguageLemmas
 mod Ancestry
+mod KindLemmas

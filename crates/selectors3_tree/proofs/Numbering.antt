@@ -1,114 +1,120 @@
--- What is counted by the keys of elements is counted of their siblings.
--- Serves `numbered_tree::NumberedTree`.
-use Rattle.std.proofs.Common.{◌≡◌, ℕ, zero, suc, ◌+◌, ◌-◌, ◌<◌, ◌≤◌, inl, inr, Bool, false, ◌&&◌, List, [], ◌∷◌, ◌++◌, length, get_or, Some, refl, sym, ap, subst, ◌∙◌, arith, Bor}
+-- What is counted of groups is counted of siblings.
+-- Serves `numbered_tree`, `kinds` and `groups::nothing_seen`.
+use Rattle.std.proofs.Common.{◌≡◌, ℕ, zero, suc, ◌+◌, ◌-◌, ◌<◌, ◌≤◌, inl, inr, Bool, true, false, List, [], ◌∷◌, ◌++◌, length, get_or, Option, None, Some, refl, sym, ap, subst, ◌∙◌, arith}
 use Rattle.std.proofs.Math.ListN.{get_or-append}
 use Rattle.std.proofs.Math.Seq.{get_or-append_seam}
 use Rattle.std.proofs.lemmas.List.{length-append}
-use Rattle.std.proofs.lemmas.Map.Text.{is_eq-slice_cmp}
 use Rattle.std.proofs.lemmas.Option.{slice_get-get_or, get_or_from_slice_get}
-use Rattle.std.specs.Cmp.{unsigned_tied}
-use Rattle.std.specs.Cmp.Lexicographic.{slice_cmp}
-use Rattle.std.specs.List.{slice_get}
+use Rattle.std.specs.List.{All, slice_get}
 use Rattle.std.specs.Option.{option_map_or}
-use Rattle.std.specs.Ordering.{is_eq, nat_cmp, ordering_then}
-use Rattle.std.specs.Prelude.{bytes_eq, nat_eq}
-use Rattle.std.specs.declared.cmp.Ordering.{Ordering}
-use Rattle.std.specs.declared.cmp.Ordering.TheVariants.{Less, Equal, Greater}
+use Rattle.std.specs.Prelude.{◌==◌, nat_lt, if◌then◌else◌}
+use Rattle.std.proofs.lemmas.Bool.Decides.{nat_tests}
+use Rattle.sibling_matching.specs.ListTrees.{lesser}
 use Rattle.simplecss_tree.specs.Rows.{Row}
-use Rattle.simplecss_tree.specs.TreeNodes.{name_at}
+use Rattle.simplecss_tree.specs.TreeNodes.{named_parent}
 use Rattle.selectors3_tree.specs.Counts.{count_below, last_below}
-use Rattle.selectors3_tree.specs.GroupViews.{has_key, count_after as count_after_key}
-use Rattle.selectors3_tree.specs.Keys.{AreFamilies, AreKinds}
-use Rattle.selectors3_tree.specs.Pages.{family, is_sibling, is_alike, is_child, count_after}
+use Rattle.selectors3_tree.specs.GroupViews.{is_in_group, seen_below, count_after as count_after_number}
+use Rattle.selectors3_tree.specs.declared.groups.Seen.{Seen}
+use Rattle.selectors3_tree.specs.Keys.{AreFamilies, AreKinds, kind}
+use Rattle.selectors3_tree.specs.Pages.{family, family_under, is_sibling, is_alike, is_child, count_after}
 use Rattle.selectors3_tree.proofs.Counting.{last_or_before, count_below-same, last_below-same}
+use Rattle.selectors3_tree.proofs.KindLemmas.{kind-test, kind-at_most}
 
 -- the elements of the family with a number
 module _ (rows : List Row) (families : List ℕ) (are : AreFamilies rows families) where
-  family_test : (f j : ℕ) → j < length rows
-      → has_key nat_cmp families f j ≡ nat_eq f (family rows j)
-  family_test f j lt =
-      ap (λ r. option_map_or (λ k. is_eq (nat_cmp f k)) r false) (are.each j lt)
-      ∙ unsigned_tied f (family rows j)
+  family_test : (f j : ℕ) → j < length rows → is_in_group families f j ≡ (f == family rows j)
+  family_test f j lt = ap (λ r. option_map_or (λ k. f == k) r false) (are.each j lt)
 
   family_count : (f n : ℕ) → n ≤ length rows
-      → count_below (has_key nat_cmp families f) n ≡ count_below (λ j. nat_eq f (family rows j)) n
+      → count_below (is_in_group families f) n ≡ count_below (λ j. f == family rows j) n
   family_count f n le =
-      count_below-same (has_key nat_cmp families f) (λ j. nat_eq f (family rows j)) n
+      count_below-same (is_in_group families f) (λ j. f == family rows j) n
       (λ j lt. family_test f j (omega (arith, lt, le)))
 
   pub siblings_before : (i : ℕ) → i < length rows
-      → count_below (has_key nat_cmp families (family rows i)) i ≡ count_below (is_sibling rows i) i
+      → count_below (is_in_group families (family rows i)) i ≡ count_below (is_sibling rows i) i
   siblings_before i lt = family_count (family rows i) i (omega (arith, lt))
 
   pub last_sibling : (i : ℕ) → i < length rows
-      → last_below (has_key nat_cmp families (family rows i)) i ≡ last_below (is_sibling rows i) i
+      → last_below (is_in_group families (family rows i)) i ≡ last_below (is_sibling rows i) i
   last_sibling i lt =
-      last_below-same (has_key nat_cmp families (family rows i)) (is_sibling rows i) i
+      last_below-same (is_in_group families (family rows i)) (is_sibling rows i) i
       (λ j less. family_test (family rows i) j (omega (arith, lt, less)))
 
+  -- what is seen before an element
+  pub last_seen : (i : ℕ) (seen : Seen) (last : Option ℕ) → i < length rows
+      → ((number : ℕ) → slice_get families i ≡ Some number → seen ≡ seen_below families number i)
+      → seen.last ≡ last → last_below (is_sibling rows i) i ≡ last
+  last_seen i seen last lt is read =
+      sym (ap (λ s. s.last) (is (family rows i) (are.each i lt)) ∙ last_sibling i lt) ∙ read
+
   pub siblings_after : (i : ℕ) → i < length rows
-      → count_after_key nat_cmp families (family rows i) i ≡ count_after (is_sibling rows i) i rows
+      → count_after_number families (family rows i) i ≡ count_after (is_sibling rows i) i rows
   siblings_after i lt =
-      ap (λ n. count_below (has_key nat_cmp families (family rows i)) n
-      - (count_below (has_key nat_cmp families (family rows i)) i + 1)) are.all
-      ∙ ap (λ n. n - (count_below (has_key nat_cmp families (family rows i)) i + 1))
+      ap (λ n. count_below (is_in_group families (family rows i)) n
+      - (count_below (is_in_group families (family rows i)) i + 1)) are.all
+      ∙ ap (λ n. n - (count_below (is_in_group families (family rows i)) i + 1))
       (family_count (family rows i) (length rows) (omega arith))
       ∙ ap (λ n. count_below (is_sibling rows i) (length rows) - (n + 1)) (siblings_before i lt)
 
   pub children : (i : ℕ)
-      → count_below (has_key nat_cmp families (i + 1)) (length families)
+      → count_below (is_in_group families (i + 1)) (length families)
       ≡ count_below (is_child i rows) (length rows)
   children i =
-      ap (count_below (has_key nat_cmp families (i + 1))) are.all
+      ap (count_below (is_in_group families (i + 1))) are.all
       ∙ family_count (i + 1) (length rows) (omega arith)
-      ∙ ap (λ f. count_below (λ j. nat_eq f (family rows j)) (length rows)) (omega arith)
+      ∙ ap (λ f. count_below (λ j. f == family rows j) (length rows)) (omega arith)
 
-both_equal : (r s : Ordering) → is_eq (ordering_then r s) ≡ is_eq r && is_eq s
-both_equal Less s = refl
-both_equal Equal s = refl
-both_equal Greater s = refl
+-- numbers are less than the number of elements
+family-at_most : (rows : List Row) (i : ℕ) → family rows i ≤ i
+family-at_most rows i = of (named_parent rows i)
+  where
+    under : (p : ℕ) (b : Bool) → nat_lt p i ≡ b → family_under (if b then Some p else None) ≤ i
+    under p true lt = grind (arith, nat_tests, lt)
+    under p false lt = omega arith
 
-abbrev pub kind_cmp : ℕ × Bor (List ℕ) → ℕ × Bor (List ℕ) → Ordering
-kind_cmp a b = ordering_then (nat_cmp a.0 b.0) (slice_cmp nat_cmp a.1.now b.1.now)
+    of : (r : Option ℕ) → family_under (lesser i r) ≤ i
+    of None = omega arith
+    of (Some p) = under p (nat_lt p i) refl
 
--- the elements with the number of a family and a name
-module _ (rows : List Row) (kinds : List (ℕ × Bor (List ℕ))) (are : AreKinds rows kinds) (i : ℕ)
-    (within : i < length rows) (key : ℕ × Bor (List ℕ)) (at : slice_get kinds i ≡ Some key) where
-  own : (key.0 ≡ family rows i) × (key.1.now ≡ name_at rows i)
-  own =
-      let e = are.each i within in
-      let same : Some key ≡ Some (family rows i, e.0) = sym at ∙ e.1 in
-      let k = some_pair same in
-      (ap (λ p. p.0) k, ap (λ p. p.1.now) k ∙ e.2)
-    where
-      some_pair : {A : Type 0} {x y : A} → Some x ≡ Some y → x ≡ y
-      some_pair e = cc
+pub families_within : (rows : List Row) (families : List ℕ) → AreFamilies rows families
+    → All (λ number. number < length rows) families
+families_within rows families are k d lt =
+    let all = are.all in
+    let within : k < length rows = omega (arith, lt, all) in
+    let is = get_or_from_slice_get families k (family rows k) d (are.each k within) in
+    let most = family-at_most rows k in omega (arith, is, most, within)
 
-  kind_test : (j : ℕ) → j < length rows → has_key kind_cmp kinds key j ≡ is_alike rows i j
-  kind_test j lt =
-      let e = are.each j lt in
-      ap (λ r. option_map_or (λ k. is_eq (kind_cmp key k)) r false) e.1
-      ∙ both_equal (nat_cmp key.0 (family rows j)) (slice_cmp nat_cmp key.1.now e.0.now)
-      ∙ ap (λ b. b && is_eq (slice_cmp nat_cmp key.1.now e.0.now))
-      (unsigned_tied key.0 (family rows j) ∙ ap (λ f. nat_eq f (family rows j)) own.0)
-      ∙ ap (λ b. is_sibling rows i j && b) (is_eq-slice_cmp key.1.now e.0.now
-      ∙ ap (λ t. bytes_eq t e.0.now) own.1 ∙ ap (bytes_eq (name_at rows i)) e.2)
+pub kinds_within : (rows : List Row) (kinds : List ℕ) → AreKinds rows kinds
+    → All (λ number. number < length rows) kinds
+kinds_within rows kinds are k d lt =
+    let all = are.all in
+    let within : k < length rows = omega (arith, lt, all) in
+    let is = get_or_from_slice_get kinds k (kind rows k) d (are.each k within) in
+    let most = kind-at_most rows k in omega (arith, is, most, within)
 
-  kind_count : (n : ℕ) → n ≤ length rows
-      → count_below (has_key kind_cmp kinds key) n ≡ count_below (is_alike rows i) n
-  kind_count n le =
-      count_below-same (has_key kind_cmp kinds key) (is_alike rows i) n
-      (λ j lt. kind_test j (omega (arith, lt, le)))
+-- the elements of the kind with a number
+module _ (rows : List Row) (kinds : List ℕ) (are : AreKinds rows kinds) (i : ℕ)
+    (within : i < length rows) where
+  alike_test : (j : ℕ) → j < length rows → is_in_group kinds (kind rows i) j ≡ is_alike rows i j
+  alike_test j lt =
+      ap (λ r. option_map_or (λ k. kind rows i == k) r false) (are.each j lt) ∙ kind-test rows i j
 
-  pub alike_before : count_below (has_key kind_cmp kinds key) i ≡ count_below (is_alike rows i) i
-  alike_before = kind_count i (omega (arith, within))
+  alike_count : (n : ℕ) → n ≤ length rows
+      → count_below (is_in_group kinds (kind rows i)) n ≡ count_below (is_alike rows i) n
+  alike_count n le =
+      count_below-same (is_in_group kinds (kind rows i)) (is_alike rows i) n
+      (λ j lt. alike_test j (omega (arith, lt, le)))
 
-  pub alike_after : count_after_key kind_cmp kinds key i ≡ count_after (is_alike rows i) i rows
+  pub alike_before : count_below (is_in_group kinds (kind rows i)) i ≡ count_below (is_alike rows i) i
+  alike_before = alike_count i (omega (arith, within))
+
+  pub alike_after : count_after_number kinds (kind rows i) i ≡ count_after (is_alike rows i) i rows
   alike_after =
-      ap (λ n. count_below (has_key kind_cmp kinds key) n
-      - (count_below (has_key kind_cmp kinds key) i + 1)) are.all
-      ∙ ap (λ n. n - (count_below (has_key kind_cmp kinds key) i + 1))
-      (kind_count (length rows) (omega arith))
+      ap (λ n. count_below (is_in_group kinds (kind rows i)) n
+      - (count_below (is_in_group kinds (kind rows i)) i + 1)) are.all
+      ∙ ap (λ n. n - (count_below (is_in_group kinds (kind rows i)) i + 1))
+      (alike_count (length rows) (omega arith))
       ∙ ap (λ n. count_below (is_alike rows i) (length rows) - (n + 1)) alike_before
 
 -- a list of which the items below a number are known, and the next
@@ -140,10 +146,10 @@ known_more P xs ys x n i is len here before lt =
     inside i lt =
         let l = ap length is ∙ length-append xs (x ∷ []) in omega (arith, lt, l, len)
 
--- one more item that is false, after items that are false
-pub none_more : (xs : List Bool) → ((i : ℕ) → get_or xs i false ≡ false) → (i : ℕ)
-    → get_or (xs ++ false ∷ []) i false ≡ false
-none_more [] h zero = refl
-none_more [] h (suc i) = refl
-none_more (x ∷ xs) h zero = h 0
-none_more (x ∷ xs) h (suc i) = none_more xs (λ j. h (suc j)) i
+-- one more default, after defaults
+pub defaults_more : {X : Type 0} (d : X) (xs : List X) → ((i : ℕ) → get_or xs i d ≡ d) → (i : ℕ)
+    → get_or (xs ++ d ∷ []) i d ≡ d
+defaults_more d [] h zero = refl
+defaults_more d [] h (suc i) = refl
+defaults_more d (x ∷ xs) h zero = h 0
+defaults_more d (x ∷ xs) h (suc i) = defaults_more d xs (λ j. h (suc j)) i

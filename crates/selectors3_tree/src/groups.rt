@@ -1,13 +1,12 @@
-//! Members of groups, and which of its group are before and after each.
+//! Groups of members, and which of its group are before and after each.
 ghost use Rattle.std.specs.Prelude.{◌≡◌, ◌<◌, ◌^◌, [], Some, IfOk, OnOk, length, slice_get};
-ghost use Rattle.std.specs.Prelude.{unwrap_or};
-ghost use Rattle.std.specs.BTreeMap.{get};
+ghost use Rattle.std.specs.Prelude.{ℕ, IfSome, slice_index_or};
+ghost use Rattle.std.specs.List.{All};
 ghost use Rattle.selectors3_tree.specs.Counts.{count_below};
-ghost use Rattle.selectors3_tree.specs.GroupViews.{has_key, seen_below, count_after, nothing_seen};
-ghost use Rattle.selectors3_tree.specs.GroupViews.{AreBefore, AreAll};
+ghost use Rattle.selectors3_tree.specs.GroupViews.{is_in_group, seen_below, count_after};
+ghost use Rattle.selectors3_tree.specs.GroupViews.{nothing_seen as nothing_seen_yet, AreBefore, AreAll};
 
 use std::alloc::{AllocError, Global};
-use std::collections::BTreeMap;
 use std::marker::Model;
 
 /// Members of a group: how many, and the last of them.
@@ -19,108 +18,126 @@ pub(crate) struct Seen {
     pub(crate) last: Option<usize>,
 }
 
-/// Members, each with a key. Those with one key are a group.
+/// Members, each in a group. Groups have numbers.
 #[derive(Drop)]
-pub(crate) struct Groups<K: Ord> {
-    /// The key of each member.
-    keys: Vec<K>,
+pub(crate) struct Groups {
+    /// The number of the group of each member.
+    numbers: Vec<usize>,
     /// For each member, those of its group that are before it.
     before: Vec<Seen>,
-    /// For each key the members that have it.
-    all: BTreeMap<K, Seen>,
+    /// The members of each group.
+    all: Vec<Seen>,
 }
 
-impl<K: Ord> Model for Groups<K> {
-    ghost use Rattle.std.specs.Prelude.{◌≡◌, List, length};
+impl Model for Groups {
+    ghost use Rattle.std.specs.Prelude.{◌≡◌, ℕ, List, length};
     ghost use Rattle.selectors3_tree.specs.GroupViews.{AreBefore, AreAll};
 
-    ghost Value = { List K };
+    ghost Value = { List ℕ };
 
-    ghost view = { λ groups. groups.keys.items };
+    ghost view = { λ groups. groups.numbers.items };
 
     ghost invariant = { λ groups.
-        (length groups.before.items ≡ length groups.keys.items)
-        × AreBefore K.cmp groups.keys.items groups.before.items (length groups.keys.items)
-        × AreAll K.cmp groups.keys.items groups.all (length groups.keys.items) };
+        (length groups.before.items ≡ length groups.numbers.items)
+        × AreBefore groups.numbers.items groups.before.items (length groups.numbers.items)
+        × AreAll groups.numbers.items groups.all.items (length groups.numbers.items) };
 }
 
-/// Returns what is known of the members with a key.
-fn seen_of<K: Ord>(all: &BTreeMap<K, Seen>, key: &K) -> Seen
-    ensures { result ≡ unwrap_or (get K.cmp all.now key.now) nothing_seen }
+/// Returns groups of which no member was seen.
+fn nothing_seen(alloc: Global, count: usize) -> Result<Vec<Seen>, AllocError>
+    ensures len { IfOk result (λ all. length all.items ≡ count) }
+    ensures none { IfOk result (λ all. (number : ℕ)
+        → slice_index_or all.items number nothing_seen_yet ≡ nothing_seen_yet) }
 {
-    match all.get(key) {
-        Some(seen) => *seen,
-        None => Seen {
+    let mut all = Vec::with_capacity(alloc, count)?;
+    for number in 0..count {
+        all.push(Seen {
             count: 0,
             last: None,
-        },
+        })?;
     }
+    Ok(all)
 }
 
 /// Appends for each member those of its group that are before it, and stores all of each group.
-fn see_all<K: Ord + Copy + Drop>(
-    keys: &[K],
-    before: &mut Vec<Seen>,
-    all: &mut BTreeMap<K, Seen>,
-) -> Result<(), AllocError>
-    requires few { length keys.now < 2 ^ 32 }
+fn see_all(numbers: &[usize], before: &mut Vec<Seen>, all: &mut [Seen]) -> Result<(), AllocError>
+    requires few { length numbers.now < 2 ^ 32 }
+    requires within { All (λ number. number < length all.old) numbers.now }
     requires empty { before.old.items ≡ [] }
-    requires none { AreAll K.cmp keys.now all.old 0 }
-    ensures len { OnOk result (length before.new.items ≡ length keys.now) }
-    ensures before { OnOk result (AreBefore K.cmp keys.now before.new.items (length keys.now)) }
-    ensures all { OnOk result (AreAll K.cmp keys.now all.new (length keys.now)) }
+    requires none { AreAll numbers.now all.old 0 }
+    ensures len { OnOk result (length before.new.items ≡ length numbers.now) }
+    ensures before { OnOk result (AreBefore numbers.now before.new.items (length numbers.now)) }
+    ensures all { OnOk result (AreAll numbers.now all.new (length numbers.now)) }
 {
-    for i in 0..keys.len() {
-        let key = keys[i];
-        let seen = seen_of(all, &key);
+    for i in 0..numbers.len() {
+        let number = numbers[i];
+        let seen = all[number];
         before.push(seen)?;
-        all.insert(
-            key,
-            Seen {
-                count: seen.count + 1,
-                last: Some(i),
-            },
-        )?;
+        all[number] = Seen {
+            count: seen.count + 1,
+            last: Some(i),
+        };
     }
     Ok(())
 }
 
-impl<K: Ord + Copy + Drop> Groups<K> {
-    /// Returns the groups of members with these keys.
-    pub(crate) fn new(alloc: Global, keys: Vec<K>) -> Result<Groups<K>, AllocError>
-        requires { length keys.items < 2 ^ 32 }
-        ensures { IfOk result (λ groups. groups ≡ keys.items) }
+impl Groups {
+    /// Returns the groups of members with these numbers, which are less than `groups`.
+    pub(crate) fn new(
+        alloc: Global,
+        numbers: Vec<usize>,
+        groups: usize,
+    ) -> Result<Groups, AllocError>
+        requires few { length numbers.items < 2 ^ 32 }
+        requires within { All (λ number. number < groups) numbers.items }
+        ensures { IfOk result (λ made. made ≡ numbers.items) }
     {
-        let mut before = Vec::with_capacity(alloc, keys.len())?;
-        let mut all = BTreeMap::new(alloc);
-        see_all(keys.as_slice(), &mut before, &mut all)?;
-        Ok(Groups { keys, before, all })
+        let mut before = Vec::with_capacity(alloc, numbers.len())?;
+        let mut all = nothing_seen(alloc, groups)?;
+        see_all(numbers.as_slice(), &mut before, all.as_mut_slice())?;
+        Ok(Groups {
+            numbers,
+            before,
+            all,
+        })
+    }
+
+    /// Returns the number of the group of the member at an index.
+    pub(crate) fn number(&self, index: usize) -> usize
+        requires { index < length self.now }
+        ensures { slice_get self.now index ≡ Some result }
+    {
+        self.numbers[index]
     }
 
     /// Returns the number of members before the one at an index that are of its group, and the last
     /// of them.
     pub(crate) fn before(&self, index: usize) -> Seen
         requires { index < length self.now }
-        ensures { (key : K) → slice_get self.now index ≡ Some key
-            → result ≡ seen_below K.cmp self.now key index }
+        ensures seen { (number : ℕ) → slice_get self.now index ≡ Some number
+            → result ≡ seen_below self.now number index }
+        ensures earlier { IfSome result.last (λ last. last < index) }
     {
         self.before[index]
     }
 
-    /// Returns the number of members with a key.
-    pub(crate) fn count(&self, key: &K) -> u32
-        ensures { result ≡ count_below (has_key K.cmp self.now key.now) (length self.now) }
+    /// Returns the number of members of a group.
+    pub(crate) fn count(&self, number: usize) -> u32
+        ensures { result ≡ count_below (is_in_group self.now number) (length self.now) }
     {
-        seen_of(&self.all, key).count
+        match self.all.get(number) {
+            Some(seen) => seen.count,
+            None => 0,
+        }
     }
 
     /// Returns the number of members after the one at an index that are of its group.
     pub(crate) fn after(&self, index: usize) -> u32
         requires { index < length self.now }
-        ensures { (key : K) → slice_get self.now index ≡ Some key
-            → result ≡ count_after K.cmp self.now key index }
+        ensures { (number : ℕ) → slice_get self.now index ≡ Some number
+            → result ≡ count_after self.now number index }
     {
-        let count = self.count(&self.keys[index]);
+        let count = self.count(self.numbers[index]);
         count - (self.before[index].count + 1)
     }
 }

@@ -7,6 +7,7 @@
 
 mod groups;
 pub mod html;
+mod kinds;
 pub mod languages;
 mod node;
 mod numbered_tree;

@@ -3,17 +3,17 @@ ghost use Rattle.std.specs.Prelude.{◌≡◌, ◌<◌, ◌≤◌, ◌^◌, ℕ,
 ghost use Rattle.std.specs.Prelude.{IfOk, IfErr, IfSome, MatchOption, slice_set, true, false};
 ghost use Rattle.sibling_matching.specs.ListTrees.{spot};
 ghost use Rattle.simplecss.specs.ListTrees.{spot as plain_spot};
-ghost use Rattle.simplecss_tree.specs.TreeNodes.{name_at};
 ghost use Rattle.selectors3_tree.specs.Counts.{count_below, last_below};
 ghost use Rattle.selectors3_tree.specs.Pages.{family, is_sibling, is_alike, count_after};
 ghost use Rattle.selectors3_tree.specs.Pages.{has_content};
-ghost use Rattle.selectors3_tree.specs.Keys.{AreFamilies, AreKinds};
+ghost use Rattle.selectors3_tree.specs.Keys.{AreFamilies};
 ghost use Rattle.selectors3_tree.specs.Above.{AreAbove, CoversAbove};
 ghost use Rattle.selectors3_tree.specs.declared.numbered_tree.NumberingError.TheVariants.{TooManyElements};
 ghost use Rattle.selectors3_tree.specs.declared.numbered_tree.NumberingError.TheVariants.{Memory};
 
 use crate::NumberedNode;
 use crate::groups::{Groups, Seen};
+use crate::kinds::kinds_of;
 use selectors3_index::element_bits;
 use simplecss::Element;
 use simplecss_tree::{Node, Tree};
@@ -52,10 +52,10 @@ impl<T: Drop> From<AllocFailed<T>> for NumberingError {
 pub struct NumberedTree<'p, 't> {
     /// The tree.
     pub(crate) tree: &'p Tree<'t>,
-    /// The elements by their parents.
-    families: Groups<usize>,
-    /// The elements by their parents and their names.
-    kinds: Groups<(usize, &'t str)>,
+    /// The elements by their parents: families.
+    families: Groups,
+    /// The elements by their parents and their names: kinds.
+    kinds: Groups,
     /// Whether each element has a text of its own that is not empty.
     texts: Vec<bool>,
     /// For each element bits that cover the keys of its ancestors. It is empty only while they are
@@ -100,30 +100,6 @@ fn families_of(alloc: Global, tree: &Tree<'_>) -> Result<Vec<usize>, AllocError>
         families.push(family_of(tree, index))?;
     }
     Ok(families)
-}
-
-/// Returns the name of an element.
-fn name_of<'t>(tree: &Tree<'t>, index: usize) -> &'t str
-    requires { index < length tree.now }
-    ensures { result.now ≡ name_at tree.now index }
-{
-    tree.node(index).unwrap().name()
-}
-
-/// Returns the number of the family of each element, and its name.
-fn kinds_of<'t>(
-    alloc: Global,
-    tree: &Tree<'t>,
-    families: &[usize],
-) -> Result<Vec<(usize, &'t str)>, AllocError>
-    requires { AreFamilies tree.now families.now }
-    ensures { IfOk result (λ kinds. AreKinds tree.now kinds.items) }
-{
-    let mut kinds = Vec::with_capacity(alloc, families.len())?;
-    for index in 0..families.len() {
-        kinds.push((families[index], name_of(tree, index)))?;
-    }
-    Ok(kinds)
 }
 
 /// Returns a list that says of no element that it has a text.
@@ -181,12 +157,12 @@ impl<'p, 't> NumberedTree<'p, 't> {
         if tree.len() > u32::MAX as usize {
             return Err(NumberingError::TooManyElements);
         }
-        let families = families_of(alloc, tree)?;
+        let families = Groups::new(alloc, families_of(alloc, tree)?, tree.len())?;
         let kinds = kinds_of(alloc, tree, &families)?;
         let mut page = NumberedTree {
             tree,
-            families: Groups::new(alloc, families)?,
-            kinds: Groups::new(alloc, kinds)?,
+            families,
+            kinds: Groups::new(alloc, kinds, tree.len())?,
             texts: no_texts(alloc, tree.len())?,
             above: Vec::new(alloc),
         };
@@ -285,6 +261,6 @@ impl<'p, 't> NumberedTree<'p, 't> {
         requires { index < length self.now.rows }
         ensures { result ≡ has_content self.now index }
     {
-        self.texts[index] || self.families.count(&(index + 1)) > 0
+        self.texts[index] || self.families.count(index + 1) > 0
     }
 }

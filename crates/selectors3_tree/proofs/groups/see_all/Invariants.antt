@@ -4,7 +4,7 @@ use Rattle.selectors3_tree.proofs.groups.see_all.Given as goal
 
 -- the members so far
 abbrev pub invariant-loop-i : goal.invariant-loop-i
-invariant-loop-i g l =
+invariant-loop-i l =
     (length l.before.items ≡ l.i)
-    × AreBefore g.K.Ord.cmp l.keys l.before.items l.i
-    × AreAll g.K.Ord.cmp l.keys l.all l.i
+    × AreBefore l.numbers l.before.items l.i
+    × AreAll l.numbers l.all l.i

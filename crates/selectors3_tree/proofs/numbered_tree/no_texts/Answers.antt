@@ -1,6 +1,6 @@
 use Rattle.std.proofs.Common.{◌+◌, false, length, get_or, ap, ◌∙◌}
 use Rattle.std.proofs.lemmas.List.{length-append}
-use Rattle.selectors3_tree.proofs.Numbering.{none_more}
+use Rattle.selectors3_tree.proofs.Numbering.{defaults_more}
 use Rattle.selectors3_tree.proofs.numbered_tree.no_texts.Goals as goal
 
 pub loop-index-preserved : goal.loop-index-preserved
@@ -9,5 +9,5 @@ loop-index-preserved c = (
       ∙ ap (λ n. n + 1) c.loop-index.invariant.0,
   λ i.
       ap (λ xs. get_or xs i false) c.in_ok-push.ensures.items
-      ∙ none_more c.loop-index.texts.items c.loop-index.invariant.1 i,
+      ∙ defaults_more false c.loop-index.texts.items c.loop-index.invariant.1 i,
 )
