@@ -438,8 +438,8 @@ def _run_aside(words: argparse.Namespace) -> Tuple[int, str]:
             errors.append(error)
 
     thread = threading.Thread(target=work, daemon=True)
-    thread.start()
     try:
+        thread.start()
         while thread.is_alive():
             thread.join(0.2)
             _progress.show()
