@@ -25,13 +25,11 @@
 //! The element is of a type with `simplecss::Keyed` and `selectors3_index::Keyed3`, such as
 //! `selectors3_tree::NumberedNode`. A rule matches by the trait of its kind.
 //!
+//! <!-- from crates/tests_today/src/either_kind.rt -->
 //! ```text
-//! let index = AnySelectorIndex::new(alloc, rules.as_slice())?;
-//! let mut indices = Vec::new(alloc);
-//! index.matching(&element, &mut indices)?;
-//! for index in &indices {
-//!     // rules[*index]
-//! }
+//!     let index = AnySelectorIndex::new(alloc, rules)?;
+//!     let mut found = Vec::new(alloc);
+//!     index.matching(element, &mut found)?;
 //! ```
 #![tactic(auto)]
 
