@@ -1,21 +1,28 @@
 """Measures how the time of the program grows with its input: each input at a size and at ten times that size.
 
-    cost.py PROGRAM [MATCHER]     PROGRAM is the built `cssq`
+    cost.py PROGRAM [MATCHER] [--level3 SELECTORS]     PROGRAM is the built `cssq`
 
 MATCHER, if given, is another program of the command `match`: its time at the larger size stands last for the inputs of `match`.
+SELECTORS, if given, is the built `tests_selectors3`, which reads selectors of level 3, matches them on a tree and prints them.
 
 Prints a line for each input: processor time in milliseconds at both sizes, least of some runs, and their ratio. Time that
 grows no faster than N log N has a ratio of about 10 to 12. The output of the last input is a product, since each of its N
-rules has N declarations of its own: its ratio nears 100. Inputs are made by this script; nothing else is needed.
+rules has N declarations of its own: its ratio nears 100. So is what is called a product of selectors of level 3: the length
+of a selector times that of a value, or the elements times those that are before or above each. Inputs are made by this
+script; nothing else is needed.
 """
+import argparse
 import os
 import resource
 import subprocess
-import sys
 import tempfile
 
-program = os.path.abspath(sys.argv[1])
-matcher = os.path.abspath(sys.argv[2]) if len(sys.argv) > 2 else None
+parser = argparse.ArgumentParser()
+parser.add_argument("program", type=os.path.abspath)
+parser.add_argument("matcher", type=os.path.abspath, nargs="?")
+parser.add_argument("--level3", type=os.path.abspath)
+given = parser.parse_args()
+program, matcher = given.program, given.matcher
 folder = tempfile.mkdtemp()
 
 
@@ -80,6 +87,36 @@ def utilities(n):
     return "0\tr\n" + "".join("1\tp\tclass=" + " ".join(f"u{(i * 37 + 53 * k * k) % 400}" for k in range(8)) + "\n" for i in range(n))
 
 
+def element(depth=0, name="a", **attributes):
+    """A line of a tree of `tests_selectors3`."""
+    return "\1".join([str(depth), name, "0", *(f"{key}={value}" for key, value in attributes.items())])
+
+
+def list_of(text, tree=lambda n: [element(title="a", **{"class": "a"})]):
+    """A list of selectors, and the lines of a tree."""
+    return lambda n: ([], put("text", "\n".join(tree(n)) + "\0" + text(n)))
+
+
+def value_of(value):
+    """An element with this value, as its class, too."""
+    return lambda n: [element(title=value(n), **{"class": value(n)})]
+
+
+def line_of(name="a"):
+    """A parent of n children, and of one with another name."""
+    return lambda n: [element(name="r"), *(element(1, name) for _ in range(n)), element(1, "b")]
+
+
+def path(n):
+    """A chain of n elements."""
+    return [element(depth) for depth in range(n)]
+
+
+def words(n):
+    """n words."""
+    return " ".join(f"w{i}" for i in range(n))
+
+
 INPUTS = [
     ("a selector after comments", 10_000, selector_of(lambda n: "/**/" * n + "a")),
     ("comments within a compound", 10_000, selector_of(lambda n: "a" + "/**/" * n + ".b")),
@@ -112,10 +149,51 @@ INPUTS = [
     ("selectors times declarations", 300, sheet_of(lambda n: ",".join(["a"] * n) + "{" + "b:c;" * n + "}")),
 ]
 
+LEVEL3 = [
+    ("unclosed functions", 100_000, list_of(lambda n: ":not(" * n)),
+    ("functions in functions, too deep", 100_000, list_of(lambda n: ":not(" * n + "a" + ")" * n)),
+    ("compounds, descendants", 20_000, list_of(lambda n: " ".join(["a"] * n))),
+    ("compounds, siblings", 20_000, list_of(lambda n: "~".join(["a"] * n))),
+    ("classes of a compound", 40_000, list_of(lambda n: ".a" * n)),
+    ("a list in a function", 20_000, list_of(lambda n: ":is(" + ",".join(["b"] * n) + ")")),
+    ("functions of a compound", 10_000, list_of(lambda n: ":is(a)" * n)),
+    ("digits of An+B", 100_000, list_of(lambda n: f":nth-child({'9' * n}n+{'9' * n})")),
+    ("blanks within An+B", 100_000, list_of(lambda n: f":nth-child({' ' * n}2n{' ' * n}+{' ' * n}1)")),
+    ("a string", 100_000, list_of(lambda n: f'[a="{"x" * n}"]')),
+    ("a string that is not closed", 100_000, list_of(lambda n: f'[a="{"x" * n}')),
+    ("escapes of a name", 40_000, list_of(lambda n: "\\41 " * n)),
+    ("escapes of a string", 40_000, list_of(lambda n: '[a="' + "\\41 " * n + '"]')),
+    ("comments of a selector", 40_000, list_of(lambda n: "/**/" * n + "a" + "/**/" * n)),
+    ("selectors of a list", 20_000, list_of(lambda n: ",".join(["a"] * n))),
+    ("selectors, and none after a comma", 20_000, list_of(lambda n: "a," * n)),
+    ("languages", 20_000, list_of(lambda n: ":lang(" + ",".join(["a"] * n) + ")")),
+    ("a text in a value", 100_000, list_of(lambda n: f'[title*="{"a" * (n // 2)}b"]', value_of(lambda n: "a" * n))),
+    ("a text in a value, without case", 100_000, list_of(lambda n: f'[title*="{"aB" * (n // 4)}c" i]', value_of(lambda n: "Ab" * (n // 2)))),
+    ("a word of a value", 100_000, list_of(lambda n: "[title~=b], .b", value_of(lambda n: "a " * n))),
+    ("50 compounds on a chain", 2_000, list_of(lambda n: "a " * 50 + "b", path)),
+    ("a step on a chain", 10_000, list_of(lambda n: "x > a", path)),
+    ("compounds, ~, on siblings", 10_000, list_of(lambda n: "~".join(["a"] * n) + "~b", line_of())),
+    ("compounds, +, on siblings", 10_000, list_of(lambda n: "+".join(["a"] * n) + "+b", line_of())),
+    ("numbers of siblings", 20_000, list_of(lambda n: ":nth-child(2n), :nth-last-of-type(3n)", line_of())),
+    ("siblings of names of their own", 20_000, list_of(lambda n: ":nth-last-of-type(2)", lambda n: [element(name="r"), *(element(1, f"a{i}") for i in range(n))])),
+    ("classes times words, a product", 500, list_of(lambda n: "".join(f".w{i}" for i in range(n)), value_of(words))),
+    ("descendants on a chain, a product", 1_000, list_of(lambda n: "x a", path)),
+    ("siblings, a product", 1_000, list_of(lambda n: "x ~ a", line_of())),
+    ("+ and then ~, a product", 1_000, list_of(lambda n: "x+" + "+".join(["a"] * (n // 2)) + "~b", line_of())),
+]
+
+
+def rows():
+    """What each input is, its size and its words, and the program."""
+    yield from ((*it, program) for it in INPUTS)
+    if given.level3:
+        yield from ((*it, given.level3) for it in LEVEL3)
+
+
 print(f"{'input':40} {'size':>9} {'ms':>9} {'ten times':>10} {'ms':>9} {'ratio':>6}")
-for name, size, words_of in INPUTS:
-    small, _ = milliseconds(*words_of(size))
-    large, _ = milliseconds(*words_of(10 * size), runs=3)
+for name, size, words_of, binary in rows():
+    small, _ = milliseconds(*words_of(size), binary=binary)
+    large, _ = milliseconds(*words_of(10 * size), runs=3, binary=binary)
     beside = ""
     if matcher and words_of(10 * size)[0][:1] == ["match"]:
         beside = f" {milliseconds(*words_of(10 * size), runs=3, binary=matcher)[0]:9.1f}"

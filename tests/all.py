@@ -29,12 +29,13 @@ PLAIN = (
     ("script.py", ()),
     ("library.py", ()),
     ("sheets.py", ()),
+    ("judges.py", ()),
     ("release.py", ("tests_tokens",)),
 )
 # What tests want of Debian and work without, but for what they then leave out.
 PACKAGES = ("librust-roxmltree-dev", "librust-log-dev", "nodejs", "binaryen", "python3-venv", "python3-setuptools",
             "python3-wheel", "gcc", "libc6-dev", "pkg-config", "python3-tinycss2", "python3-soupsieve", "python3-bs4",
-            "python3-html5lib", "python3-lxml", "mypy")
+            "python3-html5lib", "python3-lxml", "mypy", "xz-utils")
 LEFT_OUT = b"left out: "
 passed = failed = 0
 left_out = []

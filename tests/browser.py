@@ -36,7 +36,7 @@ from simplecss import _lint  # noqa: E402
 
 # How many differences of a document are listed.
 SHOWN = 4
-# Properties that no shorthand sets.
+# Properties that no shorthand but `all` sets.
 PROPERTIES = (
     "color", "display", "width", "height", "text-align", "vertical-align", "position", "float", "visibility", "z-index",
 )
@@ -339,6 +339,14 @@ def held_conditions(sheets, trees):
     return {text for text, holds in zip(texts, answers) if holds}
 
 
+def last_of(found):
+    """Returns the last declaration of each property, of which `all` sets those that are compared."""
+    last = {}
+    for each in sorted(found, key=lambda each: each.important):
+        last.update((name, each) for name in (PROPERTIES if each.name == "all" else [each.name]))
+    return last
+
+
 def compare_winners(names):
     """Compares which declarations win, by their values as the browser prints them."""
     report = Report()
@@ -347,7 +355,7 @@ def compare_winners(names):
     sheets = [simplecss.StyleSheet(*sheets_of(name, tree)) for name, tree in zip(names, trees)]
     held = held_conditions(sheets, trees)
     for tree, sheet in zip(trees, sheets):
-        styles = [{each.name: each for each in found} for found in sheet.styles(tree, media=held.__contains__)]
+        styles = [last_of(found) for found in sheet.styles(tree, media=held.__contains__)]
         ours.append([[found.get(each) for found in styles] for each in PROPERTIES])
         values.append(sorted({
             (each, winner.value) for each, winners in zip(PROPERTIES, ours[-1]) for winner in winners if winner

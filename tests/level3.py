@@ -296,7 +296,7 @@ def browser_texts(texts: Sequence[str]) -> Optional[List[Optional[str]]]:
 
 # Differences that docs/DIFFERENCES.md names, by the words of a refusal and by what is read before its place: a list, or
 # a comment within a compound selector.
-REFUSED_HERE = re.compile(r"is not closed|function that is read|: `(\||/\*|[+-]?\\.*(An\+B|expected here))")
+REFUSED_HERE = re.compile(r"is not closed|: `(\||/\*|[+-]?\\.*(An\+B|expected here))")
 INNER = re.compile(r":(is|where|not)\([^()]*(\([^()]*)*$|\*/$", re.IGNORECASE)
 # A browser knows no flag `s`, and takes a large number for another; it refuses pseudo-classes that it does not know,
 # and reads `:is()` and a further pseudo-element after one.
@@ -318,8 +318,11 @@ def front_of(text: str, reply: str) -> str:
     row, column = (int(number) for number in reply.split(":")[1:3])
     lines = text.split("\n")[:row]
     front = "\n".join(lines[:-1] + [lines[-1][:column - 1]])
-    for pattern, shown in ((r"\\.", ""), (r"/\*.*?\*/", "/**/"), (r"\([^()]*\)", ""), (r"\([^()]*\)", "")):
+    for pattern, shown in ((r"\\.", ""), (r"/\*.*?\*/", "/**/")):
         front = re.sub(pattern, shown, front, flags=re.DOTALL)
+    inside = 1
+    while inside:
+        front, inside = re.subn(r"\([^()]*\)", "", front)
     return front
 
 

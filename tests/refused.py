@@ -128,6 +128,8 @@ add("RuleSearch::matching", ["kept", *CASCADE], plain)
 # What is found for an element is kept once for all elements with its name and classes.
 one, two = (len(run(["lost", "kept", CASCADE[0], f"0\ta\n1\tb\tclass=i b\n1\tb\tclass={other}\n"], 0)[2]) for other in ("i b", "b i"))
 expect(0 < one and 2 * one == two, f"RuleSearch::matching: {one} requests for two elements that are alike, and {two} for others")
+for old, new in [("*", ".b"), ("*", "<"), ("<", ".b")]:
+    add("AnySelectorIndex::new, matching", ["both", old, new, "a", "b"], plain)
 add("winners", ["winners", *CASCADE], plain)
 add("Tree::push, set_attribute", ["tree", "a", "b", "c"], plain)
 

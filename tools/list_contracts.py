@@ -40,6 +40,7 @@ QUOTES = (
 GATHERED = {
     "Values are equal exactly if what contracts see of them is.": ("equality",),
     "Blanks and comments are what their definitions say, which do not mention reading.": ("blank", "comment", "space_bytes"),
+    "Elements that a selector matches, and their ancestors, have the keys that it requires of them.": ("key_law", "keys_law"),
 }
 CALLS = (
     ("cursor", "simplecss_text/src/stream.rt"),
@@ -65,6 +66,7 @@ CALLS = (
     ("printing them", "selectors3/src/printing.rt"),
     ("matching them", "selectors3/src/matching.rt"),
     ("an index of them", "selectors3_index/src/selector_index.rt"),
+    ("an index over both kinds", "any_selector_index/src/any_selector_index.rt"),
     ("matching with `~`", "sibling_matching/src"),
 )
 

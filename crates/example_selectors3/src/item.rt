@@ -3,22 +3,42 @@ ghost use Rattle.std.specs.Prelude.{◌≡◌, ◌<◌, ◌^◌, length};
 
 use selectors3::Element3;
 
-/// An item: the classes of all items of the list, and its index.
+/// What is within an item.
+#[derive(Clone, Copy)]
+pub enum Content {
+    /// Nothing.
+    Nothing,
+    /// A comment.
+    Comment,
+    /// A text.
+    Text,
+}
+
+/// An entry of the list: the class of an item, and what is within the item.
+#[derive(Clone, Copy)]
+pub struct Entry<'t> {
+    /// The value of the attribute `class`.
+    pub class: &'t str,
+    /// What is within the item.
+    pub content: Content,
+}
+
+/// An item: all entries of the list, and its index.
 #[derive(Drop)]
 pub struct Item<'t> {
-    classes: &'t [&'t str],
+    entries: &'t [Entry<'t>],
     index: usize,
-    pub ghost within: { index < length classes.now },
-    pub ghost few: { length classes.now < 2 ^ 32 },
+    pub ghost within: { index < length entries.now },
+    pub ghost few: { length entries.now < 2 ^ 32 },
 }
 
 impl<'t> Item<'t> {
     /// Returns the item at the index.
-    pub fn new(classes: &'t [&'t str], index: usize) -> Item<'t>
-        requires within { index < length classes.now }
-        requires few { length classes.now < 2 ^ 32 }
+    pub fn new(entries: &'t [Entry<'t>], index: usize) -> Item<'t>
+        requires within { index < length entries.now }
+        requires few { length entries.now < 2 ^ 32 }
     {
-        Item { classes, index }
+        Item { entries, index }
     }
 }
 
@@ -29,7 +49,7 @@ impl<'t> Element3 for Item<'t> {
 
     ghost document = { items };
 
-    ghost node = { λ item. (item.classes.now, item.index) };
+    ghost node = { λ item. (item.entries.now, item.index) };
 
     ghost depth_law = { depths_count };
 
@@ -46,7 +66,7 @@ impl<'t> Element3 for Item<'t> {
             return None;
         }
         Some(Item {
-            classes: self.classes,
+            entries: self.entries,
             index: self.index - 1,
         })
     }
@@ -56,7 +76,7 @@ impl<'t> Element3 for Item<'t> {
     }
 
     fn later_siblings(&self) -> u32 {
-        (self.classes.len() - (self.index + 1)) as u32
+        (self.entries.len() - (self.index + 1)) as u32
     }
 
     fn earlier_of_type(&self) -> u32 {
@@ -64,7 +84,7 @@ impl<'t> Element3 for Item<'t> {
     }
 
     fn later_of_type(&self) -> u32 {
-        (self.classes.len() - (self.index + 1)) as u32
+        (self.entries.len() - (self.index + 1)) as u32
     }
 
     fn is_named(&self, name: &str) -> bool {
@@ -73,7 +93,7 @@ impl<'t> Element3 for Item<'t> {
 
     fn attribute(&self, name: &str) -> Option<&str> {
         if name == "class" {
-            Some(self.classes[self.index])
+            Some(self.entries[self.index].class)
         } else {
             None
         }
@@ -88,6 +108,9 @@ impl<'t> Element3 for Item<'t> {
     }
 
     fn has_content(&self) -> bool {
-        true
+        match self.entries[self.index].content {
+            Content::Nothing | Content::Comment => false,
+            Content::Text => true,
+        }
     }
 }

@@ -3,16 +3,23 @@
 
 mod item;
 
-use item::Item;
+use item::{Content, Entry, Item};
 use selectors3::Selector3;
 use std::io;
 use std::io::Print;
 
-/// The classes of the items.
-const CLASSES: [&str; 5] = ["a", "b c", "", "a c", "bc"];
+/// The items of the list.
+const ITEMS: [Entry<'static>; 5] = [
+    Entry { class: "a", content: Content::Text },
+    Entry { class: "b c", content: Content::Nothing },
+    Entry { class: "", content: Content::Text },
+    Entry { class: "a c", content: Content::Comment },
+    Entry { class: "bc", content: Content::Text },
+];
 
 /// Selectors, of which the last two are refused.
-const TEXTS: [&str; 9] = [
+const TEXTS: [&str; 10] = [
+    ":empty",
     ":nth-child(2n+1)",
     ":last-child",
     "[class^=B i]",
@@ -31,8 +38,8 @@ fn show(rt: &impl Print, selector: &Selector3<'_>) -> io::Result<()> {
         "{selector} ({}, {}, {}):",
         counts.ids, counts.classes, counts.names
     )?;
-    for index in 0..CLASSES.len() {
-        if selector.matches(&Item::new(&CLASSES, index)) {
+    for index in 0..ITEMS.len() {
+        if selector.matches(&Item::new(&ITEMS, index)) {
             print!(rt; " {}", index + 1)?;
         }
     }

@@ -1,6 +1,8 @@
 pub mod AttributeLemmas
 pub mod NumberLemmas
 pub mod MatchLemmas
+mod BoundLemmas
+mod PlacementListLemmas
 pub mod TextLemmas
 pub mod ItemLemmas
 pub mod GapLemmas
@@ -10,6 +12,7 @@ pub mod KeyLemmas
 pub mod AncestorKeyLemmas
 pub mod ListLemmas
 pub mod NestLemmas
+pub mod OccurrenceLemmas
 mod SpelledAgain
 mod NumbersAgain
 mod NestedLists

@@ -1,5 +1,5 @@
 -- A selector without a pseudo-element matches where its parts have a placement.
--- Serves `Selector3::matches`.
+-- Serves `Selector3::matches_counted`.
 use Rattle.std.proofs.Common.{◌≡◌, ◌↔◌, ◌-◌, Bool, false, List, length, map, Option, None, Some, IsTrue, refl, sym, subst}
 use Rattle.std.proofs.lemmas.List.{length-map}
 use Rattle.std.specs.Option.{option_map, is_some}

@@ -8,6 +8,8 @@ pub mod KeyViews
 pub mod Keys
 pub mod Meanings
 pub mod Numbers
+pub mod PlacementLists
+pub mod Occurrences
 pub mod Printing
 pub mod ReadSelectors
 pub mod ReadViews
@@ -17,6 +19,7 @@ pub mod RefusalWords
 pub mod Specificities
 pub mod SpecificityViews
 pub mod Spellings
+pub mod TestBounds
 pub mod TriedElements
 pub mod Views
 pub mod WellFormed

@@ -86,12 +86,17 @@ impl<'e, 's, 'a, E: Element3> Candidate<PartsOf<'s, 'a>> for Tried<'e, E> {
 }
 
 impl<'a> Selector3<'a> {
-    ghost use Rattle.std.specs.Prelude.{◌↔◌, IsTrue};
+    ghost use Rattle.std.specs.Prelude.{◌≡◌, ◌+◌, ◌≤◌, ◌↔◌, IsTrue, is_some};
     ghost use Rattle.selectors3.specs.Meanings.{Matches};
+    ghost use Rattle.selectors3.specs.TestBounds.{most_tests};
 
-    /// Whether the selector matches the element. One with a pseudo-element matches none.
-    pub fn matches<E: Element3>(&self, element: &E) -> bool
-        ensures { IsTrue result ↔ Matches E.document self.now (E.node element.now) }
+    /// Whether the selector matches the element. One with a pseudo-element matches none. The tests
+    /// made are counted: each is one of a compound selector on an element, whatever conditions it has.
+    pub fn matches_counted<E: Element3>(&self, element: &E, tests: &mut Tests) -> bool
+        ensures answer { IsTrue result ↔ Matches E.document self.now (E.node element.now) }
+        ensures at_most { tests.new
+            ≤ tests.old + most_tests E.document self.now (E.node element.now) }
+        ensures untested { IsTrue (is_some self.now.pseudo_element) → tests.new ≡ tests.old }
     {
         if self.pseudo_element.is_some() {
             return false;
@@ -101,7 +106,14 @@ impl<'a> Selector3<'a> {
             &PartsOf { parts },
             parts.len() - 1,
             &Tried::First(element),
-            &mut Tests::new(),
+            tests,
         )
+    }
+
+    /// Whether the selector matches the element. One with a pseudo-element matches none.
+    pub fn matches<E: Element3>(&self, element: &E) -> bool
+        ensures { IsTrue result ↔ Matches E.document self.now (E.node element.now) }
+    {
+        self.matches_counted(element, &mut Tests::new())
     }
 }

@@ -4,14 +4,17 @@
 //! results are shown, too.
 #![tactic(auto)]
 
+mod both_kinds;
 mod free;
 
+use both_kinds::{found_by_index, read_rules};
 use cssq::cascade::winners;
 use cssq::runs::{RunFault, run_match, run_selector, run_sheet, run_style};
 use cssq::tree::{Page, TreeFault};
 use free::Made;
 use log::Log;
 use log::sink::{Discard, Memory};
+use selectors3_tree::NumberedTree;
 use simplecss::{
     Reading, RuleIndex, RuleSearch, Selector, SheetError, StatementReader, StyleSheet, Warnings,
     find_skipped,
@@ -322,16 +325,36 @@ fn show_found(
     show_number(rt, number)
 }
 
-/// Makes a tree of the names, each the child of the one before, with its name as its class. Returns
-/// the number of elements.
-fn chain_len(alloc: Global, names: &[&str]) -> Result<usize, TreeError> {
+/// Makes a tree of the names, each the child of the one before, with its name as its class.
+fn chain<'t>(alloc: Global, names: &[&'t str]) -> Result<Tree<'t>, TreeError> {
     let mut tree = Tree::new(alloc);
     let mut parent = None;
     for name in names {
         parent = Some(tree.push(parent, name)?);
         tree.set_attribute("class", name)?;
     }
-    Ok(tree.len())
+    Ok(tree)
+}
+
+/// Finds the rules that match the elements of a tree by an index over a rule of each kind.
+fn show_both(
+    rt: &HostRuntime,
+    made: &Made<'_>,
+    old: &str,
+    new: &str,
+    names: &[&str],
+) -> io::Result<()> {
+    let rules = read_rules(rt.alloc(), old, new)?;
+    let Ok(tree) = chain(rt.alloc(), names) else {
+        return println!(rt; "no tree");
+    };
+    let Ok(page) = NumberedTree::new(rt.alloc(), &tree) else {
+        return println!(rt; "no tree");
+    };
+    begin(rt);
+    let sum = found_by_index(rt.alloc(), &rules, &page);
+    end(rt, made);
+    show_number(rt, sum)
 }
 
 /// Shows how a run ended, and how many bytes it wrote.
@@ -370,11 +393,12 @@ fn show<R: Log>(rt: &HostRuntime, made: &Made<'_>, log: &R, words: &[&str]) -> i
         [call @ ("index" | "winners"), text, tree] => show_found(rt, made, call, text, tree),
         ["search", text] => show_search(rt, made, text),
         ["kept", text, tree] => show_kept(rt, made, text, tree),
+        ["both", old, new, names @ ..] => show_both(rt, made, old, new, names),
         ["tree", names @ ..] => {
             begin(rt);
-            let len = chain_len(rt.alloc(), names);
+            let tree = chain(rt.alloc(), names);
             end(rt, made);
-            show_number(rt, len)
+            show_number(rt, tree.map(|tree| tree.len()))
         }
         ["run_selector", text] => {
             begin(rt);

@@ -9,6 +9,8 @@
 //! as it is serialized; or, if it is refused, where and why.
 #![tactic(auto)]
 
+#[cfg(test)]
+mod counting;
 mod tree;
 
 use selectors3::{Element3, Selector3};

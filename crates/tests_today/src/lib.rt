@@ -3,6 +3,8 @@
 #![tactic(auto)]
 
 #[cfg(test)]
+mod either_kind;
+#[cfg(test)]
 mod printing;
 #[cfg(test)]
 mod rules;

@@ -1,0 +1,5 @@
+mod Unions
+mod Picking
+mod Parting
+mod Joining
+mod Either

@@ -1,0 +1,4 @@
+pub mod AnySelectors
+pub mod AnySelectorViews
+pub mod Matching
+pub mod internal
