@@ -1,7 +1,6 @@
 -- Bits that cover the keys of the ancestors of an element, from those of its parent or of a sibling.
 -- Serves `numbered_tree::{bits_above, all_above, NumberedTree}`.
-use Rattle.std.proofs.Common.{◌≡◌, ℕ, zero, suc, ◌+◌, ◌-◌, ◌^◌, ◌<◌, ◌≤◌, inl, inr, Bool, true, false, List, [], ◌∷◌, ◌++◌, length, get_or, Option, None, Some, refl, sym, ap, subst, ◌∙◌, arith}
-use Rattle.std.specs.Prelude.{◌==◌, if◌then◌else◌}
+use Rattle.std.proofs.Common.{◌≡◌, ℕ, ◌-◌, ◌^◌, ◌<◌, inl, inr, Bool, List, [], ◌∷◌, ◌++◌, length, get_or, Option, None, Some, refl, sym, ap, subst, ◌∙◌, arith}
 use Rattle.std.specs.Int.Bits.{bit_or}
 use Rattle.std.specs.Option.{option_map}
 use Rattle.std.proofs.Math.ListN.{get_or-append}
@@ -11,9 +10,8 @@ use Rattle.std.proofs.lemmas.List.{length-append}
 use Rattle.sibling_matching.specs.ListTrees.{spot}
 use Rattle.sibling_matching.specs.Placements.{IsBeyond}
 use Rattle.sibling_matching.specs.Placements.IsBeyond.{is_next, is_further}
-use Rattle.selectors3.specs.Keys.{Key}
 use Rattle.selectors3.specs.Keys.Key.{by_id, by_class, by_name, by_attribute, by_nothing}
-use Rattle.selectors3_index.specs.KeyBits.{key_bits, CoversKeys, CoversAncestors}
+use Rattle.selectors3_index.specs.KeyBits.{key_bits, CoversKeys}
 use Rattle.selectors3_index.proofs.BitLemmas.{covers_left, covers_right, covers_more, all_cover}
 use Rattle.simplecss_tree.specs.Rows.{Row}
 use Rattle.selectors3_tree.specs.Above.{CoversAbove, AreAbove}

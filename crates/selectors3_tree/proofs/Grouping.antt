@@ -1,6 +1,6 @@
 -- What is known of each group after one more member.
 -- Serves `groups::{see_all, Groups}`.
-use Rattle.std.proofs.Common.{◌≡◌, ◌≢◌, ℕ, suc, ◌+◌, ◌-◌, ◌<◌, ◌≤◌, inl, inr, Bool, true, false, List, [], ◌∷◌, ◌++◌, length, get_or, Option, Some, None, refl, sym, ap, ◌∙◌, add-one, arith}
+use Rattle.std.proofs.Common.{◌≡◌, ℕ, suc, ◌+◌, ◌-◌, ◌<◌, ◌≤◌, inl, inr, Bool, true, false, List, [], ◌∷◌, ◌++◌, length, get_or, Some, refl, sym, ap, ◌∙◌, add-one, arith}
 use Rattle.std.specs.Prelude.{◌==◌, if◌then◌else◌, slice_set}
 use Rattle.std.specs.List.{slice_get}
 use Rattle.std.specs.Option.{option_map_or}
@@ -66,7 +66,8 @@ module _ (numbers : List ℕ) where
   before_more old new n number seen len is at known are i other lt there =
       elim (last_or_before i n (omega (arith, lt))) [
         | inl same ↦
-            (let same_number : number ≡ other = some_same (sym at ∙ ap (slice_get numbers) (sym same) ∙ there) in
+            (let same_number : number ≡ other =
+            some_same (sym at ∙ ap (slice_get numbers) (sym same) ∙ there) in
             ap (λ xs. get_or xs i nothing_seen) is
             ∙ ap (λ j. get_or (old ++ seen ∷ []) j nothing_seen) (same ∙ sym len)
             ∙ get_or-append_seam old seen [] nothing_seen
@@ -99,14 +100,16 @@ module _ (numbers now : List ℕ) (before : List Seen) (i number : ℕ) (seen : 
   own_before : seen ≡ seen_below numbers number i
   own_before =
       let inside : i < length numbers = rw (ap length view) within in
-      read_at before i seen (omega (arith, inside, len)) there ∙ are i number inside (ap (λ xs. slice_get xs i) view ∙ at)
+      read_at before i seen (omega (arith, inside, len)) there
+      ∙ are i number inside (ap (λ xs. slice_get xs i) view ∙ at)
 
   pub own_before_now : seen ≡ seen_below now number i
   own_before_now = own_before ∙ ap (λ xs. seen_below xs number i) view
 
   pub own_counted : seen.count + 1 ≤ count_below (is_in_group now number) (length now)
   own_counted =
-      let h = count_below-with (is_in_group now number) i (length now) within (in_own_group now number i at) in
+      let own = in_own_group now number i at in
+      let h = count_below-with (is_in_group now number) i (length now) within own in
       let e = ap (λ s. s.count) own_before_now in omega (arith, h, e)
 
   pub own_after : (other count : ℕ) → slice_get now i ≡ Some other

@@ -1,12 +1,12 @@
 -- Kinds of elements: those with one parent and one name.
 -- Serves `kinds` and `Numbering`.
-use Rattle.std.proofs.Common.{◌≡◌, ◌≢◌, ℕ, zero, suc, ◌+◌, ◌<◌, ◌≤◌, ◌⊎◌, inl, inr, Bool, true, false, ◌&&◌, cond, List, Option, None, Some, refl, sym, ap, subst, ◌∙◌, add-one, arith, Bor}
-use Rattle.std.specs.Prelude.{◌==◌, bytes_eq, if◌then◌else◌}
+use Rattle.std.proofs.Common.{◌≡◌, ℕ, suc, ◌+◌, ◌<◌, ◌≤◌, ◌⊎◌, inl, inr, Bool, true, false, ◌&&◌, cond, List, Option, None, Some, refl, sym, ap, subst, ◌∙◌, add-one, arith, Bor}
+use Rattle.std.specs.Prelude.{◌==◌, bytes_eq}
 use Rattle.std.specs.BTreeMap.{BTreeMap, get}
 use Rattle.std.specs.Bool.{Decides}
 use Rattle.std.specs.Cmp.{unsigned_tied}
 use Rattle.std.specs.Cmp.Lexicographic.{slice_cmp}
-use Rattle.std.specs.Option.{option_or, unwrap_or}
+use Rattle.std.specs.Option.{unwrap_or}
 use Rattle.std.specs.Ordering.{is_eq, nat_cmp, ordering_then}
 use Rattle.std.specs.declared.cmp.Ordering.{Ordering}
 use Rattle.std.specs.declared.cmp.Ordering.TheVariants.{Less, Equal, Greater}
@@ -198,19 +198,7 @@ flipped a b x y =
     ((λ h. sym ((bytes_eq-Decides y x).0 h)), (λ e. (bytes_eq-Decides y x).1 (sym e))))
 
 module _ (rows : List Row) (families : List ℕ) (n : ℕ) where
-  -- an element of a small family, and one that is like an earlier one
-  pub named-small : (old : BTreeMap (ℕ × Bor (List ℕ)) ℕ) → (IsLarge families (family rows n) → ⊥)
-      → AreNamed rows families old n → AreNamed rows families old (n + 1)
-  named-small old small are key large =
-      rw add-one (are key large ∙ sym (first_below-false (has_kind rows key) n (none (has_kind rows key n) refl)))
-    where
-      none : (b : Bool) → has_kind rows key n ≡ b → b ≡ false
-      none false is = refl
-      none true is =
-          let e = (Decides-and (key.0 == family rows n) (bytes_eq key.1.now (name_at rows n))
-          (Decides-eqb key.0 (family rows n)) (bytes_eq-Decides key.1.now (name_at rows n))).0 is in
-          absurd (small (subst (IsLarge families) e.0 large))
-
+  -- an element that is like an earlier one
   pub named-again : (s : ℕ) (old : BTreeMap (ℕ × Bor (List ℕ)) ℕ) → s < n → is_alike rows n s ≡ true
       → AreNamed rows families old n → AreNamed rows families old (n + 1)
   named-again s old lt is are key large =

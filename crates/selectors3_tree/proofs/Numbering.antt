@@ -15,7 +15,7 @@ use Rattle.simplecss_tree.specs.TreeNodes.{named_parent}
 use Rattle.selectors3_tree.specs.Counts.{count_below, last_below}
 use Rattle.selectors3_tree.specs.GroupViews.{is_in_group, seen_below, count_after as count_after_number}
 use Rattle.selectors3_tree.specs.declared.groups.Seen.{Seen}
-use Rattle.selectors3_tree.specs.Keys.{AreFamilies, AreKinds, kind}
+use Rattle.selectors3_tree.specs.Keys.{AreFamilies, HasKinds, AreKinds, kind}
 use Rattle.selectors3_tree.specs.Pages.{family, family_under, is_sibling, is_alike, is_child, count_after}
 use Rattle.selectors3_tree.proofs.Counting.{last_or_before, count_below-same, last_below-same}
 use Rattle.selectors3_tree.proofs.KindLemmas.{kind-test, kind-at_most}
@@ -145,6 +145,16 @@ known_more P xs ys x n i is len here before lt =
     inside : (i : ℕ) → i < n + 1 → i < length ys
     inside i lt =
         let l = ap length is ∙ length-append xs (x ∷ []) in omega (arith, lt, l, len)
+
+-- the kinds of the elements below an index, and of the one at it
+pub kinds_more : (rows : List Row) (kinds more : List ℕ) (number n : ℕ) → HasKinds rows kinds n
+    → more ≡ kinds ++ number ∷ [] → number ≡ kind rows n → HasKinds rows more (n + 1)
+kinds_more rows kinds more number n are is of = record {
+  all = ap length is ∙ length-append kinds (number ∷ []) ∙ ap (λ k. k + 1) are.all;
+  each = λ i lt. (let k = known_more (λ j m. m ≡ kind rows j) kinds more number n i is are.all of
+      (λ j less. (kind rows j, are.each j less, refl)) lt in
+      k.1 ∙ ap Some k.2);
+}
 
 -- one more default, after defaults
 pub defaults_more : {X : Type 0} (d : X) (xs : List X) → ((i : ℕ) → get_or xs i d ≡ d) → (i : ℕ)

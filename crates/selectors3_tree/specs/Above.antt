@@ -2,7 +2,7 @@
 use Rattle.std.specs.Prelude.{ℕ, ◌<◌, Bool, List, length, slice_index}
 use Rattle.selectors3_index.specs.KeyBits.{CoversAncestors}
 use Rattle.simplecss_tree.specs.Rows.{Row}
-use Rattle.selectors3_tree.specs.Pages.{Page, page_document}
+use Rattle.selectors3_tree.specs.Pages.{page_document}
 
 -- the bits cover the keys of the ancestors of the element at an index
 abbrev pub CoversAbove : List Row → ℕ → ℕ → Type 0

@@ -1,7 +1,7 @@
 -- Selectors as an HTML document reads them (HTML Standard, "Case-sensitivity of selectors"), where the
 -- names of its tree are in lower case, and so are those values of attributes that are compared without
 -- case.
-use Rattle.std.specs.Prelude.{ℕ, Bool, false, ◌||◌, List, [], ◌∷◌, map, bytes_eq, codes}
+use Rattle.std.specs.Prelude.{ℕ, Bool, ◌||◌, List, [], ◌∷◌, map, bytes_eq, codes}
 use Rattle.std.specs.Char.{to_ascii_lowercase}
 use Rattle.std.specs.List.{list_any}
 use Rattle.selectors3.specs.Components.{Simple, Condition, Conditions, Compounds, Part, Selector}

@@ -1,5 +1,4 @@
-use Rattle.std.proofs.Common.{◌≡◌, Some, arith}
-use Rattle.std.specs.List.{slice_get}
+use Rattle.std.proofs.Common.{arith}
 use Rattle.selectors3_tree.proofs.Grouping.{number_at, own_counted, own_after}
 use Rattle.selectors3_tree.proofs.groups.Groups.after.Goals as goal
 

@@ -1,4 +1,4 @@
-use Rattle.std.proofs.Common.{◌<◌, IfSome, get_or, sym, subst, refl}
+use Rattle.std.proofs.Common.{◌<◌, IfSome, get_or, sym, subst}
 use Rattle.std.proofs.lemmas.Option.{slice_get-get_or}
 use Rattle.selectors3_tree.specs.GroupViews.{is_in_group}
 use Rattle.selectors3_tree.proofs.Counting.{last_below-earlier}
