@@ -10,11 +10,26 @@ use std::io::Print;
 
 /// The items of the list.
 const ITEMS: [Entry<'static>; 5] = [
-    Entry { class: "a", content: Content::Text },
-    Entry { class: "b c", content: Content::Nothing },
-    Entry { class: "", content: Content::Text },
-    Entry { class: "a c", content: Content::Comment },
-    Entry { class: "bc", content: Content::Text },
+    Entry {
+        class: "a",
+        content: Content::Text,
+    },
+    Entry {
+        class: "b c",
+        content: Content::Nothing,
+    },
+    Entry {
+        class: "",
+        content: Content::Text,
+    },
+    Entry {
+        class: "a c",
+        content: Content::Comment,
+    },
+    Entry {
+        class: "bc",
+        content: Content::Text,
+    },
 ];
 
 /// Selectors, of which the last two are refused.
