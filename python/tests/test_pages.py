@@ -225,6 +225,9 @@ class CommandLine(unittest.TestCase):
 
     @unittest.skipUnless(hasattr(os, "mkfifo"), "there are no named pipes")
     def test_interrupt_ends_at_once(self):
+        # A program that a shell starts in the background ignores the signal, and so would one that it starts.
+        before = signal.signal(signal.SIGINT, signal.default_int_handler)
+        self.addCleanup(signal.signal, signal.SIGINT, before)
         name = os.path.join(self.folder, "page")
         os.mkfifo(name)
         made = self.start("select", "b", name)
