@@ -304,11 +304,11 @@ ODD_IN_BROWSERS = re.compile(
     r"""[\s'"/]s\s*(/\*.*?\*/\s*)*\]|\d{10}|:(before|after)(:(is|where)\(|::)""", re.IGNORECASE)
 KNOWN = {*STRUCTURES, *ELEMENTS, *(name + "(" for name in (*NUMBERINGS, "not", "is", "where", "NOT"))}
 # soupsieve takes an empty value for the start of each, finds nothing by `n-1`, refuses two blanks before a sign and
-# newlines after escapes, takes away comments before it reads escapes, takes the name `*` for any, and refuses
-# pseudo-elements.
+# newlines after escapes, takes away comments before it reads escapes, takes the name `*` for any, knows `!=`, and
+# refuses pseudo-elements.
 ODD_IN_SOUP = re.compile(
     r"""[$^*]=\s*(/\*.*?\*/\s*)*(''|"")|\bn\s*-\s*\d|\s(\s|/\*.*?\*/)+[,+>~]|\\[0-9a-f]{0,6}\n|\\/?\*"""
-    r"|:(:|before|after|first-l)",
+    r"|:(:|before|after|first-l)|!=",
     re.IGNORECASE | re.DOTALL,
 )
 
@@ -327,8 +327,9 @@ def front_of(text: str, reply: str) -> str:
 
 
 def has_unknown(text: str) -> bool:
-    """Whether the text has the name of a pseudo-class that a browser may not know."""
-    return any(name not in KNOWN for name in re.findall(r"::?((?:[\w-]|\\.)*\(?)", text))
+    """Whether the text has the name of a pseudo-class or a pseudo-element that a browser may not know."""
+    names = re.findall(r"(::?)((?:[\w-]|\\.|\\$)*\(?)", text)
+    return any(name not in (ELEMENTS if colons == "::" else KNOWN) for colons, name in names)
 
 
 class Judge:
