@@ -1,3 +1,27 @@
-pub mod GrammarLemmas
-pub mod ListLemmas
-pub mod PlacedParts
+pub mod AttributeLemmas
+pub mod NumberLemmas
+pub mod ConditionViews
+pub mod PartLemmas
+mod BoundLemmas
+mod PlacementListLemmas
+pub mod TextLemmas
+pub mod ItemLemmas
+pub mod GapLemmas
+pub mod PrintLemmas
+pub mod KeyLemmas
+pub mod AncestorKeyLemmas
+pub mod ListTexts
+pub mod NestLemmas
+pub mod OccurrenceLemmas
+mod SpelledAgain
+mod NumbersAgain
+mod NestedLists
+mod SimplesAgain
+mod CompoundsAgain
+mod SelectorsAgain
+mod ReadSimples
+mod ReadWellFormed
+mod ListLaws
+mod NestedCosts
+mod NestedReads
+mod Vectors

@@ -1,123 +1,149 @@
-//! Attribute selectors (Selectors 4, section 6).
-ghost use Rattle.std.specs.Prelude.{◌≡◌, option_map};
-ghost use Rattle.simplecss_text.specs.Bytes.{starts_by};
-ghost use Rattle.simplecss_text.specs.Strings.{is_quote};
-ghost use Rattle.css_selectors.specs.SelectorGrammar.{is_operator_sign, past_sign as past_sign_of};
-ghost use Rattle.css_selectors.specs.SelectorGrammar.{past_operator as past_operator_of, is_flag};
-ghost use Rattle.css_selectors.specs.SelectorGrammar.{past_flag as past_flag_of};
-ghost use Rattle.css_selectors.specs.SelectorGrammar.{attribute_value as attribute_value_of};
-ghost use Rattle.css_selectors.specs.SelectorGrammar.{attribute_end as attribute_end_of};
-ghost use Rattle.css_selectors.specs.SelectorGrammar.{after_operator as after_operator_of};
-ghost use Rattle.css_selectors.specs.SelectorGrammar.{after_attribute_name as after_attribute_name_of};
-ghost use Rattle.css_selectors.specs.SelectorGrammar.{attribute as attribute_of};
+//! Whether an attribute's value satisfies a condition.
+ghost use Rattle.std.specs.Prelude.{◌≡◌, ◌≤◌, true, IsTrue, drop, length};
+ghost use Rattle.std.specs.List.{list_any};
+ghost use Rattle.css_text.specs.Characters.{is_space as is_space_byte};
+ghost use Rattle.css_selectors.specs.AttributeTests.{same_byte as is_same_byte, begins as begins_by};
+ghost use Rattle.css_selectors.specs.AttributeTests.{begins_up_to, is_word_of, occurs_in, is_satisfied};
+ghost use Rattle.css_selectors.specs.AttributeTests.{is_hyphen};
+ghost use Rattle.css_selectors.specs.Views.{comparison_of};
 
-use crate::names::{past_good, past_mark, past_name, type_selector};
-use css_syntax::texts::{past_ascii, past_byte, past_gap, read_token};
-use simplecss_text::readers;
+use crate::Comparison;
+use crate::occurrences::has_occurrence;
 
-/// Whether a byte is next that an equals sign may follow in an operator.
-fn begins_sign(bytes: &[u8]) -> bool
-    ensures { result ≡ starts_by is_operator_sign bytes.now }
+/// Whether the byte is white space.
+pub(crate) fn is_space(byte: u8) -> bool
+    ensures { result ≡ is_space_byte byte }
 {
-    matches!(bytes, [b'~' | b'|' | b'^' | b'$' | b'*', ..])
+    matches!(byte, b' ' | b'\t' | b'\n' | b'\r' | b'\x0C')
 }
 
-/// Skips such a byte, if it is next.
-#[tactic(auto, using(crate::proofs::GrammarLemmas::sign_ascii))]
-fn past_sign(text: &str) -> &str
-    ensures { result.now ≡ past_sign_of text.now }
+/// Whether the bytes are the same, but for the case of ASCII letters if it is ignored.
+#[inline(always)]
+fn same_byte(ignores_case: bool, one: u8, other: u8) -> bool
+    ensures { result ≡ is_same_byte ignores_case one other }
 {
-    if begins_sign(text.as_bytes()) {
-        past_ascii(text)
+    if ignores_case {
+        one.eq_ignore_ascii_case(&other)
     } else {
-        text
+        one == other
     }
 }
 
-/// Skips an operator.
-#[tactic(auto, unfolding(crate::specs::SelectorGrammar::past_operator))]
-fn past_operator(text: &str) -> Option<&str>
-    ensures { past_operator_of text.now ≡ option_map (λ rest. rest.now) result }
+/// Whether the value begins with the text.
+fn begins(ignores_case: bool, text: &[u8], value: &[u8]) -> bool
+    ensures answer { result ≡ begins_by ignores_case text.now value.now }
+    ensures within { IsTrue result → length text.now ≤ length value.now }
 {
-    past_mark(past_sign(text), b'=')
+    let mut wanted = text;
+    let mut found = value;
+    'bytes: while let [byte, wanted_after @ ..] = wanted {
+        match found {
+            [other, found_after @ ..] if same_byte(ignores_case, *byte, *other) => {
+                found = found_after;
+            }
+            _ => return false,
+        }
+        wanted = wanted_after;
+    }
+    true
 }
 
-/// Whether a quote is next.
-fn begins_quote(bytes: &[u8]) -> bool
-    ensures { result ≡ starts_by is_quote bytes.now }
+/// Whether the value is the text, or the text and then a hyphen at its start.
+fn has_subtag(ignores_case: bool, text: &[u8], value: &[u8]) -> bool
+    ensures { result ≡ begins_up_to is_hyphen ignores_case text.now value.now }
 {
-    matches!(bytes, [b'\'' | b'"', ..])
+    begins(ignores_case, text, value) && matches!(&value[text.len()..], [] | [b'-', ..])
 }
 
-/// Skips a string or a name.
-#[tactic(auto, unfolding(crate::specs::SelectorGrammar::attribute_value))]
-fn attribute_value(text: &str) -> Option<&str>
-    ensures { attribute_value_of text.now ≡ option_map (λ rest. rest.now) result }
+/// Whether the value begins with the text and then ends or has white space.
+fn begins_word(ignores_case: bool, text: &[u8], value: &[u8]) -> bool
+    ensures { result ≡ begins_up_to is_space_byte ignores_case text.now value.now }
 {
-    if begins_quote(text.as_bytes()) {
-        past_good(read_token(text))
-    } else {
-        past_name(text)
+    if !begins(ignores_case, text, value) {
+        return false;
+    }
+    match &value[text.len()..] {
+        [] => true,
+        [byte, ..] => is_space(*byte),
     }
 }
 
-/// Whether an `i` or an `s` is next.
-fn begins_flag(bytes: &[u8]) -> bool
-    ensures { result ≡ starts_by is_flag bytes.now }
+/// Whether the text is a word of the value.
+fn is_word(ignores_case: bool, text: &[u8], value: &[u8]) -> bool
+    ensures { result ≡ is_word_of true ignores_case text.now value.now }
 {
-    matches!(bytes, [b'i' | b'I' | b's' | b'S', ..])
-}
-
-/// Skips an `i` or an `s`, if it is next.
-#[tactic(auto, using(crate::proofs::GrammarLemmas::flag_ascii))]
-fn past_flag(text: &str) -> &str
-    ensures { result.now ≡ past_flag_of text.now }
-{
-    if begins_flag(text.as_bytes()) {
-        past_ascii(text)
-    } else {
-        text
+    let mut may_begin = true;
+    let mut rest = value;
+    'bytes: while let [byte, after @ ..] = rest {
+        if may_begin && begins_word(ignores_case, text, rest) {
+            return true;
+        }
+        may_begin = is_space(*byte);
+        rest = after;
     }
+    false
 }
 
-/// Skips what follows the value: a flag, if there is one, and the closing bracket.
-fn attribute_end(text: &str) -> Option<&str>
-    ensures { attribute_end_of text.now ≡ option_map (λ rest. rest.now) result }
-{
-    past_mark(past_gap(past_flag(past_gap(text))), b']')
-}
+/// Up to this length a text is compared at each place of a value, which costs less than to prepare
+/// a search.
+const MOST_COMPARED: usize = 32;
 
-/// Skips what follows the operator.
-fn after_operator(text: &str) -> Option<&str>
-    ensures { after_operator_of text.now ≡ option_map (λ rest. rest.now) result }
+/// Whether the text occurs in the value. This takes time that grows as the value and the text.
+fn occurs(ignores_case: bool, text: &[u8], value: &[u8]) -> bool
+    ensures { result ≡ occurs_in ignores_case text.now value.now }
 {
-    match attribute_value(past_gap(text)) {
-        Some(rest) => attribute_end(rest),
-        None => None,
+    if text.len() > MOST_COMPARED {
+        return has_occurrence(ignores_case, text, value);
     }
+    let mut rest = value;
+    'bytes: while let [_, after @ ..] = rest {
+        if begins(ignores_case, text, rest) {
+            return true;
+        }
+        rest = after;
+    }
+    false
 }
 
-/// Skips what follows the name: the closing bracket, or an operator and a value before it.
-#[tactic(auto, unfolding(crate::specs::SelectorGrammar::after_attribute_name))]
-fn after_attribute_name(text: &str) -> Option<&str>
-    ensures { after_attribute_name_of text.now ≡ option_map (λ rest. rest.now) result }
+/// Whether there is white space in the text.
+fn has_space(text: &[u8]) -> bool
+    ensures { result ≡ list_any is_space_byte text.now }
 {
-    if readers::starts(text, b']') {
-        return Some(past_byte(text, b']'));
+    let mut rest = text;
+    'bytes: while let [byte, after @ ..] = rest {
+        if is_space(*byte) {
+            return true;
+        }
+        rest = after;
     }
-    match past_operator(text) {
-        Some(rest) => after_operator(rest),
-        None => None,
-    }
+    false
 }
 
-/// Skips an attribute selector, from after its opening bracket.
-#[tactic(auto, unfolding(crate::specs::SelectorGrammar::attribute))]
-pub fn attribute(text: &str) -> Option<&str>
-    ensures { attribute_of text.now ≡ option_map (λ rest. rest.now) result }
+/// Whether an attribute's value satisfies the comparison with the text.
+pub(crate) fn is_satisfied(
+    comparison: Comparison,
+    ignores_case: bool,
+    text: &str,
+    value: &str,
+) -> bool
+    ensures { result ≡ is_satisfied (comparison_of comparison) ignores_case text.now value.now }
 {
-    match type_selector(past_gap(text)) {
-        Some(rest) => after_attribute_name(past_gap(rest)),
-        None => None,
+    let (text, value) = (text.as_bytes(), value.as_bytes());
+    match comparison {
+        Comparison::Equals => { text.len() == value.len() && begins(ignores_case, text, value) }
+        Comparison::HasWord => {
+            !text.is_empty() && !has_space(text) && is_word(ignores_case, text, value)
+        }
+        Comparison::HasSubtag => has_subtag(ignores_case, text, value),
+        Comparison::Starts => !text.is_empty() && begins(ignores_case, text, value),
+        Comparison::Ends => {
+            !text.is_empty()
+                && begins(
+                    ignores_case,
+                    text,
+                    &value[value.len().saturating_sub(text.len())..],
+                )
+        }
+        Comparison::Contains => !text.is_empty() && occurs(ignores_case, text, value),
     }
 }

@@ -1,159 +1,399 @@
-//! Compound selectors, and combinators between them (Selectors 4, sections 3.1, 3.2 and 15).
-ghost use Rattle.std.specs.Prelude.{◌≡◌, option_map};
-ghost use Rattle.simplecss_text.specs.Bytes.{starts_by};
-ghost use Rattle.simplecss_text.specs.Characters.{is_space as is_space_byte};
-ghost use Rattle.simplecss_text.specs.Reading.{each};
-ghost use Rattle.css_selectors.specs.SelectorGrammar.{subclass as subclass_of};
-ghost use Rattle.css_selectors.specs.SelectorGrammar.{compound_part as compound_part_of};
-ghost use Rattle.css_selectors.specs.SelectorGrammar.{compound as compound_of, first_or};
-ghost use Rattle.css_selectors.specs.SelectorGrammar.{is_combinator};
-ghost use Rattle.css_selectors.specs.SelectorGrammar.{past_combinator_sign as past_combinator_sign_of};
-ghost use Rattle.css_selectors.specs.SelectorGrammar.{past_combinator as past_combinator_of};
-ghost use Rattle.css_selectors.specs.SelectorGrammar.{next_compound as next_compound_of};
-ghost use Rattle.css_selectors.specs.SelectorGrammar.{compounds as compounds_of};
-ghost use Rattle.css_selectors.specs.SelectorGrammar.{type_selector as type_selector_of};
+//! Reads compound selectors and lists of them.
+ghost use Rattle.std.specs.Prelude.{◌≡◌, ◌∷◌, [], map, option_map, option_to_list};
+ghost use Rattle.css_selectors.specs.Grammar.{type_selector, next_simple as next_simple_of, compound as compound_of_text};
+ghost use Rattle.css_selectors.specs.Grammar.{next_part_in as next_part_of, complex as complex_of_text};
+ghost use Rattle.css_selectors.specs.Grammar.{next_complex as next_complex_of, listed as listed_as};
+ghost use Rattle.css_selectors.specs.Grammar.{joined_compound, may_join};
+ghost use Rattle.css_selectors.specs.Grammar.{name as name_of, list_within, with_argument, pseudo_condition, begins_pseudo_class as begins_pseudo_class_of};
+ghost use Rattle.css_selectors.specs.Grammar.{next_condition as next_condition_of, conditions as conditions_of};
+ghost use Rattle.css_selectors.specs.Components.Condition.{simple};
+ghost use Rattle.css_selectors.specs.Readings.{step_after, items, found_before};
+ghost use Rattle.css_selectors.specs.Reads.{Reads, Finds};
+ghost use Rattle.css_selectors.specs.Views.{simple_of, condition_of, part_of, complex_of};
 
-use crate::attributes::attribute;
-use crate::names::{past_name, type_selector};
-use crate::pseudos::pseudo_class;
-use css_syntax::texts::{past_ascii, past_byte, past_gap, read_token};
-use simplecss_text::{readers, scan};
+use crate::Combinator;
+use crate::attribute_selectors::read_attribute;
+use crate::components::{Complex, Condition, Function, ListKind, Part, Simple};
+use crate::joins::{begins_compound, take_sign};
+use crate::pseudo_classes::{
+    function_named, is_old_element, list_kind, plain_pseudo, read_functional,
+};
+use crate::refusal::{Refusal, Why};
+use crate::texts::split_ascii;
+use crate::words::{
+    begins_name, past_comments, read_closing, read_gap, read_ident_sequence, read_name,
+};
+use css_syntax::texts::past_ascii;
+use css_text::readers;
+use std::alloc::Global;
 
-/// Skips an id, a class, an attribute selector or a pseudo-class.
-#[tactic(auto, unfolding(crate::specs::SelectorGrammar::subclass))]
-fn subclass(text: &str) -> Option<&str>
-    ensures { subclass_of text.now ≡ option_map (λ rest. rest.now) result }
+/// How many lists may be open at once.
+const DEEPEST: usize = 32;
+
+/// How many lists may be open where a combinator stands. A search within a search takes the product
+/// of their times.
+const DEEPEST_JOINED: usize = 1;
+
+/// Reads `*` or a name, if one is next.
+#[tactic(auto, unfolding(crate::specs::Grammar::type_selector))]
+fn read_type<'a>(alloc: Global, text: &'a str) -> Result<Option<(Simple<'a>, &'a str)>, Refusal<'a>>
+    ensures { Finds simple_of result (type_selector text.now) }
 {
-    if readers::starts(text, b'#') {
-        past_name(past_byte(text, b'#'))
-    } else if readers::starts(text, b'.') {
-        past_name(past_byte(text, b'.'))
-    } else if readers::starts(text, b'[') {
-        attribute(past_byte(text, b'['))
-    } else if readers::starts(text, b':') {
-        pseudo_class(past_byte(text, b':'))
-    } else {
-        None
+    if let Some((b'*', rest)) = split_ascii(text) {
+        return Ok(Some((Simple::Universal, rest)));
+    }
+    if !begins_name(text) {
+        return Ok(None);
+    }
+    let (name, rest) = read_name(alloc, text)?;
+    Ok(Some((Simple::TypeName(name), rest)))
+}
+
+/// Reads the next simple selector of a compound selector, if one is next that is no pseudo-class.
+#[tactic(auto, unfolding(crate::specs::Grammar::next_simple))]
+fn next_simple<'a>(
+    alloc: Global,
+    text: &'a str,
+) -> Result<Option<(Simple<'a>, &'a str)>, Refusal<'a>>
+    ensures { Finds simple_of result (next_simple_of text.now) }
+{
+    match split_ascii(text) {
+        Some((b'.', rest)) => {
+            let (name, rest) = read_name(alloc, past_comments(rest))?;
+            Ok(Some((Simple::Class(name), rest)))
+        }
+        Some((b'#', rest)) => {
+            let (name, rest) = read_ident_sequence(alloc, rest)?;
+            Ok(Some((Simple::Id(name), rest)))
+        }
+        Some((b'[', rest)) => Ok(Some(read_attribute(alloc, rest)?)),
+        _ => Ok(None),
     }
 }
 
-/// Skips one of these, or a comment.
-#[tactic(auto, unfolding(crate::specs::SelectorGrammar::compound_part))]
-fn compound_part(text: &str) -> Option<&str>
-    ensures { compound_part_of text.now ≡ option_map (λ rest. (tt, rest.now)) result }
+/// Returns the condition of this kind with the list.
+fn listed<'a>(kind: ListKind, selectors: Vec<Complex<'a>>) -> Condition<'a>
+    ensures { condition_of result ≡ listed_as kind (map complex_of selectors.entry.items) }
 {
-    if scan::opens_comment(text) {
-        Some(read_token(text).rest)
-    } else {
-        subclass(text)
+    match kind {
+        ListKind::Not => Condition::Not(selectors),
+        ListKind::Is => Condition::Is(selectors),
+        ListKind::Where => Condition::Where(selectors),
     }
 }
 
-/// Skips these, as many as there are.
-fn past_compound_parts(text: &str) -> &str
-    ensures { result.now ≡ (each compound_part_of text.now).1 }
+/// Whether one colon is next, and not two.
+fn begins_pseudo_class(text: &str) -> bool
+    ensures { result ≡ begins_pseudo_class_of text.now }
 {
+    match split_ascii(text) {
+        Some((b':', rest)) => !readers::starts(past_comments(rest), b':'),
+        _ => false,
+    }
+}
+
+/// Reads a compound selector in a list, in which lists may nest `depth` deep.
+#[cycle(lists)]
+#[tactic(auto, unfolding(crate::specs::Grammar::compound))]
+fn read_compound<'a>(
+    alloc: Global,
+    depth: usize,
+    text: &'a str,
+) -> Result<(Vec<Condition<'a>>, &'a str), Refusal<'a>>
+    ensures { Reads (λ v. map condition_of v.items) result
+        (compound_of_text (next_condition_of depth) text.now) }
+{
+    let (conditions, rest) = match read_type(alloc, text)? {
+        Some((simple, rest)) => read_more(alloc, depth, Some(simple), rest)?,
+        None => read_more(alloc, depth, None, text)?,
+    };
+    if conditions.is_empty() {
+        return Err(Refusal::new(Why::NoSelector, text));
+    }
+    Ok((conditions, rest))
+}
+
+/// Reads a compound selector after a combinator in a list.
+#[cycle(lists)]
+#[tactic(auto, unfolding(crate::specs::Grammar::joined_compound))]
+fn read_joined<'a>(
+    alloc: Global,
+    depth: usize,
+    text: &'a str,
+) -> Result<(Vec<Condition<'a>>, &'a str), Refusal<'a>>
+    ensures { Reads (λ v. map condition_of v.items) result
+        (joined_compound (may_join depth) (next_condition_of depth) text.now) }
+{
+    if depth < DEEPEST - DEEPEST_JOINED {
+        return Err(Refusal::new(Why::TooDeep, text));
+    }
+    read_compound(alloc, depth, text)
+}
+
+/// Reads a combinator and the compound selector after it, if there is one.
+#[cycle(lists)]
+#[tactic(auto, unfolding(crate::specs::Grammar::next_part_in))]
+fn next_part<'a>(
+    alloc: Global,
+    depth: usize,
+    text: &'a str,
+) -> Result<Option<(Part<'a>, &'a str)>, Refusal<'a>>
+    ensures { Finds part_of result (next_part_of (may_join depth) (next_condition_of depth) text.now) }
+{
+    let (spaced, rest) = read_gap(text);
+    if let Some((combinator, rest)) = take_sign(rest) {
+        let (_, rest) = read_gap(rest);
+        let (conditions, rest) = read_joined(alloc, depth, rest)?;
+        let part = Part {
+            combinator,
+            conditions,
+        };
+        return Ok(Some((part, rest)));
+    }
+    if !(spaced && begins_compound(rest)) {
+        return Ok(None);
+    }
+    let (conditions, rest) = read_joined(alloc, depth, rest)?;
+    let part = Part {
+        combinator: Combinator::Descendant,
+        conditions,
+    };
+    Ok(Some((part, rest)))
+}
+
+/// Reads the compound selectors after the first.
+#[cycle(lists)]
+fn read_parts<'a>(
+    alloc: Global,
+    depth: usize,
+    first: Part<'a>,
+    text: &'a str,
+) -> Result<(Vec<Part<'a>>, &'a str), Refusal<'a>>
+    ensures { Reads (λ v. map part_of v.items) result
+        (found_before (part_of first.entry ∷ [])
+        (items (next_part_of (may_join depth) (next_condition_of depth)) text.now)) }
+{
+    let mut parts = Vec::new(alloc);
+    parts.push(first)?;
     let mut rest = text;
-    'parts: while let Some(after) = compound_part(rest) {
-        rest = after;
+    let mut left = text.len();
+    'parts: while left > 0 {
+        match next_part(alloc, depth, rest)? {
+            Some((part, after)) => {
+                parts.push(part)?;
+                rest = after;
+            }
+            None => return Ok((parts, rest)),
+        }
+        left -= 1;
     }
-    rest
+    Ok((parts, rest))
 }
 
-/// Skips what a compound selector begins with.
-fn first_of_compound(text: &str) -> Option<&str>
-    ensures { first_or (type_selector_of text.now) text.now ≡ option_map (λ rest. rest.now) result }
+/// Reads a complex selector in a list.
+#[cycle(lists)]
+#[tactic(auto, unfolding(crate::specs::Grammar::complex))]
+fn read_complex<'a>(
+    alloc: Global,
+    depth: usize,
+    text: &'a str,
+) -> Result<(Complex<'a>, &'a str), Refusal<'a>>
+    ensures { Reads complex_of result (complex_of_text (may_join depth) (next_condition_of depth) text.now) }
 {
-    match type_selector(text) {
-        Some(rest) => Some(rest),
-        None => subclass(text),
-    }
+    let (conditions, rest) = read_compound(alloc, depth, text)?;
+    let first = Part {
+        combinator: Combinator::Descendant,
+        conditions,
+    };
+    let (parts, rest) = read_parts(alloc, depth, first, rest)?;
+    Ok((Complex { parts }, rest))
 }
 
-/// Skips a compound selector.
-#[tactic(auto, unfolding(crate::specs::SelectorGrammar::compound))]
-fn compound(text: &str) -> Option<&str>
-    ensures { compound_of text.now ≡ option_map (λ rest. rest.now) result }
+/// Reads a comma and a further complex selector, if there is a comma.
+#[cycle(lists)]
+#[tactic(auto, unfolding(crate::specs::Grammar::next_complex))]
+fn next_complex<'a>(
+    alloc: Global,
+    depth: usize,
+    text: &'a str,
+) -> Result<Option<(Complex<'a>, &'a str)>, Refusal<'a>>
+    ensures { Finds complex_of result (next_complex_of (may_join depth) (next_condition_of depth) text.now) }
 {
-    match first_of_compound(text) {
-        Some(rest) => Some(past_compound_parts(rest)),
-        None => None,
-    }
+    let (_, rest) = read_gap(text);
+    let Some((b',', rest)) = split_ascii(rest) else {
+        return Ok(None);
+    };
+    let (_, rest) = read_gap(rest);
+    Ok(Some(read_complex(alloc, depth, rest)?))
 }
 
-/// Whether a combinator is next.
-fn begins_combinator(bytes: &[u8]) -> bool
-    ensures { result ≡ starts_by is_combinator bytes.now }
+/// Reads further complex selectors of a list.
+#[cycle(lists)]
+fn read_selectors<'a>(
+    alloc: Global,
+    depth: usize,
+    first: Complex<'a>,
+    text: &'a str,
+) -> Result<(Vec<Complex<'a>>, &'a str), Refusal<'a>>
+    ensures { Reads (λ v. map complex_of v.items) result
+        (found_before (complex_of first.entry ∷ [])
+        (items (next_complex_of (may_join depth) (next_condition_of depth)) text.now)) }
 {
-    matches!(bytes, [b'>' | b'+' | b'~', ..])
-}
-
-/// Skips a combinator, if it is next.
-#[tactic(auto, using(crate::proofs::GrammarLemmas::combinator_ascii))]
-fn past_combinator_sign(text: &str) -> &str
-    ensures { result.now ≡ past_combinator_sign_of text.now }
-{
-    if begins_combinator(text.as_bytes()) {
-        past_ascii(text)
-    } else {
-        text
-    }
-}
-
-/// Whether a space byte is next.
-fn begins_space(bytes: &[u8]) -> bool
-    ensures { result ≡ starts_by is_space_byte bytes.now }
-{
-    match bytes {
-        [] => false,
-        [byte, ..] => scan::is_space(*byte),
-    }
-}
-
-/// Skips a combinator with the blanks round it, or a blank that begins with a space byte.
-#[tactic(auto, unfolding(crate::specs::SelectorGrammar::past_combinator))]
-pub fn past_combinator(text: &str) -> Option<&str>
-    ensures { past_combinator_of text.now ≡ option_map (λ rest. rest.now) result }
-{
-    let start = past_gap(text);
-    if begins_combinator(start.as_bytes()) {
-        Some(past_gap(past_combinator_sign(start)))
-    } else if begins_space(text.as_bytes()) {
-        Some(start)
-    } else {
-        None
-    }
-}
-
-/// Skips a combinator and a compound selector.
-#[tactic(auto, unfolding(crate::specs::SelectorGrammar::next_compound))]
-fn next_compound(text: &str) -> Option<&str>
-    ensures { next_compound_of text.now ≡ option_map (λ rest. (tt, rest.now)) result }
-{
-    match past_combinator(text) {
-        Some(rest) => compound(rest),
-        None => None,
-    }
-}
-
-/// Skips these, as many as there are.
-fn past_compounds(text: &str) -> &str
-    ensures { result.now ≡ (each next_compound_of text.now).1 }
-{
+    let mut selectors = Vec::new(alloc);
+    selectors.push(first)?;
     let mut rest = text;
-    'parts: while let Some(after) = next_compound(rest) {
-        rest = after;
+    let mut left = text.len();
+    'selectors: while left > 0 {
+        match next_complex(alloc, depth, rest)? {
+            Some((selector, after)) => {
+                selectors.push(selector)?;
+                rest = after;
+            }
+            None => return Ok((selectors, rest)),
+        }
+        left -= 1;
     }
-    rest
+    Ok((selectors, rest))
 }
 
-/// Skips compound selectors with combinators between them, as many as there are.
-#[tactic(auto, unfolding(crate::specs::SelectorGrammar::compounds))]
-pub fn compounds(text: &str) -> Option<&str>
-    ensures { compounds_of text.now ≡ option_map (λ rest. rest.now) result }
+/// Reads the list of a pseudo-class, from after its parenthesis. Lists may nest `depth` deep, itself
+/// included. `opened` is the text from its colon on.
+#[cycle(lists)]
+#[tactic(auto, unfolding(crate::specs::Grammar::complex_list))]
+fn read_list<'a>(
+    alloc: Global,
+    depth: usize,
+    opened: &'a str,
+    text: &'a str,
+) -> Result<(Vec<Complex<'a>>, &'a str), Refusal<'a>>
+    ensures { Reads (λ v. map complex_of v.items) result
+        (list_within depth opened.now text.now) }
 {
-    match compound(text) {
-        Some(rest) => Some(past_compounds(rest)),
-        None => None,
+    let Some(inner) = depth.checked_sub(1) else {
+        return Err(Refusal::new(Why::TooDeep, opened));
+    };
+    let (_, rest) = read_gap(text);
+    let (first, rest) = read_complex(alloc, inner, rest)?;
+    let (selectors, rest) = read_selectors(alloc, inner, first, rest)?;
+    let (_, rest) = read_gap(rest);
+    let (_, rest) = read_closing(b')', rest)?;
+    Ok((selectors, rest))
+}
+
+/// Reads the argument of a functional pseudo-class. `opened` is the text from its colon on.
+#[cycle(lists)]
+fn read_argument<'a>(
+    alloc: Global,
+    depth: usize,
+    opened: &'a str,
+    kind: Option<ListKind>,
+    function: Option<Function>,
+    text: &'a str,
+) -> Result<(Condition<'a>, &'a str), Refusal<'a>>
+    ensures { Reads condition_of result
+        (with_argument (list_within depth) opened.now kind function text.now) }
+{
+    match kind {
+        Some(kind) => {
+            let (selectors, rest) = read_list(alloc, depth, opened, text)?;
+            Ok((listed(kind, selectors), rest))
+        }
+        None => {
+            let (simple, rest) = read_functional(alloc, opened, function, text)?;
+            Ok((Condition::Simple(simple), rest))
+        }
     }
+}
+
+/// Reads a pseudo-class, from its name on, unless it is a pseudo-element. `opened` is the text
+/// from the colon on.
+#[cycle(lists)]
+fn read_pseudo_condition<'a>(
+    alloc: Global,
+    depth: usize,
+    opened: &'a str,
+    text: &'a str,
+) -> Result<Option<(Condition<'a>, &'a str)>, Refusal<'a>>
+    ensures { Finds condition_of result
+        (step_after (name_of text.now) (pseudo_condition (list_within depth) opened.now)) }
+{
+    let (name, rest) = read_name(alloc, text)?;
+    if let Some((b'(', after)) = split_ascii(rest) {
+        let (kind, function) = (list_kind(name.as_str()), function_named(name.as_str()));
+        return Ok(Some(read_argument(alloc, depth, opened, kind, function, after)?));
+    }
+    if is_old_element(name.as_str()) {
+        return Ok(None);
+    }
+    Ok(Some((Condition::Simple(plain_pseudo(name)), rest)))
+}
+
+/// Reads the next condition of a compound selector, if there is one, in which lists may nest `depth`
+/// deep.
+#[cycle(lists)]
+fn next_condition<'a>(
+    alloc: Global,
+    depth: usize,
+    text: &'a str,
+) -> Result<Option<(Condition<'a>, &'a str)>, Refusal<'a>>
+    ensures { Finds condition_of result (next_condition_of depth text.now) }
+{
+    let text = past_comments(text);
+    if begins_pseudo_class(text) {
+        return read_pseudo_condition(alloc, depth, text, past_comments(past_ascii(text)));
+    }
+    match next_simple(alloc, text)? {
+        Some((simple, rest)) => Ok(Some((Condition::Simple(simple), rest))),
+        None => Ok(None),
+    }
+}
+
+/// Reads conditions after those that were found.
+#[cycle(lists)]
+fn read_more<'a>(
+    alloc: Global,
+    depth: usize,
+    first: Option<Simple<'a>>,
+    text: &'a str,
+) -> Result<(Vec<Condition<'a>>, &'a str), Refusal<'a>>
+    ensures { Reads (λ v. map condition_of v.items) result
+        (found_before (map (λ s. simple (simple_of s)) (option_to_list first.entry))
+        (items (next_condition_of depth) text.now)) }
+{
+    let mut conditions = Vec::new(alloc);
+    if let Some(simple) = first {
+        conditions.push(Condition::Simple(simple))?;
+    }
+    let mut rest = text;
+    let mut left = text.len();
+    'conditions: while left > 0 {
+        match next_condition(alloc, depth, rest)? {
+            Some((condition, after)) => {
+                conditions.push(condition)?;
+                rest = after;
+            }
+            None => return Ok((conditions, rest)),
+        }
+        left -= 1;
+    }
+    Ok((conditions, rest))
+}
+
+/// Reads a compound selector, which may be empty before a pseudo-element: a colon that begins no
+/// condition.
+#[tactic(auto, unfolding(crate::specs::Grammar::conditions))]
+pub(crate) fn read_conditions<'a>(
+    alloc: Global,
+    text: &'a str,
+) -> Result<(Vec<Condition<'a>>, &'a str), Refusal<'a>>
+    ensures { Reads (λ v. map condition_of v.items) result (conditions_of text.now) }
+{
+    let (conditions, rest) = match read_type(alloc, text)? {
+        Some((simple, rest)) => read_more(alloc, DEEPEST, Some(simple), rest)?,
+        None => read_more(alloc, DEEPEST, None, text)?,
+    };
+    if conditions.is_empty() && !readers::starts(text, b':') {
+        return Err(Refusal::new(Why::NoSelector, text));
+    }
+    Ok((conditions, rest))
 }

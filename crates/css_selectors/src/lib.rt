@@ -1,17 +1,57 @@
-//! The grammar of selectors (Selectors Level 4, section 18, and Level 3, section 10): whether a
-//! text is a selector, and whether a pseudo-element is at its end. What a selector means is not
-//! considered.
+//! Modern selectors (Selectors Level 4) and what they mean on elements: all of Level 3, the flags `i`
+//! and `s`, `:is()`, `:where()` and `:not()` with lists of complex selectors, and `:lang()` with lists
+//! of ranges.
+//!
+//! `Selector::parse` and `parse_list` read a text as `specs/Grammar` says, or report why and where it
+//! is refused. Names, keywords and strings are what their escapes spell, comments may be between any two
+//! tokens, and the end of the text closes what is open. At the end of a selector `before`,
+//! `after`, `first-line` and `first-letter` are pseudo-elements after one colon, too (Selectors 3,
+//! section 7). A selector can also be made of its components. It prints as CSSOM serializes it, a
+//! pseudo-element with two colons, and one that was read reads back from that text.
+//!
+//! A selector has a specificity, and `matches` is true exactly if there is a placement: an element for
+//! each compound selector, related as the combinators say. An element is any type with the trait
+//! `Element`.
+//!
+//! Lists may be 32 deep within one another, and a combinator may stand within two of them. Namespaces
+//! are not read.
 #![tactic(auto)]
 
+mod ancestor_keys;
+mod attribute_selectors;
 mod attributes;
+mod components;
 mod compounds;
-mod form;
-mod list;
-mod names;
-mod pseudos;
+mod element;
+mod joins;
+mod key;
+mod key_laws;
+mod languages;
+mod matching;
+mod matching_laws;
+mod meeting;
+mod numbers;
+mod occurrences;
+mod printing;
+mod printing_laws;
+mod progression;
+mod pseudo_classes;
+mod read;
+mod reading;
+mod refusal;
+mod refusal_words;
+mod selector;
+mod specificity;
+mod spelling;
+mod texts;
+mod words;
 
-pub use form::{ElementForm, SelectorForm, read_selector};
-pub use list::{
-    FoundSelector, ListedSelector, Selectors, is_valid, is_valid_list, next_part, prelude_fault,
-    read_part,
+pub use components::{
+    AttributeTest, Comparison, Complex, Condition, Part, Progression, Signed, Simple, Structure,
 };
+pub use css_matching::{Combinator, Tests};
+pub use element::Element;
+pub use key::Key;
+pub use refusal::{Refusal, Why};
+pub use selector::Selector;
+pub use specificity::Specificity;

@@ -1,7 +1,7 @@
 -- Where the next statement is, and how long its block is.
 -- Serves `SheetReader::step` (what it asks of `find`, and that no offset is outside the sheet).
 use Rattle.std.proofs.Common.{◌≡◌, ℕ, ◌≤◌, ◌<◌, ◌+◌, ◌^◌, Bool, true, false, List, length, Option, Some, None, arith, refl, ap, sym, ◌∙◌, subst, if◌then◌else◌}
-use Rattle.simplecss_text.proofs.reading.EachLemmas.{took}
+use Rattle.css_text.proofs.reading.EachLemmas.{took}
 use Rattle.css_syntax.specs.Statements.{BlockText, AtRuleText, StatementText, rule_set, at_rule_statement, skipped_statement, SheetText, statement, past_between, ends_block, statement_from, next_statement, with_text}
 use Rattle.css_syntax.specs.Contents.{statement_contents}
 use Rattle.css_syntax.proofs.ItemLemmas.{next_statement-takes}

@@ -8,11 +8,11 @@ use Rattle.std.proofs.lemmas.Cmp.{nat_list_cmp_total}
 use Rattle.std.proofs.lemmas.List.{append_assoc}
 use Rattle.std.proofs.lemmas.List.Sorted.{ranks_by}
 use Rattle.std.proofs.lemmas.List.Sums.{sum_by-append}
-use Rattle.simplecss_text.specs.Ranks.{ordered_by}
-use Rattle.simplecss_text.proofs.order.RankLemmas.{ordered_is, arranges_from_sort, arranges-map}
+use Rattle.css_text.specs.Ranks.{ordered_by}
+use Rattle.css_text.proofs.order.RankLemmas.{ordered_is, arranges_from_sort, arranges-map}
 use Rattle.css_sheet.specs.declared.gathering.Gathered.{Gathered}
-use Rattle.css_sheet.specs.declared.sheet_error.SheetError.{SheetError}
-use Rattle.css_sheet.specs.declared.sheet_error.SheetError.TheVariants.{TooManyDeclarations}
+use Rattle.css_text.specs.declared.sheet_error.SheetError.{SheetError}
+use Rattle.css_text.specs.declared.sheet_error.SheetError.TheVariants.{TooManyDeclarations}
 use Rattle.css_sheet.specs.declared.sheet_rules.SheetRule.{SheetRule}
 use Rattle.css_sheet.specs.SheetItems.{SheetItemText}
 use Rattle.css_sheet.specs.SheetOrder.{SheetRuleText, declaration_count, declarations_in, rule_counts, weight, is_less_specific, all_hold, statement_rules, rules_of_items}

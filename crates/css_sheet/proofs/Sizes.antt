@@ -1,12 +1,11 @@
 -- How long a group rule's block is, and what is left after it.
 -- Serves `SheetReader::step` (its measure).
 use Rattle.std.proofs.Common.{◌≡◌, ℕ, zero, suc, ◌+◌, ◌<◌, ◌≤◌, ◌-◌, Bool, true, false, List, [], ◌∷◌, length, map, Option, Some, None, arith, refl, subst, if◌then◌else◌, length-take-le}
-use Rattle.simplecss_text.specs.AsciiBytes.{open_brace, close_brace, at_sign}
-use Rattle.simplecss_text.specs.Reading.{before, each, up_to, and_then}
-use Rattle.simplecss_text.specs.Bytes.{past_byte, starts}
-use Rattle.simplecss_text.specs.Declarations.{last_or}
-use Rattle.simplecss_text.proofs.reading.TakesLemmas.{length-past_byte}
-use Rattle.simplecss_text.proofs.reading.EndsLemmas.{length-ends}
+use Rattle.css_text.specs.AsciiBytes.{open_brace, close_brace, at_sign}
+use Rattle.css_text.specs.Reading.{before, each, up_to, and_then, last_or}
+use Rattle.css_text.specs.Bytes.{past_byte, starts}
+use Rattle.css_text.proofs.reading.TakesLemmas.{length-past_byte}
+use Rattle.css_text.proofs.reading.EndsLemmas.{length-ends}
 use Rattle.css_syntax.specs.declared.quality.Quality.{Quality}
 use Rattle.css_syntax.specs.declared.parts.Stops.{Stops}
 use Rattle.css_syntax.specs.Tokens.{past_gap, past_word}

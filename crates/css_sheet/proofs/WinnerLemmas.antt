@@ -5,7 +5,7 @@ use Rattle.std.specs.Prelude.{option_to_list, filter}
 use Rattle.std.specs.List.{last_or}
 use Rattle.css_syntax.specs.DeclarationLists.{DeclarationText}
 use Rattle.css_sheet.specs.SheetWinners.{winner}
-use Rattle.css_sheet.specs.WinnerSteps.{better, winner_from}
+use Rattle.css_sheet.specs.internal.WinnerSteps.{better, winner_from}
 
 abbrev pub combined : Option DeclarationText → Option DeclarationText → Option DeclarationText
 combined best None = best

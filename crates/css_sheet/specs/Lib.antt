@@ -5,7 +5,6 @@ pub mod ReaderViews
 pub mod RuleSelectors
 pub mod RuleViews
 pub mod SheetOrder
-pub mod SheetMessages
 pub mod SheetRuleViews
 pub mod SheetWinners
-pub mod WinnerSteps
+pub mod internal

@@ -14,6 +14,10 @@ pub record PlacesText : Type 0 where
   pub block : ℕ
   pub block_end : ℕ
 
+-- what is told before the first item
+abbrev pub no_places : PlacesText
+no_places = record { start = 0; prelude = 0; block = 0; block_end = 0 }
+
 -- what contracts see of places
 abbrev pub places_of : Places → PlacesText
 places_of p = record {

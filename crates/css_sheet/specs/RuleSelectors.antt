@@ -1,15 +1,15 @@
--- The selectors of a rule set, each read as one of level 3 where it is one.
+-- The selectors of a rule set, each as it is read, where it is supported.
 use Rattle.std.specs.Prelude.{ℕ, List, [], ◌∷◌, map, codes, Option, Some, None, Result, Ok, Err}
 use Rattle.css_syntax.specs.declared.quality.Fault.{Fault}
 use Rattle.css_syntax.specs.Parts.{Stated}
-use Rattle.css_selectors.specs.SelectorGrammar.{SelectorText, plain, with_element, other_valid, invalid}
-use Rattle.css_selectors.specs.SelectorLists.{ListedText, selectors, prelude_fault}
-use Rattle.selectors3.specs.Components.{Selector}
-use Rattle.selectors3.specs.Readings.{Reading, got, refused}
-use Rattle.selectors3.specs.Grammar.{selector as selector_grammar}
+use Rattle.css_syntax.specs.SelectorGrammar.{SelectorText, plain, with_element, other_valid, invalid}
+use Rattle.css_syntax.specs.SelectorLists.{ListedText, selectors, prelude_fault}
+use Rattle.css_selectors.specs.Components.{Selector}
+use Rattle.css_selectors.specs.Readings.{Reading, got, refused}
+use Rattle.css_selectors.specs.Grammar.{selector as selector_grammar}
 
--- A selector of a rule set: its text; the selector without its pseudo-element, if it is one of level
--- 3; and the name of the pseudo-element at its end, if it has one.
+-- A selector of a rule set: its text; the selector without its pseudo-element, if it is supported;
+-- and the name of the pseudo-element at its end, if it has one.
 pub record SelectorRead : Type 0 where
   pub text : List ℕ
   pub selector : Option Selector
@@ -20,7 +20,7 @@ abbrev pub if_read : Reading Selector → Option Selector
 if_read (got s rest) = Some s
 if_read (refused reason rest) = None
 
--- the selector that the text is by the grammar of level 3, if it is one
+-- the selector that the text is by the grammar of modern selectors, if it is one
 abbrev pub selector_of : List ℕ → Option Selector
 selector_of text = if_read (selector_grammar text)
 
@@ -29,7 +29,7 @@ abbrev pub or_any : List ℕ → List ℕ
 or_any [] = codes "*"
 or_any (b ∷ text) = b ∷ text
 
--- A selector with a pseudo-element elsewhere than at its end is valid, and none of level 3.
+-- A selector with a pseudo-element elsewhere than at its end is valid and unsupported.
 abbrev pub read_by_form : List ℕ → SelectorText → SelectorRead
 read_by_form text plain =
     record { text = text; selector = selector_of text; pseudo_element = None }

@@ -1,7 +1,7 @@
 -- The rule sets of a sheet, and of the blocks of its conditional group rules (CSS Conditional Rules
 -- 3, section 2), in source order, each with the group rules that it is in.
 use Rattle.std.specs.Prelude.{ℕ, zero, suc, ◌+◌, ◌-◌, length, Bool, true, false, ◌||◌, if◌then◌else◌, List, [], ◌∷◌, ◌++◌, codes, Option, Some, None}
-use Rattle.std.specs.Str.{str_eq_ignore_ascii_case}
+use Rattle.css_syntax.specs.Tokens.{spells}
 use Rattle.css_syntax.specs.Statements.{BlockText, AtRuleText, StatementText, rule_set, at_rule_statement, skipped_statement, SheetText}
 use Rattle.css_syntax.specs.Placed.{PlacedStatement, placed_statements}
 use Rattle.css_sheet.specs.Places.{PlacesText, places_in}
@@ -23,12 +23,9 @@ pub record SheetItemText : Type 0 where
 -- the at-rules whose blocks have statements, whatever their names mean
 abbrev pub is_group_name : List ℕ → Bool
 is_group_name name =
-    str_eq_ignore_ascii_case name (codes "media")
-    || str_eq_ignore_ascii_case name (codes "supports")
-    || str_eq_ignore_ascii_case name (codes "layer")
-    || str_eq_ignore_ascii_case name (codes "container")
-    || str_eq_ignore_ascii_case name (codes "document")
-    || str_eq_ignore_ascii_case name (codes "-moz-document")
+    spells (codes "media") name || spells (codes "supports") name || spells (codes "layer") name
+    || spells (codes "container") name || spells (codes "document") name
+    || spells (codes "-moz-document") name
 
 -- A group rule: its name, its prelude and the text of its block.
 pub record GroupText : Type 0 where

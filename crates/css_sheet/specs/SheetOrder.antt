@@ -6,13 +6,13 @@ use Rattle.std.specs.List.{sum_by, filter_map, flat_map}
 use Rattle.std.specs.Option.{option_map}
 use Rattle.std.specs.Ordering.{is_lt, nat_cmp}
 use Rattle.std.specs.Cmp.Lexicographic.{slice_cmp}
-use Rattle.simplecss_text.specs.Ranks.{ordered_by}
+use Rattle.css_text.specs.Ranks.{ordered_by}
 use Rattle.css_syntax.specs.declared.quality.Fault.{Fault}
 use Rattle.css_syntax.specs.Parts.{Stated}
 use Rattle.css_syntax.specs.Statements.{StatementText, rule_set, at_rule_statement, skipped_statement}
 use Rattle.css_syntax.specs.DeclarationLists.{ListText, ItemText, declared, at_rule_item, skipped_item, items}
-use Rattle.selectors3.specs.Components.{Selector}
-use Rattle.selectors3.specs.Specificities.{Counts, specificity, sum_up_to}
+use Rattle.css_selectors.specs.Components.{Selector}
+use Rattle.css_selectors.specs.Specificities.{Counts, specificity, sum_up_to}
 use Rattle.css_sheet.specs.RuleSelectors.{SelectorRead, selectors_read}
 use Rattle.css_sheet.specs.SheetItems.{ConditionText, SheetItemText, sheet_items}
 
@@ -53,9 +53,9 @@ is_declared (skipped_item fault) = false
 
 -- how many declarations the contents of a block have
 unfoldable pub declaration_count : List ℕ → ℕ
-declaration_count block = count_by (λ (part : ListText). is_declared part.item) (items false block)
+declaration_count block = count_by (λ (part : ListText). is_declared part.item) (items true block)
 
--- the rule of a selector, if it is one of level 3
+-- the rule of a selector, if it is supported
 abbrev pub rule_with : List ℕ → SelectorRead → Option SheetRuleText
 rule_with block read =
     option_map (λ selector. record {

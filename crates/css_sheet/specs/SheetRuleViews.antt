@@ -2,8 +2,8 @@
 use Rattle.std.specs.Prelude.{◌≡◌, ℕ, ◌+◌, ◌<◌, ◌++◌, Bool, true, List, [], map, Result, Ok, Err}
 use Rattle.std.specs.Option.{option_map}
 use Rattle.std.specs.Borrow.{Bor}
-use Rattle.css_sheet.specs.declared.sheet_error.SheetError.{SheetError}
-use Rattle.css_sheet.specs.declared.sheet_error.SheetError.TheVariants.{TooManyDeclarations}
+use Rattle.css_text.specs.declared.sheet_error.SheetError.{SheetError}
+use Rattle.css_text.specs.declared.sheet_error.SheetError.TheVariants.{TooManyDeclarations}
 use Rattle.css_sheet.specs.declared.sheet_rules.SheetRule.{SheetRule}
 use Rattle.css_sheet.specs.declared.gathering.Gathered.{Gathered}
 use Rattle.css_sheet.specs.declared.reader.Step.{Step}

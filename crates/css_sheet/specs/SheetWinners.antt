@@ -1,14 +1,14 @@
 -- Which declaration of a property wins on an element (CSS Cascading 4, section 6), of rules in the
 -- order of the cascade.
-use Rattle.std.specs.Prelude.{◌↔◌, ℕ, Bool, false, not, ◌&&◌, if◌then◌else◌, nat_eq, List, [], filter, Option, None, Some, IsTrue}
+use Rattle.std.specs.Prelude.{◌↔◌, ℕ, Bool, true, not, ◌&&◌, if◌then◌else◌, nat_eq, List, [], filter, Option, None, Some, IsTrue}
 use Rattle.std.specs.List.{filter_map, flat_map, last_or}
 use Rattle.std.specs.Option.{is_some}
 use Rattle.std.specs.Cmp.Lexicographic.{pointwise}
 use Rattle.std.specs.Str.{str_eq_ignore_ascii_case}
-use Rattle.simplecss_text.specs.AsciiBytes.{hyphen}
-use Rattle.simplecss_text.specs.Bytes.{starts_two}
+use Rattle.css_text.specs.AsciiBytes.{hyphen}
+use Rattle.css_text.specs.Bytes.{starts_two}
 use Rattle.css_syntax.specs.DeclarationLists.{DeclarationText, ListText, ItemText, declared, at_rule_item, skipped_item, items}
-use Rattle.selectors3.specs.Components.{Selector}
+use Rattle.css_selectors.specs.Components.{Selector}
 use Rattle.css_sheet.specs.SheetOrder.{SheetRuleText}
 
 -- The name is that of the property: of a custom property as it is, of another in any case of its
@@ -32,7 +32,7 @@ stated_in property parts = filter_map (λ (part : ListText). stated_by property 
 abbrev pub rule_states : (Selector → Bool) → List ℕ → SheetRuleText → List DeclarationText
 rule_states matches property rule =
     if not (is_some rule.pseudo_element) && matches rule.selector
-    then stated_in property (items false rule.block) else []
+    then stated_in property (items true rule.block) else []
 
 -- the same of all rules
 abbrev pub all_states : (Selector → Bool) → List ℕ → List SheetRuleText → List DeclarationText

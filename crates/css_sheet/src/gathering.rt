@@ -7,9 +7,9 @@ ghost use Rattle.css_sheet.specs.SheetOrder.{rule_set_rules, statement_rules};
 ghost use Rattle.css_sheet.specs.SheetRuleViews.{Gathers};
 
 use crate::selectors::{RuleSelector, read_selectors};
-use crate::sheet_error::SheetError;
 use crate::sheet_rules::SheetRule;
 use css_syntax::{Declarations, Item, RuleSet, Statement};
+use css_text::SheetError;
 use std::alloc::Global;
 
 /// Rules, as they stand in a sheet.
@@ -33,7 +33,7 @@ fn is_declaration(item: &Item<'_>) -> bool
 fn count_declarations(block: &str) -> usize
     ensures { result ≡ declaration_count block.now }
 {
-    let mut declarations = Declarations::new(block);
+    let mut declarations = Declarations::of_block(block);
     let mut count = 0;
     'items: while let Some(part) = declarations.next() {
         if is_declaration(&part.item) {
@@ -44,7 +44,7 @@ fn count_declarations(block: &str) -> usize
 }
 
 impl<'a> Gathered<'a> {
-    /// Appends the rule of a selector, if it is one of level 3. Its block has `count` declarations.
+    /// Appends the rule of a selector, if it is supported. Its block has `count` declarations.
     fn push_rule(
         &mut self,
         one: RuleSelector<'a>,

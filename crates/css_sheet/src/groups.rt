@@ -5,6 +5,7 @@ ghost use Rattle.css_sheet.specs.SheetItems.{is_group_name as is_group_name_of, 
 ghost use Rattle.css_sheet.specs.SheetItems.{group_of as group_of_statement};
 ghost use Rattle.css_sheet.specs.GroupViews.{group_text};
 
+use css_syntax::texts::spells;
 use css_syntax::{AtRule, Statement};
 
 /// A group rule, with the text of its block.
@@ -22,12 +23,12 @@ pub struct Group<'a> {
 fn is_group_name(name: &str) -> bool
     ensures { result ≡ is_group_name_of name.now }
 {
-    name.eq_ignore_ascii_case("media")
-        || name.eq_ignore_ascii_case("supports")
-        || name.eq_ignore_ascii_case("layer")
-        || name.eq_ignore_ascii_case("container")
-        || name.eq_ignore_ascii_case("document")
-        || name.eq_ignore_ascii_case("-moz-document")
+    spells("media", name)
+        || spells("supports", name)
+        || spells("layer", name)
+        || spells("container", name)
+        || spells("document", name)
+        || spells("-moz-document", name)
 }
 
 /// The group rule that an at-rule is, if it is one with a block.

@@ -1,4 +1,4 @@
-//! Reads today's style sheets statement by statement, over `css_syntax`: the rule sets of a sheet
+//! Reads modern style sheets statement by statement, over `css_syntax`: the rule sets of a sheet
 //! and of the blocks of its group rules such as `@media`, in source order, each with the group
 //! rules that it is in. Whether the condition of a group rule holds is for the caller to decide.
 //!
@@ -10,14 +10,13 @@ mod gathering;
 mod groups;
 mod reader;
 mod selectors;
-mod sheet_error;
 mod sheet_order;
 mod sheet_rules;
 mod state;
 mod winners;
 
+pub use css_text::SheetError;
 pub use selectors::{RuleSelector, read_listed, read_selectors};
-pub use sheet_error::SheetError;
 pub use sheet_order::read_sheet;
 pub use sheet_rules::SheetRule;
 pub use state::{Level, Places, SheetReader};

@@ -6,7 +6,7 @@ ghost use Rattle.css_sheet.specs.ReaderViews.{conditions_of, condition_at, Gives
 ghost use Rattle.css_sheet.specs.ReaderViews.{end_of, places_now, Shrinks};
 ghost use Rattle.css_sheet.specs.SheetOrder.{all_hold};
 ghost use Rattle.css_sheet.specs.SheetRuleViews.{Answers, StepsWhere};
-ghost use Rattle.css_sheet.specs.Places.{prelude_in, block_length, places_by, places_of};
+ghost use Rattle.css_sheet.specs.Places.{prelude_in, block_length, no_places, places_by, places_of};
 ghost use Rattle.css_syntax.specs.Views.{statement_of};
 
 use crate::groups::group_of;
@@ -63,6 +63,7 @@ impl<'a> SheetReader<'a> {
     pub fn new(alloc: Global, text: &'a str) -> SheetReader<'a>
         ensures items { to_come result ≡ sheet_items text.now }
         ensures levels { conditions_of result ≡ [] }
+        ensures places { places_now result ≡ no_places }
     {
         SheetReader {
             levels: Vec::new(alloc),

@@ -1,28 +1,28 @@
 //! The selectors of a rule set.
 ghost use Rattle.std.specs.Prelude.{◌≡◌, IfOk, map, option_map};
 ghost use Rattle.css_syntax.specs.Views.{prelude_of};
-ghost use Rattle.css_selectors.specs.SelectorLists.{listed_of};
+ghost use Rattle.css_syntax.specs.SelectorLists.{listed_of};
 ghost use Rattle.css_sheet.specs.RuleSelectors.{or_any as or_any_of, selector_of};
 ghost use Rattle.css_sheet.specs.RuleSelectors.{selector_read, selectors_read};
 ghost use Rattle.css_sheet.specs.RuleViews.{rule_selector_of, listed_result};
 
-use css_selectors::{ListedSelector, SelectorForm, Selectors, is_valid};
+use css_selectors::{Selector, Why};
 use css_syntax::quality::{fault_of, is_good};
+use css_syntax::selectors::{ListedSelector, SelectorForm, Selectors, is_valid};
 use css_syntax::{Fault, Prelude};
-use selectors3::{Selector3, Why};
 use std::alloc::{AllocError, Global};
 
 /// A selector of a rule set.
 ///
 /// With a `selector` and no `pseudo_element` it is one of elements, and matches those that
-/// `Selector3::matches` says. With both it is one of a pseudo-element of these, and of no element
-/// itself. Without a `selector` it is valid, but not one of level 3.
+/// `Selector::matches` says. With both it is one of a pseudo-element of these, and of no element
+/// itself. Without a `selector` it is valid, but unsupported.
 #[derive(Drop)]
 pub struct RuleSelector<'a> {
     /// Its text, without blanks at either end.
     pub text: &'a str,
-    /// The selector without its pseudo-element, if it is one of level 3.
-    pub selector: Option<Selector3<'a>>,
+    /// The selector without its pseudo-element, if it is supported.
+    pub selector: Option<Selector<'a>>,
     /// The name of the pseudo-element at its end, as written, with what it has in parentheses.
     pub pseudo_element: Option<&'a str>,
 }
@@ -34,20 +34,20 @@ fn or_any(front: &str) -> &str
     if front.is_empty() { "*" } else { front }
 }
 
-/// Reads a text as a selector of level 3, or returns `None` if it is none. Fails only if an
+/// Reads a text as a selector, or returns `None` if it is none that is supported. Fails only if an
 /// allocation fails.
-fn read_level3<'a>(alloc: Global, text: &'a str) -> Result<Option<Selector3<'a>>, AllocError>
+fn read_supported<'a>(alloc: Global, text: &'a str) -> Result<Option<Selector<'a>>, AllocError>
     ensures { IfOk result (λ selector. selector ≡ selector_of text.now) }
 {
-    match Selector3::parse(alloc, text) {
+    match Selector::parse(alloc, text) {
         Ok(selector) => Ok(Some(selector)),
         Err(refusal) if refusal.why == Why::Memory => Err(AllocError),
         Err(_) => Ok(None),
     }
 }
 
-/// Reads a part of a list as a selector of level 3, without the pseudo-element at its end. Fails
-/// only if an allocation fails.
+/// Reads a part of a list as a selector, without the pseudo-element at its end. Fails only if an
+/// allocation fails.
 pub fn read_listed<'a>(
     alloc: Global,
     listed: &ListedSelector<'a>,
@@ -65,7 +65,7 @@ pub fn read_listed<'a>(
             });
         }
     };
-    match read_level3(alloc, front) {
+    match read_supported(alloc, front) {
         Ok(selector) => Ok(RuleSelector {
             text: listed.text,
             selector,

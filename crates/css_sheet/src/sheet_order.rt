@@ -3,13 +3,13 @@ ghost use Rattle.std.specs.Prelude.{◌≡◌, ◌≤◌, ◌<◌, ℕ, Bool, Li
 ghost use Rattle.css_sheet.specs.SheetOrder.{cascade_rules, source_rules};
 ghost use Rattle.css_sheet.specs.SheetOrder.{declarations_in, rule_counts, weight};
 ghost use Rattle.css_sheet.specs.SheetRuleViews.{Answers, GathersAll, sheet_rule_of};
-ghost use Rattle.css_sheet.specs.declared.sheet_error.SheetError.TheVariants.{TooManyDeclarations};
+ghost use Rattle.css_text.specs.declared.sheet_error.SheetError.TheVariants.{TooManyDeclarations};
 
 use crate::gathering::Gathered;
 use crate::reader::Step;
-use crate::sheet_error::SheetError;
 use crate::sheet_rules::SheetRule;
 use crate::state::SheetReader;
+use css_text::SheetError;
 use std::alloc::Global;
 
 /// Reads the rules of a sheet, as they stand there.
@@ -40,7 +40,7 @@ fn gather<'a, C: Fn(&str, &str) -> bool>(
 /// Reads the style rules of a sheet, in the order of the cascade: by specificity, and as they stand
 /// in the sheet where that is equal.
 ///
-/// Of a rule set there is one rule for each selector that is one of level 3. A rule set with a part
+/// Of a rule set there is one rule for each selector that is supported. A rule set with a part
 /// that is no selector, or without a declaration, has none. A rule in group rules such as `@media`
 /// is there if all of them hold: `holds` is asked once about each, by its name without the `@` and
 /// its prelude, and about none in one that does not hold. In more than 64 group rules no rule is

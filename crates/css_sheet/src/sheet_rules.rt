@@ -1,13 +1,13 @@
 //! Style rules, each with one selector.
-ghost use Rattle.std.specs.Prelude.{◌≡◌, false};
+ghost use Rattle.std.specs.Prelude.{◌≡◌, true};
 ghost use Rattle.css_syntax.specs.ListReaders.{BeginsList};
-ghost use Rattle.selectors3.specs.SpecificityViews.{counts_of};
+ghost use Rattle.css_selectors.specs.SpecificityViews.{counts_of};
 ghost use Rattle.css_sheet.specs.SheetOrder.{rule_counts, weight as weight_of};
 ghost use Rattle.css_sheet.specs.SheetRuleViews.{sheet_rule_of};
 
+use css_index::HasSelector;
+use css_selectors::{Selector, Specificity};
 use css_syntax::Declarations;
-use selectors3::{Selector3, Specificity};
-use selectors3_index::HasSelector3;
 
 /// A style rule with one selector. The rules of one rule set share the text of its block.
 ///
@@ -18,7 +18,7 @@ pub struct SheetRule<'a> {
     /// The text of the selector, with its pseudo-element.
     pub text: &'a str,
     /// The selector without its pseudo-element.
-    pub selector: Selector3<'a>,
+    pub selector: Selector<'a>,
     /// The name of the pseudo-element, as written, with what it has in parentheses.
     pub pseudo_element: Option<&'a str>,
     /// The contents of the block of the rule set.
@@ -28,9 +28,9 @@ pub struct SheetRule<'a> {
 impl<'a> SheetRule<'a> {
     /// Returns the declarations of the block, with what is skipped between them.
     pub fn declarations(&self) -> Declarations<'a>
-        ensures { BeginsList false self.now.block.now result }
+        ensures { BeginsList true self.now.block.now result }
     {
-        Declarations::new(self.block)
+        Declarations::of_block(self.block)
     }
 
     /// Returns the specificity: that of the selector, and a name more for a pseudo-element.
@@ -57,11 +57,11 @@ impl<'a> SheetRule<'a> {
 }
 
 /// An index of rules finds one with a pseudo-element too, where its selector matches.
-impl<'a> HasSelector3<'a> for SheetRule<'a> {
+impl<'a> HasSelector<'a> for SheetRule<'a> {
     ghost selector_in = { λ rule. rule.selector };
 
     #[inline(always)]
-    fn selector(&self) -> &Selector3<'a> {
+    fn selector(&self) -> &Selector<'a> {
         &self.selector
     }
 }

@@ -1,17 +1,17 @@
 //! Which declaration of a property wins on an element.
-ghost use Rattle.std.specs.Prelude.{◌≡◌, ◌++◌, Bool, List, None, false, map, option_map};
+ghost use Rattle.std.specs.Prelude.{◌≡◌, ◌++◌, Bool, List, None, true, map, option_map};
 ghost use Rattle.css_syntax.specs.DeclarationLists.{DeclarationText, items};
 ghost use Rattle.css_syntax.specs.Views.{declaration_of, item_of};
-ghost use Rattle.selectors3.specs.Components.{Selector};
-ghost use Rattle.selectors3.specs.Meanings.{Matches};
+ghost use Rattle.css_selectors.specs.Components.{Selector};
+ghost use Rattle.css_selectors.specs.Meanings.{Matches};
 ghost use Rattle.css_sheet.specs.SheetRuleViews.{sheet_rule_of};
 ghost use Rattle.css_sheet.specs.SheetWinners.{is_property as is_property_of, stated_by as stated_by_of};
 ghost use Rattle.css_sheet.specs.SheetWinners.{stated_in, rule_states, all_states, winner, Decides};
-ghost use Rattle.css_sheet.specs.WinnerSteps.{better, winner_from};
+ghost use Rattle.css_sheet.specs.internal.WinnerSteps.{better, winner_from};
 
 use crate::sheet_rules::SheetRule;
+use css_selectors::Element;
 use css_syntax::{Declaration, Declarations, Item};
-use selectors3::Element3;
 
 /// Whether the name is that of the property.
 fn is_property(property: &str, name: &str) -> bool
@@ -48,10 +48,10 @@ fn better_of<'a>(earlier: Option<Declaration<'a>>, later: Declaration<'a>) -> De
 /// Returns the declaration of the property that wins in a block.
 fn best_in<'a>(property: &str, block: &'a str) -> Option<Declaration<'a>>
     ensures { option_map declaration_of result
-        ≡ winner_from None (stated_in property.now (items false block.now)) }
+        ≡ winner_from None (stated_in property.now (items true block.now)) }
 {
     let mut best = None;
-    let mut declarations = Declarations::new(block);
+    let mut declarations = Declarations::of_block(block);
     'items: while let Some(part) = declarations.next() {
         if let Some(found) = stated_by(property, &part.item) {
             best = Some(better_of(best, found));
@@ -62,7 +62,7 @@ fn best_in<'a>(property: &str, block: &'a str) -> Option<Declaration<'a>>
 
 /// Returns the declaration of the property that wins in a rule, if that applies to the element. A
 /// rule that states nothing of the property is not matched.
-fn contender<'a, E: Element3>(
+fn contender<'a, E: Element>(
     property: &str,
     rule: &SheetRule<'a>,
     element: &E,
@@ -84,7 +84,7 @@ fn contender<'a, E: Element3>(
 }
 
 /// Returns the declaration of the property that wins of the best of earlier rules and of a rule.
-fn with_rule<'a, E: Element3>(
+fn with_rule<'a, E: Element>(
     best: Option<Declaration<'a>>,
     property: &str,
     rule: &SheetRule<'a>,
@@ -110,7 +110,7 @@ fn with_rule<'a, E: Element3>(
 /// Rules with a pseudo-element do not apply to the element. A name is compared as it is written, in
 /// any case of its ASCII letters if it is not that of a custom property (`--x`); shorthands are not
 /// expanded.
-pub fn winning<'a, E: Element3>(
+pub fn winning<'a, E: Element>(
     rules: &[SheetRule<'a>],
     element: &E,
     property: &str,

@@ -1,8 +1,8 @@
 -- A list is cut into its items, and a sheet into its statements.
 -- Serves `laws::nothing_is_lost`.
 use Rattle.std.proofs.Common.{◌≡◌, ◌≤◌, ◌<◌, ℕ, zero, suc, Bool, true, false, List, ◌++◌, length, Option, Some, None, refl, sym, ap, ◌∙◌, subst, arith, if◌then◌else◌, inl, inr}
-use Rattle.simplecss_text.specs.Reading.{before}
-use Rattle.simplecss_text.proofs.reading.EachLemmas.{option_cases, took}
+use Rattle.css_text.specs.Reading.{before}
+use Rattle.css_text.proofs.reading.EachLemmas.{option_cases, took}
 use Rattle.css_syntax.specs.Statements.{ends_block, past_between, SheetText, statement, statement_from, next_statement, statements, with_text}
 use Rattle.css_syntax.specs.DeclarationLists.{past_separators, ListText, item, item_from, next_item, items, with_text as list_with_text}
 use Rattle.css_syntax.specs.NothingLost.{IsCutUp, item_texts, statement_texts, LosesNoItem, LosesNoStatement}

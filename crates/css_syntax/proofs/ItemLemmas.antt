@@ -1,20 +1,21 @@
 -- What items and statements consume, and that what is left is an end of the text.
 -- Serves the loops and the iterators of `statements` and `declarations`.
-use Rattle.std.proofs.Common.{◌≡◌, ℕ, ◌≤◌, ◌||◌, ◌&&◌, not, nat_le, codes, eqb-true, Bool, true, false, List, [], ◌∷◌, length, Option, Some, None, arith, refl, if◌then◌else◌, ◌==◌, drop, length-drop}
+use Rattle.std.proofs.Common.{◌≡◌, ℕ, ◌≤◌, ◌||◌, ◌&&◌, not, nat_le, codes, eqb-true, Bool, true, false, List, [], ◌∷◌, length, Option, Some, None, Ok, Err, arith, refl, if◌then◌else◌, ◌==◌, drop, length-drop}
 use Rattle.std.proofs.lemmas.Bool.Decides.{nat_tests}
-use Rattle.std.specs.Str.{str_eq_ignore_ascii_case}
-use Rattle.simplecss_text.specs.AsciiBytes.{colon, comma, exclamation_mark, open_brace, close_brace, semicolon, at_sign, hyphen, underscore}
-use Rattle.simplecss_text.specs.Reading.{before, Ends}
-use Rattle.simplecss_text.specs.Bytes.{past_byte, starts, is_digit}
-use Rattle.simplecss_text.specs.Characters.{is_letter}
-use Rattle.simplecss_text.proofs.reading.EachLemmas.{Shrinks, Takes, each-stops}
-use Rattle.simplecss_text.proofs.reading.TakesLemmas.{each-within, length-past_byte}
-use Rattle.simplecss_text.proofs.reading.EndsLemmas.{ends-drop}
-use Rattle.simplecss_text.proofs.reading.WellLemmas.{EndsWell, WellFound, each-well, well-after, well-nil, well-same, well-tail, well-then, well-past_byte}
-use Rattle.css_syntax.specs.Tokens.{gap_part, past_gap, past_word, is_name_byte, begins_escape, begins_cdo}
+use Rattle.css_text.specs.AsciiBytes.{colon, comma, exclamation_mark, open_brace, close_brace, semicolon, at_sign, hyphen, underscore}
+use Rattle.css_text.specs.Reading.{before, Ends}
+use Rattle.css_text.specs.Bytes.{past_byte, starts, is_digit}
+use Rattle.css_text.specs.Characters.{is_letter}
+use Rattle.css_text.proofs.reading.EachLemmas.{Shrinks, Takes, each-stops}
+use Rattle.css_text.proofs.reading.TakesLemmas.{each-within, length-past_byte}
+use Rattle.css_text.proofs.reading.EndsLemmas.{ends-drop}
+use Rattle.css_text.proofs.reading.WellLemmas.{EndsWell, WellFound, each-well, well-after, well-nil, well-same, well-tail, well-then, well-past_byte}
+use Rattle.css_syntax.specs.declared.quality.Fault.{Fault}
+use Rattle.css_syntax.specs.declared.quality.Fault.TheVariants.{NestedRule}
+use Rattle.css_syntax.specs.Tokens.{gap_part, past_gap, past_word, spells, is_name_byte, begins_escape, begins_cdo}
 use Rattle.css_syntax.specs.Parts.{Stated, ends_at, parts}
-use Rattle.css_syntax.specs.Statements.{begins_ident, begins_at_rule, block_ends, block, at_rule_ends, at_rule_ended, at_rule, rule_set_ends, rule_set_ended, statement, begins_cdc, between_part, past_between, ends_block, with_text, statement_from, next_statement}
-use Rattle.css_syntax.specs.DeclarationLists.{declaration_ends, value, important_word, importance, past_broken, is_stated, stated_as, named, declaration, item, separator_part, past_separators, value_ends, item_from, next_item, with_text as list_with_text}
+use Rattle.css_syntax.specs.Statements.{starts_ident, begins_at_rule, block_ends, block, at_rule_ends, at_rule_ended, at_rule, rule_set_ends, rule_set_ended, statement, begins_cdc, between_part, past_between, ends_block, with_text, statement_from, next_statement}
+use Rattle.css_syntax.specs.DeclarationLists.{declaration_ends, is_custom, value, important_word, importance, past_broken, is_stated, Declared, stated_as, named, declaration, begins_custom, rule_ended, or_rule, skipped_item, item, separator_part, past_separators, value_ends, item_from, next_item, with_text as list_with_text}
 use Rattle.css_syntax.proofs.Shorter.{gap_part-takes, word-less, past_word_within}
 use Rattle.css_syntax.proofs.PartLemmas.{past_gap-within, parts-within, parts-less, parts-rests}
 use Rattle.css_syntax.proofs.PartTexts.{parts-well}
@@ -185,7 +186,7 @@ important_word-within : (from text : List ℕ) → length text ≤ length from
     → length (important_word from text).1 ≤ length from
 important_word-within from text h =
     if-within (length from)
-    (str_eq_ignore_ascii_case (before text (past_word text)) (codes "important")) _ _
+    (spells (codes "important") (before text (past_word text))) _ _
     (omega (arith, past_gap-within (past_word text), past_word_within text)) (omega arith)
 
 importance-within : (text : List ℕ) → length (importance text).1 ≤ length text
@@ -202,28 +203,43 @@ past_broken-within : (in_block : Bool) (text : List ℕ)
     → length (past_broken in_block text) ≤ length text
 past_broken-within in_block text = parts-within (declaration_ends in_block) text
 
-stated_as-within : (in_block : Bool) (name : List ℕ) (stated : Stated) (important : Bool × List ℕ)
-    → length (stated_as in_block name stated important).1 ≤ length important.1
-stated_as-within in_block name stated important =
-    if-within (length important.1) (is_stated in_block name stated important.1) _ _
-    (omega arith) (past_broken-within in_block important.1)
+-- at most as much is left after a declaration
+abbrev DeclaredWithin : ℕ → Declared → Type 0
+DeclaredWithin n (Ok found) = length found.1 ≤ n
+DeclaredWithin n (Err fault) = Unit {0}
 
-named-within : (in_block : Bool) (n : ℕ) (start name text : List ℕ)
-    → length (past_broken in_block start) ≤ n → length text ≤ n
-    → length (named in_block start name text).1 ≤ n
-named-within in_block n start name text h k =
+declared-if : (n : ℕ) (t : Bool) (x y : Declared) → DeclaredWithin n x → DeclaredWithin n y
+    → DeclaredWithin n (if t then x else y)
+declared-if n true x y a b = a
+declared-if n false x y a b = b
+
+declared-more : (n m : ℕ) (x : Declared) → m ≤ n → DeclaredWithin m x → DeclaredWithin n x
+declared-more n m (Ok found) h k = omega arith
+declared-more n m (Err fault) h k = tt
+
+stated_as-within : (in_block : Bool) (name : List ℕ) (stated : Stated) (important : Bool × List ℕ)
+    → DeclaredWithin (length important.1) (stated_as in_block name stated important)
+stated_as-within in_block name stated important =
+    declared-if (length important.1) (is_stated in_block name stated important.1) _ _
+    (omega arith) tt
+
+named-within : (in_block : Bool) (n : ℕ) (name text : List ℕ) → length text ≤ n
+    → DeclaredWithin n (named in_block name text)
+named-within in_block n name text k =
     let from = past_gap (past_byte colon text) in
-    let stated = value from in
-    if-within n (starts colon text) _ _
+    let stated = value (is_custom name) from in
+    let important = importance stated.1 in
+    declared-if n (starts colon text) _ _
+    (declared-more n (length important.1) (stated_as in_block name stated.0 important)
     (omega (
       arith,
-      stated_as-within in_block name stated.0 (importance stated.1),
       importance-within stated.1,
-      parts-within value_ends from,
+      parts-within (value_ends (is_custom name)) from,
       past_gap-within (past_byte colon text),
       past_byte-within colon text,
     ))
-    h
+    (stated_as-within in_block name stated.0 important))
+    tt
 
 -- a name that begins here has a byte
 hyphen-word : (p q r s t u : Bool) → s ≡ true → (((((p || q) || r) || s) || t) || u) ≡ true
@@ -240,7 +256,7 @@ plain-word false false true h w e k = refl
 plain-word false false false true w e k = refl
 plain-word false false false false w e k = k
 
-pub ident-word : (b : ℕ) (text : List ℕ) → begins_ident (b ∷ text) ≡ true
+pub ident-word : (b : ℕ) (text : List ℕ) → starts_ident (b ∷ text) ≡ true
     → (is_name_byte b || begins_escape (b ∷ text)) ≡ true
 ident-word b text h = by (b == hyphen) refl
   where
@@ -253,20 +269,81 @@ ident-word b text h = by (b == hyphen) refl
         (begins_escape (b ∷ text)) (rw e at h)
 
 declaration-less : (in_block : Bool) (b : ℕ) (text : List ℕ)
-    → ends_at (declaration_ends in_block) (b ∷ text) ≡ false
-    → length (declaration in_block (b ∷ text)).1 ≤ length text
+    → DeclaredWithin (length text) (declaration in_block (b ∷ text))
 unfolding declaration
-declaration-less in_block b text e = by (begins_ident (b ∷ text)) refl
+declaration-less in_block b text = by (starts_ident (b ∷ text)) refl
   where
-    by : (t : Bool) → begins_ident (b ∷ text) ≡ t
-        → length (declaration in_block (b ∷ text)).1 ≤ length text
+    by : (t : Bool) → starts_ident (b ∷ text) ≡ t
+        → DeclaredWithin (length text) (declaration in_block (b ∷ text))
     by true f =
         let word = past_word (b ∷ text) in
-        rw f (named-within in_block (length text) (b ∷ text) (before (b ∷ text) word)
-        (past_gap word)
-        (parts-less (declaration_ends in_block) b text e)
+        rw f (named-within in_block (length text) (before (b ∷ text) word) (past_gap word)
         (omega (arith, past_gap-within word, word-less b text (ident-word b text f))))
-    by false f = rw f (parts-less (declaration_ends in_block) b text e)
+    by false f = rw f tt
+
+rule_ended-within : (in_block custom : Bool) (fault : Fault) (rest : List ℕ)
+    → length (rule_ended in_block custom fault rest).1 ≤ length rest
+rule_ended-within in_block custom fault rest =
+    if-within (length rest) (starts open_brace rest) _ _
+    (if-within (length rest) custom _ _ (past_broken-within in_block rest)
+    (omega (arith, block-within (past_byte open_brace rest), past_byte-within open_brace rest)))
+    (omega arith)
+
+-- a rule that has no prelude consumes its brace
+rule_ended-less : (in_block custom : Bool) (fault : Fault) (b : ℕ) (text : List ℕ)
+    → (b == open_brace) ≡ true → length (past_broken in_block (b ∷ text)) ≤ length text
+    → length (rule_ended in_block custom fault (b ∷ text)).1 ≤ length text
+rule_ended-less in_block custom fault b text e h =
+    rw e (if-within (length text) custom (skipped_item fault, past_broken in_block (b ∷ text))
+    (skipped_item NestedRule, (block text).1) h (block-within text))
+
+-- what ends a prelude and no declaration is an opening brace
+opens_rule : (in_block : Bool) (b : ℕ) (text : List ℕ)
+    → ends_at (at_rule_ends in_block) (b ∷ text) ≡ true
+    → ends_at (declaration_ends in_block) (b ∷ text) ≡ false → (b == open_brace) ≡ true
+opens_rule in_block b text e f =
+    by (b == semicolon) (b == open_brace) (b == close_brace) (b == comma) in_block e f
+  where
+    by : (s o c m k : Bool) → (if s then true
+        else (if o then true else (if c then k else (if m then false else false)))) ≡ true
+        → (if s then true
+        else (if o then false else (if c then k else (if m then false else false)))) ≡ false
+        → o ≡ true
+    by true o c m k g h = absurd (cc)
+    by false true c m k g h = refl
+    by false false true m true g h = absurd (cc)
+    by false false true m false g h = absurd (cc)
+    by false false false true k g h = absurd (cc)
+    by false false false false k g h = absurd (cc)
+
+or_rule-less : (in_block : Bool) (b : ℕ) (text : List ℕ)
+    → ends_at (declaration_ends in_block) (b ∷ text) ≡ false → (x : Declared)
+    → DeclaredWithin (length text) x → length (or_rule in_block (b ∷ text) x).1 ≤ length text
+or_rule-less in_block b text e (Ok found) h = h
+or_rule-less in_block b text e (Err fault) h =
+    inside in_block
+  where
+    by : (t : Bool) → ends_at (at_rule_ends in_block) (b ∷ text) ≡ t
+        → length (rule_ended in_block (begins_custom (b ∷ text)) fault
+        (parts (at_rule_ends in_block) (b ∷ text)).1).1 ≤ length text
+    by true f =
+        rw (parts-rests (at_rule_ends in_block) (b ∷ text) f)
+        (rule_ended-less in_block (begins_custom (b ∷ text)) fault b text
+        (opens_rule in_block b text f e) (parts-less (declaration_ends in_block) b text e))
+    by false f =
+        omega (
+          arith,
+          rule_ended-within in_block (begins_custom (b ∷ text)) fault
+              (parts (at_rule_ends in_block) (b ∷ text)).1,
+          parts-less (at_rule_ends in_block) b text f,
+        )
+
+    inside : (k : Bool) → length (if k
+        then rule_ended in_block (begins_custom (b ∷ text)) fault
+        (parts (at_rule_ends in_block) (b ∷ text)).1
+        else (skipped_item fault, past_broken in_block (b ∷ text))).1 ≤ length text
+    inside true = by (ends_at (at_rule_ends in_block) (b ∷ text)) refl
+    inside false = parts-less (declaration_ends in_block) b text e
 
 pub item-less : (in_block : Bool) (b : ℕ) (text : List ℕ)
     → ends_at (declaration_ends in_block) (b ∷ text) ≡ false
@@ -277,7 +354,9 @@ item-less in_block b text f = by (begins_at_rule (b ∷ text)) refl
     by : (t : Bool) → begins_at_rule (b ∷ text) ≡ t
         → length (item in_block (b ∷ text)).1 ≤ length text
     by true e = rw e (at_rule-less in_block b text e)
-    by false e = rw e (declaration-less in_block b text f)
+    by false e =
+        rw e (or_rule-less in_block b text f (declaration in_block (b ∷ text))
+        (declaration-less in_block b text))
 
 -- after separators no semicolon is next
 no_separator : (b : ℕ) (text : List ℕ) → separator_part (b ∷ text) ≡ None
@@ -394,7 +473,7 @@ important_word-well : (from text : List ℕ) → EndsWell from text
     → EndsWell from (important_word from text).1
 important_word-well from text h =
     let word = past_word text in
-    if-well from (str_eq_ignore_ascii_case (before text word) (codes "important")) _ _
+    if-well from (spells (codes "important") (before text word)) _ _
     (well-then from text (past_gap word) h
     (well-then text word (past_gap word) (word-well text) (gap-well word)))
     (well-same from)
@@ -408,42 +487,78 @@ importance-well text =
     (gap-well after)))
     (well-same text)
 
+-- what is left after a declaration
+abbrev DeclaredWell : List ℕ → Declared → Type 0
+DeclaredWell start (Ok found) = EndsWell start found.1
+DeclaredWell start (Err fault) = Unit {0}
+
+declared_if-well : (start : List ℕ) (t : Bool) (x y : Declared) → DeclaredWell start x
+    → DeclaredWell start y → DeclaredWell start (if t then x else y)
+declared_if-well start true x y a b = a
+declared_if-well start false x y a b = b
+
+declared_then-well : (start rest : List ℕ) (x : Declared) → EndsWell start rest
+    → DeclaredWell rest x → DeclaredWell start x
+declared_then-well start rest (Ok found) h k = well-then start rest found.1 h k
+declared_then-well start rest (Err fault) h k = tt
+
 stated_as-well : (in_block : Bool) (name : List ℕ) (stated : Stated) (important : Bool × List ℕ)
-    → EndsWell important.1 (stated_as in_block name stated important).1
+    → DeclaredWell important.1 (stated_as in_block name stated important)
 stated_as-well in_block name stated important =
-    if-well important.1 (is_stated in_block name stated important.1) _ _ (well-same important.1)
-    (past_broken-well in_block important.1)
+    declared_if-well important.1 (is_stated in_block name stated important.1) _ _
+    (well-same important.1) tt
 
 named-well : (in_block : Bool) (start name text : List ℕ) → EndsWell start text
-    → EndsWell start (named in_block start name text).1
+    → DeclaredWell start (named in_block name text)
 named-well in_block start name text h =
     let after = past_byte colon text in
-    let stated = value (past_gap after) in
+    let stated = value (is_custom name) (past_gap after) in
     let important = importance stated.1 in
-    let end = (stated_as in_block name stated.0 important).1 in
-    if-well start (starts colon text) _ _
-    (well-then start text end h
-    (well-then text after end (well-past_byte colon text (omega arith))
-    (well-then after (past_gap after) end (gap-well after)
-    (well-then (past_gap after) stated.1 end (parts-well value_ends (past_gap after))
-    (well-then stated.1 important.1 end (importance-well stated.1)
-    (stated_as-well in_block name stated.0 important))))))
-    (past_broken-well in_block start)
+    declared_if-well start (starts colon text) _ _
+    (declared_then-well start important.1 (stated_as in_block name stated.0 important)
+    (well-then start text important.1 h
+    (well-then text after important.1 (well-past_byte colon text (omega arith))
+    (well-then after (past_gap after) important.1 (gap-well after)
+    (well-then (past_gap after) stated.1 important.1
+    (parts-well (value_ends (is_custom name)) (past_gap after)) (importance-well stated.1)))))
+    (stated_as-well in_block name stated.0 important))
+    tt
 
-declaration-well : (in_block : Bool) (text : List ℕ) → EndsWell text (declaration in_block text).1
+declaration-well : (in_block : Bool) (text : List ℕ) → DeclaredWell text (declaration in_block text)
 unfolding declaration
 declaration-well in_block text =
     let word = past_word text in
-    if-well text (begins_ident text) _ _
+    declared_if-well text (starts_ident text) _ _
     (named-well in_block text (before text word) (past_gap word)
     (well-then text word (past_gap word) (word-well text) (gap-well word)))
+    tt
+
+rule_ended-well : (in_block custom : Bool) (fault : Fault) (rest : List ℕ)
+    → EndsWell rest (rule_ended in_block custom fault rest).1
+rule_ended-well in_block custom fault rest =
+    let inside = past_byte open_brace rest in
+    if-well rest (starts open_brace rest) _ _
+    (if-well rest custom _ _ (past_broken-well in_block rest)
+    (well-then rest inside (block inside).1 (well-past_byte open_brace rest (omega arith))
+    (block-well inside)))
+    (well-same rest)
+
+or_rule-well : (in_block : Bool) (text : List ℕ) (x : Declared) → DeclaredWell text x
+    → EndsWell text (or_rule in_block text x).1
+or_rule-well in_block text (Ok found) h = h
+or_rule-well in_block text (Err fault) h =
+    let rest = (parts (at_rule_ends in_block) text).1 in
+    if-well text in_block _ _
+    (well-then text rest (rule_ended in_block (begins_custom text) fault rest).1
+    (parts-well (at_rule_ends in_block) text)
+    (rule_ended-well in_block (begins_custom text) fault rest))
     (past_broken-well in_block text)
 
 item-well : (in_block : Bool) (text : List ℕ) → EndsWell text (item in_block text).1
 unfolding item
 item-well in_block text =
     if-well text (begins_at_rule text) _ _ (at_rule-well in_block text)
-    (declaration-well in_block text)
+    (or_rule-well in_block text (declaration in_block text) (declaration-well in_block text))
 
 pub item-ends : (in_block : Bool) (text : List ℕ) → Ends text (item in_block text).1
 item-ends in_block text = (item-well in_block text).0

@@ -13,9 +13,12 @@ pub mod PlacedSteps
 pub mod PlaceBounds
 pub mod Parting
 pub mod PartingTokens
-pub mod PartingAddresses
+pub mod PartingUrls
 pub mod PartingValues
 pub mod PartingParts
 pub mod PartingNames
 pub mod PrintedAgain
 pub mod PrintedLists
+pub mod GrammarLemmas
+pub mod ListLemmas
+pub mod PlacedParts

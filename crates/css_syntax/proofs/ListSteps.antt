@@ -1,9 +1,10 @@
 -- The items of a list and the statements of a sheet, one at a time.
 -- Serves `next` of both iterators, and their constructors (how many are to come at most).
-use Rattle.std.proofs.Common.{◌≡◌, ◌≤◌, ℕ, zero, suc, Bool, List, [], ◌∷◌, length, Option, Some, None, ap, arith}
+use Rattle.std.proofs.Common.{◌≡◌, ◌≤◌, ℕ, Bool, List, [], ◌∷◌, length, Some, None, ap}
 use Rattle.std.proofs.iter.runs.Sources.{from_front}
-use Rattle.simplecss_text.specs.Reading.{and_then, up_to, each}
-use Rattle.simplecss_text.proofs.reading.EachLemmas.{each-none, each-some}
+use Rattle.css_text.specs.Reading.{each}
+use Rattle.css_text.proofs.reading.EachLemmas.{each-none, each-some}
+use Rattle.css_text.proofs.reading.LengthLemmas.{length-each}
 use Rattle.css_syntax.specs.Statements.{SheetText, next_statement, statements}
 use Rattle.css_syntax.specs.DeclarationLists.{ListText, next_item, items}
 use Rattle.css_syntax.specs.Views.{list_part_of, sheet_part_of}
@@ -35,25 +36,14 @@ pub statements-none : (in_block : Bool) (text : List ℕ) → next_statement in_
 unfolding statements
 statements-none in_block text e = ap (λ r. r.0) (each-none (next_statement in_block) text e)
 
--- what is read at most n times yields at most n values
-length-up_to : {A : Type 0} (read : List ℕ → Option (A × List ℕ)) (n : ℕ) (text : List ℕ)
-    → length (up_to n read text).0 ≤ n
-length-up_to read zero text = omega arith
-length-up_to {A = A} read (suc n) text = by (λ rest. length-up_to read n rest) (read text)
-  where
-    by : ((rest : List ℕ) → length (up_to n read rest).0 ≤ n) → (o : Option (A × List ℕ))
-        → length (and_then text o (up_to n read)).0 ≤ suc n
-    by more None = omega arith
-    by more (Some x) = omega (arith, more x.1)
-
 pub items-few : (in_block : Bool) (text : List ℕ) → length (items in_block text) ≤ length text
 unfolding items each
-items-few in_block text = length-up_to (next_item in_block) (length text) text
+items-few in_block text = length-each (next_item in_block) text
 
 pub statements-few : (in_block : Bool) (text : List ℕ)
     → length (statements in_block text) ≤ length text
 unfolding statements each
-statements-few in_block text = length-up_to (next_statement in_block) (length text) text
+statements-few in_block text = length-each (next_statement in_block) text
 
 pub items-in_turn : GivesItemsInTurn
 items-in_turn =

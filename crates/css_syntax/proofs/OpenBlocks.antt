@@ -1,17 +1,17 @@
 -- Blocks within blocks, a token at a time.
--- Serves `component_values::skip_block`.
+-- Serves `component_values::read_block`.
 use Rattle.std.proofs.Common.{◌≡◌, ℕ, zero, suc, ◌+◌, ◌*◌, ◌/◌, ◌%◌, ◌^◌, ◌-◌, ◌<◌, ◌≤◌, ◌==◌, Bool, true, false, List, [], ◌∷◌, length, Some, None, arith, refl, sym, ap, ◌∙◌, if◌then◌else◌, eq-eqb, eqb-true, add-one}
 use Rattle.std.proofs.Math.Nat.{pow-suc, pow-le-pow_right}
 use Rattle.std.proofs.lemmas.Nat.{div_below}
-use Rattle.simplecss_text.specs.Reading.{each}
-use Rattle.simplecss_text.specs.Bytes.{past_byte}
-use Rattle.simplecss_text.proofs.reading.EachLemmas.{Shrinks, Takes, each-none, each-some}
-use Rattle.simplecss_text.proofs.reading.TakesLemmas.{length-past_byte, each-within}
+use Rattle.css_text.specs.Reading.{each}
+use Rattle.css_text.specs.Bytes.{past_byte}
+use Rattle.css_text.proofs.reading.EachLemmas.{Shrinks, Takes, each-none, each-some}
+use Rattle.css_text.proofs.reading.TakesLemmas.{length-past_byte, each-within}
 use Rattle.css_syntax.specs.declared.quality.Quality.{Quality}
 use Rattle.css_syntax.specs.declared.quality.Quality.TheVariants.{Whole, Open, BadString, BadUrl, StrayBracket, TooDeep}
 use Rattle.css_syntax.specs.Qualities.{first_flaw, flaw_of_all}
-use Rattle.css_syntax.specs.Tokens.{token}
-use Rattle.css_syntax.specs.ComponentValues.{is_opener, mirror, end_quality, value_inside, block_of, value_by, component_value}
+use Rattle.css_syntax.specs.Tokens.{is_closer, token}
+use Rattle.css_syntax.specs.ComponentValues.{is_opener, mirror, end_quality, value_inside, block_of, value_by, past_open, past_deep, component_value}
 use Rattle.css_syntax.specs.internal.OpenBrackets.{closer_of}
 use Rattle.css_syntax.proofs.Shorter.{token-takes}
 
@@ -51,10 +51,100 @@ block_of-within read h closer text = omega (
   each-within (value_inside read closer) (value_inside-takes read closer h) text,
 )
 
+-- what is nested too deep
+pub open-within : (n depth : ℕ) (text : List ℕ) → length (past_open n depth text) ≤ length text
+unfolding past_open
+open-within zero depth text = omega arith
+open-within (suc n) zero text = omega arith
+open-within (suc n) (suc depth) [] = omega arith
+open-within (suc n) (suc depth) (b ∷ text) =
+    by (is_opener b) (is_closer b) (open-within n (suc (suc depth)) text) (open-within n depth text)
+    (open-within n (suc depth) (token (b ∷ text)).1)
+  where
+    by : (t u : Bool) → length (past_open n (suc (suc depth)) text) ≤ length text
+        → length (past_open n depth text) ≤ length text
+        → length (past_open n (suc depth) (token (b ∷ text)).1) ≤ length (token (b ∷ text)).1
+        → length (if t then past_open n (suc (suc depth)) text
+        else (if u then past_open n depth text
+        else past_open n (suc depth) (token (b ∷ text)).1)) ≤ length (b ∷ text)
+    by true u h k l = omega (arith, h)
+    by false true h k l = omega (arith, k)
+    by false false h k l = omega (arith, l, token-takes b text)
+
+-- more steps change nothing
+pub open-enough : (n m depth : ℕ) (text : List ℕ) → length text ≤ n → length text ≤ m
+    → past_open n depth text ≡ past_open m depth text
+unfolding past_open
+open-enough zero zero depth text h k = refl
+open-enough zero (suc m) zero text h k = refl
+open-enough zero (suc m) (suc depth) [] h k = refl
+open-enough zero (suc m) (suc depth) (b ∷ text) h k = absurd (omega arith)
+open-enough (suc n) zero zero text h k = refl
+open-enough (suc n) zero (suc depth) [] h k = refl
+open-enough (suc n) zero (suc depth) (b ∷ text) h k = absurd (omega arith)
+open-enough (suc n) (suc m) zero text h k = refl
+open-enough (suc n) (suc m) (suc depth) [] h k = refl
+open-enough (suc n) (suc m) (suc depth) (b ∷ text) h k =
+    by (is_opener b) (is_closer b)
+    (open-enough n m (suc (suc depth)) text (omega arith) (omega arith))
+    (open-enough n m depth text (omega arith) (omega arith))
+    (open-enough n m (suc depth) (token (b ∷ text)).1 (omega (arith, token-takes b text))
+    (omega (arith, token-takes b text)))
+  where
+    by : (t u : Bool)
+        → past_open n (suc (suc depth)) text ≡ past_open m (suc (suc depth)) text
+        → past_open n depth text ≡ past_open m depth text
+        → past_open n (suc depth) (token (b ∷ text)).1
+        ≡ past_open m (suc depth) (token (b ∷ text)).1
+        → (if t then past_open n (suc (suc depth)) text
+        else (if u then past_open n depth text
+        else past_open n (suc depth) (token (b ∷ text)).1))
+        ≡ (if t then past_open m (suc (suc depth)) text
+        else (if u then past_open m depth text
+        else past_open m (suc depth) (token (b ∷ text)).1))
+    by true u h k l = h
+    by false true h k l = k
+    by false false h k l = l
+
+pub open-none : (n : ℕ) (text : List ℕ) → past_open n 0 text ≡ text
+unfolding past_open
+open-none zero text = refl
+open-none (suc n) text = refl
+
+pub open-end : (n depth : ℕ) → past_open n depth [] ≡ []
+unfolding past_open
+open-end zero depth = refl
+open-end (suc n) zero = refl
+open-end (suc n) (suc depth) = refl
+
+pub open-opens : (n depth b : ℕ) (text : List ℕ) → 0 < depth → is_opener b ≡ true
+    → past_open (suc n) depth (b ∷ text) ≡ past_open n (depth + 1) text
+unfolding past_open
+open-opens n zero b text h e = absurd (omega arith)
+open-opens n (suc depth) b text h e =
+    let deeper : suc (suc depth) ≡ suc depth + 1 = omega arith in
+    rw e (ap (λ (k : ℕ). past_open n k text) deeper)
+
+pub open-closes : (n depth b : ℕ) (text : List ℕ) → 0 < depth → is_opener b ≡ false
+    → is_closer b ≡ true → past_open (suc n) depth (b ∷ text) ≡ past_open n (depth - 1) text
+unfolding past_open
+open-closes n zero b text h e f = absurd (omega arith)
+open-closes n (suc depth) b text h e f =
+    let fewer : depth ≡ suc depth - 1 = omega arith in
+    rw (e, f) (ap (λ (k : ℕ). past_open n k text) fewer)
+
+pub open-token : (n depth b : ℕ) (text : List ℕ) → 0 < depth → is_opener b ≡ false
+    → is_closer b ≡ false
+    → past_open (suc n) depth (b ∷ text) ≡ past_open n depth (token (b ∷ text)).1
+unfolding past_open
+open-token n zero b text h e f = absurd (omega arith)
+open-token n (suc depth) b text h e f = rw (e, f) refl
+
 pub component_value-consumes : (n : ℕ) → Consumes (component_value n)
 unfolding Consumes component_value
 component_value-consumes zero b text =
-    value_by-consumes (λ closer rest. (TooDeep, [])) (λ closer rest. omega arith) b text
+    value_by-consumes (λ closer rest. (TooDeep, past_deep rest))
+    (λ closer rest. open-within (length rest) 1 rest) b text
 component_value-consumes (suc n) b text =
     value_by-consumes (block_of (component_value n))
     (block_of-within (component_value n) (component_value-consumes n)) b text
@@ -182,13 +272,13 @@ resume-open depth waiting next n b text e opener rest closer =
 -- at one too many
 pub resume-deep : (depth waiting b : ℕ) (text : List ℕ)
     → (b == closer_of (waiting % 4)) ≡ false → is_opener b ≡ true
-    → resume (suc depth) waiting zero (b ∷ text) ≡ (TooDeep, [])
+    → resume (suc depth) waiting zero (b ∷ text)
+    ≡ also TooDeep (resume (suc depth) waiting zero (past_deep text))
 unfolding component_value
 resume-deep depth waiting b text e opener =
-    let value : component_value zero (b ∷ text) ≡ (TooDeep, []) = rw opener refl in
+    let value : component_value zero (b ∷ text) ≡ (TooDeep, past_deep text) = rw opener refl in
     resume-value depth waiting zero b text e
     ∙ ap (λ (x : Quality × List ℕ). also x.0 (resume (suc depth) waiting zero x.1)) value
-    ∙ ap (λ (r : Quality × List ℕ). (TooDeep, r.1)) (resume-end depth waiting zero)
 
 -- at any other token
 pub resume-token : (depth waiting n b : ℕ) (text : List ℕ)
@@ -243,13 +333,16 @@ open-at (suc d) waiting kind b text h l e opener k closer =
 
 pub deep-at : (depth waiting b : ℕ) (text : List ℕ) → depth ≡ 64
     → (b == closer_of (waiting % 4)) ≡ false → is_opener b ≡ true
-    → resume depth waiting (64 - depth) (b ∷ text) ≡ (TooDeep, [])
+    → resume depth waiting (64 - depth) (b ∷ text)
+    ≡ also TooDeep (resume depth waiting (64 - depth) (past_deep text))
 deep-at depth waiting b text h e opener =
     let none : 64 - depth ≡ zero = omega arith in
     let all : depth ≡ suc 63 = omega arith in
-    ap (λ (n : ℕ). resume depth waiting n (b ∷ text)) none
-    ∙ ap (λ (k : ℕ). resume k waiting zero (b ∷ text)) all
-    ∙ resume-deep 63 waiting b text e opener
+    let same : (t : List ℕ) → resume depth waiting (64 - depth) t ≡ resume 64 waiting zero t =
+    λ t. ap (λ (n : ℕ). resume depth waiting n t) none
+    ∙ ap (λ (k : ℕ). resume k waiting zero t) all in
+    same (b ∷ text) ∙ resume-deep 63 waiting b text e opener
+    ∙ ap (also TooDeep) (sym (same (past_deep text)))
 
 pub token-at : (depth waiting n b : ℕ) (text : List ℕ) → 0 < depth
     → (b == closer_of (waiting % 4)) ≡ false → is_opener b ≡ false
@@ -315,12 +408,16 @@ step-open depth waiting kind b rest after quality h l e other opener k closer =
     ap (also quality) (sym (ap (resume depth waiting (64 - depth)) e
     ∙ open-at depth waiting kind b after h l other opener k closer))
 
-pub step-deep : (depth waiting b : ℕ) (rest after : List ℕ) (quality : Quality) → depth ≡ 64
+pub step-deep : (depth waiting b : ℕ) (rest after left : List ℕ) (quality : Quality) → depth ≡ 64
     → rest ≡ b ∷ after → (b == closer_of (waiting % 4)) ≡ false → is_opener b ≡ true
-    → also quality (resume depth waiting (64 - depth) rest) ≡ (first_flaw quality TooDeep, [])
-step-deep depth waiting b rest after quality l e other opener =
-    ap (also quality) (ap (resume depth waiting (64 - depth)) e
-    ∙ deep-at depth waiting b after l other opener)
+    → left ≡ past_deep after
+    → also (first_flaw quality TooDeep) (resume depth waiting (64 - depth) left)
+    ≡ also quality (resume depth waiting (64 - depth) rest)
+step-deep depth waiting b rest after left quality l e other opener d =
+    sym (also-also quality TooDeep (resume depth waiting (64 - depth) left))
+    ∙ ap (also quality) (sym (ap (resume depth waiting (64 - depth)) e
+    ∙ deep-at depth waiting b after l other opener
+    ∙ ap (λ (t : List ℕ). also TooDeep (resume depth waiting (64 - depth) t)) (sym d)))
 
 pub step-token : (depth waiting n b : ℕ) (rest after : List ℕ) (quality : Quality)
     (skipped : Quality × List ℕ) → 0 < depth → rest ≡ b ∷ after

@@ -1,8 +1,8 @@
 -- What parts consume.
 -- Serves `parts::read_byte_parts`, and the items and statements above it.
 use Rattle.std.proofs.Common.{◌≡◌, ℕ, ◌<◌, ◌≤◌, subst, Bool, true, false, List, [], ◌∷◌, length, Option, Some, None, arith, refl, ap, if◌then◌else◌}
-use Rattle.simplecss_text.proofs.reading.EachLemmas.{Shrinks, Takes}
-use Rattle.simplecss_text.proofs.reading.TakesLemmas.{each-within}
+use Rattle.css_text.proofs.reading.EachLemmas.{Shrinks, Takes}
+use Rattle.css_text.proofs.reading.TakesLemmas.{each-within}
 use Rattle.css_syntax.specs.declared.quality.Quality.{Quality}
 use Rattle.css_syntax.specs.declared.parts.Stops.{Stops}
 use Rattle.css_syntax.specs.Tokens.{gap_part, past_gap}

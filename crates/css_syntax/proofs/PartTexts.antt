@@ -4,11 +4,10 @@ use Rattle.std.proofs.Common.{slice_range, ◌≡◌, ℕ, zero, suc, ◌<◌, �
 use Rattle.std.specs.Str.{IsCharBoundary}
 use Rattle.std.proofs.Math.Seq.{take-append_seam, drop-append_seam}
 use Rattle.std.proofs.lemmas.Str.{IsCharBoundary-at_seam, IsCharBoundary-after_ascii}
-use Rattle.simplecss_text.specs.Reading.{each, before, Ends, and_then, up_to}
-use Rattle.simplecss_text.specs.Bytes.{past_byte, past_one, starts, starts_by, is_ascii}
-use Rattle.simplecss_text.specs.Declarations.{last_or}
-use Rattle.simplecss_text.proofs.reading.EndsLemmas.{length-ends}
-use Rattle.simplecss_text.proofs.reading.WellLemmas.{EndsWell, WellFound, each-well, well-same, well-then}
+use Rattle.css_text.specs.Reading.{each, before, Ends, and_then, up_to, last_or}
+use Rattle.css_text.specs.Bytes.{past_byte, past_one, starts, starts_by, is_ascii}
+use Rattle.css_text.proofs.reading.EndsLemmas.{length-ends}
+use Rattle.css_text.proofs.reading.WellLemmas.{EndsWell, WellFound, each-well, well-same, well-then}
 use Rattle.css_syntax.specs.declared.quality.Quality.{Quality}
 use Rattle.css_syntax.specs.declared.parts.Stops.{Stops}
 use Rattle.css_syntax.specs.Tokens.{past_gap, past_word}

@@ -1,14 +1,13 @@
 -- Two texts that are alike up to where they part, and readers of them that stop there or before.
 -- Serves `laws::printed_declarations_read_back`.
 use Rattle.std.proofs.Common.{◌≡◌, ℕ, zero, suc, ◌<◌, ◌≤◌, ◌==◌, Bool, true, false, List, [], ◌∷◌, length, Option, Some, None, arith, refl, sym, ap, subst, if◌then◌else◌, eqb-true, ◌⊎◌, inl, inr}
-use Rattle.simplecss_text.specs.AsciiBytes.{newline, carriage_return, backslash}
-use Rattle.simplecss_text.specs.Reading.{each}
-use Rattle.simplecss_text.specs.Bytes.{past, past_byte}
-use Rattle.simplecss_text.specs.Characters.{is_space}
-use Rattle.simplecss_text.specs.Terms.{is_hex_digit}
-use Rattle.simplecss_text.proofs.reading.EachLemmas.{Takes, took, each-none, each-some, option_cases}
-use Rattle.simplecss_text.proofs.reading.TakesLemmas.{each-within, length-past, length-past_byte}
-use Rattle.simplecss_text.proofs.bytes.RunLemmas.{past-yes, past-no}
+use Rattle.css_text.specs.AsciiBytes.{newline, carriage_return, backslash}
+use Rattle.css_text.specs.Reading.{each}
+use Rattle.css_text.specs.Bytes.{past, past_byte, is_hex_digit}
+use Rattle.css_text.specs.Characters.{is_space}
+use Rattle.css_text.proofs.reading.EachLemmas.{Takes, took, each-none, each-some, option_cases}
+use Rattle.css_text.proofs.reading.TakesLemmas.{each-within, length-past, length-past_byte}
+use Rattle.css_text.proofs.bytes.RunLemmas.{past-yes, past-no}
 use Rattle.css_syntax.specs.Tokens.{is_newline, past_one_space, past_hex, past_escape}
 use Rattle.css_syntax.proofs.Shorter.{past_one_space-within, past_hex-within}
 

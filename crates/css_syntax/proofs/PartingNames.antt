@@ -3,18 +3,17 @@
 -- Serves `laws::printed_declarations_read_back`.
 use Rattle.std.proofs.Common.{◌≡◌, ℕ, zero, suc, ◌<◌, ◌≤◌, ◌-◌, ◌==◌, not, Bool, true, false, List, [], ◌∷◌, ◌++◌, length, length-append, take, arith, refl, sym, ap, subst, ◌∙◌, if◌then◌else◌, eqb-true}
 use Rattle.std.proofs.Math.Seq.{take-append_seam}
-use Rattle.simplecss_text.specs.AsciiBytes.{newline, carriage_return, backslash}
-use Rattle.simplecss_text.specs.Reading.{before}
-use Rattle.simplecss_text.specs.Bytes.{past_byte}
-use Rattle.simplecss_text.specs.Characters.{is_space}
-use Rattle.simplecss_text.specs.Terms.{is_hex_digit}
+use Rattle.css_text.specs.AsciiBytes.{newline, carriage_return, backslash}
+use Rattle.css_text.specs.Reading.{before}
+use Rattle.css_text.specs.Bytes.{past_byte, is_hex_digit}
+use Rattle.css_text.specs.Characters.{is_space}
 use Rattle.css_syntax.specs.Tokens.{is_newline, past_one_space, past_hex, past_escape, begins_escape, is_name_byte, name_part, past_word}
 use Rattle.css_syntax.specs.Printing.{ends_lone}
 use Rattle.css_syntax.proofs.Shorter.{each-rests, past_escape-within}
 use Rattle.css_syntax.proofs.RunSteps.{no_name_part}
 use Rattle.css_syntax.proofs.Parting.{Parting, parting-longer}
 use Rattle.css_syntax.proofs.Parting.Parting.{at, on, pair}
-use Rattle.css_syntax.proofs.PartingAddresses.{word-byte, word-escape}
+use Rattle.css_syntax.proofs.PartingUrls.{word-byte, word-escape}
 
 pub parting-front : (t u front : List ℕ) → ends_lone front ≡ false
     → Parting t u (front ++ t) (front ++ u)

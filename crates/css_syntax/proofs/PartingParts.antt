@@ -1,13 +1,12 @@
 -- Component values one after another, up to where two texts part.
 -- Serves `laws::printed_declarations_read_back`.
 use Rattle.std.proofs.Common.{◌≡◌, ℕ, zero, suc, ◌<◌, ◌≤◌, ◌==◌, ◌&&◌, ◌||◌, eqb-true, Bool, true, false, List, [], ◌∷◌, length, map, Option, Some, None, arith, refl, sym, ap, subst, ◌∙◌, if◌then◌else◌}
-use Rattle.simplecss_text.specs.AsciiBytes.{single_quote, double_quote}
-use Rattle.simplecss_text.specs.Reading.{and_then, up_to, each, followed_by}
-use Rattle.simplecss_text.specs.Bytes.{past, starts_by}
-use Rattle.simplecss_text.specs.Characters.{is_space}
-use Rattle.simplecss_text.specs.Strings.{is_quote}
-use Rattle.simplecss_text.specs.Declarations.{last_or}
-use Rattle.simplecss_text.proofs.reading.EachLemmas.{each-none, each-some, each-stops}
+use Rattle.css_text.specs.AsciiBytes.{single_quote, double_quote}
+use Rattle.css_text.specs.Reading.{and_then, up_to, each, followed_by, last_or}
+use Rattle.css_text.specs.Bytes.{past, starts_by}
+use Rattle.css_text.specs.Characters.{is_space}
+use Rattle.css_text.specs.Strings.{is_quote}
+use Rattle.css_text.proofs.reading.EachLemmas.{each-none, each-some, each-stops}
 use Rattle.css_syntax.specs.declared.quality.Quality.{Quality}
 use Rattle.css_syntax.specs.declared.quality.Quality.TheVariants.{Whole}
 use Rattle.css_syntax.specs.declared.parts.Stops.{Stops}

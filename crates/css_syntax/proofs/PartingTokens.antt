@@ -1,16 +1,16 @@
 -- Tokens of two texts that part after them.
 -- Serves `laws::printed_declarations_read_back`.
 use Rattle.std.proofs.Common.{◌≡◌, ℕ, suc, ◌<◌, ◌≤◌, ◌==◌, ◌||◌, ◌&&◌, not, Bool, true, false, List, [], ◌∷◌, length, length-append, Option, Some, None, arith, refl, ap, subst, if◌then◌else◌}
-use Rattle.simplecss_text.specs.AsciiBytes.{asterisk, slash, backslash, close_parenthesis}
-use Rattle.simplecss_text.specs.Reading.{each}
-use Rattle.simplecss_text.specs.Bytes.{past, past_one, starts}
-use Rattle.simplecss_text.specs.Characters.{is_space}
-use Rattle.simplecss_text.specs.Comments.{opens_comment, after_close}
-use Rattle.simplecss_text.proofs.reading.GotLemmas.{IfAfter, after_close-after}
-use Rattle.simplecss_text.proofs.reading.TakesLemmas.{each-within, length-past}
+use Rattle.css_text.specs.AsciiBytes.{asterisk, slash, backslash, close_parenthesis}
+use Rattle.css_text.specs.Reading.{each}
+use Rattle.css_text.specs.Bytes.{past, past_one, starts}
+use Rattle.css_text.specs.Characters.{is_space}
+use Rattle.css_text.specs.Comments.{opens_comment, after_close}
+use Rattle.css_text.proofs.reading.GotLemmas.{IfAfter, after_close-after}
+use Rattle.css_text.proofs.reading.TakesLemmas.{each-within, length-past}
 use Rattle.css_syntax.specs.declared.quality.Quality.{Quality}
 use Rattle.css_syntax.specs.declared.quality.Quality.TheVariants.{Whole, BadString, BadUrl}
-use Rattle.css_syntax.specs.Tokens.{is_newline, past_escape, begins_escape, from_close, closed_or_open, past_comment, gap_part, past_gap, string_part, string_end, past_string, is_name_byte, name_part, past_word, url_part, url_end, past_url}
+use Rattle.css_syntax.specs.Tokens.{is_newline, past_newline, past_escape, begins_escape, from_close, closed_or_open, past_comment, gap_part, past_gap, string_part, string_end, past_string, is_name_byte, name_part, past_word, url_part, url_end, past_url}
 use Rattle.css_syntax.proofs.Shorter.{past_escape-within, past_comment-within, gap_part-takes, string_part-takes, name_part-takes, url_part-takes}
 use Rattle.css_syntax.proofs.Parting.{Parting, Kept, Quiet, past_escape-kept, past-kept, Follows, follows-if, Any, each_left-kept}
 use Rattle.css_syntax.proofs.Parting.Parting.{at, on, pair}
@@ -198,7 +198,7 @@ string_part-follows quote n t u q r s (pair c r1 s1 h) l =
     rw n (λ p k. (refl, past_escape-kept t u q c r1 s1 h (omega arith)))
 
 abbrev string_closed : Bool → ℕ → List ℕ → Quality × List ℕ
-string_closed k b e = if k then (Whole, e) else (BadString, b ∷ e)
+string_closed k b e = if k then (Whole, e) else (BadString, past_newline (b ∷ e))
 
 string_end-less : (quote : ℕ) (e : List ℕ) → (string_end quote e).0 ≡ Whole
     → length (string_end quote e).1 < length e
@@ -230,7 +230,7 @@ past_string-kept quote n t u q r s h w l =
     (string_part-follows quote n t u q) r s h (omega arith))
     before_end w l
 
--- ---- addresses
+-- ---- urls
 
 url_part-follows : (t u : List ℕ) → Quiet u → (r s : List ℕ) → Parting t u r s
     → suc (length t) ≤ length r → Follows Any (suc (length t)) t u (url_part r) (url_part s)
@@ -267,7 +267,7 @@ url_end-kept t u e f (on b r1 s1 g h) k =
     (λ w l. absurd (cc))
 url_end-kept t u e f (pair c r1 s1 h) k = λ w l. absurd (cc)
 
--- an address that is whole ends after it begins
+-- a url that is whole ends after it begins
 pub past_url-less : (r : List ℕ) → (past_url r).0 ≡ Whole → length (past_url r).1 < length r
 unfolding past_url
 past_url-less r w =

@@ -2,25 +2,25 @@
 -- Serves `laws::printed_declarations_read_back`.
 use Rattle.std.proofs.Common.{◌≡◌, ℕ, zero, suc, ◌<◌, ◌≤◌, ◌==◌, ◌||◌, ◌&&◌, not, Bool, true, false, List, [], ◌∷◌, length, drop, length-drop, Option, Some, None, arith, refl, sym, ap, subst, ◌∙◌, if◌then◌else◌, eqb-true}
 use Rattle.std.specs.Option.{is_some}
-use Rattle.simplecss_text.specs.AsciiBytes.{asterisk, slash, backslash, number_sign, at_sign, open_parenthesis, close_parenthesis, open_bracket, close_bracket, close_brace}
-use Rattle.simplecss_text.specs.Reading.{each}
-use Rattle.simplecss_text.specs.Bytes.{past, past_byte, starts, starts_by}
-use Rattle.simplecss_text.specs.Characters.{is_space}
-use Rattle.simplecss_text.specs.Comments.{opens_comment, after_close}
-use Rattle.simplecss_text.specs.Strings.{is_quote}
-use Rattle.simplecss_text.proofs.reading.EachLemmas.{Takes, each-stops}
+use Rattle.css_text.specs.AsciiBytes.{asterisk, slash, backslash, number_sign, at_sign, open_parenthesis, close_parenthesis, open_bracket, close_bracket, close_brace}
+use Rattle.css_text.specs.Reading.{each}
+use Rattle.css_text.specs.Bytes.{past, past_byte, starts, starts_by}
+use Rattle.css_text.specs.Characters.{is_space}
+use Rattle.css_text.specs.Comments.{opens_comment, after_close}
+use Rattle.css_text.specs.Strings.{is_quote}
+use Rattle.css_text.proofs.reading.EachLemmas.{Takes, each-stops}
 use Rattle.css_syntax.specs.declared.quality.Quality.{Quality}
 use Rattle.css_syntax.specs.declared.quality.Quality.TheVariants.{Whole, Open, BadString, BadUrl, StrayBracket, TooDeep}
 use Rattle.css_syntax.specs.Qualities.{first_flaw, flaw_of_all}
 use Rattle.css_syntax.specs.Tokens.{is_newline, begins_escape, from_close, closed_or_open, past_comment, comment_quality, past_string, is_name_byte, name_part, past_word, then_open, after_url, past_url, begins_cdo, is_closer, other_token, token}
-use Rattle.css_syntax.specs.ComponentValues.{is_opener, mirror, value_inside, end_quality, block_of, value_by, component_value}
+use Rattle.css_syntax.specs.ComponentValues.{is_opener, mirror, value_inside, end_quality, block_of, value_by, past_deep, component_value}
 use Rattle.css_syntax.proofs.Shorter.{each-rests}
 use Rattle.css_syntax.proofs.RunSteps.{no_name_part, or-both}
 use Rattle.css_syntax.proofs.OpenBlocks.{inside-takes}
 use Rattle.css_syntax.proofs.Parting.{Parting, Quiet, parting-longer, kept-if, Follows, follows-if, Every, each-kept, newline-no_backslash}
 use Rattle.css_syntax.proofs.Parting.Parting.{at, on, pair}
 use Rattle.css_syntax.proofs.PartingTokens.{word-kept, close-less, comment-kept, WholeKept, whole-if, past_string-kept, past_url-less, past_url-kept}
-use Rattle.css_syntax.proofs.PartingAddresses.{WordKept, NoLetter, Addresses, url-word, url-kept, NoCdo, cdo-none, cdo-kept}
+use Rattle.css_syntax.proofs.PartingUrls.{WordKept, NoLetter, Urls, url-word, url-kept, NoCdo, cdo-none, cdo-kept}
 
 -- Two texts after which values end: t is what follows a value in the first, and u begins with a
 -- byte that continues nothing.
@@ -37,9 +37,15 @@ pub record Seam (t u : List ℕ) : Type 0 where
 
 -- ---- tokens, from the last case to the first
 
-other-kept : (t u : List ℕ) → Seam t u → (b : ℕ) (r s : List ℕ) → Parting t u r s
-    → WholeKept t u (other_token b r) (other_token b s)
-other-kept t u m b r s h =
+-- none of the others, and no backslash
+abbrev plain_token : ℕ → List ℕ → Quality × List ℕ
+plain_token b text =
+    if b == number_sign || b == at_sign then (Whole, past_word text)
+    else (if is_closer b then (StrayBracket, text) else (Whole, text))
+
+plain-kept : (t u : List ℕ) → Seam t u → (b : ℕ) (r s : List ℕ) → Parting t u r s
+    → WholeKept t u (plain_token b r) (plain_token b s)
+plain-kept t u m b r s h =
     whole-if t u (b == number_sign || b == at_sign) (Whole, past_word r) _ (Whole, past_word s) _
     (λ w l. (refl, word-kept t u m.quiet m.no_name r s h l))
     (whole-if t u (is_closer b) (StrayBracket, r) (Whole, r) (StrayBracket, s) (Whole, s)
@@ -65,7 +71,7 @@ word_token-kept t u m b r s e h =
     rw e (whole-if t u (is_name_byte b || false) (Whole, past_word (b ∷ r)) _
     (Whole, past_word (b ∷ s)) _
     (λ w l. (refl, word-kept t u m.quiet m.no_name (b ∷ r) (b ∷ s) (on b r s e h) l))
-    (other-kept t u m b r s h))
+    (plain-kept t u m b r s h))
 
 cdo_token-kept : (t u : List ℕ) → Seam t u → (b : ℕ) (r s : List ℕ)
     → (b == backslash) ≡ false → Parting t u r s
@@ -131,7 +137,7 @@ url_token-kept t u m b r s h more w l =
     (reaches t u b r (b ∷ s) h (after_url (b ∷ r)) refl w l))
   where
     by : (o p : Option (List ℕ)) → (url_token b r o).0 ≡ Whole
-        → length t ≤ length (url_token b r o).1 → Addresses t u o p
+        → length t ≤ length (url_token b r o).1 → Urls t u o p
         → ((url_token b s p).0 ≡ Whole) × Parting t u (url_token b r o).1 (url_token b s p).1
     by None None w l k = more w l
     by None (Some y) w l k = absurd k
@@ -170,9 +176,9 @@ backslash-kept : (t u : List ℕ) → Seam t u → (c : ℕ) (r s : List ℕ) �
 backslash-kept t u m c r s h = by (is_newline c) refl
   where
     by : (k : Bool) → is_newline c ≡ k → WholeKept t u
-        (if not k then (Whole, past_word (backslash ∷ c ∷ r)) else (Whole, c ∷ r))
-        (if not k then (Whole, past_word (backslash ∷ c ∷ s)) else (Whole, c ∷ s))
-    by true e = λ w l. (refl, on c r s (newline-no_backslash c e) h)
+        (if not k then (Whole, past_word (backslash ∷ c ∷ r)) else (Whole, if k then r else c ∷ r))
+        (if not k then (Whole, past_word (backslash ∷ c ∷ s)) else (Whole, if k then s else c ∷ s))
+    by true e = λ w l. (refl, h)
     by false e = λ w l. (
       refl,
       word-kept t u m.quiet m.no_name (backslash ∷ c ∷ r) (backslash ∷ c ∷ s) (pair c r s h) l,
@@ -328,7 +334,8 @@ block_of-kept t u read kept closer n takes r s h w l =
 pub value-kept : (t u : List ℕ) → Seam t u → (n : ℕ) → ValueKept t u (component_value n)
 unfolding component_value
 value-kept t u m zero =
-    value_by-kept t u m (λ closer rest. (TooDeep, [])) (λ closer n r s h w l. absurd (cc))
+    value_by-kept t u m (λ closer rest. (TooDeep, past_deep rest))
+    (λ closer n r s h w l. absurd (cc))
 value-kept t u m (suc n) =
     value_by-kept t u m (block_of (component_value n))
     (λ closer e. block_of-kept t u (component_value n) (value-kept t u m n) closer e

@@ -2,11 +2,10 @@
 -- Serves the callers of `read_part` and `read_next` that count offsets.
 use Rattle.std.proofs.Common.{◌≡◌, ℕ, ◌≤◌, ◌-◌, map, Bool, true, false, List, length, Option, None, Some, arith, if◌then◌else◌, refl}
 use Rattle.std.proofs.lemmas.List.{length-take}
-use Rattle.simplecss_text.specs.AsciiBytes.{colon, open_brace, at_sign}
-use Rattle.simplecss_text.specs.Reading.{before, each}
-use Rattle.simplecss_text.specs.Bytes.{past_byte, starts}
-use Rattle.simplecss_text.specs.Declarations.{last_or}
-use Rattle.simplecss_text.proofs.reading.TakesLemmas.{each-within, length-past_byte}
+use Rattle.css_text.specs.AsciiBytes.{colon, open_brace, at_sign}
+use Rattle.css_text.specs.Reading.{before, each, last_or}
+use Rattle.css_text.specs.Bytes.{past_byte, starts}
+use Rattle.css_text.proofs.reading.TakesLemmas.{each-within, length-past_byte}
 use Rattle.css_syntax.specs.declared.parts.Stops.{Stops}
 use Rattle.css_syntax.specs.Tokens.{past_gap, past_word}
 use Rattle.css_syntax.specs.Parts.{Stated, part, parts}

@@ -2,7 +2,7 @@
 -- Serves the loops over `read_part` and `read_next` in the crates above.
 use Rattle.std.proofs.Common.{◌≡◌, ◌<◌, ℕ, Bool, List, [], ◌∷◌, length, Option, Some, None, ap}
 use Rattle.std.specs.Option.{option_map}
-use Rattle.simplecss_text.proofs.reading.EachLemmas.{Takes, Shrinks, each-none, each-some, took}
+use Rattle.css_text.proofs.reading.EachLemmas.{Takes, Shrinks, each-none, each-some, took}
 use Rattle.css_syntax.specs.Statements.{SheetText, past_between, next_statement}
 use Rattle.css_syntax.specs.DeclarationLists.{ListText, past_separators, next_item}
 use Rattle.css_syntax.specs.Placed.{placed_item, next_placed_item, placed_items, placed_statement, next_placed_statement, placed_statements}

@@ -1,24 +1,24 @@
 -- A declaration that was read, printed and read again.
 -- Serves `laws::printed_declarations_read_back`.
-use Rattle.std.proofs.Common.{◌≡◌, ℕ, zero, suc, ◌<◌, ◌≤◌, ◌==◌, ◌||◌, ◌&&◌, not, codes, nat_le, Bool, true, false, List, [], ◌∷◌, ◌++◌, append_assoc, length, Option, Some, None, arith, refl, sym, ap, subst, ◌∙◌, if◌then◌else◌, eqb-true, ◌⊎◌, inl, inr}
+use Rattle.std.proofs.Common.{◌≡◌, ℕ, zero, suc, ◌<◌, ◌≤◌, ◌==◌, ◌||◌, ◌&&◌, not, codes, nat_le, Bool, true, false, List, [], ◌∷◌, ◌++◌, append_assoc, length, Option, Some, None, Ok, Err, arith, refl, sym, ap, subst, ◌∙◌, if◌then◌else◌, eqb-true, ◌⊎◌, inl, inr}
 use Rattle.std.specs.List.{All}
 use Rattle.std.proofs.lemmas.Bool.{and_parts}
 use Rattle.std.proofs.lemmas.List.Elements.{All-cons, All-nil}
-use Rattle.simplecss_text.specs.AsciiBytes.{asterisk, newline, colon, semicolon, exclamation_mark, backslash, hyphen, at_sign, slash, close_brace, space, underscore}
-use Rattle.simplecss_text.specs.Reading.{before, each}
-use Rattle.simplecss_text.specs.Bytes.{past, past_byte, starts, starts_by, starts_two, is_digit}
-use Rattle.simplecss_text.specs.Characters.{is_space, is_letter}
-use Rattle.simplecss_text.specs.Strings.{is_quote}
-use Rattle.simplecss_text.specs.Terms.{is_hex_digit}
-use Rattle.simplecss_text.specs.Declarations.{last_or}
-use Rattle.simplecss_text.proofs.reading.EachLemmas.{each-stops, option_cases, took}
+use Rattle.css_text.specs.AsciiBytes.{asterisk, newline, colon, semicolon, exclamation_mark, backslash, hyphen, at_sign, slash, open_brace, close_brace, space, underscore}
+use Rattle.css_text.specs.Reading.{before, each, last_or}
+use Rattle.css_text.specs.Bytes.{past, past_byte, starts, starts_by, starts_two, is_digit, is_hex_digit}
+use Rattle.css_text.specs.Characters.{is_space, is_letter}
+use Rattle.css_text.specs.Strings.{is_quote}
+use Rattle.css_text.proofs.reading.EachLemmas.{each-stops, option_cases, took}
 use Rattle.css_syntax.specs.declared.quality.Quality.{Quality}
 use Rattle.css_syntax.specs.declared.quality.Quality.TheVariants.{Whole, Open, BadString, BadUrl, StrayBracket, TooDeep}
+use Rattle.css_syntax.specs.declared.quality.Fault.{Fault}
+use Rattle.css_syntax.specs.declared.quality.Fault.TheVariants.{NestedRule}
 use Rattle.css_syntax.specs.Qualities.{is_good, is_whole}
-use Rattle.css_syntax.specs.Tokens.{past_one_space, past_hex, past_escape, begins_escape, hex_number, is_either, past_letter, is_name_byte, name_part, past_word, gap_part, past_gap}
+use Rattle.css_syntax.specs.Tokens.{past_one_space, past_hex, past_escape, begins_escape, hex_number, is_either, past_letter, spells, is_name_byte, name_part, past_word, gap_part, past_gap}
 use Rattle.css_syntax.specs.Parts.{Stated, ends_at, parts}
-use Rattle.css_syntax.specs.Statements.{begins_plain_ident, begins_ident, begins_at_rule, ends_block, at_rule}
-use Rattle.css_syntax.specs.DeclarationLists.{DeclarationText, ItemText, declared, at_rule_item, skipped_item, declaration_ends, value_ends, value, important_word, importance, is_custom, is_empty, is_stated, stated_as, valued, named, declaration, item, separator_part, past_separators, ListText, with_text, item_from, next_item, items}
+use Rattle.css_syntax.specs.Statements.{begins_plain_ident, starts_ident, begins_at_rule, ends_block, block, at_rule, at_rule_ends}
+use Rattle.css_syntax.specs.DeclarationLists.{DeclarationText, ItemText, declared, at_rule_item, skipped_item, declaration_ends, value_ends, value, important_word, importance, is_custom, is_empty, is_stated, Declared, stated_as, valued, named, declaration, past_broken, begins_custom, or_rule, item, separator_part, past_separators, ListText, with_text, item_from, next_item, items}
 use Rattle.css_syntax.specs.Printing.{ends_lone, important_text, stated_text, declaration_text, DeclarationReadsBack, ItemReadsBack, ItemsReadBack, IsWholeValue, ReadsBackWith, ItemsReadBackWith}
 use Rattle.css_syntax.proofs.Shorter.{each-rests, each-goes, gap_part-takes, name_part-takes, word-less}
 use Rattle.css_syntax.proofs.RunSteps.{not-this}
@@ -28,7 +28,7 @@ use Rattle.css_syntax.proofs.ListSteps.{items-some, items-none}
 use Rattle.css_syntax.proofs.Parting.{Parting, Quiet, parting-longer, parting-end, Follows, Any}
 use Rattle.css_syntax.proofs.Parting.Parting.{at, on, pair}
 use Rattle.css_syntax.proofs.PartingTokens.{word-kept, gap_part-follows}
-use Rattle.css_syntax.proofs.PartingAddresses.{NoLetter, either-name, and-none}
+use Rattle.css_syntax.proofs.PartingUrls.{NoLetter, either-name, and-none}
 use Rattle.css_syntax.proofs.PartingValues.{Seam}
 use Rattle.css_syntax.proofs.PartingParts.{ends_of, flaws_of, gap-again, last-no_quote, parts-kept}
 use Rattle.css_syntax.proofs.PartingNames.{parting-front, before-append, word-parting}
@@ -37,13 +37,14 @@ use Rattle.css_syntax.proofs.PartingNames.{parting-front, before-append, word-pa
 
 -- A declaration as it was read from this start.
 record ReadFrom (start : List ℕ) (d : DeclarationText) : Type 0 where
-  pub begins : begins_ident start ≡ true
+  pub begins : starts_ident start ≡ true
   pub name_is : d.name ≡ before start (past_word start)
   pub colon_is : starts colon (past_gap (past_word start)) ≡ true
   pub value_is : d.value
-      ≡ (value (past_gap (past_byte colon (past_gap (past_word start))))).0.text
+      ≡ (value (is_custom d.name) (past_gap (past_byte colon (past_gap (past_word start))))).0.text
   pub closed_is : d.closed
-      ≡ is_whole (value (past_gap (past_byte colon (past_gap (past_word start))))).0.quality
+      ≡ is_whole (value (is_custom d.name)
+      (past_gap (past_byte colon (past_gap (past_word start))))).0.quality
   pub some : (not (is_empty d.value) || is_custom d.name) ≡ true
 
 -- the same of an item, if it is a declaration
@@ -52,16 +53,22 @@ IsReadFrom start (declared d) = ReadFrom start d
 IsReadFrom start (at_rule_item a) = Unit {0}
 IsReadFrom start (skipped_item fault) = Unit {0}
 
+-- the same of what is read as a declaration
+abbrev IsDeclaredFrom : List ℕ → Declared → Type 0
+IsDeclaredFrom start (Ok found) = ReadFrom start found.0
+IsDeclaredFrom start (Err fault) = Unit {0}
+
 declaration-read : (in_block : Bool) (start : List ℕ)
-    → IsReadFrom start (declaration in_block start).0
+    → IsDeclaredFrom start (declaration in_block start)
 unfolding declaration
-declaration-read in_block start = by (begins_ident start) refl
+declaration-read in_block start = by (starts_ident start) refl
   where
     stated : (s : Stated) (i : Bool × List ℕ) (k : Bool)
         → is_stated in_block (before start (past_word start)) s i.1 ≡ k
-        → begins_ident start ≡ true → starts colon (past_gap (past_word start)) ≡ true
-        → s ≡ (value (past_gap (past_byte colon (past_gap (past_word start))))).0
-        → IsReadFrom start (stated_as in_block (before start (past_word start)) s i).0
+        → starts_ident start ≡ true → starts colon (past_gap (past_word start)) ≡ true
+        → s ≡ (value (is_custom (before start (past_word start)))
+        (past_gap (past_byte colon (past_gap (past_word start))))).0
+        → IsDeclaredFrom start (stated_as in_block (before start (past_word start)) s i)
     stated s i true e f g v =
         let whole = before start (past_word start) in
         let parts = and_parts (is_good s.quality && ends_at (declaration_ends in_block) i.1)
@@ -76,18 +83,43 @@ declaration-read in_block start = by (begins_ident start) refl
         })
     stated s i false e f g v = rw e tt
 
-    after : (k : Bool) → starts colon (past_gap (past_word start)) ≡ k → begins_ident start ≡ true
-        → IsReadFrom start
-        (named in_block start (before start (past_word start)) (past_gap (past_word start))).0
+    after : (k : Bool) → starts colon (past_gap (past_word start)) ≡ k → starts_ident start ≡ true
+        → IsDeclaredFrom start
+        (named in_block (before start (past_word start)) (past_gap (past_word start)))
     after true g f =
-        let s = value (past_gap (past_byte colon (past_gap (past_word start)))) in
+        let s = value (is_custom (before start (past_word start))) (past_gap (past_byte colon (past_gap (past_word start)))) in
         rw g (stated s.0 (importance s.1)
         (is_stated in_block (before start (past_word start)) s.0 (importance s.1).1) refl f g refl)
     after false g f = rw g tt
 
-    by : (k : Bool) → begins_ident start ≡ k → IsReadFrom start (declaration in_block start).0
+    by : (k : Bool) → starts_ident start ≡ k → IsDeclaredFrom start (declaration in_block start)
     by true f = rw f (after (starts colon (past_gap (past_word start))) refl f)
     by false f = rw f tt
+
+-- what is no declaration, in each case
+abbrev ended_by : (k t u : Bool) → Fault → (broken after rest all : List ℕ) → ItemText × List ℕ
+ended_by k t u fault broken after rest all =
+    if k
+    then (if t then (if u then (skipped_item fault, broken) else (skipped_item NestedRule, after))
+    else (skipped_item fault, rest))
+    else (skipped_item fault, all)
+
+or_rule-read : (in_block : Bool) (start : List ℕ) (x : Declared) → IsDeclaredFrom start x
+    → IsReadFrom start (or_rule in_block start x).0
+or_rule-read in_block start (Ok found) h = h
+or_rule-read in_block start (Err fault) h =
+    by in_block (starts open_brace rest) (begins_custom start) (past_broken in_block rest)
+    (block (past_byte open_brace rest)).1
+  where
+    rest : List ℕ
+    rest = (parts (at_rule_ends in_block) start).1
+
+    by : (k t u : Bool) (broken after : List ℕ)
+        → IsReadFrom start (ended_by k t u fault broken after rest (past_broken in_block start)).0
+    by true true true broken after = tt
+    by true true false broken after = tt
+    by true false u broken after = tt
+    by false t u broken after = tt
 
 item-read : (in_block : Bool) (start : List ℕ) → IsReadFrom start (item in_block start).0
 unfolding item
@@ -95,9 +127,10 @@ item-read in_block start = by (begins_at_rule start)
   where
     by : (k : Bool) → IsReadFrom start
         (if k then (at_rule_item (at_rule in_block start).0, (at_rule in_block start).1)
-        else declaration in_block start).0
+        else or_rule in_block start (declaration in_block start)).0
     by true = tt
-    by false = declaration-read in_block start
+    by false =
+        or_rule-read in_block start (declaration in_block start) (declaration-read in_block start)
 
 -- ---- what follows a name and a value, printed
 
@@ -196,10 +229,10 @@ unfolding gap_part
 no_gap-value true text = refl
 no_gap-value false text = refl
 
-value-stops : (important : Bool) (text : List ℕ)
-    → ends_at value_ends (after_value important text) ≡ true
-value-stops true text = refl
-value-stops false text = refl
+value-stops : (custom important : Bool) (text : List ℕ)
+    → ends_at (value_ends custom) (after_value important text) ≡ true
+value-stops custom true text = refl
+value-stops custom false text = refl
 
 word-important : (text : List ℕ)
     → past_word (codes "important" ++ (semicolon ∷ text)) ≡ semicolon ∷ text
@@ -208,7 +241,7 @@ word-important text = refl
 
 mark-read : (text : List ℕ)
     → importance (codes "!important" ++ (semicolon ∷ text)) ≡ (true, semicolon ∷ text)
-unfolding gap_part
+unfolding gap_part spells past_letter
 mark-read text =
     let following = codes "important" ++ (semicolon ∷ text) in
     let start : past_gap following ≡ following = each-rests gap_part following refl in
@@ -259,27 +292,28 @@ gap-same t u x y stays r s (pair c r1 s1 h) g =
     by (Some z) f k = absurd k
 
 -- a value that was read whole from a start without blanks
-pub value-again : (start : List ℕ) → past_gap start ≡ start → (v : List ℕ)
-    → (value start).0 ≡ record { text = v; quality = Whole } → ends_lone v ≡ false
+pub value-again : (custom : Bool) (start : List ℕ) → past_gap start ≡ start → (v : List ℕ)
+    → (value custom start).0 ≡ record { text = v; quality = Whole } → ends_lone v ≡ false
     → (important : Bool) (text : List ℕ)
     → (past_gap (v ++ after_value important text) ≡ v ++ after_value important text)
-    × (value (v ++ after_value important text)
+    × (value custom (v ++ after_value important text)
     ≡ (record { text = v; quality = Whole }, after_value important text))
 unfolding parts
-value-again start g v read lone important text =
+value-again custom start g v read lone important text =
+    let ends = value_ends custom in
     let u = after_value important text in
-    let t = last_or start (ends_of value_ends start) in
-    let seam = seam-value t important text (last-no_quote value_ends start g) in
+    let t = last_or start (ends_of ends start) in
+    let seam = seam-value t important text (last-no_quote ends start g) in
     let v_is : before start t ≡ v = ap (λ (s : Stated). s.text) read in
-    let whole : flaws_of value_ends start ≡ Whole = ap (λ (s : Stated). s.quality) read in
+    let whole : flaws_of ends start ≡ Whole = ap (λ (s : Stated). s.quality) read in
     let start_is : v ++ t ≡ start =
-    ap (λ (x : List ℕ). x ++ t) (sym v_is) ∙ (end-well value_ends start).0 in
+    ap (λ (x : List ℕ). x ++ t) (sym v_is) ∙ (end-well ends start).0 in
     let alike : Parting t u start (v ++ u) =
     subst (λ (x : List ℕ). Parting t u x (v ++ u)) start_is (parting-front t u v lone) in
     let stays : past_gap u ≡ u = each-rests gap_part u (no_gap-value important text) in
-    let kept = parts-kept value_ends t u seam stays (value-stops important text) (length start)
+    let kept = parts-kept ends t u seam stays (value-stops custom important text) (length start)
     start (v ++ u) (omega arith) alike refl whole in
-    let text_is : before (v ++ u) (last_or (v ++ u) (ends_of value_ends (v ++ u))) ≡ v =
+    let text_is : before (v ++ u) (last_or (v ++ u) (ends_of ends (v ++ u))) ≡ v =
     ap (before (v ++ u)) kept.last ∙ before-append v u in (
       gap-same t u seam.no_slash seam.no_star stays start (v ++ u) alike g,
       rw (text_is, kept.whole, kept.left) refl,
@@ -306,7 +340,7 @@ record BeginsItem (in_block : Bool) (text : List ℕ) : Type 0 where
   pub no_end : ends_block in_block text ≡ false
   pub no_at : begins_at_rule text ≡ false
 
-ident-item : (in_block : Bool) (text : List ℕ) → begins_ident text ≡ true
+ident-item : (in_block : Bool) (text : List ℕ) → starts_ident text ≡ true
     → BeginsItem in_block text
 unfolding separator_part gap_part
 ident-item in_block [] e = absurd (cc)
@@ -336,30 +370,30 @@ ident-item in_block (b ∷ text) e =
 -- a name begins in both texts that part after it
 ident-same : (t u r s : List ℕ) → starts hyphen t ≡ false → starts hyphen u ≡ false
     → begins_plain_ident t ≡ false → Parting t u r s → length t < length r
-    → begins_ident r ≡ true → begins_ident s ≡ true
+    → starts_ident r ≡ true → starts_ident s ≡ true
 ident-same t u r s x y z at k e = absurd (omega arith)
 ident-same t u r s x y z (pair c r1 s1 h) k e = e
 ident-same t u r s x y z (on b r1 s1 f h) k e = by r1 s1 h e
   where
     -- a hyphen and then the texts part, or another byte
-    last : (j : Bool) → (b == hyphen) ≡ j → begins_ident (b ∷ t) ≡ true
-        → begins_ident (b ∷ u) ≡ true
+    last : (j : Bool) → (b == hyphen) ≡ j → starts_ident (b ∷ t) ≡ true
+        → starts_ident (b ∷ u) ≡ true
     last true g e = absurd (let wrong = rw (g, x, z) at e in cc)
     last false g e = rw (g, f) (rw (g, f) at e)
 
     same : (j : Bool) (c : ℕ) (r s : List ℕ) → (b == hyphen) ≡ j → (c == backslash) ≡ false
-        → begins_ident (b ∷ c ∷ r) ≡ true → begins_ident (b ∷ c ∷ s) ≡ true
+        → starts_ident (b ∷ c ∷ r) ≡ true → starts_ident (b ∷ c ∷ s) ≡ true
     same true c r s g i e = rw (g, i) (rw (g, i) at e)
     same false c r s g i e = rw (g, f) (rw (g, f) at e)
 
     escaped : (j : Bool) (c : ℕ) (r s : List ℕ) → (b == hyphen) ≡ j
-        → begins_ident (b ∷ backslash ∷ c ∷ r) ≡ true
-        → begins_ident (b ∷ backslash ∷ c ∷ s) ≡ true
+        → starts_ident (b ∷ backslash ∷ c ∷ r) ≡ true
+        → starts_ident (b ∷ backslash ∷ c ∷ s) ≡ true
     escaped true c r s g e = rw g (rw g at e)
     escaped false c r s g e = rw (g, f) (rw (g, f) at e)
 
-    by : (r1 s1 : List ℕ) → Parting t u r1 s1 → begins_ident (b ∷ r1) ≡ true
-        → begins_ident (b ∷ s1) ≡ true
+    by : (r1 s1 : List ℕ) → Parting t u r1 s1 → starts_ident (b ∷ r1) ≡ true
+        → starts_ident (b ∷ s1) ≡ true
     by r1 s1 at e = last (b == hyphen) refl e
     by r1 s1 (on c r2 s2 g h) e = same (b == hyphen) c r2 s2 refl g e
     by r1 s1 (pair c r2 s2 h) e = escaped (b == hyphen) c r2 s2 refl e
@@ -414,7 +448,7 @@ some-colon [] e = absurd (let none : past_gap [] ≡ [] = each-rests gap_part []
     let wrong : starts colon (past_gap []) ≡ false = rw none refl in cc)
 some-colon (b ∷ text) e = omega arith
 
-ident-less : (start : List ℕ) → begins_ident start ≡ true
+ident-less : (start : List ℕ) → starts_ident start ≡ true
     → length (past_word start) < length start
 ident-less [] e = absurd (cc)
 ident-less (b ∷ start) e = omega (arith, word-less b start (ident-word b start e))
@@ -437,48 +471,48 @@ whole-is s v closed e f g = by s.quality (sym f ∙ g)
     by TooDeep h = absurd (cc)
 
 -- what is read after the name
-named-again : (in_block : Bool) (whole : List ℕ) (d : DeclarationText) (text : List ℕ)
+named-again : (in_block : Bool) (d : DeclarationText) (text : List ℕ)
     → d.closed ≡ true → (not (is_empty d.value) || is_custom d.name) ≡ true
     → past_gap (d.value ++ after_value d.important text) ≡ d.value ++ after_value d.important text
-    → value (d.value ++ after_value d.important text)
+    → value (is_custom d.name) (d.value ++ after_value d.important text)
     ≡ (record { text = d.value; quality = Whole }, after_value d.important text)
-    → named in_block whole d.name (after_name d text) ≡ (declared d, semicolon ∷ text)
+    → named in_block d.name (after_name d text) ≡ Ok (d, semicolon ∷ text)
 unfolding gap_part
-named-again in_block whole d text closed some g v =
+named-again in_block d text closed some g v =
     let rest = d.value ++ after_value d.important text in
-    let read : value (past_gap (space ∷ rest))
+    let read : value (is_custom d.name) (past_gap (space ∷ rest))
     ≡ (record { text = d.value; quality = Whole }, after_value d.important text) =
-    ap value (sym (each-goes gap_part gap_part-takes (space ∷ rest) rest tt refl) ∙ g) ∙ v in
+    ap (value (is_custom d.name)) (sym (each-goes gap_part gap_part-takes (space ∷ rest) rest tt refl) ∙ g) ∙ v in
     ap (valued in_block d.name) read
     ∙ ap (stated_as in_block d.name (record { text = d.value; quality = Whole }))
     (importance-read d.important text)
-    ∙ rw some (ap (λ (c : Bool). (
-      declared (record {
+    ∙ rw some (ap (λ (c : Bool). Ok (
+      record {
         name = d.name;
         value = d.value;
         important = d.important;
         closed = c;
-      }),
+      },
       semicolon ∷ text,
     )) (sym closed))
 
 declaration-again : (in_block : Bool) (whole : List ℕ) (d : DeclarationText) (text : List ℕ)
-    → begins_ident whole ≡ true → past_word whole ≡ after_name d text
+    → starts_ident whole ≡ true → past_word whole ≡ after_name d text
     → whole ≡ d.name ++ after_name d text
-    → named in_block whole d.name (after_name d text) ≡ (declared d, semicolon ∷ text)
-    → declaration in_block whole ≡ (declared d, semicolon ∷ text)
+    → named in_block d.name (after_name d text) ≡ Ok (d, semicolon ∷ text)
+    → declaration in_block whole ≡ Ok (d, semicolon ∷ text)
 unfolding declaration gap_part
 declaration-again in_block whole d text e f g h =
     let u = after_name d text in
     let name : before whole (past_word whole) ≡ d.name =
     ap (before whole) f ∙ ap (λ (x : List ℕ). before x u) g ∙ before-append d.name u in
     let stays : past_gap (past_word whole) ≡ u = ap past_gap f ∙ each-rests gap_part u refl in
-    rw e (ap (λ (x : List ℕ). named in_block whole x (past_gap (past_word whole))) name
-    ∙ ap (named in_block whole d.name) stays ∙ h)
+    rw e (ap (λ (x : List ℕ). named in_block x (past_gap (past_word whole))) name
+    ∙ ap (named in_block d.name) stays ∙ h)
 
 next-again : (in_block : Bool) (whole : List ℕ) (d : DeclarationText) (text : List ℕ)
     → BeginsItem in_block whole → whole ≡ stated_text d ++ (semicolon ∷ text)
-    → declaration in_block whole ≡ (declared d, semicolon ∷ text)
+    → declaration in_block whole ≡ Ok (d, semicolon ∷ text)
     → next_item in_block whole
     ≡ Some (record { text = stated_text d; item = declared d }, semicolon ∷ text)
 unfolding next_item item
@@ -486,16 +520,18 @@ next-again in_block whole d text w e h =
     let front : before whole (semicolon ∷ text) ≡ stated_text d =
     ap (λ (x : List ℕ). before x (semicolon ∷ text)) e ∙ before-append (stated_text d)
     (semicolon ∷ text) in
-    let here : item in_block whole ≡ (declared d, semicolon ∷ text) = rw w.no_at h in
+    let here : item in_block whole ≡ (declared d, semicolon ∷ text) =
+    rw w.no_at (ap (or_rule in_block whole) h) in
     ap (item_from in_block) w.no_separator
     ∙ rw w.no_end (ap (λ (x : ItemText × List ℕ). Some (with_text whole x)) here
     ∙ ap (λ (x : List ℕ). Some (record { text = x; item = declared d }, semicolon ∷ text)) front)
 
 -- the name that was read from a start, with a value that is whole where it begins
-read-with : (start : List ℕ) (d : DeclarationText) → begins_ident start ≡ true
+read-with : (start : List ℕ) (d : DeclarationText) → starts_ident start ≡ true
     → d.name ≡ before start (past_word start) → starts colon (past_gap (past_word start)) ≡ true
     → (from : List ℕ) → past_gap from ≡ from
-    → (value from).0 ≡ record { text = d.value; quality = Whole } → d.closed ≡ true
+    → (value (is_custom d.name) from).0 ≡ record { text = d.value; quality = Whole }
+    → d.closed ≡ true
     → (not (is_empty d.value) || is_custom d.name) ≡ true → ends_lone d.value ≡ false
     → DeclarationReadsBack d
 unfolding name_part
@@ -513,8 +549,8 @@ read-with start d ident name_is colon_is from blank read closed some lone in_blo
     refl refl refl) refl start whole alike (omega arith) in
     let word_is : past_word whole ≡ u =
     (parting-end t u t (past_word whole) word (omega arith)).1 in
-    let again = value-again from blank d.value read lone d.important text in
-    let named_is = named-again in_block whole d text closed some again.0 again.1 in
+    let again = value-again (is_custom d.name) from blank d.value read lone d.important text in
+    let named_is = named-again in_block d text closed some again.0 again.1 in
     let both = printed-assoc d text lone in
     ap (next_item in_block) both.0
     ∙ next-again in_block whole d text (ident-item in_block whole begins) (sym both.0 ∙ both.1)
@@ -532,22 +568,21 @@ unfolding FromStart
 item-back start (declared d) w = λ closed lone.
     let after = past_byte colon (past_gap (past_word start)) in
     read-with start d w.begins w.name_is w.colon_is (past_gap after) (gap-again after)
-    (whole-is (value (past_gap after)).0 d.value d.closed w.value_is w.closed_is closed) closed
+    (whole-is (value (is_custom d.name) (past_gap after)).0 d.value d.closed w.value_is w.closed_is closed) closed
     w.some lone
 item-back start (at_rule_item a) w = tt
 item-back start (skipped_item fault) w = tt
 
 -- and with another value
-item-back-with : (v : List ℕ) (important : Bool) → IsWholeValue v
-    → FromStart (λ i. ReadsBackWith i v important)
+item-back-with : (v : List ℕ) (important : Bool) → FromStart (λ i. ReadsBackWith i v important)
 unfolding FromStart
-item-back-with v important h start (declared d) w = λ lone some.
+item-back-with v important start (declared d) w = λ h lone some.
     read-with start
     (record { name = d.name; value = v; important = important; closed = true })
     w.begins w.name_is w.colon_is v h.no_blank (ap (λ (x : Stated × List ℕ). x.0) h.whole) refl some
     lone
-item-back-with v important h start (at_rule_item a) w = tt
-item-back-with v important h start (skipped_item fault) w = tt
+item-back-with v important start (at_rule_item a) w = tt
+item-back-with v important start (skipped_item fault) w = tt
 
 -- the next item was read from where it begins
 abbrev OfNext : (ItemText → Type 0) → Option (ListText × List ℕ) → Type 0
@@ -601,6 +636,6 @@ items-read_back in_block text =
     items-within ItemReadsBack item-back in_block (length text) text (omega arith)
 
 pub items-read_back-with : (in_block : Bool) (text : List ℕ) → ItemsReadBackWith in_block text
-items-read_back-with in_block text v important h =
-    items-within (λ i. ReadsBackWith i v important) (item-back-with v important h) in_block
+items-read_back-with in_block text v important =
+    items-within (λ i. ReadsBackWith i v important) (item-back-with v important) in_block
     (length text) text (omega arith)

@@ -3,8 +3,8 @@
 use Rattle.std.proofs.Common.{◌≡◌, ℕ, Bool, List, [], ◌∷◌, ◌++◌, append-nil, map, Some, None, refl, sym, ap, ◌∙◌, ◌⊎◌, inl, inr}
 use Rattle.std.specs.List.{flat_map, join_with_byte}
 use Rattle.std.proofs.lemmas.List.Elements.{All-head, All-tail}
-use Rattle.simplecss_text.specs.AsciiBytes.{semicolon, space}
-use Rattle.simplecss_text.proofs.reading.EachLemmas.{option_cases}
+use Rattle.css_text.specs.AsciiBytes.{semicolon, space}
+use Rattle.css_text.proofs.reading.EachLemmas.{option_cases}
 use Rattle.css_syntax.specs.Tokens.{gap_part}
 use Rattle.css_syntax.specs.DeclarationLists.{DeclarationText, ListText, separator_part, item_from, next_item, items}
 use Rattle.css_syntax.specs.Printing.{declaration_text, DeclarationReadsBack, printed_part, list_text, ListReadsBack}

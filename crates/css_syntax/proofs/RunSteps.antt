@@ -1,14 +1,15 @@
 -- Words and gaps that are skipped in runs of bytes.
--- Serves `tokens::{skip_word, skip_gap, skip_token}`.
-use Rattle.std.proofs.Common.{◌≡◌, ℕ, ◌<◌, Bool, true, false, List, [], ◌∷◌, length, Some, None, arith, refl, ◌∙◌, ◌==◌, ◌&&◌, ◌||◌, not, eqb-true, ap}
-use Rattle.simplecss_text.specs.Reading.{each}
-use Rattle.simplecss_text.specs.Bytes.{past, past_one, starts_by}
-use Rattle.simplecss_text.specs.Characters.{is_space}
-use Rattle.simplecss_text.specs.Comments.{opens_comment}
-use Rattle.simplecss_text.proofs.bytes.RunLemmas.{past-yes, past-no}
-use Rattle.simplecss_text.proofs.reading.TakesLemmas.{length-past}
+-- Serves `tokens::{past_word, past_gap, spells, read_token}`.
+use Rattle.std.proofs.Common.{◌≡◌, ℕ, ◌<◌, Bool, true, false, List, [], ◌∷◌, length, Some, None, arith, refl, ◌∙◌, ◌==◌, ◌&&◌, ◌||◌, not, eqb-true, ap, sym}
+use Rattle.css_text.specs.Reading.{each}
+use Rattle.css_text.specs.Bytes.{past, past_one, starts_by}
+use Rattle.css_text.specs.Characters.{is_space}
+use Rattle.css_text.specs.Comments.{opens_comment}
+use Rattle.css_text.proofs.bytes.RunLemmas.{past-yes, past-no}
+use Rattle.css_text.proofs.reading.TakesLemmas.{length-past}
 use Rattle.css_syntax.specs.declared.quality.Quality.TheVariants.{Whole}
-use Rattle.css_syntax.specs.Tokens.{past_escape, begins_escape, past_comment, gap_part, is_name_byte, name_part, token, past_word, past_letter}
+use Rattle.std.specs.Char.{to_ascii_uppercase}
+use Rattle.css_syntax.specs.Tokens.{past_letter, spells, found_and, past_escape, begins_escape, past_comment, gap_part, is_name_byte, name_part, token, past_word}
 use Rattle.css_syntax.proofs.Shorter.{each-goes, gap_part-takes, name_part-takes, past_escape-within, past_comment-within}
 
 -- ---- words
@@ -92,6 +93,30 @@ no_gap_part (b ∷ text) e s = rw (s, e) refl
 -- ---- tokens
 
 -- a byte of a name is none of these
+-- a keyword, a character at a time
+pub spells-some : (c up : ℕ) (keyword word rest : List ℕ) → up ≡ to_ascii_uppercase c
+    → past_letter c up word ≡ Some rest → spells (c ∷ keyword) word ≡ spells keyword rest
+unfolding spells
+spells-some c up keyword word rest u e =
+    ap (λ (x : ℕ). found_and (spells keyword) (past_letter c x word)) (sym u)
+    ∙ ap (found_and (spells keyword)) e
+
+pub spells-none : (c up : ℕ) (keyword word : List ℕ) → up ≡ to_ascii_uppercase c
+    → past_letter c up word ≡ None → spells (c ∷ keyword) word ≡ false
+unfolding spells
+spells-none c up keyword word u e =
+    ap (λ (x : ℕ). found_and (spells keyword) (past_letter c x word)) (sym u)
+    ∙ ap (found_and (spells keyword)) e
+
+pub spells-end : (word : List ℕ) → spells [] word ≡ (length word == 0)
+unfolding spells
+spells-end [] = refl
+spells-end (b ∷ word) = by (length (b ∷ word) == 0) refl
+  where
+    by : (k : Bool) → (length (b ∷ word) == 0) ≡ k → false ≡ k
+    by true e = absurd (omega (arith, eqb-true (length (b ∷ word)) 0 e))
+    by false e = refl
+
 pub not-this : (b k : ℕ) → is_name_byte b ≡ true → is_name_byte k ≡ false → (b == k) ≡ false
 not-this b k h n = by (b == k) refl
   where
@@ -110,7 +135,7 @@ pub or-both : (a b : Bool) → (a || b) ≡ false → (a ≡ false) × (b ≡ fa
 or-both true b e = absurd (cc)
 or-both false b e = (refl, e)
 
--- a word that begins no address
+-- a word that begins no url
 pub plain-token : (text : List ℕ)
     → starts_by (λ b. is_name_byte b && not (b == 117 || b == 85)) text ≡ true
     → token text ≡ (Whole, past_word text)

@@ -2,18 +2,17 @@
 -- Serves the loops of `tokens`, `component_values` and `values`.
 use Rattle.std.proofs.Common.{◌≡◌, ℕ, zero, suc, ◌≤◌, ◌==◌, ◌||◌, Bool, true, false, List, [], ◌∷◌, length, Option, Some, None, arith, refl, sym, ap, if◌then◌else◌, length-drop, ◌+◌, ◌*◌, ◌^◌, add-one, ◌&&◌, not, ◌<◌, ◌-◌, ◌∙◌}
 use Rattle.std.proofs.Math.Nat.{pow-suc, pow-le-pow_right}
-use Rattle.simplecss_text.specs.Reading.{each}
-use Rattle.simplecss_text.specs.AsciiBytes.{newline, carriage_return, number_sign, at_sign, close_parenthesis, open_parenthesis, backslash}
-use Rattle.simplecss_text.specs.Bytes.{past, starts_by}
-use Rattle.simplecss_text.specs.Characters.{is_space}
-use Rattle.simplecss_text.specs.Comments.{opens_comment, after_comment}
-use Rattle.simplecss_text.specs.Strings.{is_quote}
-use Rattle.simplecss_text.specs.Terms.{is_hex_digit}
-use Rattle.simplecss_text.proofs.reading.EachLemmas.{Shrinks, Takes, each-none, each-some}
-use Rattle.simplecss_text.proofs.reading.TakesLemmas.{Leaves, after_comment-leaves, length-past_byte, length-past, each-within}
+use Rattle.css_text.specs.Reading.{each}
+use Rattle.css_text.specs.AsciiBytes.{newline, carriage_return, number_sign, at_sign, close_parenthesis, open_parenthesis, backslash}
+use Rattle.css_text.specs.Bytes.{past, starts_by, is_hex_digit}
+use Rattle.css_text.specs.Characters.{is_space}
+use Rattle.css_text.specs.Comments.{opens_comment, after_comment}
+use Rattle.css_text.specs.Strings.{is_quote}
+use Rattle.css_text.proofs.reading.EachLemmas.{Shrinks, Takes, each-none, each-some}
+use Rattle.css_text.proofs.reading.TakesLemmas.{Leaves, after_comment-leaves, length-past_byte, length-past, each-within}
 use Rattle.css_syntax.specs.declared.quality.Quality.{Quality}
 use Rattle.css_syntax.specs.declared.quality.Quality.TheVariants.{Whole}
-use Rattle.css_syntax.specs.Tokens.{is_newline, past_one_space, past_hex, past_escape, begins_escape, from_close, past_comment, gap_part, string_part, string_end, past_string, is_name_byte, name_part, past_word, begins_url, is_never_bare, url_part, remnant_part, url_end, past_url, begins_cdo, is_closer, other_token, token, past_letter, then_letter, then_open, after_url, is_either, escaped_char, hex_number, hex_digit}
+use Rattle.css_syntax.specs.Tokens.{is_newline, past_newline, past_one_space, past_hex, past_escape, begins_escape, from_close, past_comment, gap_part, string_part, string_end, past_string, is_name_byte, name_part, past_word, begins_url, is_never_bare, url_part, remnant_part, url_end, past_url, begins_cdo, is_closer, other_token, token, past_letter, then_letter, then_open, after_url, is_either, escaped_char, hex_number, hex_digit}
 
 -- the value that `each` goes on with
 pub each-goes : {A : Type 0} (read : List ℕ → Option (A × List ℕ)) → Takes read
@@ -116,6 +115,14 @@ if-within : (n : ℕ) (t : Bool) (x y : Quality × List ℕ) → length x.1 ≤ 
 if-within n true x y a b = a
 if-within n false x y a b = b
 
+past_newline-within : (text : List ℕ) → length (past_newline text) ≤ length text
+past_newline-within [] = omega arith
+past_newline-within (b ∷ text) = by (is_newline b)
+  where
+    by : (t : Bool) → length (if t then text else b ∷ text) ≤ length (b ∷ text)
+    by true = omega arith
+    by false = omega arith
+
 past_string-within : (quote : ℕ) (text : List ℕ) → length (past_string quote text).1 ≤ length text
 unfolding past_string
 past_string-within quote text =
@@ -125,7 +132,9 @@ past_string-within quote text =
     by : (rest : List ℕ) → length rest ≤ length text
         → length (string_end quote rest).1 ≤ length text
     by [] h = h
-    by (b ∷ rest) h = if-within (length text) (b == quote) _ _ (omega arith) h
+    by (b ∷ rest) h =
+        if-within (length text) (b == quote) _ _ (omega arith)
+        (omega (arith, h, past_newline-within (b ∷ rest)))
 
 pub url_end-within : (text : List ℕ) → length (url_end text).1 ≤ length text
 url_end-within [] = omega arith
@@ -228,7 +237,8 @@ word_or-within b text true e = word-less b text e
 word_or-within b text false e =
     if-within (length text) (b == number_sign || b == at_sign) _ _
     (each-within name_part name_part-takes text)
-    (if-within (length text) (is_closer b) _ _ (omega arith) (omega arith))
+    (if-within (length text) (is_closer b) _ _ (omega arith)
+    (if-within (length text) (b == backslash) _ _ (past_newline-within text) (omega arith)))
 
 pub token-takes : (b : ℕ) (text : List ℕ) → length (token (b ∷ text)).1 ≤ length text
 unfolding token

@@ -1,24 +1,23 @@
 -- What is left after each reader is an end of the text, and UTF-8 if the text is: so all slices of
 -- a text are texts.
 -- Serves `texts::read_text_value`.
-use Rattle.std.proofs.Common.{◌≡◌, ℕ, zero, suc, ◌<◌, ◌==◌, ◌||◌, ◌&&◌, Bool, true, false, List, [], ◌∷◌, ◌++◌, drop, Option, Some, None, arith, refl, sym, subst, ap, ◌∙◌, if◌then◌else◌, eqb-true, IsUtf8, not}
+use Rattle.std.proofs.Common.{length, ◌≡◌, ℕ, zero, suc, ◌<◌, ◌==◌, ◌||◌, ◌&&◌, Bool, true, false, List, [], ◌∷◌, ◌++◌, drop, Option, Some, None, arith, refl, sym, subst, ap, ◌∙◌, if◌then◌else◌, eqb-true, ltb-true, IsUtf8, not}
 use Rattle.std.proofs.lemmas.Bool.Decides.{nat_tests}
-use Rattle.simplecss_text.specs.AsciiBytes.{open_parenthesis, newline, carriage_return, number_sign, at_sign, slash, close_parenthesis, backslash}
-use Rattle.simplecss_text.specs.Reading.{each, before, Ends}
-use Rattle.simplecss_text.specs.Bytes.{past, past_byte, starts_by}
-use Rattle.simplecss_text.specs.Characters.{is_space}
-use Rattle.simplecss_text.specs.Comments.{opens_comment, after_close}
-use Rattle.simplecss_text.specs.Strings.{is_quote}
-use Rattle.simplecss_text.specs.Terms.{is_hex_digit}
-use Rattle.simplecss_text.proofs.bytes.Utf8Lemmas.{utf8-before_byte, utf8-second}
-use Rattle.simplecss_text.proofs.reading.EachLemmas.{each-stops}
-use Rattle.simplecss_text.proofs.reading.EndsLemmas.{EndsFound, each-ends, ends-by, ends-drop, ends-ends, ends-past, ends-past_byte, ends-same, ends-tail, ends-nil}
-use Rattle.simplecss_text.proofs.reading.GotLemmas.{IfAfter, after_close-after}
-use Rattle.simplecss_text.proofs.reading.WellLemmas.{EndsWell, WellFound, each-well, well-after, well-nil, well-past_byte, well-same, well-tail, well-then}
+use Rattle.css_text.specs.AsciiBytes.{open_parenthesis, newline, carriage_return, number_sign, at_sign, slash, close_parenthesis, backslash}
+use Rattle.css_text.specs.Reading.{each, before, Ends}
+use Rattle.css_text.specs.Bytes.{past, past_byte, starts_by, is_ascii, is_hex_digit}
+use Rattle.css_text.specs.Characters.{is_space}
+use Rattle.css_text.specs.Comments.{opens_comment, after_close}
+use Rattle.css_text.specs.Strings.{is_quote}
+use Rattle.css_text.proofs.bytes.Utf8Lemmas.{utf8-before_byte, utf8-second}
+use Rattle.css_text.proofs.reading.EachLemmas.{each-stops}
+use Rattle.css_text.proofs.reading.EndsLemmas.{EndsFound, each-ends, ends-by, ends-drop, ends-ends, ends-past, ends-past_byte, ends-same, ends-tail, ends-nil}
+use Rattle.css_text.proofs.reading.GotLemmas.{IfAfter, after_close-after}
+use Rattle.css_text.proofs.reading.WellLemmas.{EndsWell, WellFound, each-well, well-after, well-nil, well-past_byte, well-same, well-tail, well-then}
 use Rattle.css_syntax.specs.declared.quality.Quality.{Quality}
 use Rattle.css_syntax.specs.declared.quality.Quality.TheVariants.{Whole, BadString, TooDeep}
-use Rattle.css_syntax.specs.Tokens.{is_either, escaped_char, past_letter, then_letter, then_open, after_url, is_newline, past_one_space, past_hex, past_escape, begins_escape, from_close, past_comment, gap_part, past_gap, string_part, string_end, past_string, is_name_byte, name_part, past_word, begins_url, is_never_bare, url_part, remnant_part, url_end, past_url, begins_cdo, is_closer, other_token, token}
-use Rattle.css_syntax.specs.ComponentValues.{is_opener, mirror, value_inside, block_of, value_by, component_value}
+use Rattle.css_syntax.specs.Tokens.{is_either, escaped_char, past_letter, then_letter, then_open, after_url, is_newline, past_newline, past_one_space, past_hex, past_escape, begins_escape, from_close, past_comment, gap_part, past_gap, string_part, past_string_parts, string_end, past_string, is_name_byte, name_part, past_word, begins_url, is_never_bare, url_part, remnant_part, url_end, past_url, begins_cdo, is_closer, other_token, token}
+use Rattle.css_syntax.specs.ComponentValues.{is_opener, mirror, value_inside, block_of, value_by, past_open, past_deep, component_value}
 use Rattle.css_syntax.proofs.Shorter.{string_part-takes, name_part-takes, remnant_part-takes}
 
 -- ---- ends
@@ -139,7 +138,7 @@ string-stop quote b text low e = by (b == quote) (is_newline b) (b == backslash)
     by false false true f g h = omega (arith, eqb-true b backslash h)
     by false false false f g h = absurd (let wrong = rw (f, g, h) at e in cc)
 
--- where the remnants of an address stop
+-- where the remnants of a url stop
 remnant-stop : (b : ℕ) (text : List ℕ) → remnant_part (b ∷ text) ≡ None
     → (b == close_parenthesis) ≡ true
 unfolding remnant_part
@@ -178,13 +177,33 @@ if-well : (text : List ℕ) (t : Bool) (x y : Quality × List ℕ) → EndsWell 
 if-well text true x y a b = a
 if-well text false x y a b = b
 
+string-rest : (quote : ℕ) (rest : List ℕ) → quote < 128 → string_part quote rest ≡ None
+    → AsciiNext rest
+string-rest quote [] low e = tt
+string-rest quote (b ∷ text) low e = string-stop quote b text low e
+
+pub string_parts_ends : (quote : ℕ) (text : List ℕ) → Ends text (past_string_parts quote text)
+string_parts_ends quote text = each-ends (string_part quote) (string_part-ends quote) text
+
+pub string_parts-well : (quote : ℕ) → quote < 128 → (text : List ℕ)
+    → EndsWell text (past_string_parts quote text)
+string_parts-well quote low text =
+    well-ascii text (past_string_parts quote text)
+    (string_parts_ends quote text)
+    (string-rest quote (past_string_parts quote text) low
+    (each-stops (string_part quote) (string_part-takes quote) text))
+
 string_end-well : (quote : ℕ) (text rest : List ℕ) → quote < 128 → Ends text rest
     → string_part quote rest ≡ None → EndsWell text (string_end quote rest).1
 string_end-well quote text [] low e stop = well-nil text
 string_end-well quote text (b ∷ rest) low e stop =
     let ascii = string-stop quote b rest low stop in
-    if-well text (b == quote) (Whole, rest) (BadString, b ∷ rest) (well-after b text rest ascii e)
-    (well-ascii text (b ∷ rest) e ascii)
+    if-well text (b == quote) (Whole, rest) (BadString, past_newline (b ∷ rest))
+    (well-after b text rest ascii e) (newline-left (is_newline b))
+  where
+    newline-left : (t : Bool) → EndsWell text (if t then rest else b ∷ rest)
+    newline-left true = well-after b text rest (string-stop quote b rest low stop) e
+    newline-left false = well-ascii text (b ∷ rest) e (string-stop quote b rest low stop)
 
 string-well : (quote : ℕ) (text : List ℕ) → quote < 128 → EndsWell text (past_string quote text).1
 unfolding past_string
@@ -193,7 +212,7 @@ string-well quote text low =
     (each-ends (string_part quote) (string_part-ends quote) text)
     (each-stops (string_part quote) (string_part-takes quote) text)
 
--- after the parenthesis at which the remnants of an address stop
+-- after the parenthesis at which the remnants of a url stop
 remnants-well : (text rest : List ℕ) → Ends text rest → remnant_part rest ≡ None
     → EndsWell text (past_byte close_parenthesis rest)
 remnants-well text [] e stop = well-nil text
@@ -284,11 +303,22 @@ cdo-well b (c ∷ d ∷ f ∷ text) e =
     well-after f (b ∷ c ∷ d ∷ f ∷ text) text (grind (arith, nat_tests))
     (ends-drop 3 (b ∷ c ∷ d ∷ f ∷ text))
 
+newline-well : (text : List ℕ) → EndsWell text (past_newline text)
+newline-well [] = well-nil []
+newline-well (b ∷ text) = by (is_newline b) refl
+  where
+    by : (t : Bool) → is_newline b ≡ t → EndsWell (b ∷ text) (if t then text else b ∷ text)
+    by true e = well-tail b text (newline-ascii b e)
+    by false e = well-same (b ∷ text)
+
 other-well : (b : ℕ) (text : List ℕ) → b < 128 → EndsWell (b ∷ text) (other_token b text).1
 other-well b text low =
     if-well (b ∷ text) (b == number_sign || b == at_sign) _ _
     (well-then (b ∷ text) text (past_word text) (well-tail b text low) (word-well text))
-    (if-well (b ∷ text) (is_closer b) _ _ (well-tail b text low) (well-tail b text low))
+    (if-well (b ∷ text) (is_closer b) _ _ (well-tail b text low)
+    (if-well (b ∷ text) (b == backslash) _ _
+    (well-then (b ∷ text) text (past_newline text) (well-tail b text low) (newline-well text))
+    (well-tail b text low)))
 
 quote-ascii : (b : ℕ) → is_quote b ≡ true → b < 128
 quote-ascii b e = grind (arith, nat_tests)
@@ -374,10 +404,40 @@ value_by-well block h (b ∷ text) = by (is_opener b) refl
         (h (mirror b) (mirror-ascii b) text))
     by false e = rw e (token-well (b ∷ text))
 
+closer-ascii : (b : ℕ) → is_closer b ≡ true → b < 128
+closer-ascii b e = grind (arith, nat_tests)
+
+open-well : (n depth : ℕ) (text : List ℕ) → EndsWell text (past_open n depth text)
+unfolding past_open
+open-well zero depth text = well-same text
+open-well (suc n) zero text = well-same text
+open-well (suc n) (suc depth) [] = well-same []
+open-well (suc n) (suc depth) (b ∷ text) =
+    by (is_opener b) (is_closer b) refl refl (open-well n (suc (suc depth)) text)
+    (open-well n depth text) (open-well n (suc depth) (token (b ∷ text)).1)
+  where
+    by : (t u : Bool) → is_opener b ≡ t → is_closer b ≡ u
+        → EndsWell text (past_open n (suc (suc depth)) text)
+        → EndsWell text (past_open n depth text)
+        → EndsWell (token (b ∷ text)).1 (past_open n (suc depth) (token (b ∷ text)).1)
+        → EndsWell (b ∷ text) (if t then past_open n (suc (suc depth)) text
+        else (if u then past_open n depth text
+        else past_open n (suc depth) (token (b ∷ text)).1))
+    by true u e f h k l =
+        well-then (b ∷ text) text (past_open n (suc (suc depth)) text)
+        (well-tail b text (opener-ascii b e)) h
+    by false true e f h k l =
+        well-then (b ∷ text) text (past_open n depth text)
+        (well-tail b text (closer-ascii b f)) k
+    by false false e f h k l =
+        well-then (b ∷ text) (token (b ∷ text)).1
+        (past_open n (suc depth) (token (b ∷ text)).1) (token-well (b ∷ text)) l
+
 component_value-well : (n : ℕ) → LeavesText (component_value n)
 unfolding LeavesText component_value
 component_value-well zero text =
-    value_by-well (λ closer rest. (TooDeep, [])) (λ closer low rest. well-nil rest) text
+    value_by-well (λ closer rest. (TooDeep, past_deep rest))
+    (λ closer low rest. open-well (length rest) 1 rest) text
 component_value-well (suc n) text =
     value_by-well (block_of (component_value n))
     (block-well (component_value n) (component_value-well n)) text
@@ -404,7 +464,7 @@ gap_part-well (b ∷ text) = by (is_space b) refl
 pub gap-well : (text : List ℕ) → EndsWell text (past_gap text)
 gap-well text = each-well gap_part gap_part-well text
 
--- ---- escaped digits
+-- ---- escapes
 
 hex-ascii : (b : ℕ) → is_hex_digit b ≡ true → b < 128
 hex-ascii b e = grind (arith, nat_tests)
@@ -445,11 +505,21 @@ one_space-well (b ∷ text) = by (b == carriage_return) (is_space b) refl refl
         (sym (unspaced b text e ∙ ap (λ (s : Bool). if s then text else b ∷ text) f))
         (well-same (b ∷ text))
 
-pub digits-well : (text : List ℕ) → starts_by is_hex_digit text ≡ true
-    → EndsWell text (past_escape text)
+-- what an escape of an ASCII character leaves
+pub escape-well : (text : List ℕ) → starts_by is_ascii text ≡ true → EndsWell text (past_escape text)
 unfolding past_escape
-digits-well [] e = absurd (cc)
-digits-well (b ∷ text) e =
-    rw e (well-then (b ∷ text) text (past_one_space (past_hex 5 text))
-    (well-tail b text (hex-ascii b e)) (well-then text (past_hex 5 text)
-    (past_one_space (past_hex 5 text)) (hex-well 5 text) (one_space-well (past_hex 5 text))))
+escape-well [] e = absurd (cc)
+escape-well (b ∷ text) e = by (is_hex_digit b) (is_newline b)
+  where
+    low : b < 128
+    low = ltb-true b 128 e
+
+    by : (h n : Bool) → EndsWell (b ∷ text)
+        (if h then past_one_space (past_hex 5 text)
+        else (if n then past_one_space (b ∷ text) else text))
+    by true n =
+        well-then (b ∷ text) text (past_one_space (past_hex 5 text)) (well-tail b text low)
+        (well-then text (past_hex 5 text) (past_one_space (past_hex 5 text)) (hex-well 5 text)
+        (one_space-well (past_hex 5 text)))
+    by false true = one_space-well (b ∷ text)
+    by false false = well-tail b text low

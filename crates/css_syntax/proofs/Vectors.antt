@@ -1,11 +1,11 @@
 -- Worked texts, computed with the definitions.
 -- Computes `component_value`, `value`, `items` and `statements`.
 use Rattle.std.specs.Prelude.{◌≡◌, refl, [], ◌∷◌, codes, true, false, None, Some}
-use Rattle.simplecss_text.specs.Reading.{each}
+use Rattle.css_text.specs.Reading.{each}
 use Rattle.css_syntax.specs.declared.quality.Quality.TheVariants.{Whole, Open, BadString, BadUrl, StrayBracket, TooDeep}
 use Rattle.css_syntax.specs.declared.quality.Fault.TheVariants as faults
-use Rattle.css_syntax.specs.Tokens.{past_escape, past_comment, comment_quality, gap_part, string_part, past_string, name_part, url_part, remnant_part, past_url, past_letter, token}
-use Rattle.css_syntax.specs.ComponentValues.{block_of, component_value}
+use Rattle.css_syntax.specs.Tokens.{past_escape, past_comment, comment_quality, gap_part, string_part, past_string, name_part, url_part, remnant_part, past_url, past_letter, spells, token}
+use Rattle.css_syntax.specs.ComponentValues.{block_of, past_open, component_value}
 use Rattle.css_syntax.specs.Parts.{parts}
 use Rattle.css_syntax.specs.Statements.{block, at_rule, statement, between_part, next_statement, statements, rule_set, at_rule_statement, skipped_statement}
 use Rattle.css_syntax.specs.DeclarationLists.{value, declaration, item, separator_part, next_item, items, declared, skipped_item}
@@ -20,21 +20,21 @@ pub brackets :
     × (component_value 64 (codes "uRl( a(b\\)c )d") ≡ (BadUrl, codes "d"))
     × (component_value 64 (codes "url( a\\)b )d") ≡ (Whole, codes "d"))
     × (component_value 64 (codes "'a\\'b\\\nc'd") ≡ (Whole, codes "d"))
-    × (component_value 64 (codes "'a\n;b") ≡ (BadString, codes "\n;b"))
-    × (component_value 1 (codes "(())a") ≡ (TooDeep, []))
+    × (component_value 64 (codes "'a\n;b") ≡ (BadString, codes ";b"))
+    × (component_value 1 (codes "(([)]b)a") ≡ (TooDeep, codes "a"))
     × (component_value 64 (codes "\\75 \\R\\00006c(a'b)c") ≡ (BadUrl, codes "c"))
     × (component_value 64 (codes "(a['b") ≡ (Open, []))
 unfolding each past_escape past_comment comment_quality gap_part string_part past_string name_part
-    url_part remnant_part past_url past_letter token block_of component_value
+    url_part remnant_part past_url past_letter token block_of past_open component_value
 brackets = (refl, refl, refl, refl, refl, refl, refl, refl, refl, refl, refl, refl)
 
 -- values
 pub values :
-    (value (codes "calc(1px + (2px)) ;c:d")
+    (value false (codes "calc(1px + (2px)) ;c:d")
     ≡ (record { text = codes "calc(1px + (2px))"; quality = Whole }, codes ";c:d"))
-    × (value (codes "-webkit-f(1;2)!x")
+    × (value false (codes "-webkit-f(1;2)!x")
     ≡ (record { text = codes "-webkit-f(1;2)"; quality = Whole }, codes "!x"))
-    × (value (codes "url(a;b)/**/} d")
+    × (value false (codes "url(a;b)/**/} d")
     ≡ (record { text = codes "url(a;b)"; quality = Whole }, codes "} d"))
 unfolding each past_escape past_comment comment_quality gap_part string_part past_string name_part
     url_part remnant_part past_url past_letter token block_of component_value parts
@@ -78,6 +78,31 @@ pub lists :
     × (items false (codes "a:'\n;b}:c")
     ≡ record { text = codes "a:'\n"; item = skipped_item faults.BadString }
     ∷ record { text = codes "b}:c"; item = skipped_item faults.BrokenDeclaration } ∷ [])
+    × (items true (codes "a:hover{b:c}d:e")
+    ≡ record { text = codes "a:hover{b:c}"; item = skipped_item faults.NestedRule }
+    ∷ record {
+      text = codes "d:e";
+      item = declared (record {
+        name = codes "d";
+        value = codes "e";
+        important = false;
+        closed = true;
+      });
+    }
+    ∷ [])
+    × (items false (codes "a:b{c}d:e;")
+    ≡ record { text = codes "a:b{c}d:e"; item = skipped_item faults.BrokenDeclaration } ∷ [])
+    × (items true (codes "--a:b{c}d}e:f")
+    ≡ record {
+      text = codes "--a:b{c}d";
+      item = declared (record {
+        name = codes "--a";
+        value = codes "b{c}d";
+        important = false;
+        closed = true;
+      });
+    }
+    ∷ [])
     × (items true (codes "a:;b:c}d:e")
     ≡ record { text = codes "a:"; item = skipped_item faults.BrokenDeclaration }
     ∷ record {
@@ -91,9 +116,9 @@ pub lists :
     }
     ∷ [])
 unfolding each past_escape past_comment comment_quality gap_part string_part past_string name_part
-    url_part remnant_part past_url past_letter token block_of component_value parts block at_rule
+    url_part remnant_part past_url past_letter spells token block_of component_value parts block at_rule
     declaration item separator_part next_item items
-lists = (refl, refl, refl, refl)
+lists = (refl, refl, refl, refl, refl, refl, refl)
 
 -- statements
 pub sheets :

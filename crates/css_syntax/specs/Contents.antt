@@ -1,7 +1,7 @@
 -- Where the pieces of what was read begin: what is left of the text from there on.
 use Rattle.std.specs.Prelude.{ℕ, Bool, if◌then◌else◌, List}
-use Rattle.simplecss_text.specs.AsciiBytes.{colon, open_brace, at_sign}
-use Rattle.simplecss_text.specs.Bytes.{past_byte, starts}
+use Rattle.css_text.specs.AsciiBytes.{colon, open_brace, at_sign}
+use Rattle.css_text.specs.Bytes.{past_byte, starts}
 use Rattle.css_syntax.specs.Tokens.{past_gap, past_word}
 use Rattle.css_syntax.specs.Parts.{parts}
 use Rattle.css_syntax.specs.Statements.{at_rule_ends, rule_set_ends, begins_at_rule}

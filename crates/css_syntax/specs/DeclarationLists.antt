@@ -1,20 +1,20 @@
 -- The declarations of a block or of a style attribute, each on its own: a broken one is dropped,
 -- and reading continues after the next semicolon outside brackets, strings and comments (CSS 2.1,
--- section 4.2; CSS Syntax 3, sections 5.4.5 and 5.4.6).
-use Rattle.std.specs.Prelude.{ℕ, Bool, true, false, not, ◌||◌, ◌&&◌, ◌==◌, if◌then◌else◌, List, [], ◌∷◌, codes, Option, Some, None}
+-- section 4.2; CSS Syntax 3, sections 5.4.5 and 5.4.6). A rule among those of a block is skipped with
+-- its own block (CSS Syntax 3, editor's draft, "consume a block's contents").
+use Rattle.std.specs.Prelude.{ℕ, Bool, true, false, not, ◌||◌, ◌&&◌, ◌==◌, if◌then◌else◌, List, [], ◌∷◌, codes, Option, Some, None, Result, Ok, Err}
 use Rattle.std.specs.Option.{is_some}
-use Rattle.std.specs.Str.{str_eq_ignore_ascii_case}
-use Rattle.simplecss_text.specs.AsciiBytes.{colon, exclamation_mark, semicolon, hyphen}
-use Rattle.simplecss_text.specs.Reading.{each, before}
-use Rattle.simplecss_text.specs.Bytes.{past_byte, starts, starts_by}
+use Rattle.css_text.specs.AsciiBytes.{colon, exclamation_mark, semicolon, open_brace, hyphen}
+use Rattle.css_text.specs.Reading.{each, before}
+use Rattle.css_text.specs.Bytes.{past_byte, starts, starts_by}
 use Rattle.css_syntax.specs.declared.parts.Stops.{Stops}
 use Rattle.css_syntax.specs.declared.quality.Quality.{Quality}
 use Rattle.css_syntax.specs.declared.quality.Fault.{Fault}
-use Rattle.css_syntax.specs.declared.quality.Fault.TheVariants.{BrokenDeclaration, StrayBracket}
+use Rattle.css_syntax.specs.declared.quality.Fault.TheVariants.{BrokenDeclaration, StrayBracket, NestedRule}
 use Rattle.css_syntax.specs.Qualities.{is_good, is_whole, fault_of}
-use Rattle.css_syntax.specs.Tokens.{then_letter, past_letter, gap_part, past_gap, past_word, is_closer}
+use Rattle.css_syntax.specs.Tokens.{then_letter, past_letter, spells, gap_part, past_gap, past_word, is_closer}
 use Rattle.css_syntax.specs.Parts.{ends_at, Stated, parts}
-use Rattle.css_syntax.specs.Statements.{AtRuleText, at_rule, begins_at_rule, begins_ident, ends_block}
+use Rattle.css_syntax.specs.Statements.{AtRuleText, at_rule, at_rule_ends, begins_at_rule, block, starts_ident, ends_block}
 
 -- A declaration: the name of a property, a value for it, whether it is important, and whether
 -- nothing of its value is open at the end of the text.
@@ -40,25 +40,27 @@ declaration_ends in_block = record {
   in_value = false;
 }
 
--- what ends a value: a semicolon, an exclamation mark, or a bracket that closes nothing
-abbrev pub value_ends : Stops
-value_ends = record {
+-- What ends a value: a semicolon, an exclamation mark, or a bracket that closes nothing. An opening
+-- brace does, too, unless the property is a custom one: no other has a block in its value. (By the
+-- draft a block alone may be a value.)
+abbrev pub value_ends : (custom : Bool) → Stops
+value_ends custom = record {
   semicolon = true;
-  open_brace = false;
+  open_brace = not custom;
   close_brace = true;
   comma = false;
   in_value = true;
 }
 
 -- the value at the start, without blanks at its end, and the rest
-abbrev pub value : List ℕ → Stated × List ℕ
-value text = parts value_ends text
+abbrev pub value : (custom : Bool) → List ℕ → Stated × List ℕ
+value custom text = parts (value_ends custom) text
 
--- the word `important` in any case, which is then consumed with the blanks after it; if another
--- word begins here, the text that is left is `from`
+-- the word `important` in any case, as it is or with escapes, which is then consumed with the blanks
+-- after it; if another word begins here, the text that is left is `from`
 abbrev pub important_word : List ℕ → List ℕ → Bool × List ℕ
 important_word from text =
-    if str_eq_ignore_ascii_case (before text (past_word text)) (codes "important")
+    if spells (codes "important") (before text (past_word text))
     then (true, past_gap (past_word text))
     else (false, from)
 
@@ -95,46 +97,70 @@ is_stated in_block name stated rest =
     is_good stated.quality && ends_at (declaration_ends in_block) rest
     && (not (is_empty stated.text) || is_custom name)
 
--- the declaration of this name, this value and this importance, with the rest after it; or it is
--- broken
-abbrev pub stated_as : Bool → List ℕ → Stated → Bool × List ℕ → ItemText × List ℕ
+-- What is read as a declaration: it, with the rest after it; or what is reported of it.
+abbrev pub Declared : Type 0
+Declared = Result (DeclarationText × List ℕ) Fault
+
+-- the declaration of this name, this value and this importance, or it is broken
+abbrev pub stated_as : Bool → List ℕ → Stated → Bool × List ℕ → Declared
 stated_as in_block name stated important =
     if is_stated in_block name stated important.1
-    then (
-      declared (record {
+    then Ok (
+      record {
         name = name;
         value = stated.text;
         important = important.0;
         closed = is_whole stated.quality;
-      }),
+      },
       important.1,
     )
-    else (
-      skipped_item (why_broken in_block stated.quality important.1),
-      past_broken in_block important.1,
-    )
+    else Err (why_broken in_block stated.quality important.1)
 
 -- a value and what follows it
-abbrev pub valued : Bool → List ℕ → Stated × List ℕ → ItemText × List ℕ
+abbrev pub valued : Bool → List ℕ → Stated × List ℕ → Declared
 valued in_block name stated = stated_as in_block name stated.0 (importance stated.1)
 
--- what is broken from here on
-abbrev pub broken : Bool → List ℕ → ItemText × List ℕ
-broken in_block text = (skipped_item BrokenDeclaration, past_broken in_block text)
+-- after a name, from a colon on, its value
+abbrev pub named : Bool → (name : List ℕ) → List ℕ → Declared
+named in_block name text =
+    if starts colon text
+    then valued in_block name (value (is_custom name) (past_gap (past_byte colon text)))
+    else Err BrokenDeclaration
 
--- After a name, from a colon on, its value. Without a colon it is broken from its start on, where a
--- name and a parenthesis may be an address.
-abbrev pub named : Bool → (start name : List ℕ) → List ℕ → ItemText × List ℕ
-named in_block start name text =
-    if starts colon text then valued in_block name (value (past_gap (past_byte colon text)))
-    else broken in_block start
-
--- a declaration, or a broken one
-unfoldable pub declaration : Bool → List ℕ → ItemText × List ℕ
+-- A declaration, or a broken one. (A `-->` begins none either way, since no colon follows its
+-- hyphens.)
+unfoldable pub declaration : Bool → List ℕ → Declared
 declaration in_block text =
-    if begins_ident text
-    then named in_block text (before text (past_word text)) (past_gap (past_word text))
-    else broken in_block text
+    if starts_ident text
+    then named in_block (before text (past_word text)) (past_gap (past_word text))
+    else Err BrokenDeclaration
+
+-- a declaration of a custom property begins here: its name and a colon
+abbrev pub begins_custom : List ℕ → Bool
+begins_custom text =
+    starts_ident text && is_custom (before text (past_word text))
+    && starts colon (past_gap (past_word text))
+
+-- What is no declaration is a rule, if a block follows before a semicolon, and is skipped with that
+-- block; but never what begins as a custom property, which is skipped up to a semicolon.
+abbrev pub rule_ended : Bool → (custom : Bool) → Fault → List ℕ → ItemText × List ℕ
+rule_ended in_block custom fault rest =
+    if starts open_brace rest
+    then (if custom then (skipped_item fault, past_broken in_block rest)
+    else (skipped_item NestedRule, (block (past_byte open_brace rest)).1))
+    else (skipped_item fault, rest)
+
+-- what is no declaration, from its start on; a style attribute has no rules
+abbrev pub rule_or_broken : Bool → List ℕ → Fault → ItemText × List ℕ
+rule_or_broken in_block text fault =
+    if in_block
+    then rule_ended in_block (begins_custom text) fault (parts (at_rule_ends in_block) text).1
+    else (skipped_item fault, past_broken in_block text)
+
+-- a declaration that was read, or else what is none
+abbrev pub or_rule : Bool → List ℕ → Declared → ItemText × List ℕ
+or_rule in_block text (Ok found) = (declared found.0, found.1)
+or_rule in_block text (Err fault) = rule_or_broken in_block text fault
 
 abbrev pub as_item : AtRuleText × List ℕ → ItemText × List ℕ
 as_item found = (at_rule_item found.0, found.1)
@@ -142,7 +168,8 @@ as_item found = (at_rule_item found.0, found.1)
 -- an item of the list, from its start on
 unfoldable pub item : Bool → List ℕ → ItemText × List ℕ
 item in_block text =
-    if begins_at_rule text then as_item (at_rule in_block text) else declaration in_block text
+    if begins_at_rule text then as_item (at_rule in_block text)
+    else or_rule in_block text (declaration in_block text)
 
 -- a semicolon, a space byte or a comment
 unfoldable pub separator_part : List ℕ → Option (Unit {0} × List ℕ)

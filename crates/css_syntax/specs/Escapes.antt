@@ -1,10 +1,10 @@
--- The text that a name or a value denotes: its escapes are decoded (CSS Syntax 3, section
--- 4.3.7).
-use Rattle.std.specs.Prelude.{ℕ, ◌||◌, ◌==◌, nat_lt, if◌then◌else◌, List, [], ◌∷◌, Option, Some, None, encode_utf8}
+-- The text that a name, a value or a string denotes: its escapes are decoded (CSS Syntax 3, sections
+-- 4.3.5 and 4.3.7).
+use Rattle.std.specs.Prelude.{ℕ, Bool, true, false, ◌||◌, ◌&&◌, ◌==◌, nat_lt, if◌then◌else◌, List, [], ◌∷◌, Option, Some, None, encode_utf8}
 use Rattle.std.specs.List.{flat_map}
-use Rattle.simplecss_text.specs.Reading.{each}
-use Rattle.simplecss_text.specs.Bytes.{is_within}
-use Rattle.simplecss_text.specs.Terms.{is_hex_digit}
+use Rattle.css_text.specs.AsciiBytes.{backslash}
+use Rattle.css_text.specs.Reading.{each}
+use Rattle.css_text.specs.Bytes.{is_within, is_hex_digit}
 use Rattle.css_syntax.specs.Tokens.{begins_escape, past_escape, hex_number}
 
 -- the replacement character, U+FFFD
@@ -25,13 +25,22 @@ escaped_text [] = encode_utf8 replacement
 escaped_text (b ∷ text) =
     if is_hex_digit b then encode_utf8 (character_of (hex_number 6 0 (b ∷ text))) else b ∷ []
 
--- an escape, or a byte that denotes itself, as a backslash before a newline does
-unfoldable pub decoded_part : List ℕ → Option (List ℕ × List ℕ)
-decoded_part [] = None
-decoded_part (b ∷ text) =
+-- An escape, or a byte that denotes itself. A backslash before a newline is no escape: in a string
+-- it and the newline denote nothing, elsewhere it denotes itself.
+unfoldable pub decoded_part : Bool → List ℕ → Option (List ℕ × List ℕ)
+decoded_part in_string [] = None
+decoded_part in_string (b ∷ text) =
     if begins_escape (b ∷ text) then Some (escaped_text text, past_escape text)
-    else Some (b ∷ [], text)
+    else (if in_string && b == backslash then Some ([], past_escape text) else Some (b ∷ [], text))
+
+-- the text, with its escapes decoded as in a string or as elsewhere
+unfoldable pub decoded_in : Bool → List ℕ → List ℕ
+decoded_in in_string text = flat_map (λ part. part) (each (decoded_part in_string) text).0
 
 -- the text, with its escapes decoded
-unfoldable pub decoded : List ℕ → List ℕ
-decoded text = flat_map (λ part. part) (each decoded_part text).0
+abbrev pub decoded : List ℕ → List ℕ
+decoded text = decoded_in false text
+
+-- what is in a string, with its escapes decoded
+abbrev pub decoded_string : List ℕ → List ℕ
+decoded_string text = decoded_in true text

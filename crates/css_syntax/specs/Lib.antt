@@ -12,3 +12,7 @@ pub mod ListReaders
 pub mod internal
 pub mod NothingLost
 pub mod Printing
+pub mod SelectorGrammar
+pub mod SelectorViews
+pub mod SelectorLists
+pub mod PlacedSelectors

@@ -1,6 +1,6 @@
 -- Nothing is lost: every byte of a text is in an item or a statement, or it is between them.
 use Rattle.std.specs.Prelude.{◌≡◌, ℕ, Bool, true, List, [], ◌∷◌, ◌++◌}
-use Rattle.simplecss_text.specs.Reading.{before}
+use Rattle.css_text.specs.Reading.{before}
 use Rattle.css_syntax.specs.Statements.{ends_block, past_between, SheetText, statements}
 use Rattle.css_syntax.specs.DeclarationLists.{past_separators, ListText, items}
 

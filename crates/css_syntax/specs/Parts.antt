@@ -1,8 +1,7 @@
 -- Component values one after another, up to a byte that ends them outside brackets.
 use Rattle.std.specs.Prelude.{ℕ, Bool, true, ◌||◌, ◌&&◌, ◌==◌, if◌then◌else◌, List, [], ◌∷◌, map, Option, Some, None}
-use Rattle.simplecss_text.specs.AsciiBytes.{comma, exclamation_mark, semicolon, open_brace, close_brace}
-use Rattle.simplecss_text.specs.Reading.{each, before}
-use Rattle.simplecss_text.specs.Declarations.{last_or}
+use Rattle.css_text.specs.AsciiBytes.{comma, exclamation_mark, semicolon, open_brace, close_brace}
+use Rattle.css_text.specs.Reading.{each, before, last_or}
 use Rattle.css_syntax.specs.declared.quality.Quality.{Quality}
 use Rattle.css_syntax.specs.declared.parts.Stops.{Stops}
 use Rattle.css_syntax.specs.Qualities.{flaw_of_all}

@@ -1,7 +1,7 @@
 -- Items and statements with where they are: what is left of the text from each on.
 use Rattle.std.specs.Prelude.{ℕ, Bool, List, Option}
 use Rattle.std.specs.Option.{option_map}
-use Rattle.simplecss_text.specs.Reading.{each}
+use Rattle.css_text.specs.Reading.{each}
 use Rattle.css_syntax.specs.Statements.{SheetText, past_between, next_statement}
 use Rattle.css_syntax.specs.DeclarationLists.{ListText, past_separators, next_item}
 

@@ -1,7 +1,7 @@
 -- The printed text of a declaration, and what reading it again returns.
 use Rattle.std.specs.Prelude.{◌≡◌, ℕ, Bool, true, false, not, ◌||◌, ◌==◌, if◌then◌else◌, List, [], ◌∷◌, ◌++◌, codes, map, Some}
 use Rattle.std.specs.List.{All, join_with_byte}
-use Rattle.simplecss_text.specs.AsciiBytes.{newline, space, backslash}
+use Rattle.css_text.specs.AsciiBytes.{space, backslash}
 use Rattle.css_syntax.specs.declared.quality.Quality.TheVariants.{Whole}
 use Rattle.css_syntax.specs.Tokens.{past_gap}
 use Rattle.css_syntax.specs.DeclarationLists.{DeclarationText, ItemText, declared, at_rule_item, skipped_item, value, is_empty, is_custom, ListText, next_item, items}
@@ -13,9 +13,10 @@ ends_lone [] = false
 ends_lone (b ∷ []) = b == backslash
 ends_lone (b ∷ c ∷ text) = if b == backslash then ends_lone text else ends_lone (c ∷ text)
 
--- A newline after a value that ends in a lone backslash, which would escape any other byte.
+-- U+FFFD after a value that ends in a lone backslash, which is at the end of its text and denotes
+-- that character there.
 abbrev pub lone_end : List ℕ → List ℕ
-lone_end value = if ends_lone value then newline ∷ [] else []
+lone_end value = if ends_lone value then 239 ∷ 191 ∷ 189 ∷ [] else []
 
 -- The importance of a declaration. No blank is before it, since an escape at the end of the value
 -- would consume that blank.
@@ -61,24 +62,25 @@ ItemReadsBack (declared d) =
 ItemReadsBack (at_rule_item a) = Unit {0}
 ItemReadsBack (skipped_item fault) = Unit {0}
 
--- A text that is read whole as a value, with nothing left, and begins with no blank.
-pub record IsWholeValue (text : List ℕ) : Type 0 where
+-- A text that is read whole as a value of a custom property or of another, with nothing left, and
+-- begins with no blank.
+pub record IsWholeValue (custom : Bool) (text : List ℕ) : Type 0 where
   pub no_blank : past_gap text ≡ text
-  pub whole : value text ≡ (record { text = text; quality = Whole }, [])
+  pub whole : value custom text ≡ (record { text = text; quality = Whole }, [])
 
 -- The text begins with this value, and is read whole.
 pub record IsClosed (v text : List ℕ) : Type 0 where
   pub more : List ℕ
   pub front : text ≡ v ++ more
-  pub whole : IsWholeValue text
+  pub whole : IsWholeValue true text
 
--- The name of a declaration that was read with such a value, and with any importance, is a
--- declaration that reads back, unless that value ends in a lone backslash, or is empty and the
--- property is no custom one.
+-- The name of a declaration that was read with a value that is whole for it, and with any
+-- importance, is a declaration that reads back, unless that value ends in a lone backslash, or is
+-- empty and the property is no custom one.
 abbrev pub ReadsBackWith : ItemText → (text : List ℕ) → Bool → Type 0
 ReadsBackWith (declared d) text important =
-    ends_lone text ≡ false → (not (is_empty text) || is_custom d.name) ≡ true
-    → DeclarationReadsBack
+    IsWholeValue (is_custom d.name) text → ends_lone text ≡ false
+    → (not (is_empty text) || is_custom d.name) ≡ true → DeclarationReadsBack
     (record { name = d.name; value = text; important = important; closed = true })
 ReadsBackWith (at_rule_item a) text important = Unit {0}
 ReadsBackWith (skipped_item fault) text important = Unit {0}
@@ -86,7 +88,7 @@ ReadsBackWith (skipped_item fault) text important = Unit {0}
 -- each item of a list of declarations, with any whole value
 abbrev pub ItemsReadBackWith : Bool → List ℕ → Type 0
 ItemsReadBackWith in_block text =
-    (v : List ℕ) (important : Bool) → IsWholeValue v
+    (v : List ℕ) (important : Bool)
     → All (λ p. ReadsBackWith p.item v important) (items in_block text)
 
 -- each item of a list of declarations

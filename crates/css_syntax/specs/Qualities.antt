@@ -1,5 +1,5 @@
 -- Whether what was read is good, and what is reported of what is not.
-use Rattle.std.specs.Prelude.{Bool, true, false, List, [], ◌∷◌}
+use Rattle.std.specs.Prelude.{ℕ, Bool, true, false, List, [], ◌∷◌, codes}
 use Rattle.css_syntax.specs.declared.quality.Quality.{Quality}
 use Rattle.css_syntax.specs.declared.quality.Quality.TheVariants.{Whole, Open, BadString, BadUrl, StrayBracket, TooDeep}
 use Rattle.css_syntax.specs.declared.quality.Fault.{Fault}
@@ -45,3 +45,14 @@ fault_of BadString = faults.BadString
 fault_of BadUrl = faults.BadUrl
 fault_of StrayBracket = faults.StrayBracket
 fault_of TooDeep = faults.TooDeep
+
+-- the words for a fault
+abbrev pub fault_words : Fault → List ℕ
+fault_words faults.BrokenDeclaration = codes "broken declaration"
+fault_words faults.BadString = codes "bad string"
+fault_words faults.BadUrl = codes "bad url"
+fault_words faults.StrayBracket = codes "stray bracket"
+fault_words faults.TooDeep = codes "too deep"
+fault_words faults.NoBlock = codes "no block"
+fault_words faults.NestedRule = codes "nested rule"
+fault_words faults.InvalidSelector = codes "invalid selector"

@@ -1,10 +1,10 @@
 -- The statements of a sheet, or of the block of an at-rule such as `@media`: rule sets and at-rules
 -- (CSS Syntax 3, sections 5.4.1 to 5.4.3).
 use Rattle.std.specs.Prelude.{ℕ, Bool, true, false, not, ◌||◌, ◌&&◌, ◌==◌, nat_le, if◌then◌else◌, List, [], ◌∷◌, drop, Option, Some, None}
-use Rattle.simplecss_text.specs.AsciiBytes.{hyphen, semicolon, open_brace, close_brace, at_sign, underscore}
-use Rattle.simplecss_text.specs.Reading.{each, before}
-use Rattle.simplecss_text.specs.Bytes.{past_byte, starts, starts_by, starts_two}
-use Rattle.simplecss_text.specs.Characters.{is_letter}
+use Rattle.css_text.specs.AsciiBytes.{hyphen, semicolon, open_brace, close_brace, at_sign, underscore}
+use Rattle.css_text.specs.Reading.{each, before}
+use Rattle.css_text.specs.Bytes.{past_byte, starts, starts_by, starts_two}
+use Rattle.css_text.specs.Characters.{is_letter}
 use Rattle.css_syntax.specs.declared.parts.Stops.{Stops}
 use Rattle.css_syntax.specs.declared.quality.Fault.{Fault}
 use Rattle.css_syntax.specs.declared.quality.Fault.TheVariants.{NoBlock}
@@ -22,13 +22,21 @@ abbrev pub begins_plain_ident : List ℕ → Bool
 begins_plain_ident text = starts_by begins_name_byte text || begins_escape text
 
 -- a name begins here: two hyphens, or such a byte or an escape, also after a hyphen
+abbrev pub starts_ident : List ℕ → Bool
+starts_ident text = starts_two hyphen hyphen text || begins_plain_ident (past_byte hyphen text)
+
+-- the text begins with `-->`
+abbrev pub begins_cdc : List ℕ → Bool
+begins_cdc text = starts_two hyphen hyphen text && starts 62 (drop 2 text)
+
+-- a name is the token here: one begins, and it is no `-->` (section 4.3.1)
 abbrev pub begins_ident : List ℕ → Bool
-begins_ident text = starts_two hyphen hyphen text || begins_plain_ident (past_byte hyphen text)
+begins_ident text = starts_ident text && not (begins_cdc text)
 
 -- an at-rule begins here: `@` and directly a name
 abbrev pub begins_at_rule : List ℕ → Bool
 begins_at_rule [] = false
-begins_at_rule (b ∷ text) = b == at_sign && begins_ident text
+begins_at_rule (b ∷ text) = b == at_sign && starts_ident text
 
 -- ---- blocks
 
@@ -66,7 +74,8 @@ pub record AtRuleText : Type 0 where
   pub prelude : Stated
   pub block : Option BlockText
 
--- what ends the prelude of an at-rule; in a block, its closing brace does, too
+-- what ends the prelude of an at-rule, or of a rule among declarations: its block, or a semicolon; in
+-- a block, its closing brace does, too
 abbrev pub at_rule_ends : Bool → Stops
 at_rule_ends in_block = record {
   semicolon = true;
@@ -137,10 +146,6 @@ statement in_block text =
     else rule_set_after (parts (rule_set_ends in_block) text)
 
 -- ---- statements one after another (section 5.4.1)
-
--- the text begins with `-->`
-abbrev pub begins_cdc : List ℕ → Bool
-begins_cdc text = starts_two hyphen hyphen text && starts 62 (drop 2 text)
 
 -- a space byte, a comment or, between the statements of a sheet, `<!--` or `-->`
 unfoldable pub between_part : Bool → List ℕ → Option (Unit {0} × List ℕ)

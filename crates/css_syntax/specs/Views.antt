@@ -1,6 +1,7 @@
 -- What contracts see of statements, declarations and lists: the bytes of their texts, wherever
 -- these are stored.
-use Rattle.std.specs.Prelude.{List, map}
+use Rattle.std.specs.Prelude.{ℕ, List, map, Result, Ok, Err}
+use Rattle.std.specs.Borrow.{Bor}
 use Rattle.std.specs.Option.{option_map}
 use Rattle.css_syntax.specs.declared.parts.Parts.{Parts}
 use Rattle.css_syntax.specs.declared.statements.Prelude.{Prelude}
@@ -14,9 +15,10 @@ use Rattle.css_syntax.specs.declared.declarations.Item.{Item}
 use Rattle.css_syntax.specs.declared.declarations.Item.TheVariants as items
 use Rattle.css_syntax.specs.declared.declarations.ListPart.{ListPart}
 use Rattle.css_syntax.specs.declared.printing.DeclarationList.{DeclarationList}
+use Rattle.css_syntax.specs.declared.quality.Fault.{Fault}
 use Rattle.css_syntax.specs.Parts.{Stated}
 use Rattle.css_syntax.specs.Statements.{BlockText, AtRuleText, StatementText, rule_set, at_rule_statement, skipped_statement, SheetText}
-use Rattle.css_syntax.specs.DeclarationLists.{DeclarationText, ItemText, declared, at_rule_item, skipped_item, ListText}
+use Rattle.css_syntax.specs.DeclarationLists.{DeclarationText, Declared, ItemText, declared, at_rule_item, skipped_item, ListText}
 
 abbrev pub parts_of : Parts → Stated
 parts_of p = record { text = p.text.now; quality = p.quality }
@@ -49,6 +51,11 @@ declaration_of d = record {
   important = d.important;
   closed = d.closed;
 }
+
+-- a declaration that was read, with the rest, or why there is none
+abbrev pub declared_by : Result (Declaration × Bor (List ℕ)) Fault → Declared
+declared_by (Ok found) = Ok (declaration_of found.0, found.1.now)
+declared_by (Err fault) = Err fault
 
 abbrev pub item_of : Item → ItemText
 item_of (items.Declaration d) = declared (declaration_of d)

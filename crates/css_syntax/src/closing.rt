@@ -1,5 +1,5 @@
 //! Closes what the end of a text left open in a value.
-ghost use Rattle.std.specs.Prelude.{◌≡◌, ◌++◌, ℕ, List, true, IfOk, IfSome, OnOk};
+ghost use Rattle.std.specs.Prelude.{◌≡◌, ◌++◌, ℕ, List, Some, false, option_map, true, IfOk, IfSome, OnOk};
 ghost use Rattle.std.specs.String.{string_bytes};
 ghost use Rattle.css_syntax.specs.Printing.{IsClosed, IsWholeValue};
 
@@ -8,7 +8,7 @@ use crate::declarations::read_value;
 use crate::printing::ends_lone;
 use crate::quality::is_whole;
 use crate::texts::past_gap;
-use crate::tokens::{skip_token, split};
+use crate::tokens::{read_token, split};
 use std::alloc::{AllocError, Global};
 
 /// What is open at the end of a value.
@@ -41,7 +41,7 @@ fn open_end(bytes: &[u8]) -> Option<OpenEnd<'_>> {
             depth += 1;
             rest = after;
         } else {
-            let token = skip_token(rest);
+            let token = read_token(rest);
             if !is_whole(token.quality) {
                 break;
             }
@@ -86,9 +86,10 @@ fn push_brackets(out: &mut String, mut waiting: u128, mut depth: usize) -> Resul
 
 /// Whether all of the text is a value of which nothing is open, without blanks at its start.
 fn is_whole_value(text: &str) -> bool
-    ensures { result ≡ true → IsWholeValue text.now }
+    ensures whole { result ≡ true → IsWholeValue true text.now }
+    ensures other { result ≡ false → IsWholeValue true text.now → ⊥ }
 {
-    let parts = read_value(text);
+    let parts = read_value(text, true);
     if !is_whole(parts.quality) || !parts.rest.is_empty() {
         return false;
     }
@@ -96,18 +97,25 @@ fn is_whole_value(text: &str) -> bool
 }
 
 /// Returns a value with what closes it where the end of the text did: the end of a string, an
-/// address or a comment, and then the brackets that are open. A value that is closed is returned
+/// url or a comment, and then the brackets that are open. A value of which nothing is open is returned
 /// unchanged. What is returned was read again; `None` is returned if that is no whole value, as of a
 /// text with a flaw, such as a closing bracket that closes nothing. Fails only if an allocation
 /// fails.
 pub fn closed_value(alloc: Global, value: &str) -> Result<Option<String>, AllocError>
-    ensures { IfOk result (λ found. IfSome found (λ out. IsClosed value.now (string_bytes out))) }
+    ensures closed { IfOk result (λ found. IfSome found (λ out.
+        IsClosed value.now (string_bytes out))) }
+    ensures unchanged { IsWholeValue true value.now
+        → IfOk result (λ found. option_map string_bytes found ≡ Some value.now) }
 {
+    if is_whole_value(value) {
+        let mut same = String::new(alloc);
+        same.push_str(value)?;
+        return Ok(Some(same));
+    }
     let Some(end) = open_end(value.as_bytes()) else {
         return Ok(None);
     };
-    let is_open = end.depth > 0 || !end.token.is_empty();
-    let is_lone = is_open && ends_lone(value.as_bytes());
+    let is_lone = ends_lone(value.as_bytes());
     let mut out = String::new(alloc);
     out.push_str(value)?;
     out.push_str(token_end(is_lone, end.token))?;

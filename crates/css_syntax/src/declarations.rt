@@ -1,30 +1,31 @@
 //! The declarations of a block or of a style attribute, each on its own (CSS Syntax 3, sections
 //! 5.4.5 and 5.4.6).
-ghost use Rattle.std.specs.Prelude.{◌≡◌, codes, option_map, true, false, IfSome};
-ghost use Rattle.std.specs.Str.{str_eq_ignore_ascii_case};
+ghost use Rattle.std.specs.Prelude.{◌≡◌, option_map, true, false, IfSome};
 ghost use Rattle.css_syntax.specs.DeclarationLists.{value, important_word, importance};
 ghost use Rattle.css_syntax.specs.DeclarationLists.{past_broken as past_broken_of};
 ghost use Rattle.css_syntax.specs.DeclarationLists.{is_custom as is_custom_of, why_broken};
 ghost use Rattle.css_syntax.specs.DeclarationLists.{stated_as};
 ghost use Rattle.css_syntax.specs.DeclarationLists.{is_stated as is_stated_of};
-ghost use Rattle.simplecss_text.specs.Bytes.{starts_by};
+ghost use Rattle.css_text.specs.Bytes.{starts_by};
 ghost use Rattle.css_syntax.specs.Tokens.{is_closer as is_closer_of};
-ghost use Rattle.css_syntax.specs.DeclarationLists.{valued, broken as broken_of, named};
-ghost use Rattle.css_syntax.specs.DeclarationLists.{declaration};
+ghost use Rattle.css_syntax.specs.DeclarationLists.{valued, named, declaration, or_rule};
+ghost use Rattle.css_syntax.specs.DeclarationLists.{begins_custom as begins_custom_of, rule_ended};
 ghost use Rattle.css_syntax.specs.DeclarationLists.{item as item_read};
 ghost use Rattle.css_syntax.specs.DeclarationLists.{separator_part as separator_part_of};
 ghost use Rattle.css_syntax.specs.DeclarationLists.{past_separators as past_separators_of};
 ghost use Rattle.css_syntax.specs.DeclarationLists.{next_item};
 ghost use Rattle.css_syntax.specs.DeclarationLists.{declaration_ends as declaration_ends_of};
 ghost use Rattle.css_syntax.specs.Contents.{item_contents};
-ghost use Rattle.css_syntax.specs.Views.{parts_of, item_of, list_part_of};
+ghost use Rattle.css_syntax.specs.Views.{parts_of, declared_by, item_of, list_part_of};
 
 use crate::parts::{Parts, Stops, ends_at, read_parts};
 use crate::quality::{Fault, Quality, fault_of, is_good, is_whole};
-use crate::statements::{AtRule, begins_at_rule, begins_ident, ends_block, read_at_rule};
-use crate::texts::{front, past_byte, past_gap, past_word};
-use crate::tokens::{gap_part, is_closer, skip_letter};
-use simplecss_text::readers;
+use crate::statements::{
+    AtRule, at_rule_ends, begins_at_rule, ends_block, read_at_rule, read_block, starts_ident,
+};
+use crate::texts::{front, past_byte, past_gap, past_word, spells};
+use crate::tokens::{gap_part, is_closer, take_letter};
+use css_text::readers;
 
 /// A declaration.
 #[derive(Clone, Copy, Debug, PartialEq)]
@@ -106,13 +107,13 @@ fn declaration_ends(in_block: bool) -> Stops
     }
 }
 
-/// Reads the value at the start of the text.
-pub(crate) fn read_value(text: &str) -> Parts<'_>
-    ensures { value text.now ≡ (parts_of result, result.rest.now) }
+/// Reads the value at the start of the text. That of a custom property may have blocks.
+pub(crate) fn read_value(text: &str, custom: bool) -> Parts<'_>
+    ensures { value custom text.now ≡ (parts_of result, result.rest.now) }
 {
     let stops = Stops {
         semicolon: true,
-        open_brace: false,
+        open_brace: !custom,
         close_brace: true,
         comma: false,
         in_value: true,
@@ -120,20 +121,13 @@ pub(crate) fn read_value(text: &str) -> Parts<'_>
     read_parts(stops, text)
 }
 
-/// Whether the word is `important`, in any case.
-fn is_important(word: &str) -> bool
-    ensures { result ≡ str_eq_ignore_ascii_case word.now (codes "important") }
-{
-    word.eq_ignore_ascii_case("important")
-}
-
-/// Skips the word `important` and the blanks after it, if it is next; else the rest is `from`.
+/// Reads the word `important` and the blanks after it, if it is next; else the rest is `from`.
 #[tactic(auto, using(crate::proofs::PartTexts::word_ends))]
-fn skip_important_word<'a>(from: &'a str, text: &'a str) -> Importance<'a>
+fn read_important_word<'a>(from: &'a str, text: &'a str) -> Importance<'a>
     ensures { important_word from.now text.now ≡ (result.important, result.rest.now) }
 {
     let after = past_word(text);
-    if is_important(front(text, after)) {
+    if spells("important", front(text, after)) {
         Importance {
             important: true,
             rest: past_gap(after),
@@ -146,12 +140,12 @@ fn skip_important_word<'a>(from: &'a str, text: &'a str) -> Importance<'a>
     }
 }
 
-/// Skips an exclamation mark and the word `important`, if they are next.
-fn skip_importance(text: &str) -> Importance<'_>
+/// Reads an exclamation mark and the word `important`, if they are next.
+fn read_importance(text: &str) -> Importance<'_>
     ensures { importance text.now ≡ (result.important, result.rest.now) }
 {
     if readers::starts(text, b'!') {
-        skip_important_word(text, past_gap(past_byte(text, b'!')))
+        read_important_word(text, past_gap(past_byte(text, b'!')))
     } else {
         Importance {
             important: false,
@@ -171,8 +165,8 @@ fn past_broken(text: &str, in_block: bool) -> &str
 fn is_custom(name: &[u8]) -> bool
     ensures { result ≡ is_custom_of name.now }
 {
-    match skip_letter(name, b'-', b'-') {
-        Some(rest) => skip_letter(rest, b'-', b'-').is_some(),
+    match take_letter(name, b'-', b'-') {
+        Some(rest) => take_letter(rest, b'-', b'-').is_some(),
         None => false,
     }
 }
@@ -198,16 +192,6 @@ fn why(in_block: bool, quality: Quality, rest: &[u8]) -> Fault
     }
 }
 
-/// A declaration that is broken from here on.
-fn broken(text: &str, in_block: bool) -> FoundItem<'_>
-    ensures { broken_of in_block text.now ≡ (item_of result.item, result.rest.now) }
-{
-    FoundItem {
-        item: Item::Skipped(Fault::BrokenDeclaration),
-        rest: past_broken(text, in_block),
-    }
-}
-
 /// Whether a declaration of this name, this value and this importance is one.
 fn is_stated(in_block: bool, name: &str, value: &Parts<'_>, rest: &str) -> bool
     ensures { result ≡ is_stated_of in_block name.now (parts_of value.now) rest.now }
@@ -217,57 +201,115 @@ fn is_stated(in_block: bool, name: &str, value: &Parts<'_>, rest: &str) -> bool
         && (!value.text.is_empty() || is_custom(name.as_bytes()))
 }
 
-/// The declaration of this name, value and importance, if it is one.
+/// The declaration of this name, value and importance and the rest after it, or what is reported of
+/// it.
 fn state<'a>(
     in_block: bool,
     name: &'a str,
     value: Parts<'a>,
     importance: Importance<'a>,
-) -> FoundItem<'a>
+) -> Result<(Declaration<'a>, &'a str), Fault>
     ensures { stated_as in_block name.now (parts_of value.entry)
-        (importance.entry.important, importance.entry.rest.now)
-        ≡ (item_of result.item, result.rest.now) }
+        (importance.entry.important, importance.entry.rest.now) ≡ declared_by result }
 {
     if is_stated(in_block, name, &value, importance.rest) {
-        FoundItem {
-            item: Item::Declaration(Declaration {
-                name,
-                value: value.text,
-                important: importance.important,
-                closed: is_whole(value.quality),
-            }),
-            rest: importance.rest,
-        }
+        let declaration = Declaration {
+            name,
+            value: value.text,
+            important: importance.important,
+            closed: is_whole(value.quality),
+        };
+        Ok((declaration, importance.rest))
     } else {
-        FoundItem {
-            item: Item::Skipped(why(in_block, value.quality, importance.rest.as_bytes())),
-            rest: past_broken(importance.rest, in_block),
-        }
+        Err(why(in_block, value.quality, importance.rest.as_bytes()))
     }
 }
 
-/// Reads the declaration of this name, from what follows the name on. It begins at `start`.
-fn read_named<'a>(in_block: bool, start: &'a str, name: &'a str, text: &'a str) -> FoundItem<'a>
-    ensures { named in_block start.now name.now text.now ≡ (item_of result.item, result.rest.now) }
+/// Reads the declaration of this name, from what follows the name on.
+fn read_named<'a>(
+    in_block: bool,
+    name: &'a str,
+    text: &'a str,
+) -> Result<(Declaration<'a>, &'a str), Fault>
+    ensures { named in_block name.now text.now ≡ declared_by result }
 {
     if readers::starts(text, b':') {
-        let value = read_value(past_gap(past_byte(text, b':')));
-        state(in_block, name, value, skip_importance(value.rest))
+        let from = past_gap(past_byte(text, b':'));
+        let value = read_value(from, is_custom(name.as_bytes()));
+        state(in_block, name, value, read_importance(value.rest))
     } else {
-        broken(start, in_block)
+        Err(Fault::BrokenDeclaration)
     }
 }
 
 /// Reads a declaration.
 #[tactic(auto, using(crate::proofs::PartTexts::word_ends), unfolding(crate::specs::DeclarationLists::declaration))]
-fn read_declaration(text: &str, in_block: bool) -> FoundItem<'_>
-    ensures { declaration in_block text.now ≡ (item_of result.item, result.rest.now) }
+fn read_declaration(text: &str, in_block: bool) -> Result<(Declaration<'_>, &str), Fault>
+    ensures { declaration in_block text.now ≡ declared_by result }
 {
-    if begins_ident(text.as_bytes()) {
+    if starts_ident(text.as_bytes()) {
         let after = past_word(text);
-        read_named(in_block, text, front(text, after), past_gap(after))
+        read_named(in_block, front(text, after), past_gap(after))
     } else {
-        broken(text, in_block)
+        Err(Fault::BrokenDeclaration)
+    }
+}
+
+/// Whether a declaration of a custom property begins here.
+#[tactic(auto, using(crate::proofs::PartTexts::word_ends))]
+fn begins_custom(text: &str) -> bool
+    ensures { result ≡ begins_custom_of text.now }
+{
+    let after = past_word(text);
+    starts_ident(text.as_bytes())
+        && is_custom(front(text, after).as_bytes())
+        && readers::starts(past_gap(after), b':')
+}
+
+/// Ends what is no declaration, by what follows what may be the prelude of a rule: a rule, if that
+/// is a block. Of a custom property no rule begins.
+fn end_rule(rest: &str, in_block: bool, custom: bool, fault: Fault) -> FoundItem<'_>
+    ensures { rule_ended in_block custom fault rest.now ≡ (item_of result.item, result.rest.now) }
+{
+    if !readers::starts(rest, b'{') {
+        FoundItem {
+            item: Item::Skipped(fault),
+            rest,
+        }
+    } else if custom {
+        FoundItem {
+            item: Item::Skipped(fault),
+            rest: past_broken(rest, in_block),
+        }
+    } else {
+        FoundItem {
+            item: Item::Skipped(Fault::NestedRule),
+            rest: read_block(past_byte(rest, b'{')).rest,
+        }
+    }
+}
+
+/// Reads a declaration, or else skips a rule or what is broken. A style attribute has no rules.
+fn read_plain_item(text: &str, in_block: bool) -> FoundItem<'_>
+    ensures { or_rule in_block text.now (declaration in_block text.now)
+        ≡ (item_of result.item, result.rest.now) }
+{
+    match read_declaration(text, in_block) {
+        Ok((declaration, rest)) => FoundItem {
+            item: Item::Declaration(declaration),
+            rest,
+        },
+        Err(fault) => {
+            if in_block {
+                let prelude = read_parts(at_rule_ends(in_block), text);
+                end_rule(prelude.rest, in_block, begins_custom(text), fault)
+            } else {
+                FoundItem {
+                    item: Item::Skipped(fault),
+                    rest: past_broken(text, in_block),
+                }
+            }
+        }
     }
 }
 
@@ -289,13 +331,13 @@ fn read_item(text: &str, in_block: bool) -> OpenedItem<'_>
         }
     } else {
         OpenedItem {
-            found: read_declaration(text, in_block),
+            found: read_plain_item(text, in_block),
             inside: text,
         }
     }
 }
 
-/// Skips a semicolon, a space byte or a comment, if one is next.
+/// Returns the rest after a semicolon, a space byte or a comment, if one is next.
 #[tactic(auto, unfolding(crate::specs::DeclarationLists::separator_part))]
 fn separator_part(bytes: &[u8]) -> Option<&[u8]>
     ensures { separator_part_of bytes.now ≡ option_map (λ rest. (tt, rest.now)) result }
@@ -312,8 +354,8 @@ fn separator_part(bytes: &[u8]) -> Option<&[u8]>
     }
 }
 
-/// Skips what is between items.
-fn skip_separators(bytes: &[u8]) -> &[u8]
+/// Returns the rest after what is between items.
+fn past_separator_bytes(bytes: &[u8]) -> &[u8]
     ensures { result.now ≡ past_separators_of bytes.now }
 {
     let mut rest = bytes;
@@ -327,7 +369,7 @@ fn skip_separators(bytes: &[u8]) -> &[u8]
 fn past_separators(text: &str) -> &str
     ensures { result.now ≡ past_separators_of text.now }
 {
-    let rest = skip_separators(text.as_bytes());
+    let rest = past_separator_bytes(text.as_bytes());
     &text[text.len() - rest.len()..]
 }
 
@@ -368,8 +410,8 @@ pub struct Declarations<'a> {
 impl<'a> Declarations<'a> {
     ghost use Rattle.css_syntax.specs.ListReaders.{BeginsList, items_left};
 
-    /// Returns an iterator over the items of a text, such as that of a style attribute, in which a
-    /// closing brace ends nothing.
+    /// Returns an iterator over the items of a style attribute, in which a closing brace ends nothing
+    /// and rules are broken declarations.
     pub fn new(text: &'a str) -> Declarations<'a>
         ensures { BeginsList false text.now result }
     {
@@ -380,7 +422,7 @@ impl<'a> Declarations<'a> {
     }
 
     /// Returns an iterator over the items of a block, of which the text follows the opening brace.
-    /// Its closing brace ends them.
+    /// Its closing brace ends them, if it is there. A rule in the block is skipped as one.
     pub fn of_block(text: &'a str) -> Declarations<'a>
         ensures { BeginsList true text.now result }
     {

@@ -1,15 +1,14 @@
-//! Decodes escapes (CSS Syntax 3, section 4.3.7).
+//! Decodes escapes (CSS Syntax 3, sections 4.3.5 and 4.3.7).
 ghost use Rattle.std.specs.Prelude.{◌≡◌, ◌≤◌, ◌++◌, ◌∷◌, true, length, IfOk};
 ghost use Rattle.std.specs.String.{string_bytes};
 ghost use Rattle.std.specs.Cow.{cow_str_bytes};
-ghost use Rattle.simplecss_text.specs.Bytes.{starts_by};
-ghost use Rattle.simplecss_text.specs.AsciiBytes.{backslash};
-ghost use Rattle.simplecss_text.specs.Terms.{is_hex_digit as is_hex};
+ghost use Rattle.css_text.specs.Bytes.{is_ascii, starts_by};
+ghost use Rattle.css_text.specs.AsciiBytes.{backslash};
 ghost use Rattle.css_syntax.specs.Tokens.{past_escape as past_escape_of};
-ghost use Rattle.css_syntax.specs.Escapes.{character_of as character_of_number, decoded};
+ghost use Rattle.css_syntax.specs.Escapes.{character_of as character_of_number, decoded, decoded_in, decoded_string};
 
 use crate::texts::past_ascii;
-use crate::tokens::{hex_number, is_hex_digit, is_newline, skip_escape, split};
+use crate::tokens::{hex_number, is_hex_digit, is_newline, past_escape, split};
 use std::alloc::{AllocError, Global};
 use std::borrow::CowStr;
 
@@ -24,19 +23,20 @@ fn character_of(number: u32) -> char
     }
 }
 
-/// Returns the rest after hexadecimal digits that are escaped, and the space after them.
-fn past_digits(text: &str) -> &str
-    requires { starts_by is_hex text.now ≡ true }
+/// Returns the rest after what a backslash escapes, which begins with an ASCII character.
+fn past_escaped(text: &str) -> &str
+    requires { starts_by is_ascii text.now ≡ true }
     ensures { result.now ≡ past_escape_of text.now }
 {
-    let rest = skip_escape(text.as_bytes());
+    let rest = past_escape(text.as_bytes());
     &text[text.len() - rest.len()..]
 }
 
-/// Appends what an escape denotes, from after its backslash, and returns the rest after it.
-fn push_escape<'a>(out: &mut String, after: &'a str) -> Result<&'a str, AllocError>
-    ensures pushed { IfOk result (λ rest. string_bytes out.new ++ decoded rest.now
-        ≡ string_bytes out.old ++ decoded (backslash ∷ after.now)) }
+/// Appends what a backslash denotes with what follows it, in a string or elsewhere, and returns the
+/// rest after it.
+fn push_escape<'a>(out: &mut String, in_string: bool, after: &'a str) -> Result<&'a str, AllocError>
+    ensures pushed { IfOk result (λ rest. string_bytes out.new ++ decoded_in in_string rest.now
+        ≡ string_bytes out.old ++ decoded_in in_string (backslash ∷ after.now)) }
     ensures within { IfOk result (λ rest. length rest.now ≤ length after.now) }
 {
     let bytes = after.as_bytes();
@@ -47,11 +47,14 @@ fn push_escape<'a>(out: &mut String, after: &'a str) -> Result<&'a str, AllocErr
         }
         Some((byte, _)) => {
             if is_newline(byte) {
+                if in_string {
+                    return Ok(past_escaped(after));
+                }
                 out.push('\\')?;
                 Ok(after)
             } else if is_hex_digit(byte) {
                 out.push(character_of(hex_number(bytes)))?;
-                Ok(past_digits(after))
+                Ok(past_escaped(after))
             } else if byte < 128 {
                 out.push(char::from(byte))?;
                 Ok(past_ascii(after))
@@ -63,19 +66,35 @@ fn push_escape<'a>(out: &mut String, after: &'a str) -> Result<&'a str, AllocErr
 }
 
 /// Returns a text whose first backslash is after `front`, with its escapes decoded.
-fn decode_from<'a>(alloc: Global, front: &'a str, after: &'a str) -> Result<String, AllocError>
+fn decode_from<'a>(
+    alloc: Global,
+    in_string: bool,
+    front: &'a str,
+    after: &'a str,
+) -> Result<String, AllocError>
     ensures { IfOk result (λ out. string_bytes out
-        ≡ front.now ++ decoded (backslash ∷ after.now)) }
+        ≡ front.now ++ decoded_in in_string (backslash ∷ after.now)) }
 {
     let mut out = String::new(alloc);
     out.push_str(front)?;
-    let mut rest = push_escape(&mut out, after)?;
+    let mut rest = push_escape(&mut out, in_string, after)?;
     'parts: while let Some((plain, next)) = rest.split_once('\\') {
         out.push_str(plain)?;
-        rest = push_escape(&mut out, next)?;
+        rest = push_escape(&mut out, in_string, next)?;
     }
     out.push_str(rest)?;
     Ok(out)
+}
+
+/// Returns the text with its escapes decoded, as in a string or as elsewhere. A text without a backslash
+/// is returned as it is.
+fn decode_in<'a>(alloc: Global, in_string: bool, text: &'a str) -> Result<CowStr<'a>, AllocError>
+    ensures { IfOk result (λ found. cow_str_bytes found ≡ decoded_in in_string text.now) }
+{
+    match text.split_once('\\') {
+        None => Ok(CowStr::Borrowed(text)),
+        Some((front, after)) => { Ok(CowStr::Owned(decode_from(alloc, in_string, front, after)?)) }
+    }
 }
 
 /// Returns the text that a name or a value denotes: its escapes are decoded. A text without a
@@ -87,8 +106,13 @@ fn decode_from<'a>(alloc: Global, front: &'a str, after: &'a str) -> Result<Stri
 pub fn decode<'a>(alloc: Global, text: &'a str) -> Result<CowStr<'a>, AllocError>
     ensures { IfOk result (λ found. cow_str_bytes found ≡ decoded text.now) }
 {
-    match text.split_once('\\') {
-        None => Ok(CowStr::Borrowed(text)),
-        Some((front, after)) => Ok(CowStr::Owned(decode_from(alloc, front, after)?)),
-    }
+    decode_in(alloc, false, text)
+}
+
+/// Returns the text that a string denotes, from what is between its quotes: as [`decode`] does, but a
+/// backslash before a newline denotes nothing, with the newline.
+pub fn decode_string<'a>(alloc: Global, text: &'a str) -> Result<CowStr<'a>, AllocError>
+    ensures { IfOk result (λ found. cow_str_bytes found ≡ decoded_string text.now) }
+{
+    decode_in(alloc, true, text)
 }

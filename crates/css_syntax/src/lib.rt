@@ -16,13 +16,14 @@ pub mod parts;
 pub mod places;
 pub mod printing;
 pub mod quality;
+pub mod selectors;
 pub mod statements;
 pub mod texts;
 pub mod tokens;
 
 pub use closing::closed_value;
 pub use declarations::{Declaration, Declarations, Item, ListPart};
-pub use escapes::decode;
+pub use escapes::{decode, decode_string};
 pub use printing::DeclarationList;
 pub use quality::{Fault, Quality};
 pub use statements::{AtRule, Block, Prelude, RuleSet, SheetPart, Statement, Statements};

@@ -3,9 +3,9 @@ ghost use Rattle.std.specs.Prelude.{◌≡◌, option_map};
 ghost use Rattle.css_syntax.specs.Parts.{Stated, stops_at as stops_at_of, ends_at as ends_at_of};
 ghost use Rattle.css_syntax.specs.Parts.{part as part_of, parts as parts_of};
 
-use crate::component_values::skip_component_value;
+use crate::component_values::read_component_value;
 use crate::quality::{Quality, first_flaw};
-use crate::tokens::skip_gap;
+use crate::tokens::past_gap;
 
 /// Which bytes end the parts.
 #[derive(Clone, Copy, Debug)]
@@ -79,19 +79,19 @@ pub fn ends_at(stops: Stops, bytes: &[u8]) -> bool
     }
 }
 
-/// Skips a part, if they do not end here.
-fn skip_part(stops: Stops, bytes: &[u8]) -> Option<Part<'_>>
+/// Returns the next part, unless they end here.
+fn take_part(stops: Stops, bytes: &[u8]) -> Option<Part<'_>>
     ensures { part_of stops bytes.now
         ≡ option_map (λ part. ((part.quality, part.end.now), part.next.now)) result }
 {
     if ends_at(stops, bytes) {
         return None;
     }
-    let skipped = skip_component_value(bytes);
+    let skipped = read_component_value(bytes);
     Some(Part {
         quality: skipped.quality,
         end: skipped.rest,
-        next: skip_gap(skipped.rest),
+        next: past_gap(skipped.rest),
     })
 }
 
@@ -103,7 +103,7 @@ fn read_byte_parts(stops: Stops, bytes: &[u8]) -> ByteParts<'_>
     let mut end = bytes;
     let mut rest = bytes;
     let mut quality = Quality::Whole;
-    'parts: while let Some(part) = skip_part(stops, rest) {
+    'parts: while let Some(part) = take_part(stops, rest) {
         quality = first_flaw(quality, part.quality);
         end = part.end;
         rest = part.next;

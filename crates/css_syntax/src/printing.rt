@@ -30,7 +30,7 @@ fn lone_end(value: &str) -> &'static str
     ensures { result.now ≡ lone_end_of value.now }
 {
     if ends_lone(value.as_bytes()) {
-        "\n"
+        "\u{FFFD}"
     } else {
         ""
     }
@@ -54,11 +54,11 @@ fn write_stated<W: fmt::Write>(f: &mut fmt::Formatter<W>, name: &str, value: &st
 }
 
 /// Prints the name, a colon, a space, the value, `!important` if it is, and a semicolon. Name and
-/// value are printed as they were written; a value that ends in a backslash which escapes nothing
-/// has a newline after it. Width, fill and flags of the formatter change nothing.
+/// value are printed as they were written; a value that ends in a lone backslash, which the end of
+/// the text makes U+FFFD, has that character after it. Width, fill and flags of the formatter change nothing.
 ///
 /// Printed before any text and read again, a declaration that was read is itself, except if its
-/// value ends in such a backslash, or if something of it was open at the end of the text (`closed`
+/// value ends in a lone backslash, or if something of it was open at the end of the text (`closed`
 /// is false), which is not closed here, but by `closed_value`.
 impl<'a> Display for Declaration<'a> {
     ghost use Rattle.std.specs.Prelude.{Some};
@@ -95,7 +95,7 @@ impl<'d, 'a> Display for DeclarationList<'d, 'a> {
 
     ghost styled_output = { λ l _. Some (list_text (declarations_in l)) };
 
-    #[tactic(auto, using(simplecss_text::proofs::round_trip::StyledWrites::plain_of_styled))]
+    #[tactic(auto, using(css_text::proofs::round_trip::StyledWrites::plain_of_styled))]
     fn fmt<W: fmt::Write>(&self, f: &mut fmt::Formatter<W>) -> fmt::Result {
         let Some((first, rest)) = self.declarations.split_first() else {
             return Ok(());

@@ -2,19 +2,19 @@
 ghost use Rattle.std.specs.Prelude.{◌≡◌};
 ghost use Rattle.css_syntax.specs.Qualities.{first_flaw as first_flaw_of, is_good as is_good_of};
 ghost use Rattle.css_syntax.specs.Qualities.{is_whole as is_whole_of};
-ghost use Rattle.css_syntax.specs.Qualities.{fault_of as fault_named};
+ghost use Rattle.css_syntax.specs.Qualities.{fault_of as fault_named, fault_words};
 
 /// Whether something that was read is good.
 #[derive(Clone, Copy, Debug, PartialEq)]
 pub enum Quality {
     /// It is good, and closed.
     Whole,
-    /// It is good, but a bracket, a string, an address or a comment of it is open at the end of the
+    /// It is good, but a bracket, a string, a url or a comment of it is open at the end of the
     /// text, which closes it.
     Open,
     /// A string of it has a newline.
     BadString,
-    /// An address of it has a quote, a parenthesis, a control character, or a blank in it.
+    /// A url of it has a quote, a parenthesis, a control character, or a blank in it.
     BadUrl,
     /// A closing bracket of it closes nothing.
     StrayBracket,
@@ -29,7 +29,7 @@ pub enum Fault {
     BrokenDeclaration,
     /// A string has a newline.
     BadString,
-    /// An address has a quote, a parenthesis, a control character, or a blank in it.
+    /// A url has a quote, a parenthesis, a control character, or a blank in it.
     BadUrl,
     /// A closing bracket closes nothing.
     StrayBracket,
@@ -37,8 +37,28 @@ pub enum Fault {
     TooDeep,
     /// No block follows what should be the selectors of a rule set.
     NoBlock,
+    /// A rule is nested in a rule set.
+    NestedRule,
     /// A selector is invalid.
     InvalidSelector,
+}
+
+impl Fault {
+    /// Returns the words for the fault.
+    pub fn words(self) -> &'static str
+        ensures { result.now ≡ fault_words self }
+    {
+        match self {
+            Fault::BrokenDeclaration => "broken declaration",
+            Fault::BadString => "bad string",
+            Fault::BadUrl => "bad url",
+            Fault::StrayBracket => "stray bracket",
+            Fault::TooDeep => "too deep",
+            Fault::NoBlock => "no block",
+            Fault::NestedRule => "nested rule",
+            Fault::InvalidSelector => "invalid selector",
+        }
+    }
 }
 
 /// Returns the first one, unless it is whole; then the other.

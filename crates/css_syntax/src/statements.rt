@@ -1,13 +1,15 @@
 //! The statements of a sheet, or of the block of an at-rule (CSS Syntax 3, sections 5.4.1 to
 //! 5.4.3).
 ghost use Rattle.std.specs.Prelude.{◌≡◌, option_map, true, false, IfSome};
-ghost use Rattle.simplecss_text.specs.Reading.{before};
+ghost use Rattle.css_text.specs.Reading.{before};
 ghost use Rattle.css_syntax.specs.Parts.{Stated};
 ghost use Rattle.css_syntax.specs.Statements.{begins_name_byte as begins_name_byte_of};
 ghost use Rattle.css_syntax.specs.Statements.{begins_plain_ident as begins_plain_of};
+ghost use Rattle.css_syntax.specs.Statements.{starts_ident as starts_ident_of};
 ghost use Rattle.css_syntax.specs.Statements.{begins_ident as begins_ident_of};
 ghost use Rattle.css_syntax.specs.Statements.{begins_at_rule as begins_at_rule_of};
 ghost use Rattle.css_syntax.specs.Statements.{block as block_read, at_rule as at_rule_read};
+ghost use Rattle.css_syntax.specs.Statements.{at_rule_ends as at_rule_ends_of};
 ghost use Rattle.css_syntax.specs.Statements.{at_rule_ended, rule_set_ended};
 ghost use Rattle.css_syntax.specs.Statements.{statement as statement_read};
 ghost use Rattle.css_syntax.specs.Statements.{begins_cdc as begins_cdc_of};
@@ -23,8 +25,8 @@ ghost use Rattle.css_syntax.specs.Views.{sheet_part_of};
 use crate::parts::{Parts, Stops, read_parts};
 use crate::quality::{Fault, Quality};
 use crate::texts::{front, past_byte, past_gap, past_word};
-use crate::tokens::{begins_cdo, begins_escape, gap_part, skip_byte};
-use simplecss_text::readers;
+use crate::tokens::{self, begins_cdo, begins_escape, gap_part};
+use css_text::readers;
 
 /// What is before the block of a statement.
 #[derive(Clone, Copy, Debug, PartialEq)]
@@ -86,11 +88,13 @@ pub struct SheetPart<'a> {
 
 /// A block and the rest after it.
 #[derive(Clone, Copy)]
-struct FoundBlock<'a> {
-    block: Block<'a>,
+pub(crate) struct FoundBlock<'a> {
+    /// The block.
+    pub(crate) block: Block<'a>,
     /// What is left from the contents on.
-    inside: &'a str,
-    rest: &'a str,
+    pub(crate) inside: &'a str,
+    /// The rest.
+    pub(crate) rest: &'a str,
 }
 
 /// An at-rule and the rest after it.
@@ -143,10 +147,24 @@ fn begins_plain_ident(bytes: &[u8]) -> bool
 }
 
 /// Whether a name begins here.
+pub(crate) fn starts_ident(bytes: &[u8]) -> bool
+    ensures { result ≡ starts_ident_of bytes.now }
+{
+    matches!(bytes, [b'-', b'-', ..]) || begins_plain_ident(tokens::past_byte(bytes, b'-'))
+}
+
+/// Whether the bytes begin with `-->`.
+fn begins_cdc(bytes: &[u8]) -> bool
+    ensures { result ≡ begins_cdc_of bytes.now }
+{
+    matches!(bytes, [b'-', b'-', b'>', ..])
+}
+
+/// Whether a name is the token here: one begins, and it is no `-->`.
 pub fn begins_ident(bytes: &[u8]) -> bool
     ensures { result ≡ begins_ident_of bytes.now }
 {
-    matches!(bytes, [b'-', b'-', ..]) || begins_plain_ident(skip_byte(bytes, b'-'))
+    starts_ident(bytes) && !begins_cdc(bytes)
 }
 
 /// Whether an at-rule begins here: `@` and directly a name.
@@ -155,7 +173,7 @@ pub fn begins_at_rule(bytes: &[u8]) -> bool
 {
     match bytes {
         [] => false,
-        [byte, after @ ..] => *byte == b'@' && begins_ident(after),
+        [byte, after @ ..] => *byte == b'@' && starts_ident(after),
     }
 }
 
@@ -171,7 +189,7 @@ fn prelude_from<'a>(parts: &Parts<'a>) -> Prelude<'a>
 
 /// Reads a block after its opening brace.
 #[tactic(auto, unfolding(crate::specs::Statements::block))]
-fn read_block(text: &str) -> FoundBlock<'_>
+pub(crate) fn read_block(text: &str) -> FoundBlock<'_>
     ensures read { block_read text.now ≡ (block_of result.block, result.rest.now) }
     ensures inside { result.inside.now ≡ past_gap_of text.now }
 {
@@ -225,6 +243,19 @@ fn end_at_rule<'a>(name: &'a str, parts: Parts<'a>) -> FoundAtRule<'a>
     }
 }
 
+/// What ends the prelude of an at-rule, or of a rule among declarations.
+pub(crate) fn at_rule_ends(in_block: bool) -> Stops
+    ensures { result ≡ at_rule_ends_of in_block }
+{
+    Stops {
+        semicolon: true,
+        open_brace: true,
+        close_brace: in_block,
+        comma: false,
+        in_value: false,
+    }
+}
+
 /// Reads an at-rule, from its `@` on. Within a block, the closing brace of the block ends it, too.
 #[tactic(auto, using(crate::proofs::PartTexts::word_ends), unfolding(crate::specs::Statements::at_rule))]
 pub fn read_at_rule(text: &str, in_block: bool) -> FoundAtRule<'_>
@@ -234,14 +265,7 @@ pub fn read_at_rule(text: &str, in_block: bool) -> FoundAtRule<'_>
     let start = past_byte(text, b'@');
     let after = past_word(start);
     let name = front(start, after);
-    let stops = Stops {
-        semicolon: true,
-        open_brace: true,
-        close_brace: in_block,
-        comma: false,
-        in_value: false,
-    };
-    end_at_rule(name, read_parts(stops, past_gap(after)))
+    end_at_rule(name, read_parts(at_rule_ends(in_block), past_gap(after)))
 }
 
 /// Ends a rule set by what follows its prelude.
@@ -294,14 +318,7 @@ fn read_statement(text: &str, in_block: bool) -> FoundStatement<'_>
     end_rule_set(read_parts(stops, text))
 }
 
-/// Whether the bytes begin with `-->`.
-fn begins_cdc(bytes: &[u8]) -> bool
-    ensures { result ≡ begins_cdc_of bytes.now }
-{
-    matches!(bytes, [b'-', b'-', b'>', ..])
-}
-
-/// Skips a space byte, a comment or, between the statements of a sheet, a `<!--` or `-->`.
+/// Returns the rest after a space byte, a comment or, between the statements of a sheet, a `<!--` or `-->`.
 #[tactic(auto, unfolding(crate::specs::Statements::between_part))]
 fn between_part(bytes: &[u8], in_block: bool) -> Option<&[u8]>
     ensures { between_part_of in_block bytes.now ≡ option_map (λ rest. (tt, rest.now)) result }
@@ -317,8 +334,8 @@ fn between_part(bytes: &[u8], in_block: bool) -> Option<&[u8]>
     }
 }
 
-/// Skips what is between statements.
-fn skip_between(bytes: &[u8], in_block: bool) -> &[u8]
+/// Returns the rest after what is between statements.
+fn past_between_bytes(bytes: &[u8], in_block: bool) -> &[u8]
     ensures { result.now ≡ past_between_of in_block bytes.now }
 {
     let mut rest = bytes;
@@ -332,7 +349,7 @@ fn skip_between(bytes: &[u8], in_block: bool) -> &[u8]
 fn past_between(text: &str, in_block: bool) -> &str
     ensures { result.now ≡ past_between_of in_block text.now }
 {
-    let rest = skip_between(text.as_bytes(), in_block);
+    let rest = past_between_bytes(text.as_bytes(), in_block);
     &text[text.len() - rest.len()..]
 }
 

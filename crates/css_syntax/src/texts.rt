@@ -1,16 +1,17 @@
 //! Readers of tokens over texts, and slices of texts.
 ghost use Rattle.std.specs.Prelude.{◌≡◌, ◌<◌, true};
-ghost use Rattle.simplecss_text.specs.Reading.{before, Ends};
-ghost use Rattle.simplecss_text.specs.Bytes.{past_byte as past_byte_of, past_one, starts_by};
-ghost use Rattle.simplecss_text.specs.Bytes.{is_ascii};
+ghost use Rattle.css_text.specs.Reading.{before, Ends};
+ghost use Rattle.css_text.specs.Bytes.{past_byte as past_byte_of, past_one as past_one_of, starts_by};
+ghost use Rattle.css_text.specs.Bytes.{is_ascii};
 ghost use Rattle.css_syntax.specs.Tokens.{past_gap as past_gap_of, past_word as past_word_of};
-ghost use Rattle.css_syntax.specs.Tokens.{token};
+ghost use Rattle.css_syntax.specs.Tokens.{past_string_parts as past_string_parts_of};
+ghost use Rattle.css_syntax.specs.Tokens.{spells as spells_of, token};
 ghost use Rattle.css_syntax.specs.ComponentValues.{component_value, deepest};
 
-use crate::component_values::skip_component_value;
+use crate::component_values::read_component_value;
 use crate::quality::Quality;
-use crate::tokens::{skip_gap, skip_token, skip_word};
-use simplecss_text::readers;
+use crate::tokens;
+use css_text::readers;
 
 /// A token or a component value that was read.
 #[derive(Clone, Copy)]
@@ -33,7 +34,7 @@ pub fn front<'a>(text: &'a str, rest: &'a str) -> &'a str
 pub fn past_gap(text: &str) -> &str
     ensures { result.now ≡ past_gap_of text.now }
 {
-    let rest = skip_gap(text.as_bytes());
+    let rest = tokens::past_gap(text.as_bytes());
     &text[text.len() - rest.len()..]
 }
 
@@ -41,14 +42,25 @@ pub fn past_gap(text: &str) -> &str
 pub fn past_word(text: &str) -> &str
     ensures { result.now ≡ past_word_of text.now }
 {
-    let rest = skip_word(text.as_bytes());
+    let rest = tokens::past_word(text.as_bytes());
+    &text[text.len() - rest.len()..]
+}
+
+/// Returns the rest after what is in a string with this quote, from after the quote that opens it:
+/// the quote that closes it, a newline, or nothing.
+pub fn past_string_parts(text: &str, quote: u8) -> &str
+    requires { quote < 128 }
+    ensures { result.now ≡ past_string_parts_of quote text.now }
+{
+    let rest = tokens::past_string_parts(text.as_bytes(), quote);
     &text[text.len() - rest.len()..]
 }
 
 /// Returns the rest after the first byte, which is ASCII.
+#[inline(always)]
 pub fn past_ascii(text: &str) -> &str
     requires { starts_by is_ascii text.now ≡ true }
-    ensures { result.now ≡ past_one text.now }
+    ensures { result.now ≡ past_one_of text.now }
 {
     &text[1..]
 }
@@ -66,11 +78,19 @@ pub fn past_byte(text: &str, byte: u8) -> &str
     }
 }
 
+/// Whether the word is the keyword, which is in lower case: each of its characters in either case, as
+/// it is or as an escape.
+pub fn spells(keyword: &str, word: &str) -> bool
+    ensures { result ≡ spells_of keyword.now word.now }
+{
+    tokens::spells(keyword.as_bytes(), word.as_bytes())
+}
+
 /// Reads a token that is no opening bracket.
 pub fn read_token(text: &str) -> ReadValue<'_>
     ensures { token text.now ≡ (result.quality, result.rest.now) }
 {
-    let skipped = skip_token(text.as_bytes());
+    let skipped = tokens::read_token(text.as_bytes());
     ReadValue {
         quality: skipped.quality,
         rest: &text[text.len() - skipped.rest.len()..],
@@ -81,7 +101,7 @@ pub fn read_token(text: &str) -> ReadValue<'_>
 pub fn read_value(text: &str) -> ReadValue<'_>
     ensures { component_value deepest text.now ≡ (result.quality, result.rest.now) }
 {
-    let skipped = skip_component_value(text.as_bytes());
+    let skipped = read_component_value(text.as_bytes());
     ReadValue {
         quality: skipped.quality,
         rest: &text[text.len() - skipped.rest.len()..],

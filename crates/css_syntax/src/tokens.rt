@@ -1,26 +1,29 @@
 //! The tokens of CSS Syntax 3 (section 4.3), as far as where one ends depends on them. Each
-//! function takes the rest of a text and returns the rest after what it skips.
+//! function takes the rest of a text and returns the rest after what it reads.
 ghost use Rattle.std.specs.Prelude.{◌≡◌, ◌≤◌, [], ◌∷◌, length, option_map};
 ghost use Rattle.std.specs.Prelude.{MatchOption, ◌<◌, true, not, ◌&&◌, ◌||◌, ◌==◌};
 ghost use Rattle.std.specs.Prelude.{Some};
 ghost use Rattle.std.specs.List.{prefix_len};
-ghost use Rattle.simplecss_text.specs.Reading.{each};
-ghost use Rattle.simplecss_text.specs.AsciiBytes.{close_parenthesis};
-ghost use Rattle.simplecss_text.specs.Bytes.{past, past_byte, past_one, starts_by};
-ghost use Rattle.simplecss_text.specs.Strings.{is_quote as is_quote_byte};
-ghost use Rattle.simplecss_text.specs.Characters.{is_space as is_space_byte};
-ghost use Rattle.simplecss_text.specs.Comments.{opens_comment};
-ghost use Rattle.simplecss_text.specs.Terms.{is_hex_digit as is_hex};
+ghost use Rattle.css_text.specs.Reading.{each};
+ghost use Rattle.css_text.specs.AsciiBytes.{close_parenthesis};
+ghost use Rattle.css_text.specs.Bytes.{past, past_byte as past_byte_of, past_one as past_one_of, starts_by};
+ghost use Rattle.css_text.specs.Strings.{is_quote as is_quote_byte};
+ghost use Rattle.css_text.specs.Characters.{is_space as is_space_byte};
+ghost use Rattle.css_text.specs.Comments.{opens_comment};
+ghost use Rattle.css_text.specs.Bytes.{is_hex_digit as is_hex};
 ghost use Rattle.css_syntax.specs.Tokens.{is_newline as is_newline_byte};
-ghost use Rattle.css_syntax.specs.Tokens.{past_one_space, past_hex, past_escape};
+ghost use Rattle.css_syntax.specs.Tokens.{past_newline as past_newline_of};
+ghost use Rattle.css_syntax.specs.Tokens.{past_one_space as past_one_space_of, past_hex as past_hex_of, past_escape as past_escape_of};
 ghost use Rattle.css_syntax.specs.Tokens.{begins_escape as begins_escape_of, past_comment};
-ghost use Rattle.css_syntax.specs.Tokens.{gap_part as gap_part_of, past_gap};
+ghost use Rattle.css_syntax.specs.Tokens.{gap_part as gap_part_of, past_gap as past_gap_of};
 ghost use Rattle.css_syntax.specs.Tokens.{string_part as string_part_of, past_string, string_end};
+ghost use Rattle.css_syntax.specs.Tokens.{past_string_parts as past_string_parts_of};
 ghost use Rattle.css_syntax.specs.Tokens.{is_name_byte as is_name_byte_of};
-ghost use Rattle.css_syntax.specs.Tokens.{past_word};
+ghost use Rattle.css_syntax.specs.Tokens.{past_word as past_word_of};
 ghost use Rattle.css_syntax.specs.Tokens.{begins_url as begins_url_of, hex_digit};
 ghost use Rattle.css_syntax.specs.Tokens.{hex_number as hex_number_of, from_close};
 ghost use Rattle.css_syntax.specs.Tokens.{escaped_char as escaped_char_of, past_letter};
+ghost use Rattle.css_syntax.specs.Tokens.{spells as spells_of};
 ghost use Rattle.css_syntax.specs.Tokens.{then_open, after_url};
 ghost use Rattle.css_syntax.specs.Tokens.{is_never_bare as is_never_bare_of};
 ghost use Rattle.css_syntax.specs.Tokens.{url_part as url_part_of, past_url, url_end};
@@ -31,21 +34,21 @@ ghost use Rattle.css_syntax.specs.Tokens.{other_token, comment_quality};
 
 use crate::quality::Quality;
 
-/// What was skipped: its quality, and the rest.
+/// What was read: its quality, and the rest.
 #[derive(Clone, Copy)]
-pub struct Skipped<'a> {
+pub struct ReadBytes<'a> {
     /// Its quality.
     pub quality: Quality,
     /// The rest after it.
     pub rest: &'a [u8],
 }
 
-/// Something whole was skipped.
-pub fn whole(rest: &[u8]) -> Skipped<'_>
+/// Something whole was read.
+pub fn whole(rest: &[u8]) -> ReadBytes<'_>
     ensures quality { result.quality ≡ Quality.Whole }
     ensures rest { result.rest.now ≡ rest.now }
 {
-    Skipped {
+    ReadBytes {
         quality: Quality::Whole,
         rest,
     }
@@ -87,18 +90,28 @@ fn is_space(byte: u8) -> bool
 }
 
 /// Whether the byte is a line feed, a carriage return or a form feed.
-pub(crate) fn is_newline(byte: u8) -> bool
+pub fn is_newline(byte: u8) -> bool
     ensures { result ≡ is_newline_byte byte }
 {
     matches!(byte, b'\n' | b'\r' | b'\x0C')
 }
 
-/// Skips the byte, if it is next.
-pub fn skip_byte(bytes: &[u8], byte: u8) -> &[u8]
-    ensures { result.now ≡ past_byte byte bytes.now }
+/// Returns the rest after the byte, if it is next.
+pub fn past_byte(bytes: &[u8], byte: u8) -> &[u8]
+    ensures { result.now ≡ past_byte_of byte bytes.now }
 {
     match bytes {
         [first, rest @ ..] if *first == byte => rest,
+        _ => bytes,
+    }
+}
+
+/// Returns the rest after a byte of a newline, if one is next.
+fn past_newline(bytes: &[u8]) -> &[u8]
+    ensures { result.now ≡ past_newline_of bytes.now }
+{
+    match bytes {
+        [byte, rest @ ..] if is_newline(*byte) => rest,
         _ => bytes,
     }
 }
@@ -111,19 +124,19 @@ fn space_count(bytes: &[u8]) -> usize
     bytes.iter().take_while(|byte| is_space(**byte)).count()
 }
 
-/// Skips space bytes.
-fn skip_spaces(bytes: &[u8]) -> &[u8]
+/// Returns the rest after space bytes.
+fn past_spaces(bytes: &[u8]) -> &[u8]
     ensures { result.now ≡ past is_space_byte bytes.now }
 {
     &bytes[space_count(bytes)..]
 }
 
-/// Skips a space byte, if one is next. A carriage return and a line feed are one.
-fn skip_one_space(bytes: &[u8]) -> &[u8]
-    ensures { result.now ≡ past_one_space bytes.now }
+/// Returns the rest after a space byte, if one is next. A carriage return and a line feed are one.
+fn past_one_space(bytes: &[u8]) -> &[u8]
+    ensures { result.now ≡ past_one_space_of bytes.now }
 {
     match bytes {
-        [b'\r', rest @ ..] => skip_byte(rest, b'\n'),
+        [b'\r', rest @ ..] => past_byte(rest, b'\n'),
         [byte, rest @ ..] if is_space(*byte) => rest,
         _ => bytes,
     }
@@ -136,9 +149,9 @@ pub(crate) fn is_hex_digit(byte: u8) -> bool
     byte.is_ascii_hexdigit()
 }
 
-/// Skips hexadecimal digits, at most `n`.
-fn skip_hex(bytes: &[u8], n: usize) -> &[u8]
-    ensures { result.now ≡ past_hex n bytes.now }
+/// Returns the rest after hexadecimal digits, at most `n`.
+fn past_hex(bytes: &[u8], n: usize) -> &[u8]
+    ensures { result.now ≡ past_hex_of n bytes.now }
 {
     let mut rest = bytes;
     let mut left = n;
@@ -152,18 +165,18 @@ fn skip_hex(bytes: &[u8], n: usize) -> &[u8]
     rest
 }
 
-/// Skips what a backslash escapes.
+/// Returns the rest after what a backslash escapes.
 #[tactic(auto, unfolding(crate::specs::Tokens::past_escape))]
-pub(crate) fn skip_escape(bytes: &[u8]) -> &[u8]
-    ensures { result.now ≡ past_escape bytes.now }
+pub(crate) fn past_escape(bytes: &[u8]) -> &[u8]
+    ensures { result.now ≡ past_escape_of bytes.now }
 {
     match bytes {
         [] => bytes,
         [byte, rest @ ..] => {
             if is_hex_digit(*byte) {
-                skip_one_space(skip_hex(rest, 5))
+                past_one_space(past_hex(rest, 5))
             } else if is_newline(*byte) {
-                skip_one_space(bytes)
+                past_one_space(bytes)
             } else {
                 rest
             }
@@ -189,9 +202,9 @@ fn starts_comment(bytes: &[u8]) -> bool
     matches!(bytes, [b'/', b'*', ..])
 }
 
-/// Skips the comment that opens here, up to the end of the text if it is not closed.
+/// Reads the comment that opens here, up to the end of the text if it is not closed.
 #[tactic(auto, unfolding(crate::specs::Tokens::past_comment, crate::specs::Tokens::comment_quality))]
-fn skip_comment(bytes: &[u8]) -> Skipped<'_>
+fn read_comment(bytes: &[u8]) -> ReadBytes<'_>
     ensures quality { result.quality ≡ comment_quality bytes.now }
     ensures rest { result.rest.now ≡ past_comment bytes.now }
 {
@@ -201,17 +214,17 @@ fn skip_comment(bytes: &[u8]) -> Skipped<'_>
     };
     'comment: while let [byte, after @ ..] = rest {
         if *byte == b'*' && matches!(after, [b'/', ..]) {
-            return whole(skip_byte(after, b'/'));
+            return whole(past_byte(after, b'/'));
         }
         rest = after;
     }
-    Skipped {
+    ReadBytes {
         quality: Quality::Open,
         rest,
     }
 }
 
-/// Skips a space byte or a comment, if one is next.
+/// Returns the rest after a space byte or a comment, if one is next.
 #[tactic(auto, unfolding(crate::specs::Tokens::gap_part))]
 pub fn gap_part(bytes: &[u8]) -> Option<&[u8]>
     ensures { gap_part_of bytes.now ≡ option_map (λ rest. (tt, rest.now)) result }
@@ -222,7 +235,7 @@ pub fn gap_part(bytes: &[u8]) -> Option<&[u8]>
             if is_space(*byte) {
                 Some(rest)
             } else if starts_comment(bytes) {
-                Some(skip_comment(bytes).rest)
+                Some(read_comment(bytes).rest)
             } else {
                 None
             }
@@ -230,18 +243,18 @@ pub fn gap_part(bytes: &[u8]) -> Option<&[u8]>
     }
 }
 
-/// Skips space bytes and comments.
-pub fn skip_gap(bytes: &[u8]) -> &[u8]
-    ensures { result.now ≡ past_gap bytes.now }
+/// Returns the rest after space bytes and comments.
+pub fn past_gap(bytes: &[u8]) -> &[u8]
+    ensures { result.now ≡ past_gap_of bytes.now }
 {
-    let mut rest = skip_spaces(bytes);
+    let mut rest = past_spaces(bytes);
     'parts: while starts_comment(rest) {
-        rest = skip_spaces(skip_comment(rest).rest);
+        rest = past_spaces(read_comment(rest).rest);
     }
     rest
 }
 
-/// Skips an escape or a byte in a string, if one is next.
+/// Returns the rest after an escape or a byte in a string, if one is next.
 #[tactic(auto, unfolding(crate::specs::Tokens::string_part))]
 fn string_part(bytes: &[u8], quote: u8) -> Option<&[u8]>
     ensures { string_part_of quote bytes.now ≡ option_map (λ rest. (tt, rest.now)) result }
@@ -252,7 +265,7 @@ fn string_part(bytes: &[u8], quote: u8) -> Option<&[u8]>
             if *byte == quote || is_newline(*byte) {
                 None
             } else if *byte == b'\\' {
-                Some(skip_escape(rest))
+                Some(past_escape(rest))
             } else {
                 Some(rest)
             }
@@ -260,12 +273,13 @@ fn string_part(bytes: &[u8], quote: u8) -> Option<&[u8]>
     }
 }
 
-/// Skips the end of a string: its quote, or the end of the text. A newline makes it bad.
-fn skip_string_end(bytes: &[u8], quote: u8) -> Skipped<'_>
+/// Reads the end of a string: its quote, or the end of the text. A newline makes it bad, and is read
+/// with it.
+fn read_string_end(bytes: &[u8], quote: u8) -> ReadBytes<'_>
     ensures { string_end quote bytes.now ≡ (result.quality, result.rest.now) }
 {
     match bytes {
-        [] => Skipped {
+        [] => ReadBytes {
             quality: Quality::Open,
             rest: bytes,
         },
@@ -273,29 +287,38 @@ fn skip_string_end(bytes: &[u8], quote: u8) -> Skipped<'_>
             if *byte == quote {
                 whole(rest)
             } else {
-                Skipped {
+                ReadBytes {
                     quality: Quality::BadString,
-                    rest: bytes,
+                    rest: past_newline(bytes),
                 }
             }
         }
     }
 }
 
-/// Skips a string after its opening quote.
-fn skip_string(bytes: &[u8], quote: u8) -> Skipped<'_>
-    ensures { past_string quote bytes.now ≡ (result.quality, result.rest.now) }
+/// Returns the rest after what is in a string with this quote: the quote that closes it, a newline,
+/// or nothing.
+pub(crate) fn past_string_parts(bytes: &[u8], quote: u8) -> &[u8]
+    ensures { result.now ≡ past_string_parts_of quote bytes.now }
 {
     let mut rest = bytes;
     'parts: while let Some(after) = string_part(rest, quote) {
         rest = after;
     }
-    skip_string_end(rest, quote)
+    rest
+}
+
+/// Reads a string, from after its opening quote.
+#[tactic(auto, unfolding(crate::specs::Tokens::past_string))]
+fn read_string(bytes: &[u8], quote: u8) -> ReadBytes<'_>
+    ensures { past_string quote bytes.now ≡ (result.quality, result.rest.now) }
+{
+    read_string_end(past_string_parts(bytes, quote), quote)
 }
 
 /// Whether the byte is one of a name, or of a character past ASCII.
 #[inline(always)]
-fn is_name_byte(byte: u8) -> bool
+pub fn is_name_byte(byte: u8) -> bool
     ensures { result ≡ is_name_byte_of byte }
 {
     BYTES[usize::from(byte)] & NAME != 0
@@ -309,16 +332,16 @@ fn name_count(bytes: &[u8]) -> usize
     bytes.iter().take_while(|byte| is_name_byte(**byte)).count()
 }
 
-/// Skips bytes of names.
-fn skip_name_bytes(bytes: &[u8]) -> &[u8]
+/// Returns the rest after bytes of names.
+fn past_name_bytes(bytes: &[u8]) -> &[u8]
     ensures { result.now ≡ past is_name_byte_of bytes.now }
 {
     &bytes[name_count(bytes)..]
 }
 
-/// Skips the first byte, if there is one.
-fn skip_one(bytes: &[u8]) -> &[u8]
-    ensures { result.now ≡ past_one bytes.now }
+/// Returns the rest after the first byte, if there is one.
+fn past_one(bytes: &[u8]) -> &[u8]
+    ensures { result.now ≡ past_one_of bytes.now }
 {
     match bytes {
         [] => bytes,
@@ -326,13 +349,13 @@ fn skip_one(bytes: &[u8]) -> &[u8]
     }
 }
 
-/// Skips a word.
-pub fn skip_word(bytes: &[u8]) -> &[u8]
-    ensures { result.now ≡ past_word bytes.now }
+/// Returns the rest after a word.
+pub fn past_word(bytes: &[u8]) -> &[u8]
+    ensures { result.now ≡ past_word_of bytes.now }
 {
-    let mut rest = skip_name_bytes(bytes);
+    let mut rest = past_name_bytes(bytes);
     'parts: while begins_escape(rest) {
-        rest = skip_name_bytes(skip_escape(skip_one(rest)));
+        rest = past_name_bytes(past_escape(past_one(rest)));
     }
     rest
 }
@@ -400,9 +423,9 @@ fn escaped_char(bytes: &[u8]) -> u32
     }
 }
 
-/// Skips one of two ASCII characters, if it is next, as it is or as an escape.
+/// Returns the rest after one of two ASCII characters, if it is next, as it is or as an escape.
 #[tactic(auto, unfolding(crate::specs::Tokens::past_letter))]
-pub fn skip_letter(bytes: &[u8], low: u8, up: u8) -> Option<&[u8]>
+pub fn take_letter(bytes: &[u8], low: u8, up: u8) -> Option<&[u8]>
     ensures { past_letter low up bytes.now ≡ option_map (λ rest. rest.now) result }
 {
     match bytes {
@@ -416,7 +439,7 @@ pub fn skip_letter(bytes: &[u8], low: u8, up: u8) -> Option<&[u8]>
             }
             let escaped = escaped_char(rest);
             if escaped == u32::from(low) || escaped == u32::from(up) {
-                Some(skip_escape(rest))
+                Some(past_escape(rest))
             } else {
                 None
             }
@@ -424,14 +447,33 @@ pub fn skip_letter(bytes: &[u8], low: u8, up: u8) -> Option<&[u8]>
     }
 }
 
-/// Skips a parenthesis that no quote follows after blanks, if it is next.
-fn skip_open(bytes: &[u8]) -> Option<&[u8]>
+/// Whether the word is the keyword, which is in lower case: each of its characters in either case, as
+/// it is or as an escape.
+pub(crate) fn spells(keyword: &[u8], word: &[u8]) -> bool
+    ensures { result ≡ spells_of keyword.now word.now }
+{
+    let mut left = keyword;
+    let mut rest = word;
+    'letters: while let Some((letter, others)) = split(left) {
+        match take_letter(rest, letter, letter.to_ascii_uppercase()) {
+            Some(after) => {
+                left = others;
+                rest = after;
+            }
+            None => return false,
+        }
+    }
+    rest.is_empty()
+}
+
+/// Returns the rest after a parenthesis that no quote follows after blanks, if it is next.
+fn take_open(bytes: &[u8]) -> Option<&[u8]>
     ensures { then_open (Some bytes.now) ≡ option_map (λ rest. rest.now) result }
 {
     match bytes {
         [] => None,
         [byte, rest @ ..] => {
-            if *byte == b'(' && !starts_with_quote(skip_spaces(rest)) {
+            if *byte == b'(' && !starts_with_quote(past_spaces(rest)) {
                 Some(rest)
             } else {
                 None
@@ -440,47 +482,48 @@ fn skip_open(bytes: &[u8]) -> Option<&[u8]>
     }
 }
 
-/// Skips `url(`, in any case and with any escapes, if it is next and no quote follows it.
-fn skip_url_name(bytes: &[u8]) -> Option<&[u8]>
+/// Returns the rest after `url(`, in any case and with any escapes, if it is next and no quote follows
+/// it.
+fn take_url_name(bytes: &[u8]) -> Option<&[u8]>
     ensures { after_url bytes.now ≡ option_map (λ rest. rest.now) result }
 {
-    let Some(after_u) = skip_letter(bytes, b'u', b'U') else {
+    let Some(after_u) = take_letter(bytes, b'u', b'U') else {
         return None;
     };
-    let Some(after_r) = skip_letter(after_u, b'r', b'R') else {
+    let Some(after_r) = take_letter(after_u, b'r', b'R') else {
         return None;
     };
-    let Some(after_l) = skip_letter(after_r, b'l', b'L') else {
+    let Some(after_l) = take_letter(after_r, b'l', b'L') else {
         return None;
     };
-    skip_open(after_l)
+    take_open(after_l)
 }
 
-/// Whether an address without quotes begins here.
+/// Whether a url without quotes begins here.
 fn begins_url(bytes: &[u8]) -> bool
     ensures { result ≡ begins_url_of bytes.now }
 {
-    skip_url_name(bytes).is_some()
+    take_url_name(bytes).is_some()
 }
 
-/// Skips the `url(` that begins here.
+/// Returns the rest after the `url(` that begins here.
 fn past_url_name(bytes: &[u8]) -> &[u8]
     ensures { result.now ≡ from_close (after_url bytes.now) }
 {
-    match skip_url_name(bytes) {
+    match take_url_name(bytes) {
         Some(rest) => rest,
         None => &[],
     }
 }
 
-/// Whether an address may have the byte only escaped.
+/// Whether a url may have the byte only escaped.
 fn is_never_bare(byte: u8) -> bool
     ensures { result ≡ is_never_bare_of byte }
 {
     matches!(byte, b'\'' | b'"' | b'(' | b'\\' | 0..=8 | 11 | 14..=31 | 127)
 }
 
-/// Skips an escape or a byte in an address, if one is next.
+/// Returns the rest after an escape or a byte in a url, if one is next.
 #[tactic(auto, unfolding(crate::specs::Tokens::url_part))]
 fn url_part(bytes: &[u8]) -> Option<&[u8]>
     ensures { url_part_of bytes.now ≡ option_map (λ rest. (tt, rest.now)) result }
@@ -489,7 +532,7 @@ fn url_part(bytes: &[u8]) -> Option<&[u8]>
         [] => None,
         [byte, rest @ ..] => {
             if begins_escape(bytes) {
-                Some(skip_escape(rest))
+                Some(past_escape(rest))
             } else if *byte == b')' || is_space(*byte) || is_never_bare(*byte) {
                 None
             } else {
@@ -499,7 +542,7 @@ fn url_part(bytes: &[u8]) -> Option<&[u8]>
     }
 }
 
-/// Skips an escape or a byte of a bad address, if one is next before its parenthesis.
+/// Returns the rest after an escape or a byte of a bad url, if one is next before its parenthesis.
 #[tactic(auto, unfolding(crate::specs::Tokens::remnant_part))]
 fn remnant_part(bytes: &[u8]) -> Option<&[u8]>
     ensures { remnant_part_of bytes.now ≡ option_map (λ rest. (tt, rest.now)) result }
@@ -508,7 +551,7 @@ fn remnant_part(bytes: &[u8]) -> Option<&[u8]>
         [] => None,
         [byte, rest @ ..] => {
             if begins_escape(bytes) {
-                Some(skip_escape(rest))
+                Some(past_escape(rest))
             } else if *byte == b')' {
                 None
             } else {
@@ -518,43 +561,43 @@ fn remnant_part(bytes: &[u8]) -> Option<&[u8]>
     }
 }
 
-/// Skips a bad address, up to and with its parenthesis.
-fn skip_remnants(bytes: &[u8]) -> &[u8]
-    ensures { result.now ≡ past_byte close_parenthesis (each remnant_part_of bytes.now).1 }
+/// Returns the rest after a bad url, up to and with its parenthesis.
+fn past_remnants(bytes: &[u8]) -> &[u8]
+    ensures { result.now ≡ past_byte_of close_parenthesis (each remnant_part_of bytes.now).1 }
 {
     let mut rest = bytes;
     'parts: while let Some(after) = remnant_part(rest) {
         rest = after;
     }
-    skip_byte(rest, b')')
+    past_byte(rest, b')')
 }
 
-/// Skips the end of an address: its parenthesis, the end of the text, or what makes it bad.
-fn skip_url_end(bytes: &[u8]) -> Skipped<'_>
+/// Reads the end of a url: its parenthesis, the end of the text, or what makes it bad.
+fn read_url_end(bytes: &[u8]) -> ReadBytes<'_>
     ensures { url_end bytes.now ≡ (result.quality, result.rest.now) }
 {
     match bytes {
-        [] => Skipped {
+        [] => ReadBytes {
             quality: Quality::Open,
             rest: bytes,
         },
         [b')', rest @ ..] => whole(rest),
-        _ => Skipped {
+        _ => ReadBytes {
             quality: Quality::BadUrl,
-            rest: skip_remnants(bytes),
+            rest: past_remnants(bytes),
         },
     }
 }
 
-/// Skips an address without quotes, from after the parenthesis of `url(`.
-fn skip_url(bytes: &[u8]) -> Skipped<'_>
+/// Reads a url without quotes, from after the parenthesis of `url(`.
+fn read_url(bytes: &[u8]) -> ReadBytes<'_>
     ensures { past_url bytes.now ≡ (result.quality, result.rest.now) }
 {
-    let mut rest = skip_spaces(bytes);
+    let mut rest = past_spaces(bytes);
     'parts: while let Some(after) = url_part(rest) {
         rest = after;
     }
-    skip_url_end(skip_spaces(rest))
+    read_url_end(past_spaces(rest))
 }
 
 /// Whether the bytes begin with `<!--`.
@@ -571,49 +614,51 @@ pub fn is_closer(byte: u8) -> bool
     matches!(byte, b')' | b']' | b'}')
 }
 
-/// Skips a hash or a name after `@`, from after its first byte, or nothing after any other byte. A
-/// closing bracket is bad.
-fn skip_other(byte: u8, rest: &[u8]) -> Skipped<'_>
+/// Reads a hash or a name after `@`, from after its first byte, a newline after a backslash, or
+/// nothing after any other byte. A closing bracket is bad.
+fn read_other(byte: u8, rest: &[u8]) -> ReadBytes<'_>
     ensures { other_token byte rest.now ≡ (result.quality, result.rest.now) }
 {
     if byte == b'#' || byte == b'@' {
-        whole(skip_word(rest))
+        whole(past_word(rest))
     } else if is_closer(byte) {
-        Skipped {
+        ReadBytes {
             quality: Quality::StrayBracket,
             rest,
         }
+    } else if byte == b'\\' {
+        whole(past_newline(rest))
     } else {
         whole(rest)
     }
 }
 
-/// Skips a token that is no opening bracket, of whatever kind.
+/// Reads a token that is no opening bracket, of whatever kind.
 #[tactic(auto, unfolding(crate::specs::Tokens::token))]
-fn skip_any_token(bytes: &[u8]) -> Skipped<'_>
+fn read_any_token(bytes: &[u8]) -> ReadBytes<'_>
     ensures { token bytes.now ≡ (result.quality, result.rest.now) }
 {
     match bytes {
         [] => whole(bytes),
         [byte, rest @ ..] => {
             if starts_comment(bytes) {
-                skip_comment(bytes)
+                read_comment(bytes)
             } else if is_quote(*byte) {
-                skip_string(rest, *byte)
+                read_string(rest, *byte)
             } else if begins_url(bytes) {
-                skip_url(past_url_name(bytes))
+                read_url(past_url_name(bytes))
             } else if begins_cdo(bytes) {
                 whole(&bytes[4..])
             } else if is_name_byte(*byte) || begins_escape(bytes) {
-                whole(skip_word(bytes))
+                whole(past_word(bytes))
             } else {
-                skip_other(*byte, rest)
+                read_other(*byte, rest)
             }
         }
     }
 }
 
-/// Whether the byte is one of a name and begins no address.
+/// Whether the byte is one of a name and begins no url.
 #[inline(always)]
 fn is_plain_name(byte: u8) -> bool
     ensures { result ≡ (is_name_byte_of byte && not (byte == 117 || byte == 85)) }
@@ -621,7 +666,7 @@ fn is_plain_name(byte: u8) -> bool
     is_name_byte(byte) && !(byte == b'u' || byte == b'U')
 }
 
-/// Whether a word begins here that begins no address.
+/// Whether a word begins here that begins no url.
 #[inline(always)]
 fn begins_plain_name(bytes: &[u8]) -> bool
     ensures { result ≡ starts_by (λ b. is_name_byte_of b && not (b == 117 || b == 85)) bytes.now }
@@ -632,13 +677,13 @@ fn begins_plain_name(bytes: &[u8]) -> bool
     }
 }
 
-/// Skips a token that is no opening bracket. Most are words.
-pub fn skip_token(bytes: &[u8]) -> Skipped<'_>
+/// Reads a token that is no opening bracket. Most are words.
+pub fn read_token(bytes: &[u8]) -> ReadBytes<'_>
     ensures { token bytes.now ≡ (result.quality, result.rest.now) }
 {
     if begins_plain_name(bytes) {
-        whole(skip_word(bytes))
+        whole(past_word(bytes))
     } else {
-        skip_any_token(bytes)
+        read_any_token(bytes)
     }
 }

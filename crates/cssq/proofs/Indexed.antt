@@ -5,12 +5,14 @@ use Rattle.std.proofs.lemmas.List.{get_or_default, get_or_past, get_or-map, leng
 use Rattle.std.proofs.lemmas.Simd.{map-map}
 use Rattle.std.proofs.lemmas.List.Kept.{AllPairs-from_increasing}
 use Rattle.std.proofs.lemmas.List.Elements.{Contains-get_or}
+use Rattle.simplecss.proofs.Adding.{contains_none}
+use Rattle.simplecss.specs.Components.{Component}
 use Rattle.simplecss.specs.Placements.{HasPlacement}
 use Rattle.simplecss.specs.Statements.{StyleRule}
 use Rattle.simplecss.specs.SelectorIndices.{selector_at, AreTheIndices}
 use Rattle.simplecss.specs.Matching.{AreMatches}
-use Rattle.cssq_page.specs.TreeText.{Row}
-use Rattle.cssq_page.specs.PageNodes.{Spot, spot, page_tree}
+use Rattle.cssq_tree.specs.TreeText.{Row}
+use Rattle.cssq_tree.specs.PageNodes.{Spot, spot, page_tree}
 use Rattle.cssq.specs.MatchRuns.{Takes, AreAnswers, numbers_line, IsLineOf}
 use Rattle.cssq.proofs.FromLast.{before_or_from, here_or_later}
 use Rattle.cssq.proofs.MatchLines.{AnsweredSoFar, answered_none, answered_yes, answered_no}
@@ -19,6 +21,17 @@ use Rattle.cssq.proofs.MatchLines.{AnsweredSoFar, answered_none, answered_yes, a
 abbrev pub after : List ℕ → ℕ → ℕ
 after indices zero = 0
 after indices (suc j) = get_or indices j 0 + 1
+
+-- without selectors none matches
+pub none_match : (selectors : List (List Component)) (element : Spot) → length selectors ≡ 0
+    → AreMatches page_tree element selectors []
+none_match selectors element none = record {
+  ascending = λ k lt. absurd (omega (arith, lt));
+  exactly = λ index. (
+    λ c. absurd (contains_none index c),
+    λ h. let lt = h.0 in absurd (omega (arith, lt, none)),
+  );
+}
 
 -- ---- between indices
 

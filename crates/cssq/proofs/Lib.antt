@@ -1,5 +1,6 @@
 pub mod FaultWrites
 pub mod Written
+pub mod Showing
 pub mod MatchLines
 pub mod Operands
 pub mod Cascading

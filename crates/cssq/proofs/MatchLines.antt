@@ -4,7 +4,7 @@ use Rattle.std.proofs.Common.{◌≡◌, ℕ, zero, suc, ◌+◌, ◌<◌, ◌�
 use Rattle.std.specs.List.{AllZip, items_where_true, range_with_len, concat}
 use Rattle.std.proofs.lemmas.List.{take_more, length-append, map-append}
 use Rattle.simplecss.specs.Statements.{StyleRule}
-use Rattle.cssq_page.specs.PageNodes.{Spot}
+use Rattle.cssq_tree.specs.PageNodes.{Spot}
 use Rattle.cssq.specs.MatchRuns.{Takes, AreAnswers, numbers_of}
 
 all_zip_push : {A B : Type 0} (R : A → B → Type 0) (xs : List A) (ys : List B) (x : A) (y : B)

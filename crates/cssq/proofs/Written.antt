@@ -5,9 +5,9 @@ use Rattle.std.proofs.lemmas.Grind.{common_steps}
 use Rattle.std.specs.Prelude.{Result, Ok, Err, OnOk, OnErr, IfErr}
 use Rattle.cssq.specs.declared.runs.RunFault.{RunFault}
 use Rattle.cssq.specs.declared.runs.RunFault.TheVariants.{Refused, Tree, Memory, Output}
-use Rattle.cssq_page.specs.declared.tree.TreeFault.{TreeFault}
-use Rattle.cssq_page.specs.declared.tree.TreeFault.TheVariants as reported
-use Rattle.cssq_page.specs.TreeText.{tree_of, IsFaultOf}
+use Rattle.cssq_tree.specs.declared.tree.TreeFault.{TreeFault}
+use Rattle.cssq_tree.specs.declared.tree.TreeFault.TheVariants as reported
+use Rattle.cssq_tree.specs.TreeText.{tree_of, IsFaultOf}
 use Rattle.cssq.specs.Faults.{run_fault}
 use Rattle.cssq.specs.Writing.{AppendsProperPrefix, Writes, FailsBeforeWriting}
 use Rattle.std.specs.Result.{IsErrAnd}
@@ -39,7 +39,7 @@ runs_written IsDue bytes (Err Memory) old new due ok err fault = absurd (cc)
 runs_written IsDue bytes (Err Refused) old new due ok err fault = absurd (cc)
 runs_written IsDue bytes (Err (Tree reported)) old new due ok err fault = absurd (cc)
 
-keeps_itself : (known : Option (List ℕ)) → Keeps known known
+pub keeps_itself : (known : Option (List ℕ)) → Keeps known known
 keeps_itself None = tt
 keeps_itself (Some bytes) = refl
 

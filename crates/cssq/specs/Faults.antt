@@ -1,10 +1,10 @@
 -- The exit status of a run's fault, and its line on standard error.
 use Rattle.std.specs.Prelude.{ℕ, List, ◌++◌, codes, decimal}
-use Rattle.cssq_page.specs.declared.tree.TreeFault.{TreeFault}
-use Rattle.cssq_page.specs.declared.tree.TreeFault.TheVariants as tree
+use Rattle.cssq_tree.specs.declared.tree.TreeFault.{TreeFault}
+use Rattle.cssq_tree.specs.declared.tree.TreeFault.TheVariants as tree
 use Rattle.cssq.specs.declared.runs.RunFault.{RunFault}
 use Rattle.cssq.specs.declared.runs.RunFault.TheVariants.{Refused, Tree, Memory, Output}
-use Rattle.cssq_page.specs.TreeText.{fault_number, fault_line}
+use Rattle.cssq_tree.specs.TreeText.{fault_number, fault_line}
 
 -- 1 for a text that is refused or faulty, 3 if an allocation fails, 4 for a writer that failed
 abbrev pub status_of : RunFault → ℕ

@@ -8,8 +8,8 @@ use Rattle.simplecss.specs.Sheets.{sheet}
 use Rattle.simplecss.specs.Placements.{HasPlacement}
 use Rattle.cssq.specs.declared.runs.RunFault.{RunFault}
 use Rattle.cssq.specs.declared.runs.RunFault.TheVariants.{Refused, Tree, Memory, Output}
-use Rattle.cssq_page.specs.TreeText.{Row, tree_of}
-use Rattle.cssq_page.specs.PageNodes.{Spot, spot, page_tree}
+use Rattle.cssq_tree.specs.TreeText.{Row, tree_of}
+use Rattle.cssq_tree.specs.PageNodes.{Spot, spot, page_tree}
 
 -- the rule's selector has a placement on the element
 abbrev pub Takes : StyleRule → Spot → Type 0
@@ -47,12 +47,15 @@ AreLines IsLine count text =
 abbrev pub IsMatchText : List StyleRule → List Row → List ℕ → Type 0
 IsMatchText rules rows = AreLines (IsLineOf rules rows) (length rows)
 
--- the lines for the sheet and the tree, or the tree's fault
+-- the lines for the rules and the tree, or the tree's fault
+abbrev pub IsMatchOutput : List StyleRule → List ℕ → Result (List ℕ) RunFault → Type 0
+IsMatchOutput rules tree (Ok lines) =
+    (rows : List Row) × (tree_of tree ≡ Ok rows) × IsMatchText rules rows lines
+IsMatchOutput rules tree (Err (Tree fault)) = tree_of tree ≡ Err fault
+IsMatchOutput rules tree (Err Refused) = ⊥
+IsMatchOutput rules tree (Err Memory) = ⊥
+IsMatchOutput rules tree (Err Output) = ⊥
+
+-- the same of the rules of a sheet's text
 abbrev pub IsMatchRun : List ℕ → List ℕ → Result (List ℕ) RunFault → Type 0
-IsMatchRun text tree (Ok lines) =
-    (rows : List Row) × (tree_of tree ≡ Ok rows)
-    × IsMatchText (sheet this_edition (text ∷ [])) rows lines
-IsMatchRun text tree (Err (Tree fault)) = tree_of tree ≡ Err fault
-IsMatchRun text tree (Err Refused) = ⊥
-IsMatchRun text tree (Err Memory) = ⊥
-IsMatchRun text tree (Err Output) = ⊥
+IsMatchRun text = IsMatchOutput (sheet this_edition (text ∷ []))

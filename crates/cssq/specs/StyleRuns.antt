@@ -7,8 +7,8 @@ use Rattle.simplecss.specs.Statements.{StyleRule}
 use Rattle.simplecss.specs.Sheets.{sheet}
 use Rattle.cssq.specs.declared.runs.RunFault.{RunFault}
 use Rattle.cssq.specs.declared.runs.RunFault.TheVariants.{Refused, Tree, Memory, Output}
-use Rattle.cssq_page.specs.TreeText.{Row, tree_of}
-use Rattle.cssq_page.specs.PageNodes.{spot, page_tree}
+use Rattle.cssq_tree.specs.TreeText.{Row, tree_of}
+use Rattle.cssq_tree.specs.PageNodes.{spot, page_tree}
 use Rattle.cssq.specs.MatchRuns.{AreLines}
 use Rattle.cssq.specs.Winners.{Wins, IsStated}
 
@@ -37,12 +37,15 @@ IsStyleLineOf name rules rows index line =
 abbrev pub IsStyleText : List ℕ → List StyleRule → List Row → List ℕ → Type 0
 IsStyleText name rules rows = AreLines (IsStyleLineOf name rules rows) (length rows)
 
--- the lines for the sheet, the tree and the name, or the tree's fault
+-- the lines for the rules, the tree and the name, or the tree's fault
+abbrev pub IsStyleOutput : List StyleRule → List ℕ → List ℕ → Result (List ℕ) RunFault → Type 0
+IsStyleOutput rules tree name (Ok lines) =
+    (rows : List Row) × (tree_of tree ≡ Ok rows) × IsStyleText name rules rows lines
+IsStyleOutput rules tree name (Err (Tree fault)) = tree_of tree ≡ Err fault
+IsStyleOutput rules tree name (Err Refused) = ⊥
+IsStyleOutput rules tree name (Err Memory) = ⊥
+IsStyleOutput rules tree name (Err Output) = ⊥
+
+-- the same of the rules of a sheet's text
 abbrev pub IsStyleRun : List ℕ → List ℕ → List ℕ → Result (List ℕ) RunFault → Type 0
-IsStyleRun text tree name (Ok lines) =
-    (rows : List Row) × (tree_of tree ≡ Ok rows)
-    × IsStyleText name (sheet this_edition (text ∷ [])) rows lines
-IsStyleRun text tree name (Err (Tree fault)) = tree_of tree ≡ Err fault
-IsStyleRun text tree name (Err Refused) = ⊥
-IsStyleRun text tree name (Err Memory) = ⊥
-IsStyleRun text tree name (Err Output) = ⊥
+IsStyleRun text = IsStyleOutput (sheet this_edition (text ∷ []))

@@ -4,7 +4,7 @@ ghost use Rattle.cssq.specs.Command.{request};
 
 use crate::command::Command;
 use crate::runs::RunFault;
-use cssq_page::tree::TreeFault;
+use cssq_tree::tree::TreeFault;
 
 /// Two faults are equal exactly if they are of one kind at one line, and two commands if they
 /// are the same request with words of the same bytes.

@@ -7,6 +7,7 @@ pub mod command;
 mod digits;
 pub mod laws;
 pub mod runs;
+pub mod show;
 mod walk;
 
-pub use cssq_page::tree;
+pub use cssq_tree::tree;

@@ -1,7 +1,7 @@
 //! What the program's commands do, over any writer.
 
 ghost use Rattle.std.specs.Prelude.{◌≡◌, ◌+◌, ◌^◌, ◌<◌, ◌++◌, Some, All, OnOk, OnErr, IfErr, IfOk, Ok};
-ghost use Rattle.std.specs.Prelude.{ℕ, List, [], ◌∷◌, length, map, string_bytes};
+ghost use Rattle.std.specs.Prelude.{List, length, map, string_bytes};
 ghost use Rattle.std.specs.List.{flat_map};
 ghost use Rattle.std.specs.Option.{option_map};
 ghost use Rattle.std.specs.Fmt.{WritesStyledOnOk};
@@ -9,11 +9,16 @@ ghost use Rattle.std.specs.Io.KnownBytes.{Appends};
 ghost use Rattle.cssq.specs.Writing.{AppendsProperPrefix, Writes, FailsBeforeWriting};
 ghost use Rattle.cssq.specs.Faults.{status_of, message_of, run_fault};
 ghost use Rattle.cssq.specs.SelectorRuns.{selector_line, IsSelectorRun};
-ghost use Rattle.cssq.specs.SheetRuns.{sheet_output, IsSheetText, IsSheetRun};
+ghost use Rattle.cssq.specs.SheetRuns.{sheet_output, IsSheetRun};
 ghost use Rattle.cssq.specs.MatchRuns.{numbers_line, IsMatchRun};
 ghost use Rattle.cssq.specs.StyleRuns.{style_line, IsStyleRun};
-ghost use Rattle.cssq.specs.internal.PageRuns.{AppendsElementLine, AreElementLines, IsPageRun};
-ghost use Rattle.cssq.specs.internal.Walks.{IsWalkOf};
+ghost use Rattle.cssq.specs.Showing.{IsShown};
+ghost use Rattle.cssq.specs.internal.PageRuns.{AppendsElementLine, AreElementLines, IsPageOutput};
+ghost use Rattle.cssq_tree.specs.PageNodes.{spot, page_tree};
+ghost use Rattle.cssq_tree.specs.TreeText.{Row};
+ghost use Rattle.cssq_tree.specs.ParentsAndSiblings.{depths_of, parent_index};
+ghost use Rattle.simplecss.specs.Matching.{AreMatches};
+ghost use Rattle.cssq.specs.internal.Walks.{IsWalkOf, place_before};
 ghost use Rattle.cssq.specs.declared.runs.RunFault.TheVariants.{Memory};
 ghost use Rattle.simplecss.specs.DeclarationViews.{declaration_of};
 ghost use Rattle.simplecss.specs.Sheets.{sheet as sheet_of};
@@ -22,8 +27,9 @@ ghost use Rattle.simplecss.specs.RuleViews.{rules_of, rules_in};
 
 use crate::cascade::winning_among;
 use crate::digits::push_number;
+use crate::show::{View, show};
 use crate::walk::Walk;
-use cssq_page::tree::{Node, Page, TreeFault};
+use cssq_tree::tree::{Node, Page, TreeFault};
 use log::Log;
 use simplecss::{Declaration, Reading, Rule, RuleIndex, Selector, StyleSheet, Warnings};
 use std::alloc::{AllocError, AllocFailed, Global};
@@ -119,7 +125,7 @@ impl From<TreeFault> for RunFault {
 }
 
 /// Writes all the bytes, or fails with `Output` while bytes are left.
-fn write_out<W: Write>(out: &mut W, bytes: &[u8]) -> Result<(), RunFault>
+pub(crate) fn write_out<W: Write>(out: &mut W, bytes: &[u8]) -> Result<(), RunFault>
     ensures ok { OnOk result (Appends (W.contents out.old) (W.contents out.new) bytes.now) }
     ensures err { OnErr result
         (AppendsProperPrefix (W.contents out.old) (W.contents out.new) bytes.now) }
@@ -174,43 +180,6 @@ pub fn sheet_text(alloc: Global, sheet: &StyleSheet<'_>) -> Result<String, Alloc
     format!(in alloc; "{sheet}\n")
 }
 
-/// Writes the printed sheet, and one newline if it has a rule.
-///
-/// The whole output is built first: after `Memory` nothing was written. After `Output` a proper
-/// prefix of it was. There is no other fault.
-pub fn write_sheet<W: Write>(
-    alloc: Global,
-    sheet: &StyleSheet<'_>,
-    out: &mut W,
-) -> Result<(), RunFault>
-    ensures { Writes (IsSheetText (rules_in sheet.now)) result (W.contents out.old)
-        (W.contents out.new) }
-{
-    let text = sheet_text(alloc, sheet)?;
-    write_out(out, text.as_bytes())
-}
-
-/// Reads the texts one after another into one sheet, and writes it as [`write_sheet`] does.
-pub fn run_sheet<R: Log, W: Write>(
-    rt: &R,
-    alloc: Global,
-    texts: &[&str],
-    out: &mut W,
-) -> Result<(), RunFault>
-    ensures { Writes (IsSheetRun (map (λ text. text.now) texts.now)) result (W.contents out.old)
-        (W.contents out.new) }
-{
-    let mut sheet = StyleSheet::new(alloc);
-    let how = Reading {
-        report: &mut Warnings::new(rt),
-        most: usize::MAX,
-    };
-    match sheet.read(how, alloc, texts) {
-        Ok(()) => write_sheet(alloc, &sheet, out),
-        Err(_) => Err(RunFault::Memory),
-    }
-}
-
 /// Adds the line of an element: its number, and the numbers of the rules with these indices.
 fn push_line(out: &mut String, number: usize, indices: &[usize]) -> Result<(), AllocError>
     requires { All (λ index. index + 1 < 2 ^ 64) indices.now }
@@ -257,6 +226,31 @@ pub(crate) enum LineContent<'n> {
     Winner(&'n str),
 }
 
+/// Adds the line of the element at an index, of whose rules those with these indices match it.
+fn push_answer(
+    out: &mut String,
+    content: LineContent<'_>,
+    rules: &[Rule<'_>],
+    element: usize,
+    indices: &[usize],
+) -> Result<(), AllocError>
+    requires number { element + 1 < 2 ^ 64 }
+    requires within { All (λ index. index < length rules.now) indices.now }
+    ensures { (rows : List Row) → AreMatches page_tree (spot rows element)
+        (map (λ rule. rule.selector) rules.now) indices.now
+        → OnOk result (AppendsElementLine content.entry (rules_of rules.now) rows element
+        (string_bytes out.old) (string_bytes out.new)) }
+{
+    match content {
+        LineContent::Rules => push_line(out, element + 1, indices),
+        LineContent::Winner(name) => push_winner(
+            out,
+            element + 1,
+            winning_among::<Node<'_, '_>>(rules, indices, name),
+        ),
+    }
+}
+
 /// Adds the line of an element of a page by an index of the rules and the open elements; `element`
 /// is the index of the element. The previous items of `indices` are dropped.
 fn push_element<'a>(
@@ -274,22 +268,35 @@ fn push_element<'a>(
     requires number { element + 1 < 2 ^ 64 }
     requires path { walk.old.path.selectors ≡ index.now }
     requires walk { IsWalkOf page.now walk.old }
+    requires before { walk.old.place ≡ place_before (depths_of page.now) element }
     ensures reported { OnOk result (AppendsElementLine content.entry
         (rules_of rules.now) page.now element
         (string_bytes out.old) (string_bytes out.new)) }
     ensures walk { OnOk result (IsWalkOf page.now walk.new) }
     ensures path { OnOk result (walk.new.path.selectors ≡ walk.old.path.selectors) }
+    ensures at { OnOk result (walk.new.place ≡ parent_index (depths_of page.now) element) }
 {
     walk.matching(index, rules, page, element, indices)?;
-    let indices = indices.as_slice();
-    match content {
-        LineContent::Rules => push_line(out, element + 1, indices),
-        LineContent::Winner(name) => push_winner(
-            out,
-            element + 1,
-            winning_among::<Node<'_, '_>>(rules, indices, name),
-        ),
+    push_answer(out, content, rules, element, indices.as_slice())
+}
+
+/// The lines of the elements of a page by a sheet without rules, for which nobody need walk.
+fn bare_lines(
+    alloc: Global,
+    content: LineContent<'_>,
+    rules: &[Rule<'_>],
+    page: &Page<'_>,
+) -> Result<String, RunFault>
+    requires { length rules.now ≡ 0 }
+    ensures ok { IfOk result
+        (λ text. AreElementLines content.entry (rules_of rules.now) page.now (string_bytes text)) }
+    ensures fault { IfErr result (λ fault. fault ≡ RunFault.Memory) }
+{
+    let mut text = String::with_capacity(alloc, page.len().saturating_mul(8))?;
+    for element in 0..page.len() {
+        push_answer(&mut text, content, rules, element, &[])?;
     }
+    Ok(text)
 }
 
 /// The lines of the elements of a page, by an index of the rules.
@@ -324,68 +331,63 @@ fn page_lines<'a>(
 }
 
 /// Returns the lines of the elements of a tree, by the rules of a sheet.
-fn tree_output(
+pub(crate) fn tree_output(
     alloc: Global,
     content: LineContent<'_>,
     rules: &[Rule<'_>],
     tree: &str,
 ) -> Result<String, RunFault>
-    ensures ok { (text : List ℕ) → rules_of rules.now ≡ sheet_of this_edition (text ∷ [])
-        → IfOk result (λ lines. IsPageRun content.entry text tree.now (Ok (string_bytes lines))) }
-    ensures fault { (text : List ℕ)
-        → IfErr result (FailsBeforeWriting (IsPageRun content.entry text tree.now)) }
+    ensures ok { IfOk result
+        (λ lines. IsPageOutput content.entry (rules_of rules.now) tree.now (Ok (string_bytes lines))) }
+    ensures fault { IfErr result
+        (FailsBeforeWriting (IsPageOutput content.entry (rules_of rules.now) tree.now)) }
 {
     let page = Page::read(alloc, tree)?;
+    if rules.is_empty() {
+        return bare_lines(alloc, content, rules, &page);
+    }
     let index = RuleIndex::new(alloc, rules)?;
     page_lines(alloc, content, &index, rules, &page)
 }
 
-/// Writes the lines of the elements of a tree by the rules of a sheet.
-fn write_page<W: Write>(
+/// Shows a view of the sheet of texts, as [`show`] does of a new sheet, without a limit.
+fn run<R: Log, W: Write>(
+    view: View<'_>,
+    rt: &R,
     alloc: Global,
-    content: LineContent<'_>,
-    rules: &[Rule<'_>],
-    tree: &str,
+    texts: &[&str],
     out: &mut W,
 ) -> Result<(), RunFault>
-    ensures { (text : List ℕ) → rules_of rules.now ≡ sheet_of this_edition (text ∷ [])
-        → Writes (IsPageRun content.entry text tree.now) result (W.contents out.old)
-        (W.contents out.new) }
+    ensures { Writes
+        (IsShown view.entry (sheet_of this_edition (map (λ text. text.now) texts.now))) result
+        (W.contents out.old) (W.contents out.new) }
 {
-    let lines = tree_output(alloc, content, rules, tree)?;
-    write_out(out, lines.as_bytes())
+    let mut sheet = StyleSheet::new(alloc);
+    let how = Reading {
+        report: &mut Warnings::new(rt),
+        most: usize::MAX,
+    };
+    match show(view, &mut sheet, how, alloc, texts, out) {
+        Ok(()) => Ok(()),
+        Err(error) => Err(error.fault()),
+    }
 }
 
-/// Writes, for each element of a tree, which of a sheet's rules match it, as [`run_match`] does.
+/// Reads the texts one after another into one sheet, and writes the printed sheet, and one newline
+/// if it has a rule.
 ///
-/// The whole output is built first: after `Tree` and `Memory` nothing was written. After `Output` a
-/// proper prefix of it was. `Refused` does not occur.
-pub fn write_match<W: Write>(
+/// The whole output is built first: after `Memory` nothing was written. After `Output` a proper
+/// prefix of it was. There is no other fault.
+pub fn run_sheet<R: Log, W: Write>(
+    rt: &R,
     alloc: Global,
-    rules: &[Rule<'_>],
-    tree: &str,
+    texts: &[&str],
     out: &mut W,
 ) -> Result<(), RunFault>
-    ensures { (text : List ℕ) → rules_of rules.now ≡ sheet_of this_edition (text ∷ [])
-        → Writes (IsMatchRun text tree.now) result (W.contents out.old) (W.contents out.new) }
-{
-    write_page(alloc, LineContent::Rules, rules, tree, out)
-}
-
-/// Writes, for each element of a tree, which declaration of the name wins there by a sheet's rules,
-/// as [`run_style`] does. After a fault what was written is as after one of [`write_match`].
-pub fn write_style<W: Write>(
-    alloc: Global,
-    rules: &[Rule<'_>],
-    tree: &str,
-    name: &str,
-    out: &mut W,
-) -> Result<(), RunFault>
-    ensures { (text : List ℕ) → rules_of rules.now ≡ sheet_of this_edition (text ∷ [])
-        → Writes (IsStyleRun text tree.now name.now) result (W.contents out.old)
+    ensures { Writes (IsSheetRun (map (λ text. text.now) texts.now)) result (W.contents out.old)
         (W.contents out.new) }
 {
-    write_page(alloc, LineContent::Winner(name), rules, tree, out)
+    run(View::Rules, rt, alloc, texts, out)
 }
 
 /// Writes for each element of a tree its number from 1, a colon, a space and the number of each
@@ -404,8 +406,7 @@ pub fn run_match<R: Log, W: Write>(
     ensures { Writes (IsMatchRun sheet.now tree.now) result (W.contents out.old)
         (W.contents out.new) }
 {
-    let sheet = StyleSheet::parse(rt, alloc, sheet)?;
-    write_match(alloc, &sheet.rules, tree, out)
+    run(View::Matches(tree), rt, alloc, &[sheet], out)
 }
 
 /// Writes for each element of a tree its number from 1, a colon, and where a declaration of the
@@ -425,6 +426,5 @@ pub fn run_style<R: Log, W: Write>(
     ensures { Writes (IsStyleRun sheet.now tree.now name.now) result (W.contents out.old)
         (W.contents out.new) }
 {
-    let sheet = StyleSheet::parse(rt, alloc, sheet)?;
-    write_style(alloc, &sheet.rules, tree, name, out)
+    run(View::Winners(tree, name), rt, alloc, &[sheet], out)
 }

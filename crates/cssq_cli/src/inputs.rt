@@ -1,7 +1,8 @@
 //! Texts of files and of standard input, with the reason on standard error where there is none.
+use crate::visible::visible_stderr;
 use std::fs::File;
 use std::io;
-use std::io::{Error, ErrorKind, Read};
+use std::io::{Error, ErrorKind, Read, Write};
 
 /// What a warning calls standard input.
 pub(crate) const INPUT: &str = "standard input";
@@ -49,7 +50,10 @@ fn text_of(rt: &HostRuntime, name: &str, read: io::Result<Vec<u8>>) -> Option<St
         Ok(text) => Some(text),
         Err(error) => {
             let offset = error.utf8_error().valid_up_to();
-            let _ = eprintln!(rt; "{name}: not UTF-8 at byte offset {offset}");
+            let _ = writeln!(
+                visible_stderr(rt),
+                "{name}: not UTF-8 at byte offset {offset}"
+            );
             None
         }
     }
@@ -57,10 +61,11 @@ fn text_of(rt: &HostRuntime, name: &str, read: io::Result<Vec<u8>>) -> Option<St
 
 /// Writes why a file, or standard input, cannot be read. An error of standard error is ignored.
 fn write_reason(rt: &HostRuntime, name: &str, error: &Error) {
+    let mut out = visible_stderr(rt);
     let _ = match error.kind() {
-        ErrorKind::NotFound => eprintln!(rt; "{name}: no such file"),
-        ErrorKind::IsADirectory => eprintln!(rt; "{name}: a folder"),
-        ErrorKind::Uncategorized => eprintln!(rt; "{name}: {error}"),
-        kind => eprintln!(rt; "{name}: {kind}"),
+        ErrorKind::NotFound => writeln!(out, "{name}: no such file"),
+        ErrorKind::IsADirectory => writeln!(out, "{name}: a folder"),
+        ErrorKind::Uncategorized => writeln!(out, "{name}: {error}"),
+        kind => writeln!(out, "{name}: {kind}"),
     };
 }

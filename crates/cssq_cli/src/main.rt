@@ -7,21 +7,23 @@ mod inputs;
 mod limit;
 mod output;
 mod trees;
+mod visible;
 mod warnings;
 
 use cssq::command::{Command, USAGE};
-use cssq::runs::{RunFault, run_selector, write_match, write_sheet, write_style};
+use cssq::runs::{RunFault, run_selector};
+use cssq::show::{ShowError, View, show};
 use help::{help_for, write_text};
 use inputs::{INPUT, read_file, read_input};
 use limit::{read_limit, write_beyond};
 use log::sink::Discard;
 use output::Output;
-use simplecss::{Reading, Rule, SheetError, StyleSheet};
-use std::alloc::Global;
-use std::io::Stdout;
+use simplecss::{Reading, StyleSheet};
+use std::io::Write;
 use std::process::ExitCode;
 use std::{env, mem};
 use trees::{fault_of_line, has_crlf};
+use visible::visible_stderr;
 use warnings::{SheetWarnings, warn_of_selector};
 
 /// Returns the words of the command line, the program's name the first of them.
@@ -93,14 +95,19 @@ fn read_files(rt: &HostRuntime, names: &[String]) -> Result<Vec<String>, ExitCod
     Ok(texts)
 }
 
-/// Returns the sheet of texts with these names, after the warnings of what is skipped. Beyond the
-/// limit a line says so.
-fn read_texts<'a>(
+/// Shows a view of the sheet of texts with these names, one after another, and warns of what is
+/// skipped.
+/// Beyond the limit a line says so.
+///
+/// The sheet is not dropped: the process ends, and to free it piece by piece first takes longer.
+fn show_texts<W: Write>(
     rt: &HostRuntime,
+    view: View<'_>,
     names: &[&str],
-    texts: &[&'a str],
+    texts: &[&str],
     most: usize,
-) -> Result<StyleSheet<'a>, RunFault> {
+    out: &mut W,
+) -> Result<(), RunFault> {
     let Ok(mut warnings) = SheetWarnings::new(rt, names) else {
         return Err(RunFault::Memory);
     };
@@ -109,31 +116,15 @@ fn read_texts<'a>(
         report: &mut warnings,
         most,
     };
-    let outcome = sheet.read(how, rt.alloc(), texts);
-    let _ = warnings.finish();
-    match outcome {
-        Ok(()) => Ok(sheet),
-        Err(error) => {
-            if error == SheetError::TooManyDeclarations {
-                write_beyond(rt, most);
-            }
-            Err(RunFault::Memory)
-        }
-    }
-}
-
-/// Shows the sheet of the texts of these files, one after another.
-///
-/// The sheet is not dropped: the process ends, and to free it piece by piece first takes longer.
-fn show_texts(rt: &HostRuntime, names: &[&str], texts: &[&str], most: usize) -> ExitCode {
-    let sheet = match read_texts(rt, names, texts, most) {
-        Ok(sheet) => sheet,
-        Err(fault) => return ended(rt, Err(fault)),
-    };
-    let mut out = Output::new(rt.stdout());
-    let outcome = write_sheet(rt.alloc(), &sheet, &mut out);
+    let outcome = show(view, &mut sheet, how, rt.alloc(), texts, out);
     mem::forget(sheet);
-    written(rt, outcome, &out)
+    let _ = warnings.finish();
+    outcome.map_err(|error| {
+        if error == ShowError::TooManyDeclarations {
+            write_beyond(rt, most);
+        }
+        error.fault()
+    })
 }
 
 /// Returns the same strings as text.
@@ -153,65 +144,50 @@ fn show_sheet(rt: &HostRuntime, names: &[String]) -> Result<ExitCode, ExitCode> 
     let owned = read_files(rt, names)?;
     let texts = as_texts(rt, owned.as_slice())?;
     let names = as_texts(rt, names)?;
-    Ok(show_texts(rt, names.as_slice(), texts.as_slice(), most))
+    let (names, texts) = (names.as_slice(), texts.as_slice());
+    let mut out = Output::new(rt.stdout());
+    let outcome = show_texts(rt, View::Rules, names, texts, most, &mut out);
+    Ok(written(rt, outcome, &out))
 }
 
 /// Writes what is likely not meant in the text of a tree, and why it has a fault.
 fn warn_of_tree(rt: &HostRuntime, name: &str, text: &str, outcome: &Result<(), RunFault>) {
     if has_crlf(text) {
-        let _ = eprintln!(rt; "{name}: lines end in CR LF; the CR belongs to the last field");
+        let _ = writeln!(
+            visible_stderr(rt),
+            "{name}: lines end in CR LF; the CR belongs to the last field"
+        );
     }
     if let Err(RunFault::Tree(fault)) = outcome {
         let found = fault_of_line(rt.alloc(), text, *fault);
-        let _ = eprintln!(rt; "{name}:{}: {found}", fault.line());
+        let _ = writeln!(visible_stderr(rt), "{name}:{}: {found}", fault.line());
     }
 }
 
-/// Shows the elements of the tree in a file by the rules of the file's sheet, as `write` does. The
-/// sheet is read first, and is not dropped.
-fn show_page<F>(
-    rt: &HostRuntime,
-    file: &str,
-    sheet: &str,
-    tree: &str,
-    most: usize,
-    write: F,
-) -> ExitCode
-where
-    F: FnOnce(Global, &[Rule<'_>], &str, &mut Output<Stdout>) -> Result<(), RunFault>,
-    requires { F.IsAlwaysCallable write }
-{
-    let Some(page) = read_file(rt, tree) else {
-        return unreadable(rt, tree);
-    };
-    let page = page.as_str();
-    let sheet = match read_texts(rt, &[file], &[sheet], most) {
-        Ok(sheet) => sheet,
-        Err(fault) => return ended(rt, Err(fault)),
-    };
-    let mut out = Output::new(rt.stdout());
-    let outcome = write(rt.alloc(), &sheet.rules, page, &mut out);
-    mem::forget(sheet);
-    warn_of_tree(rt, tree, page, &outcome);
-    written(rt, outcome, &out)
-}
-
-/// Reads the sheet of a file, and shows the elements of the tree in another by it, as `write` does.
-fn show_elements<F>(
+/// Shows the elements of the tree in a file by the rules of the sheet in another: the declaration of
+/// the name that wins on each, or without a name which rules match it.
+fn show_elements(
     rt: &HostRuntime,
     file: &str,
     tree: &str,
-    write: F,
-) -> Result<ExitCode, ExitCode>
-where
-    F: FnOnce(Global, &[Rule<'_>], &str, &mut Output<Stdout>) -> Result<(), RunFault>,
-    requires { F.IsAlwaysCallable write }
-{
+    name: Option<&str>,
+) -> Result<ExitCode, ExitCode> {
     let most = read_limit(rt)?;
     let Some(sheet) = read_file(rt, file) else {
         return Err(unreadable(rt, file));
     };
-    Ok(show_page(rt, file, sheet.as_str(), tree, most, write))
+    let Some(page) = read_file(rt, tree) else {
+        return Err(unreadable(rt, tree));
+    };
+    let page = page.as_str();
+    let view = match name {
+        Some(name) => View::Winners(page, name),
+        None => View::Matches(page),
+    };
+    let mut out = Output::new(rt.stdout());
+    let outcome = show_texts(rt, view, &[file], &[sheet.as_str()], most, &mut out);
+    warn_of_tree(rt, tree, page, &outcome);
+    Ok(written(rt, outcome, &out))
 }
 
 /// Returns the status of a command that reads a sheet.
@@ -234,15 +210,9 @@ fn main(rt: HostRuntime) -> ExitCode {
         },
         Some(Command::Selector(text)) => show_selector(&rt, "selector", text),
         Some(Command::Sheet(names)) => status_of(show_sheet(&rt, names)),
-        Some(Command::Match(file, tree)) => {
-            status_of(show_elements(&rt, file, tree, |alloc, rules, page, out| {
-                write_match(alloc, rules, page, out)
-            }))
-        }
+        Some(Command::Match(file, tree)) => status_of(show_elements(&rt, file, tree, None)),
         Some(Command::Style(file, tree, name)) => {
-            status_of(show_elements(&rt, file, tree, |alloc, rules, page, out| {
-                write_style(alloc, rules, page, name, out)
-            }))
+            status_of(show_elements(&rt, file, tree, Some(name)))
         }
         None => answer_other(&rt, arguments),
     }

@@ -1,7 +1,8 @@
 //! Warnings on standard error: a line each, with the name of the text, the row and the column.
+use crate::visible::{Visible, visible_stderr};
 use simplecss::{
-    HintKind, Kept, Place, Refusal, Report, Selector, Skipped, SkippedLines, Why, open_parenthesis,
-    refused_pos,
+    HintKind, Kept, Place, Refusal, Report, Selector, Skipped, SkippedLines, Why, refused_pos,
+    rest_of_open_value,
 };
 use std::alloc::AllocError;
 use std::io;
@@ -15,12 +16,12 @@ pub(crate) struct SheetWarnings<'n, 'a, W: Write> {
     lines: SkippedLines<'n, 'a, W>,
 }
 
-impl<'n, 'a> SheetWarnings<'n, 'a, BufWriter<Stderr>> {
+impl<'n, 'a> SheetWarnings<'n, 'a, Visible<BufWriter<Stderr>>> {
     /// Returns a reporter to standard error, for texts with these names.
     pub(crate) fn new(rt: &HostRuntime, names: &'n [&'n str]) -> io::Result<Self> {
         let out = BufWriter::new(rt.alloc(), rt.stderr())?;
         Ok(SheetWarnings {
-            lines: SkippedLines::new(out, names),
+            lines: SkippedLines::new(Visible::new(out), names),
         })
     }
 }
@@ -51,7 +52,7 @@ impl<'n, 'a, W: Write> Report<'a> for SheetWarnings<'n, 'a, W> {
 
     #[inline(always)]
     fn declared(&mut self, from: &'a str, value: &'a str) {
-        if let Some(stated) = open_parenthesis(from, value) {
+        if let Some(stated) = rest_of_open_value(from, value) {
             self.lines
                 .write_line(stated, &HintKind::OpenParenthesis(value));
         }
@@ -73,13 +74,17 @@ fn write_refusal(rt: &HostRuntime, name: &str, text: &str, read: &str, skipped: 
         _ => refused_pos("", read, why),
     };
     let quote = skipped.quote();
-    let _ = eprintln!(rt; "{name}:{pos}: '{quote}': {why}");
+    let _ = writeln!(visible_stderr(rt), "{name}:{pos}: '{quote}': {why}");
 }
 
 /// Writes the warnings of a selector: why it is refused, or what follows it and is not read.
 pub(crate) fn warn_of_selector(rt: &HostRuntime, name: &str, text: &str) {
     if text.starts_with('\u{feff}') {
-        let _ = eprintln!(rt; "{name}:1:1: {}", HintKind::ByteOrderMark);
+        let _ = writeln!(
+            visible_stderr(rt),
+            "{name}:1:1: {}",
+            HintKind::ByteOrderMark
+        );
     }
     let mut kept = Kept {
         skips: Vec::new(rt.alloc()),
@@ -97,6 +102,10 @@ pub(crate) fn warn_of_selector(rt: &HostRuntime, name: &str, text: &str) {
             after: "",
             why: Why::AfterSelector,
         };
-        let _ = eprintln!(rt; "{name}: '{}' was not read", unread.quote());
+        let _ = writeln!(
+            visible_stderr(rt),
+            "{name}: '{}' was not read",
+            unread.quote()
+        );
     }
 }

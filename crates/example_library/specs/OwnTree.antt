@@ -1,6 +1,5 @@
 -- The trees of lists of entries.
-use Rattle.std.specs.Prelude.{ℕ, List, Option, Some, None, Bool, false, IsTrue, is_none, is_some}
-use Rattle.std.specs.Prelude.{bytes_eq, codes, slice_get, if◌then◌else◌}
+use Rattle.std.specs.Prelude.{ℕ, List, Option, Some, None, Bool, false, IsTrue, is_none, is_some, bytes_eq, codes, slice_get, if◌then◌else◌}
 use Rattle.std.specs.Option.{option_map, option_map_or, option_and_then}
 use Rattle.std.proofs.Common.{refl}
 use Rattle.simplecss.specs.Components.{KnownPseudoClass, Operator}

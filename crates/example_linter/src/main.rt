@@ -20,8 +20,10 @@ fn lint(rt: &HostRuntime, file: &str, text: &str, wants_hints: bool) -> io::Resu
         println!(rt; "{file}:{}: {part}", place.pos)?;
     }
     if wants_hints {
+        place = Place::START;
         for hint in &find_hints(rt.alloc(), text)? {
-            println!(rt; "{file}:{hint}")?;
+            place = place.find(text, hint.from);
+            println!(rt; "{file}:{}: {}", place.pos, hint.kind)?;
         }
     }
     Ok(!skipped.is_empty())

@@ -4,97 +4,95 @@ use Rattle.std.proofs.Common.{◌≡◌, ℕ, ◌<◌, ◌≤◌, ◌↔◌, ◌
 use Rattle.std.specs.Prelude.{◌&&◌, OnOk, Result, Ok, Err}
 use Rattle.std.specs.List.{All, filter, Contains, sum_by, range_with_len}
 use Rattle.std.specs.List.Sorted.{IsStrictlyIncreasing}
-use Rattle.std.proofs.lemmas.List.{length-map, get_or_past}
+use Rattle.std.proofs.lemmas.List.{length-map}
 use Rattle.std.proofs.lemmas.List.Sums.{sum_by-cons}
 use Rattle.std.proofs.lemmas.List.Elements.{Contains-get_or, Contains-append_left, Contains-append_right, Contains-append_cases}
-use Rattle.std.proofs.lemmas.List.Kept.{IsStrictlyIncreasing-filter}
 use Rattle.std.proofs.lemmas.Bool.{false≢true}
-use Rattle.simplecss_text.specs.Components.{Component}
-use Rattle.simplecss_selector.specs.KeyBits.{CoversAncestors}
-use Rattle.simplecss_selector.specs.Wanted.{Wanted, Near, ReportsWanted, reports_wanted, wanted_of}
+use Rattle.simplecss_grammar.specs.Components.{Component}
+use Rattle.simplecss_selector.specs.Buckets.{Bucket, Near, ReportsBuckets, reports_bucket}
 use Rattle.simplecss_selector.specs.Placements.{HasPlacement}
-use Rattle.simplecss_selector.specs.Trees.{Tree, SiblingsShareParent}
-use Rattle.simplecss_selector.proofs.WantedLemmas.{wanted_needed}
-use Rattle.simplecss_selector.proofs.KeyBitLemmas.{covers_none, covers_test, ancestors_needed}
+use Rattle.simplecss_selector.specs.Trees.{Tree}
+use Rattle.simplecss_selector.proofs.BucketLemmas.{bucket_needed}
 use Rattle.simplecss.specs.internal.Chains.{selectors_of, IsLastBefore, AreChained}
-use Rattle.simplecss.specs.internal.LastByWanted.{last_wanted}
-use Rattle.simplecss.specs.Recents.{Leads, AreStarts}
-use Rattle.simplecss.specs.Matching.{AreMatches, AreKeyed, AreKept, is_covered, AreCandidates}
-use Rattle.simplecss.specs.SelectorIndices.{selector_at, key_at, Adds}
+use Rattle.simplecss.specs.internal.LastByBucket.{last_in_bucket}
+use Rattle.simplecss.specs.internal.Recents.{Leads, AreStarts}
+use Rattle.simplecss.specs.Matching.{AreMatches}
+use Rattle.simplecss.specs.internal.Kept.{AreKeyed, AreKept}
+use Rattle.simplecss.specs.SelectorIndices.{selector_at, key_at, Adds, AreTheIndices}
 use Rattle.simplecss.specs.declared.index.link.Link.{Link}
-use Rattle.simplecss.specs.declared.index.last_by_wanted.LastByWanted.{LastByWanted}
+use Rattle.simplecss.specs.declared.index.last_by_bucket.LastByBucket.{LastByBucket}
 use Rattle.simplecss.proofs.Adding.{contains_none, contains_one, added}
 use Rattle.simplecss.proofs.Ascending.{indices_are, sum_of_values, values_at}
 use Rattle.simplecss.proofs.Following.{After}
 
 -- each key leads to the last of all selectors with it
-pub lasts_lead : (lasts : LastByWanted) (links : List Link) (selectors : List (List Component))
-    → AreChained lasts links → selectors_of links ≡ selectors → (key : Wanted)
-    → IsLastBefore selectors (length selectors) key (last_wanted lasts key)
+pub lasts_lead : (lasts : LastByBucket) (links : List Link) (selectors : List (List Component))
+    → AreChained lasts links → selectors_of links ≡ selectors → (key : Bucket)
+    → IsLastBefore selectors (length selectors) key (last_in_bucket lasts key)
 lasts_lead lasts links selectors chained is key =
     let n : length links ≡ length selectors =
     sym (length-map links (λ l. l.selector.value)) ∙ ap length is in
-    subst (λ ss. IsLastBefore ss (length selectors) key (last_wanted lasts key)) is (subst
-    (λ m. IsLastBefore (selectors_of links) m key (last_wanted lasts key)) n (chained.last key))
+    subst (λ ss. IsLastBefore ss (length selectors) key (last_in_bucket lasts key)) is (subst
+    (λ m. IsLastBefore (selectors_of links) m key (last_in_bucket lasts key)) n (chained.last key))
 
-module _ (is_wanted : Wanted → Bool) (lasts : LastByWanted) (links : List Link)
+module _ (is_reported : Bucket → Bool) (lasts : LastByBucket) (links : List Link)
     (selectors : List (List Component)) (chained : AreChained lasts links)
     (is : selectors_of links ≡ selectors) where
   abbrev Has : ℕ → Type 0
-  Has index = IsTrue (is_wanted (key_at selectors index))
+  Has index = IsTrue (is_reported (key_at selectors index))
 
   -- where a key leads, there is a selector with it
-  led_to : (index : ℕ) → Leads is_wanted lasts index → (index < length selectors) × Has index
+  led_to : (index : ℕ) → Leads is_reported lasts index → (index < length selectors) × Has index
   led_to index h =
       let at : IsLastBefore selectors (length selectors) h.0 (Some index) =
       subst (IsLastBefore selectors (length selectors) h.0) h.2
       (lasts_lead lasts links selectors chained is h.0) in
-      (at.0, subst (λ key. IsTrue (is_wanted key)) (sym at.1) h.1)
+      (at.0, subst (λ key. IsTrue (is_reported key)) (sym at.1) h.1)
 
-  -- a selector with a wanted key is the last with it, or before that
+  -- a selector of a bucket is the last of it, or before that
   led_from : (index : ℕ) → index < length selectors → Has index
-      → (last : ℕ) × Leads is_wanted lasts last × (index ≤ last)
+      → (last : ℕ) × Leads is_reported lasts last × (index ≤ last)
       × (key_at selectors index ≡ key_at selectors last)
-  led_from index lt has = at (last_wanted lasts (key_at selectors index)) refl
+  led_from index lt has = at (last_in_bucket lasts (key_at selectors index)) refl
       (lasts_lead lasts links selectors chained is (key_at selectors index))
     where
       order : (last : ℕ) → (index ≤ last) ⊎ (last < index)
       order last = grind arith
 
-      at : (last : Option ℕ) → last_wanted lasts (key_at selectors index) ≡ last
+      at : (last : Option ℕ) → last_in_bucket lasts (key_at selectors index) ≡ last
           → IsLastBefore selectors (length selectors) (key_at selectors index) last
-          → (last : ℕ) × Leads is_wanted lasts last × (index ≤ last)
+          → (last : ℕ) × Leads is_reported lasts last × (index ≤ last)
           × (key_at selectors index ≡ key_at selectors last)
       at None e h = absurd (h index lt refl)
       at (Some last) e h = of_order (order last)
         where
           of_order : (index ≤ last) ⊎ (last < index)
-              → (last : ℕ) × Leads is_wanted lasts last × (index ≤ last)
+              → (last : ℕ) × Leads is_reported lasts last × (index ≤ last)
               × (key_at selectors index ≡ key_at selectors last)
           of_order (inl l) = (last, (key_at selectors index, has, e), l, sym h.1)
           of_order (inr l) = absurd (h.2 index l lt refl)
 
   -- where the keys lead are starts
   pub starts_led : (cleared indices : List ℕ) → cleared ≡ []
-      → Adds cleared indices (Leads is_wanted lasts) → AreStarts is_wanted selectors indices
+      → Adds cleared indices (Leads is_reported lasts) → AreStarts is_reported selectors indices
   starts_led cleared indices none leads = record {
     within = λ index c. led_to index (only index c);
     reached = λ index lt has. let last = led_from index lt has in
         (last.0, (added cleared indices leads last.0).1 (inr last.1), last.2, last.3);
   }
     where
-      only : (index : ℕ) → Contains indices index → Leads is_wanted lasts index
+      only : (index : ℕ) → Contains indices index → Leads is_reported lasts index
       only index c = elim ((added cleared indices leads index).0 c) [
         | inl x ↦ absurd (contains_none index (subst (λ xs. Contains xs index) none x))
         | inr y ↦ y
       ]
 
   -- starts, and where other keys lead, are starts of all these keys
-  pub starts_more : (is_other is_one : Wanted → Bool) (old indices : List ℕ)
-      → ((key : Wanted) → IsTrue (is_one key) → IsTrue (is_other key) ⊎ IsTrue (is_wanted key))
-      → ((key : Wanted) → IsTrue (is_other key) → IsTrue (is_one key))
-      → ((key : Wanted) → IsTrue (is_wanted key) → IsTrue (is_one key))
-      → AreStarts is_other selectors old → Adds old indices (Leads is_wanted lasts)
+  pub starts_more : (is_other is_one : Bucket → Bool) (old indices : List ℕ)
+      → ((key : Bucket) → IsTrue (is_one key) → IsTrue (is_other key) ⊎ IsTrue (is_reported key))
+      → ((key : Bucket) → IsTrue (is_other key) → IsTrue (is_one key))
+      → ((key : Bucket) → IsTrue (is_reported key) → IsTrue (is_one key))
+      → AreStarts is_other selectors old → Adds old indices (Leads is_reported lasts)
       → AreStarts is_one selectors indices
   starts_more is_other is_one old indices splits from_other from_wanted starts leads = record {
     within = λ index c. elim ((added old indices leads index).0 c) [
@@ -113,7 +111,7 @@ module _ (is_wanted : Wanted → Bool) (lasts : LastByWanted) (links : List Link
 
   pub led_within : (old indices sorted : List ℕ)
       → ((index : ℕ) → Contains old index → index < length selectors)
-      → Adds old indices (Leads is_wanted lasts)
+      → Adds old indices (Leads is_reported lasts)
       → ((index : ℕ) → Contains sorted index ↔ Contains indices index) → (index : ℕ)
       → Contains sorted index → index < length selectors
   led_within old indices sorted within leads same index c = elim ((added old indices leads index).0
@@ -156,7 +154,7 @@ both_true false b = (λ h. absurd (false≢true h), λ h. h.0)
 -- are all selectors whose key is reported and which it keeps
 pub are_kept : (reported : Near) (keeps : List Component → Bool)
     (selectors : List (List Component)) (starts sorted all kept final : List ℕ)
-    → AreStarts (reports_wanted reported) selectors starts
+    → AreStarts (reports_bucket reported) selectors starts
     → ((index : ℕ) → Contains sorted index ↔ Contains starts index)
     → Adds sorted all (After selectors (λ index. keeps (selector_at selectors index)) sorted)
     → kept ≡ filter (λ index. keeps (selector_at selectors index)) all
@@ -184,17 +182,17 @@ are_kept reported keeps selectors starts sorted all kept final are same after is
     test index = keeps (selector_at selectors index)
 
     both : (index : ℕ)
-        → IsTrue (reports_wanted reported (key_at selectors index) && test index)
-        ↔ (IsTrue (reports_wanted reported (key_at selectors index)) × IsTrue (test index))
-    both index = both_true (reports_wanted reported (key_at selectors index)) (test index)
+        → IsTrue (reports_bucket reported (key_at selectors index) && test index)
+        ↔ (IsTrue (reports_bucket reported (key_at selectors index)) × IsTrue (test index))
+    both index = both_true (reports_bucket reported (key_at selectors index)) (test index)
 
     there : (index : ℕ) → Contains sorted index ⊎ After selectors test sorted index
-        → (index < length selectors) × IsTrue (reports_wanted reported (key_at selectors index))
+        → (index < length selectors) × IsTrue (reports_bucket reported (key_at selectors index))
     there index (inl c) = are.within index ((same index).0 c)
     there index (inr h) =
         let last = are.within h.0 ((same h.0).0 h.1) in (
           omega (arith, h.2, last.0),
-          subst (λ key. IsTrue (reports_wanted reported key)) (sym h.3) last.1,
+          subst (λ key. IsTrue (reports_bucket reported key)) (sym h.3) last.1,
         )
 
     order : (index last : ℕ) → index ≤ last → (last ≡ index) ⊎ (index < last)
@@ -216,31 +214,11 @@ all_kept reported selectors indices are = record {
   ascending = are.ascending;
   exactly = λ index. (
     λ c. let h = (are.exactly index).0 c in
-        (h.0, ((both_true (reports_wanted reported (key_at selectors index)) true).0 h.1).0),
+        (h.0, ((both_true (reports_bucket reported (key_at selectors index)) true).0 h.1).0),
     λ h. (are.exactly index).1
-        (h.0, (both_true (reports_wanted reported (key_at selectors index)) true).1 (h.1, refl)),
+        (h.0, (both_true (reports_bucket reported (key_at selectors index)) true).1 (h.1, refl)),
   );
 }
-
--- of the selectors whose key is reported those are kept that the test keeps
-pub kept_only : (reported : Near) (keeps : List Component → Bool)
-    (selectors : List (List Component)) (keyed final : List ℕ) → AreKeyed reported selectors keyed
-    → final ≡ filter (λ index. keeps (selector_at selectors index)) keyed
-    → AreKept reported keeps selectors final
-kept_only reported keeps selectors keyed final are e =
-    subst (AreKept reported keeps selectors) (sym e) (record {
-      ascending =
-          IsStrictlyIncreasing-filter (λ index. keeps (selector_at selectors index))
-          keyed are.ascending;
-      exactly = λ index.
-          let kept =
-          filter_contains (λ p. keeps (selector_at selectors p)) keyed index in
-          let both = both_true (reports_wanted reported (key_at selectors index))
-          (keeps (selector_at selectors index)) in (
-            λ c. let h = kept.0 c in let k = (are.exactly index).0 h.0 in (k.0, both.1 (k.1, h.1)),
-            λ h. let x = both.0 h.1 in kept.1 ((are.exactly index).1 (h.0, x.0), x.1),
-          );
-    })
 
 -- what holds anyway holds on success
 pub known_on_ok : {T E P : Type 0} (r : Result T E) → P → OnOk r P
@@ -253,7 +231,7 @@ pub kept_matches : {Node : Type 0} (tree : Tree Node) (n : Node) (reported : Nea
     (candidates final : List ℕ)
     → ((index : ℕ) → HasPlacement tree (selector_at selectors index) n → index < length selectors
     → IsTrue (keeps (selector_at selectors index)))
-    → ReportsWanted tree n reported
+    → ReportsBuckets tree n reported
     → AreKept reported keeps selectors candidates → IsStrictlyIncreasing final
     → ((index : ℕ) → Contains final index
     ↔ (Contains candidates index × HasPlacement tree (selector_at selectors index) n))
@@ -266,10 +244,10 @@ kept_matches tree n reported keeps selectors candidates final needs reports are 
         λ h. (kept index).1 (
           (are.exactly index).1 (
             h.0,
-            (both_true (reports_wanted reported (key_at selectors index))
+            (both_true (reports_bucket reported (key_at selectors index))
                 (keeps (selector_at selectors index))).1 (
                   reports (key_at selectors index)
-                      (wanted_needed tree (selector_at selectors index) n h.1),
+                      (bucket_needed tree (selector_at selectors index) n h.1),
                   needs index h.1 h.0,
                 ),
           ),
@@ -279,45 +257,46 @@ kept_matches tree n reported keeps selectors candidates final needs reports are 
     }
 
 -- of the candidates those are kept that match, and no other selector does
-pub are_matches : {Node : Type 0} (tree : Tree Node) (n : Node) (reported : Near) (above : ℕ)
-    (selectors : List (List Component)) (candidates final : List ℕ) → SiblingsShareParent tree
-    → ReportsWanted tree n reported → CoversAncestors tree n above
-    → AreCandidates reported above selectors candidates → IsStrictlyIncreasing final
+pub are_matches : {Node : Type 0} (tree : Tree Node) (n : Node) (reported : Near)
+    (selectors : List (List Component)) (candidates final : List ℕ)
+    → ReportsBuckets tree n reported → AreKeyed reported selectors candidates
+    → IsStrictlyIncreasing final
     → ((index : ℕ) → Contains final index
     ↔ (Contains candidates index × HasPlacement tree (selector_at selectors index) n))
     → AreMatches tree n selectors final
-are_matches tree n reported above selectors candidates final shared reports covered are up kept =
-    kept_matches tree n reported (is_covered above) selectors candidates final
-    (λ index h lt. ancestors_needed tree shared (selector_at selectors index) n above covered h)
-    reports are up kept
+are_matches tree n reported selectors candidates final reports are up kept =
+    record {
+      ascending = up;
+      exactly = λ index. (
+        λ c. let h = (kept index).0 c in (((are.exactly index).0 h.0).0, h.1),
+        λ h. (kept index).1 (
+          (are.exactly index).1 (
+            h.0,
+            reports (key_at selectors index)
+                (bucket_needed tree (selector_at selectors index) n h.1),
+          ),
+          h.1,
+        ),
+      );
+    }
 
-pub kept_within : (reported : Near) (keeps : List Component → Bool)
-    (selectors : List (List Component)) (candidates : List ℕ)
-    → AreKept reported keeps selectors candidates
-    → All (λ index. index < length selectors) candidates
-kept_within reported keeps selectors candidates are k d lt =
-    ((are.exactly (get_or candidates k d)).0 (Contains-get_or candidates k d lt)).0
+-- the indices are below the number
+pub indices_within : (IsOne : ℕ → Type 0) (number : ℕ) (indices : List ℕ)
+    → AreTheIndices IsOne number indices → All (λ index. index < number) indices
+indices_within IsOne number indices are k d lt =
+    ((are.exactly (get_or indices k d)).0 (Contains-get_or indices k d lt)).0
 
--- the selectors that are kept
-abbrev pub kept_for : Near → (List Component → Bool) → List (List Component)
-    → List (List Component)
-kept_for reported keeps selectors =
-    filter (λ selector. reports_wanted reported (wanted_of selector) && keeps selector) selectors
-
--- a sum over those that are kept is one over the selectors that are tested
-pub sum_of_kept : (reported : Near) (keeps : List Component → Bool)
-    (selectors : List (List Component)) (candidates : List ℕ) (cost : List Component → ℕ)
-    → AreKept reported keeps selectors candidates
+-- a sum over the indices of the selectors that are tested is one over these selectors
+pub sum_of_tested : (test : List Component → Bool) (selectors : List (List Component))
+    (candidates : List ℕ) (cost : List Component → ℕ)
+    → AreTheIndices (λ index. IsTrue (test (selector_at selectors index))) (length selectors) candidates
     → sum_by (λ index. cost (selector_at selectors index)) candidates
-    ≡ sum_by cost (kept_for reported keeps selectors)
-sum_of_kept reported keeps selectors candidates cost are =
-    let all = range_with_len 0 (length selectors) in
-    let test : List Component → Bool =
-    λ selector. reports_wanted reported (wanted_of selector) && keeps selector in
+    ≡ sum_by cost (filter test selectors)
+sum_of_tested test selectors candidates cost are =
     ap (sum_by (λ index. cost (selector_at selectors index))) (indices_are (λ index.
     test (selector_at selectors index)) (length selectors) candidates are)
-    ∙ sum_of_values (selector_at selectors) test cost all
-    ∙ ap (λ ss. sum_by cost (kept_for reported keeps ss)) (values_at selectors [])
+    ∙ sum_of_values (selector_at selectors) test cost (range_with_len 0 (length selectors))
+    ∙ ap (λ ss. sum_by cost (filter test ss)) (values_at selectors [])
 
 ones : {X : Type 0} (xs : List X) → sum_by (λ x. 1) xs ≡ length xs
 ones [] = refl
@@ -326,24 +305,11 @@ ones (x ∷ xs) =
     let others = ones xs in
     omega (arith, first, others)
 
--- as many are kept as selectors are tested
-pub number_of_kept : (reported : Near) (keeps : List Component → Bool)
-    (selectors : List (List Component)) (candidates : List ℕ)
-    → AreKept reported keeps selectors candidates
-    → length candidates ≡ length (kept_for reported keeps selectors)
-number_of_kept reported keeps selectors candidates are =
-    sym (ones candidates)
-    ∙ sum_of_kept reported keeps selectors candidates (λ selector. 1) are
-    ∙ ones (kept_for reported keeps selectors)
-
--- an index after the last has no selector, and nothing is wanted of ancestors there
-pub none_covered : (links : List Link) (selectors : List (List Component)) (index above : ℕ)
-    → selectors_of links ≡ selectors → length links ≤ index
-    → true ≡ is_covered above (selector_at selectors index)
-none_covered links selectors index above is past =
-    let number : length selectors ≡ length links =
-    sym (ap length is) ∙ length-map links (λ l. l.selector.value) in
-    let none : selector_at selectors index ≡ [] =
-    get_or_past selectors index [] (omega (arith, number, past)) in
-    let nothing : IsTrue (is_covered above []) = covers_test above 0 (covers_none above) in
-    sym (ap (is_covered above) none ∙ nothing)
+-- there are as many indices as selectors that are tested
+pub number_tested : (test : List Component → Bool) (selectors : List (List Component))
+    (candidates : List ℕ)
+    → AreTheIndices (λ index. IsTrue (test (selector_at selectors index))) (length selectors) candidates
+    → length candidates ≡ length (filter test selectors)
+number_tested test selectors candidates are =
+    sym (ones candidates) ∙ sum_of_tested test selectors candidates (λ selector. 1) are
+    ∙ ones (filter test selectors)

@@ -7,12 +7,12 @@ use Rattle.std.specs.List.{filter}
 use Rattle.std.proofs.lemmas.List.Sums.{sum_by-append}
 use Rattle.std.proofs.lemmas.List.{length-map}
 use Rattle.std.proofs.lemmas.Bool.Decides.{nat_tests}
-use Rattle.simplecss_text.specs.Characters.{Edition}
-use Rattle.simplecss_text.specs.Components.{Component}
-use Rattle.simplecss_text.specs.Declarations.{StyleDeclaration}
-use Rattle.simplecss_text.specs.Statements.{StyleRule, has_declaration, next_statement}
-use Rattle.simplecss.specs.declared.sheet.sheet_error.SheetError.{SheetError}
-use Rattle.simplecss.specs.declared.sheet.sheet_error.SheetError.TheVariants.{TooManyDeclarations, Memory}
+use Rattle.css_text.specs.Characters.{Edition}
+use Rattle.simplecss_grammar.specs.Components.{Component}
+use Rattle.simplecss_grammar.specs.Declarations.{StyleDeclaration}
+use Rattle.simplecss_grammar.specs.Statements.{StyleRule, has_declaration, next_statement}
+use Rattle.css_text.specs.declared.sheet_error.SheetError.{SheetError}
+use Rattle.css_text.specs.declared.sheet_error.SheetError.TheVariants.{TooManyDeclarations, Memory}
 use Rattle.simplecss.specs.internal.SharedBlocks.{rule_with, rules_with}
 use Rattle.simplecss.specs.DeclarationCounts.{declaration_count, kept_declarations}
 use Rattle.simplecss.proofs.StatementLemmas.{rules_from, rules_from-none}

@@ -9,12 +9,13 @@ use Rattle.std.proofs.lemmas.Bool.{false≢true}
 use Rattle.std.proofs.lemmas.Option.{slice_get-get_or}
 use Rattle.std.proofs.lemmas.List.{length-map, take_more, get_or_append_left}
 use Rattle.std.proofs.lemmas.List.Elements.{Contains-get_or, Contains-append_left, Contains-push, Contains-push_cases}
-use Rattle.simplecss_text.specs.Components.{Component}
-use Rattle.simplecss_selector.specs.Wanted.{Wanted}
+use Rattle.simplecss_grammar.specs.Components.{Component}
+use Rattle.simplecss_selector.specs.Buckets.{Bucket}
 use Rattle.simplecss.specs.internal.Chains.{selectors_of, IsLastBefore, earlier_at, AreChained}
 use Rattle.simplecss.specs.declared.index.link.Link.{Link}
-use Rattle.simplecss.specs.declared.index.last_by_wanted.LastByWanted.{LastByWanted}
-use Rattle.simplecss.specs.OpenPaths.{Path, is_kept}
+use Rattle.simplecss.specs.declared.index.last_by_bucket.LastByBucket.{LastByBucket}
+use Rattle.simplecss.specs.OpenPaths.{Path}
+use Rattle.simplecss.specs.internal.Kept.{is_kept}
 use Rattle.simplecss.specs.SelectorIndices.{selector_at, key_at, Adds}
 use Rattle.simplecss.proofs.Adding.{adds_none, adds_one, adds_then, adds_as}
 
@@ -40,14 +41,14 @@ end_of (Some index) = index + 1
 
 module _ (selectors : List (List Component)) (keeps : ℕ → Bool) where
   -- the indices from one on and before another with the key
-  abbrev pub Between : ℕ → ℕ → Wanted → ℕ → Type 0
+  abbrev pub Between : ℕ → ℕ → Bucket → ℕ → Type 0
   Between start end key index = (start ≤ index) × (index < end) × (key_at selectors index ≡ key)
 
   -- those of them that are kept
-  abbrev pub Kept : ℕ → ℕ → Wanted → ℕ → Type 0
+  abbrev pub Kept : ℕ → ℕ → Bucket → ℕ → Type 0
   Kept start end key index = Between start end key index × IsTrue (keeps index)
 
-  abbrev pub IsBefore : ℕ → Wanted → Option ℕ → Type 0
+  abbrev pub IsBefore : ℕ → Bucket → Option ℕ → Type 0
   IsBefore end key None = Unit {0}
   IsBefore end key (Some index) = (index < end) × (key_at selectors index ≡ key)
 
@@ -56,12 +57,12 @@ module _ (selectors : List (List Component)) (keeps : ℕ → Bool) where
     pub before : IsBefore start (key_at selectors start) left
     pub adds : Adds old new (Kept (end_of left) start (key_at selectors start))
 
-  last_before : (end : ℕ) (key : Wanted) (left : Option ℕ) → IsLastBefore selectors end key left
+  last_before : (end : ℕ) (key : Bucket) (left : Option ℕ) → IsLastBefore selectors end key left
       → IsBefore end key left
   last_before end key None h = tt
   last_before end key (Some index) h = (h.0, h.1)
 
-  none_after : (end : ℕ) (key : Wanted) (left : Option ℕ) → IsLastBefore selectors end key left
+  none_after : (end : ℕ) (key : Bucket) (left : Option ℕ) → IsLastBefore selectors end key left
       → (index : ℕ) → Between (end_of left) end key index → ⊥
   none_after end key None h index b = h index b.1 b.2
   none_after end key (Some last) h index b = h.2 index (omega (arith, b.0)) b.1 b.2
@@ -188,7 +189,7 @@ link_there links selectors index is lt =
     omega (arith, lt, ap length is, length-map links (λ l. l.selector.value))
 
 -- where a link that was read leads
-pub leads : (lasts : LastByWanted) (links : List Link) (selectors : List (List Component))
+pub leads : (lasts : LastByBucket) (links : List Link) (selectors : List (List Component))
     (index : ℕ) (link : Link) → AreChained lasts links → selectors_of links ≡ selectors
     → index < length selectors → link ≡ get_or links index link
     → IsLastBefore selectors index (key_at selectors index) link.earlier
@@ -200,7 +201,7 @@ leads lasts links selectors index link chained is lt read =
     (subst (IsLastBefore (selectors_of links) index (key_at (selectors_of links) index))
     (sym leads_to) (chained.earlier index within))
 
-pub leads_back : (selectors : List (List Component)) (end : ℕ) (key : Wanted) (left : Option ℕ)
+pub leads_back : (selectors : List (List Component)) (end : ℕ) (key : Bucket) (left : Option ℕ)
     → IsLastBefore selectors end key left → end_of left < end + 1
 leads_back selectors end key None h = omega arith
 leads_back selectors end key (Some index) h = omega (arith, h.0)

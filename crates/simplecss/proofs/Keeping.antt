@@ -77,7 +77,7 @@ module _ (IsWanted : ℕ → Type 0) where
 
     pub keep_yes : IsStrictlyIncreasing indices → IsWanted index → length now ≡ length indices
         → Keeps IsWanted indices (set now kept index) (kept + 1) (i + 1)
-    keep_yes up wanted same = record {
+    keep_yes up bucket same = record {
       few = omega (arith, before.few);
       ascending = subst IsStrictlyIncreasing (sym front)
           (increasing_push (take kept now) index before.ascending
@@ -101,7 +101,7 @@ module _ (IsWanted : ℕ → Type 0) where
               | inr e ↦ (
                 subst (Contains (take i indices ++ index ∷ [])) e
                     (Contains-push (take i indices) index),
-                subst IsWanted e wanted,
+                subst IsWanted e bucket,
               )
             ]
 

@@ -12,8 +12,8 @@ use Rattle.std.proofs.lemmas.Bool.{false≢true}
 use Rattle.std.proofs.lemmas.List.Elements.{Contains-append_left, Contains-append_right, Contains-append_cases, Contains-push, Contains-push_cases}
 use Rattle.std.proofs.lemmas.Map.Text.{btree_map_updates_str}
 use Rattle.std.proofs.lemmas.Slice.Eq.{bytes_eq-Decides}
-use Rattle.simplecss_text.specs.AsciiBytes.{space}
-use Rattle.simplecss_text.specs.Components.Operator.{equals, has_word}
+use Rattle.css_text.specs.AsciiBytes.{space}
+use Rattle.simplecss_grammar.specs.Components.Operator.{equals, has_word}
 use Rattle.simplecss_selector.specs.Keys.{Key, Reported, reports_key, has_satisfying_value}
 use Rattle.simplecss_selector.specs.Keys.Key.{by_id, by_class, by_name, by_attribute, by_nothing}
 use Rattle.simplecss.specs.internal.TextIndices.{index_for_text}

@@ -1,4 +1,4 @@
-pub use Rattle.simplecss_text.proofs.round_trip.StyledWrites
+pub use Rattle.css_text.proofs.round_trip.StyledWrites
 pub mod Joins
 pub mod ListLemmas
 pub mod RuleEquality
@@ -15,7 +15,7 @@ pub mod Ascending
 pub mod LastIndices
 pub mod TextSlots
 pub mod ReadIndices
-pub mod WantedIndices
+pub mod BucketIndices
 pub mod Following
 pub mod Chaining
 pub mod TestedInOrder
@@ -28,3 +28,5 @@ pub mod Counting
 pub mod OpenPathLemmas
 pub mod OnlyKeyLemmas
 pub mod PlaceLemmas
+pub mod OpenParentheses
+pub mod HintLemmas

@@ -10,7 +10,7 @@ use Rattle.std.proofs.lemmas.List.Elements.{All-append}
 use Rattle.std.proofs.lemmas.List.Sums.{fold-append}
 use Rattle.std.proofs.lemmas.Grind.{flat_map-append}
 use Rattle.std.proofs.lemmas.Slice.Eq.{bytes_eq-Decides}
-use Rattle.simplecss_text.specs.Components.{Component}
+use Rattle.simplecss_grammar.specs.Components.{Component}
 use Rattle.simplecss_selector.specs.AncestorKeys.{ancestor_keys}
 use Rattle.simplecss_selector.specs.Keys.{Key}
 use Rattle.simplecss_selector.specs.KeyViews.{key_value}

@@ -1,29 +1,28 @@
 -- A selector that requires nothing but its key matches whatever has the key.
 -- Serves `index::keep::keep_matching` and `RuleIndex::matching_exact`.
-use Rattle.std.proofs.Common.{◌≡◌, ℕ, ◌+◌, ◌*◌, ◌<◌, ◌≤◌, List, [], ◌∷◌, ◌++◌, Option, Some, None, Bool, true, false, IsTrue, length, get_or, refl, sym, ap, ◌∙◌, subst, arith}
+use Rattle.std.proofs.Common.{◌≡◌, ℕ, ◌<◌, List, [], ◌∷◌, ◌++◌, Option, Some, None, Bool, true, false, IsTrue, length, get_or, refl, sym, ap, ◌∙◌, subst}
 use Rattle.std.specs.List.{Contains}
 use Rattle.std.proofs.lemmas.List.Elements.{All-push}
-use Rattle.std.specs.Option.{option_map}
-use Rattle.std.specs.Prelude.{bytes_eq, codes, ◌&&◌, IfSome, max}
+use Rattle.std.specs.Prelude.{bytes_eq, codes, ◌&&◌}
 use Rattle.std.proofs.lemmas.Bool.{false≢true}
 use Rattle.std.proofs.lemmas.Slice.Eq.{bytes_eq-Decides}
-use Rattle.simplecss_text.specs.Components.{Component, Compound, Subselector, Operator, Combinator}
-use Rattle.simplecss_text.specs.Components.Subselector.{attribute, pseudo_class}
-use Rattle.simplecss_text.specs.Components.Operator.{exists, equals, has_word, begins_with}
-use Rattle.simplecss_text.specs.Components.Combinator.{none, descendant, child, adjacent}
+use Rattle.simplecss_grammar.specs.Components.{Component, Compound, Subselector, Operator, Combinator}
+use Rattle.simplecss_grammar.specs.Components.Subselector.{attribute, pseudo_class}
+use Rattle.simplecss_grammar.specs.Components.Operator.{exists, equals, has_word, begins_with}
+use Rattle.simplecss_grammar.specs.Components.Combinator.{none, descendant, child, adjacent}
 use Rattle.simplecss_selector.specs.Exact.{ReportsOnlyKeys}
 use Rattle.simplecss_selector.specs.Keys.{Key, Reported, HasKey, reports_key}
 use Rattle.simplecss_selector.specs.Keys.Key.{by_id, by_class, by_name, by_attribute, by_nothing}
-use Rattle.simplecss_selector.specs.Placements.{IsAncestor, HasName, Holds, Meets, Relates, HasPlacement, joined_length, longest_stretch}
+use Rattle.simplecss_selector.specs.Placements.{IsAncestor, HasName, Holds, Meets, Relates, HasPlacement}
 use Rattle.simplecss_selector.specs.Placements.IsAncestor.{is_parent, is_further}
 use Rattle.simplecss_selector.specs.Trees.{Tree}
-use Rattle.simplecss_selector.specs.Wanted.{Near, IsNear, reports_wanted}
+use Rattle.simplecss_selector.specs.Buckets.{Near, IsNear, reports_bucket}
 use Rattle.simplecss.specs.internal.OnlyKeys.{only_tree, only_has, IsOnlyKey, IsKnown}
 use Rattle.simplecss.specs.internal.NeededKeys.{AreOnly}
 use Rattle.simplecss.specs.internal.Chains.{selectors_of}
 use Rattle.simplecss.specs.declared.index.link.Link.{Link}
 use Rattle.simplecss.proofs.OpenPathLemmas.{link_selector}
-use Rattle.simplecss.specs.Matching.{AreKept, most_tests}
+use Rattle.simplecss.specs.internal.Kept.{AreKept}
 use Rattle.simplecss.specs.SelectorIndices.{selector_at, key_at}
 
 no_ancestor : (m x : Key) → IsAncestor only_tree m x → ⊥
@@ -119,36 +118,25 @@ pub known_placed : {Node Self : Type 0} (tree : Tree Node) (node : Self → Node
 known_placed tree node reported element near is only keeps selectors indices kept index there known =
     only_placed tree (node element) known.0 (selector_at selectors index) known.2
     (only known.0 (subst (λ r. IsTrue (reports_key r known.0)) is.own
-    (subst (λ w. IsTrue (reports_wanted near w)) known.1
-    (first (reports_wanted near (key_at selectors index)) (keeps (selector_at selectors index))
+    (subst (λ w. IsTrue (reports_bucket near w)) known.1
+    (first (reports_bucket near (key_at selectors index)) (keeps (selector_at selectors index))
     ((kept.exactly index).0 there).1))))
   where
     first : (a b : Bool) → IsTrue (a && b) → IsTrue a
     first true b h = refl
     first false b h = absurd (false≢true h)
 
--- what an index knows, where it is of these selectors
-pub known_of : {X : Type 0} (f : X → List (List Component)) (known : Option X)
-    (selectors : List (List Component)) (A : Type 0) → IfSome known (λ i. (f i ≡ selectors) × A)
-    → (index : ℕ) → IsKnown (option_map f known) index
-    → A × IsOnlyKey (selector_at selectors index)
-known_of f None selectors A h index k = absurd k
-known_of f (Some i) selectors A h index k =
-    (h.1, subst (λ ss. IsOnlyKey (selector_at ss index)) h.0 k)
+-- what an exact search knows
+pub known_of : (exact : Bool) (selectors : List (List Component)) (A : Type 0) → (IsTrue exact → A)
+    → (index : ℕ) → IsKnown exact selectors index → A × IsOnlyKey (selector_at selectors index)
+known_of true selectors A h index k = (h refl, k)
+known_of false selectors A h index k = absurd k
 
--- what matches counts as one test at least
-pub some_test : {Node : Type 0} (tree : Tree Node) (n : Node) (cs : List Component)
-    → HasPlacement tree cs n → 1 ≤ most_tests tree n cs
-some_test tree n [] (nodes, h) = absurd h
-some_test tree n (c ∷ cs) h =
-    product (longest_stretch (c ∷ cs)) (tree.depth n)
-    (greater (joined_length cs) (longest_stretch cs))
-  where
-    product : (a b : ℕ) → 1 ≤ a → 1 ≤ a * (b + 1)
-    product a b h = omega (arith, h)
-
-    greater : (a b : ℕ) → 1 ≤ max (a + 1) b
-    greater a b = grind arith
+-- where a search is not exact, nothing is known
+pub never_known : (exact known : Bool) → exact ≡ false → (IsTrue known → IsTrue exact)
+    → known ≡ false
+never_known exact true plain h = absurd (false≢true (sym plain ∙ h refl))
+never_known exact false plain h = refl
 
 -- a link after others, of a selector
 pub only_push : (links more : List Link) (link : Link) (s : List Component) → AreOnly links

@@ -10,24 +10,25 @@ use Rattle.std.proofs.Math.Seq.{drop-append_seam, take-append_seam}
 use Rattle.std.proofs.lemmas.Bool.{false≢true}
 use Rattle.std.proofs.lemmas.List.{take-append-drop, take_more, reverse-append, length-reverse, length-map, get_or_past, get_or-reverse, drop_all}
 use Rattle.std.proofs.lemmas.List.Elements.{All-push, Contains-append_left, Contains-append_right, Contains-append_cases}
-use Rattle.simplecss_text.specs.Components.{Component}
+use Rattle.simplecss_grammar.specs.Components.{Component}
 use Rattle.simplecss_selector.specs.Trees.{Tree, SiblingsShareParent}
 use Rattle.simplecss_selector.specs.AncestorKeys.{ancestor_keys, SomeAncestorHas}
 use Rattle.simplecss_selector.specs.Keys.{Key, Reported, HasKey, ReportsKeys, reports_key}
 use Rattle.simplecss_selector.specs.Keys.Key.{by_nothing}
 use Rattle.simplecss_selector.specs.Placements.{HasPlacement, IsAncestor}
-use Rattle.simplecss_selector.specs.Wanted.{Wanted, IsReportedFor}
-use Rattle.simplecss_selector.specs.Wanted.Wanted.{of_parent}
+use Rattle.simplecss_selector.specs.Buckets.{Bucket, IsReportedFor}
+use Rattle.simplecss_selector.specs.Buckets.Bucket.{of_parent}
 use Rattle.simplecss_selector.proofs.Ancestors.{no_ancestor, ancestor_split}
 use Rattle.simplecss_selector.proofs.AncestorKeyLemmas.{keys_needed}
 use Rattle.simplecss.specs.internal.Chains.{selectors_of, IsLastBefore, AreChained}
 use Rattle.simplecss.specs.internal.LastByKey.{last_for, KeyLeads}
-use Rattle.simplecss.specs.internal.LastByWanted.{NeighbourLeads}
+use Rattle.simplecss.specs.internal.LastByBucket.{NeighbourLeads}
 use Rattle.simplecss.specs.internal.NeededKeys.{keys_of, AreNumbered, AreNumbersOf, AreNeeded}
-use Rattle.simplecss.specs.OpenPaths.{same_key, needed_keys, numbered, IsLast, AreReported, AreParentStarts, AreOpened, top_starts, listed_after, starts_after, all_but_first, is_number, are_open}
+use Rattle.simplecss.specs.OpenPaths.{same_key, needed_keys, numbered, IsLast, AreReported, AreParentStarts, AreOpened, listed_after, starts_after, all_but_first, is_number, are_open}
+use Rattle.simplecss.specs.internal.Kept.{top_starts}
 use Rattle.simplecss.specs.SelectorIndices.{selector_at, Adds}
 use Rattle.simplecss.specs.declared.index.last_by_key.LastByKey.{LastByKey}
-use Rattle.simplecss.specs.declared.index.last_by_wanted.LastByWanted.{LastByWanted}
+use Rattle.simplecss.specs.declared.index.last_by_bucket.LastByBucket.{LastByBucket}
 use Rattle.simplecss.specs.declared.index.link.Link.{Link}
 use Rattle.simplecss.specs.declared.index.needed_keys.NeededKeys.{NeededKeys}
 use Rattle.simplecss.proofs.Adding.{contains_none}
@@ -36,11 +37,11 @@ use Rattle.simplecss.proofs.NeededNumbers.{same_is, is_same, needed_numbers}
 
 -- ---- the last index of a key
 
-same_last : (selectors : List (List Component)) (wanted : Wanted) (last : ℕ) (r : Option ℕ)
-    → IsLast selectors wanted last → IsLastBefore selectors (length selectors) wanted r
+same_last : (selectors : List (List Component)) (bucket : Bucket) (last : ℕ) (r : Option ℕ)
+    → IsLast selectors bucket last → IsLastBefore selectors (length selectors) bucket r
     → r ≡ Some last
-same_last selectors wanted last None h none = absurd (none last h.0 h.1)
-same_last selectors wanted last (Some other) h found = at (order other last)
+same_last selectors bucket last None h none = absurd (none last h.0 h.1)
+same_last selectors bucket last (Some other) h found = at (order other last)
   where
     order : (m n : ℕ) → (m ≡ n) ⊎ ((m < n) ⊎ (n < m))
     order m n = grind arith
@@ -50,7 +51,7 @@ same_last selectors wanted last (Some other) h found = at (order other last)
     at (inr (inl lt)) = absurd (found.2 last lt h.0 h.1)
     at (inr (inr lt)) = absurd (h.2 other lt found.0 found.1)
 
-module _ (lasts : LastByWanted) (links : List Link) (selectors : List (List Component))
+module _ (lasts : LastByBucket) (links : List Link) (selectors : List (List Component))
     (chained : AreChained lasts links) (is : selectors_of links ≡ selectors) where
   leads_last : (key : Key) (last : ℕ)
       → (last_for lasts.parent key ≡ Some last) ↔ IsLast selectors (of_parent key) last

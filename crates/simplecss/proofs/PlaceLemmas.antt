@@ -5,17 +5,16 @@ use Rattle.std.specs.Str.{IsCharBoundary, IsUtf8}
 use Rattle.std.proofs.lemmas.List.{get_or-map, length-map}
 use Rattle.std.proofs.lemmas.Str.{chars-nil, IsUtf8-take}
 use Rattle.std.proofs.Math.Seq.{take-length}
-use Rattle.simplecss_text.specs.declared.text_pos.TextPos.{TextPos}
-use Rattle.simplecss_text.specs.Positions.{in_whole, position}
-use Rattle.simplecss_text.specs.declared.report.Skipped.{Skipped}
-use Rattle.simplecss_text.specs.SkipViews.{skip_of}
-use Rattle.simplecss_text.specs.Skipped.{skipped}
-use Rattle.simplecss_text.specs.SkipOffsets.{IsWithin}
-use Rattle.simplecss_text.specs.ThisEdition.{this_edition}
-use Rattle.simplecss_text.proofs.bytes.PositionSums.{position-add}
-use Rattle.simplecss_text.proofs.cutting.RestBoundaries.{boundary_at_start}
-use Rattle.simplecss_text.proofs.cutting.SkipEnds.{AllWithin, skipped-within, within-at}
-use Rattle.simplecss.specs.declared.place.Place.{Place}
+use Rattle.css_text.specs.declared.text_pos.TextPos.{TextPos}
+use Rattle.css_text.specs.Positions.{in_whole, position}
+use Rattle.simplecss_grammar.specs.declared.report.Skipped.{Skipped}
+use Rattle.simplecss_grammar.specs.SkipViews.{skip_of}
+use Rattle.simplecss_grammar.specs.Skipped.{skipped}
+use Rattle.simplecss_grammar.specs.SkipOffsets.{IsWithin}
+use Rattle.css_text.specs.ThisEdition.{this_edition}
+use Rattle.simplecss_grammar.proofs.bytes.PositionSums.{position-add}
+use Rattle.simplecss_grammar.proofs.cutting.RestBoundaries.{boundary_at_start}
+use Rattle.simplecss_grammar.proofs.cutting.SkipEnds.{AllWithin, skipped-within, within-at}
 use Rattle.simplecss.specs.Places.{IsPlace}
 
 -- the position of the start

@@ -7,17 +7,17 @@ use Rattle.std.specs.List.{All, filter, AllPass}
 use Rattle.std.proofs.lemmas.List.Elements.{filter-append, All-append}
 use Rattle.std.proofs.lemmas.Bool.{false≢true}
 use Rattle.std.proofs.lemmas.Grind.{flat_map-append}
-use Rattle.simplecss_text.specs.Characters.{Edition}
-use Rattle.simplecss_text.specs.Statements.{StyleRule, has_declaration, kept, is_open_comment}
-use Rattle.simplecss_text.specs.Sheets.{is_smaller, ordered, sheet}
-use Rattle.simplecss_text.specs.Skipped.{Skip}
-use Rattle.simplecss_text.specs.PrintingLaws.{IsNarrow, SelectorsReadBack, PrintsBack}
-use Rattle.simplecss_text.proofs.order.OrderLemmas.{smaller_order}
-use Rattle.simplecss_text.proofs.order.RankLemmas.{ordered_filter, ordered_front}
-use Rattle.simplecss_text.proofs.round_trip.KeptSelectors.{more-reads_back}
-use Rattle.simplecss_text.proofs.round_trip.SheetsAgain.{sheet-prints_back}
-use Rattle.simplecss.specs.declared.sheet.sheet_error.SheetError.{SheetError}
-use Rattle.simplecss.specs.declared.sheet.sheet_error.SheetError.TheVariants.{TooManyDeclarations}
+use Rattle.css_text.specs.Characters.{Edition}
+use Rattle.simplecss_grammar.specs.Statements.{StyleRule, has_declaration, kept, is_open_comment}
+use Rattle.simplecss_grammar.specs.Sheets.{is_smaller, ordered, sheet}
+use Rattle.simplecss_grammar.specs.Skipped.{Skip}
+use Rattle.simplecss_grammar.specs.PrintingLaws.{IsNarrow, SelectorsReadBack, PrintsBack}
+use Rattle.simplecss_grammar.proofs.order.OrderLemmas.{smaller_order}
+use Rattle.css_text.proofs.order.RankLemmas.{ordered_filter, ordered_front}
+use Rattle.simplecss_grammar.proofs.round_trip.KeptSelectors.{more-reads_back}
+use Rattle.simplecss_grammar.proofs.round_trip.SheetsAgain.{sheet-prints_back}
+use Rattle.css_text.specs.declared.sheet_error.SheetError.{SheetError}
+use Rattle.css_text.specs.declared.sheet_error.SheetError.TheVariants.{TooManyDeclarations}
 use Rattle.simplecss.specs.DeclarationCounts.{kept_in_all}
 use Rattle.simplecss.specs.Readings.{are_open_comments, read_into, reports_of, ReadsInto}
 use Rattle.simplecss.proofs.DeclarationSums.{refused-exactly}

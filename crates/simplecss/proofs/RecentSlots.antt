@@ -5,9 +5,9 @@ use Rattle.std.specs.List.{All}
 use Rattle.std.specs.Option.{option_map}
 use Rattle.std.proofs.lemmas.List.Elements.{All-append, All-set}
 use Rattle.std.proofs.Math.ListN.{set}
-use Rattle.simplecss_text.specs.Components.{Component}
-use Rattle.simplecss.specs.Matching.{AreKeyed}
-use Rattle.simplecss.specs.Recents.{IsFound, IsSlotOf}
+use Rattle.simplecss_grammar.specs.Components.{Component}
+use Rattle.simplecss.specs.internal.Kept.{AreKeyed}
+use Rattle.simplecss.specs.internal.Recents.{IsFound, IsSlotOf}
 use Rattle.simplecss.specs.declared.index.recent.Slot.{Slot}
 
 module _ (selectors : List (List Component)) where

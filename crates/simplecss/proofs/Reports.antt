@@ -3,8 +3,8 @@
 use Rattle.std.proofs.Common.{◌≡◌, ◌++◌, ◌∷◌, [], ◌∙◌, ℕ, List, ap, refl, sym, subst}
 use Rattle.std.specs.Prelude.{Result, Ok, Err}
 use Rattle.std.specs.Result.{OnOk, IfErr, IsErrAnd}
-use Rattle.simplecss_text.specs.Characters.{Edition}
-use Rattle.simplecss_text.specs.Skipped.{Skip, add_each, skipped}
+use Rattle.css_text.specs.Characters.{Edition}
+use Rattle.simplecss_grammar.specs.Skipped.{Skip, add_each, skipped}
 use Rattle.simplecss.specs.Readings.{reports_of}
 
 pub on_ok : {X E P : Type 0} (r : Result X E) → P → OnOk r P

@@ -7,9 +7,9 @@ use Rattle.std.specs.Cmp.{booleans_Decides}
 use Rattle.std.specs.Cmp.Derive.Mapped.{pointwise-map}
 use Rattle.std.specs.Cmp.Lexicographic.{pointwise, pointwise_decides, bytes_decides}
 use Rattle.std.proofs.lemmas.Bool.Decides.{Decides-and, Decides-like}
-use Rattle.simplecss_text.specs.Declarations.{StyleDeclaration}
-use Rattle.simplecss_text.specs.Bytes.{text_eq}
-use Rattle.simplecss_text.specs.Statements.{StyleRule}
+use Rattle.simplecss_grammar.specs.Declarations.{StyleDeclaration}
+use Rattle.css_text.specs.Bytes.{text_eq}
+use Rattle.simplecss_grammar.specs.Statements.{StyleRule}
 use Rattle.simplecss_selector.specs.Equality.{selector_eq}
 use Rattle.simplecss_selector.specs.EqualityLaws.{selector_decides}
 use Rattle.simplecss_declaration.specs.DeclarationViews.{declaration_of}

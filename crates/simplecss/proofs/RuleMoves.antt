@@ -10,10 +10,10 @@ use Rattle.std.proofs.lemmas.List.{ext_get_or, get_or-map, length-map}
 use Rattle.std.proofs.lemmas.List.Edits.{swapped_from_swap}
 use Rattle.std.proofs.lemmas.List.FromFn.{length-range_with_len, get_or-range_with_len, length-map-range_with_len, get_or-map-range_with_len}
 use Rattle.std.proofs.lemmas.List.Sorted.{IsPermutation-keeps, length_permutation, IsPermutation-swap, ranks_by}
-use Rattle.simplecss_text.specs.Statements.{StyleRule}
-use Rattle.simplecss_text.specs.Sheets.{is_smaller, ordered}
-use Rattle.simplecss_text.proofs.order.OrderLemmas.{weight, smaller_order}
-use Rattle.simplecss_text.proofs.order.RankLemmas.{ordered_is, arranges_from_sort, arranges-map}
+use Rattle.simplecss_grammar.specs.Statements.{StyleRule}
+use Rattle.simplecss_grammar.specs.Sheets.{is_smaller, ordered}
+use Rattle.simplecss_grammar.proofs.order.OrderLemmas.{weight, smaller_order}
+use Rattle.css_text.proofs.order.RankLemmas.{ordered_is, arranges_from_sort, arranges-map}
 use Rattle.simplecss.specs.internal.RuleOrders.{no_rule, rule_at, IsOrder, OrdersRules, IsMovedBy}
 
 same_or_not : (a b : ℕ) → (a ≡ b) ⊎ (a ≢ b)

@@ -16,12 +16,12 @@ use Rattle.std.proofs.lemmas.Grind.{common_steps}
 use Rattle.std.proofs.lemmas.List.FromFn.{get_or-range_with_len, length-range_with_len}
 use Rattle.std.proofs.lemmas.List.Sums.{sum_by-take-le}
 use Rattle.std.proofs.lemmas.List.Sorted.{sorted_far, length_permutation}
-use Rattle.simplecss_text.specs.Ranks.{rank_by, of_rank}
-use Rattle.simplecss_text.specs.Specificity.{specificity}
-use Rattle.simplecss_text.specs.Statements.{StyleRule}
-use Rattle.simplecss_text.specs.Sheets.{is_smaller, ordered}
-use Rattle.simplecss_text.proofs.order.OrderLemmas.{smaller_order}
-use Rattle.simplecss_text.proofs.order.RankLemmas.{ordered_keeps, ordered_arranges, sorted_from_rises}
+use Rattle.css_text.specs.Ranks.{rank_by, of_rank}
+use Rattle.simplecss_grammar.specs.Specificity.{specificity}
+use Rattle.simplecss_grammar.specs.Statements.{StyleRule}
+use Rattle.simplecss_grammar.specs.Sheets.{is_smaller, ordered}
+use Rattle.simplecss_grammar.proofs.order.OrderLemmas.{smaller_order}
+use Rattle.css_text.proofs.order.RankLemmas.{ordered_keeps, ordered_arranges, sorted_from_rises}
 use Rattle.simplecss.specs.RuleIndices.{IsFrom, ComesBefore}
 
 -- ---- where nothing is left out, the k-th result of a function is of the k-th item

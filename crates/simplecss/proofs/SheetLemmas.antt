@@ -4,14 +4,14 @@ use Rattle.std.proofs.Common.{◌≡◌, ℕ, zero, suc, Bool, true, false, cond
 use Rattle.std.specs.List.{filter, AllPass}
 use Rattle.std.proofs.lemmas.List.Elements.{filter-append, filter_agree}
 use Rattle.std.proofs.lemmas.Grind.{flat_map-append}
-use Rattle.simplecss_text.specs.Characters.{Edition}
-use Rattle.simplecss_text.specs.Comments.{past_blank, opens_comment}
-use Rattle.simplecss_text.specs.Statements.{has_declaration, kept, statement, statements, next_statement, ends_statements, is_open_comment}
-use Rattle.simplecss_text.specs.Sheets.{is_smaller, ordered, sheet}
-use Rattle.simplecss_text.proofs.reading.EachLemmas.{each-none}
-use Rattle.simplecss_text.proofs.order.OrderLemmas.{smaller_order}
-use Rattle.simplecss_text.proofs.order.ListFacts.{filter_and}
-use Rattle.simplecss_text.proofs.order.RankLemmas.{ordered_filter, ordered_front}
+use Rattle.css_text.specs.Characters.{Edition}
+use Rattle.css_text.specs.Comments.{past_blank, opens_comment}
+use Rattle.simplecss_grammar.specs.Statements.{has_declaration, kept, statement, statements, next_statement, ends_statements, is_open_comment}
+use Rattle.simplecss_grammar.specs.Sheets.{is_smaller, ordered, sheet}
+use Rattle.css_text.proofs.reading.EachLemmas.{each-none}
+use Rattle.simplecss_grammar.proofs.order.OrderLemmas.{smaller_order}
+use Rattle.css_text.proofs.order.ListFacts.{filter_and}
+use Rattle.css_text.proofs.order.RankLemmas.{ordered_filter, ordered_front}
 
 ends_open : (a b : Bool) → b ≡ true → (a || b) ≡ true
 ends_open true b e = refl

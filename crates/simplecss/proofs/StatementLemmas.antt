@@ -4,16 +4,16 @@
 use Rattle.std.proofs.Common.{◌≡◌, ◌==◌, ◌||◌, not, ℕ, ◌<◌, List, [], ◌∷◌, ◌++◌, Bool, true, false, if◌then◌else◌, length, Option, Some, None, option_to_list, refl, sym, ap, ◌∙◌, arith, inl, inr, subst, MatchBool, IsTrue, ◌↔◌}
 use Rattle.std.proofs.lemmas.Bool.Decides.{nat_tests}
 use Rattle.std.specs.List.{filter_map, flat_map}
-use Rattle.simplecss_text.specs.AsciiBytes.{comma}
-use Rattle.simplecss_text.specs.Reading.{Fault, no_comment, got, fails, each}
-use Rattle.simplecss_text.specs.Bytes.{past_one, starts}
-use Rattle.simplecss_text.specs.Characters.{Edition}
-use Rattle.simplecss_text.specs.Comments.{opens_comment, past_blank, blank}
-use Rattle.simplecss_text.specs.Components.{Component}
-use Rattle.simplecss_text.specs.Statements.{StyleRule, part, part_and_comma, parts, statement, ends_statements, next_statement, statements}
-use Rattle.simplecss_text.proofs.reading.EachLemmas.{took, option_cases, each-none, each-some}
-use Rattle.simplecss_text.proofs.bytes.GapLemmas.{past_blank-again}
-use Rattle.simplecss_text.proofs.reading.StatementTextLemmas.{part_and_comma-takes, next_statement-takes}
+use Rattle.css_text.specs.AsciiBytes.{comma}
+use Rattle.css_text.specs.Reading.{Fault, no_comment, got, fails, each}
+use Rattle.css_text.specs.Bytes.{past_one, starts}
+use Rattle.css_text.specs.Characters.{Edition}
+use Rattle.css_text.specs.Comments.{opens_comment, past_blank, blank}
+use Rattle.simplecss_grammar.specs.Components.{Component}
+use Rattle.simplecss_grammar.specs.Statements.{StyleRule, part, part_and_comma, parts, statement, ends_statements, next_statement, statements}
+use Rattle.css_text.proofs.reading.EachLemmas.{took, option_cases, each-none, each-some}
+use Rattle.css_text.proofs.bytes.GapLemmas.{past_blank-again}
+use Rattle.simplecss_grammar.proofs.reading.StatementTextLemmas.{part_and_comma-takes, next_statement-takes}
 
 -- ---- parts
 

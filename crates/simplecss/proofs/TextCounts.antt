@@ -3,8 +3,8 @@
 use Rattle.std.proofs.Common.{◌≡◌, ◌+◌, ◌<◌, ◌∷◌, [], ◌++◌, ◌∙◌, ℕ, List, Bool, true, false, ◌&&◌, take, arith, refl, ap}
 use Rattle.std.proofs.lemmas.List.Sums.{sum_by-take-le, sum_by_push}
 use Rattle.std.proofs.lemmas.List.Folds.{list_all-append}
-use Rattle.simplecss_text.specs.Characters.{Edition}
-use Rattle.simplecss_text.specs.Statements.{is_open_comment}
+use Rattle.css_text.specs.Characters.{Edition}
+use Rattle.simplecss_grammar.specs.Statements.{is_open_comment}
 use Rattle.simplecss.specs.DeclarationCounts.{kept_declarations, kept_in_all}
 use Rattle.simplecss.specs.Readings.{are_open_comments}
 

@@ -1,6 +1,6 @@
 -- Slots of texts, of which one is joined after another.
 -- Serves `index::texts::Texts`.
-use Rattle.std.proofs.Common.{◌≡◌, ◌≢◌, ℕ, ◌<◌, ◌⊎◌, inl, inr, List, [], ◌∷◌, ◌++◌, Bool, true, false, cond, Option, None, Some, length, map, get_or, refl, sym, ap, ◌∙◌, subst, arith, Bor, ◌*◌, ◌/◌, ◌%◌, ◌^◌, ◌-◌}
+use Rattle.std.proofs.Common.{◌≡◌, ◌≢◌, ℕ, ◌<◌, ◌⊎◌, inl, inr, List, [], ◌∷◌, ◌++◌, Bool, true, false, cond, Option, None, Some, length, map, get_or, refl, sym, ap, ◌∙◌, subst, arith, Bor}
 use Rattle.std.specs.List.{Contains, All}
 use Rattle.std.specs.BTreeMap.{BTreeMap, get_by, is_at, UpdatesBy}
 use Rattle.std.specs.Cmp.Lexicographic.{slice_cmp}
@@ -14,15 +14,14 @@ use Rattle.std.proofs.lemmas.List.{get_or-set_same, get_or-set_other, length-set
 use Rattle.std.proofs.lemmas.List.Elements.{Contains-append_left, Contains-append_right, Contains-append_cases}
 use Rattle.std.proofs.lemmas.Map.Text.{is_eq-slice_cmp}
 use Rattle.std.proofs.lemmas.Slice.Eq.{bytes_eq-Decides}
-use Rattle.std.proofs.lemmas.Nat.{and_le_r}
 use Rattle.simplecss.proofs.Adding.{contains_none, contains_one}
 use Rattle.simplecss.proofs.LastIndices.{changed_text}
 use Rattle.simplecss.proofs.ReadIndices.{Read, found, got}
 use Rattle.simplecss.specs.declared.index.texts.Slot.{Slot}
 use Rattle.simplecss.specs.declared.index.texts.Slot.TheVariants.{Empty, One, Several}
-use Rattle.simplecss_selector.specs.KeyBits.{number_from, Covers, covers}
-use Rattle.simplecss_selector.proofs.KeyBitLemmas.{covers_left, covers_right, covers_more, covers_test}
-use Rattle.simplecss.specs.internal.TextIndices.{index_for_text, place_of, slot_of, mark_of, IsOne, IsJoined, IsPut, AreTold, AreMarked}
+use Rattle.css_matching.specs.Hashes.{place_of, mark_of, Covers, covers}
+use Rattle.css_matching.proofs.HashLemmas.{covers_left, covers_right, covers_more, covers_test, place_within}
+use Rattle.simplecss.specs.internal.TextIndices.{index_for_text, slot_of, IsOne, IsJoined, IsPut, AreTold, AreMarked}
 
 -- what a slot says of a text with this index
 abbrev IsTold : Slot → List ℕ → Option ℕ → Type 0
@@ -101,12 +100,6 @@ joined_other (One known at) new text other index found (inl is) apart told =
 joined_other (One known at) new text other index found (inr is) apart told =
     several new other found is
 joined_other Several new text other index found is apart told = several new other found is
-
--- a place is among the slots
-place_within : (count : ℕ) (text : List ℕ) → 0 < count → place_of count text < count
-place_within count text some =
-    let most = and_le_r (number_from 0 text * 11400714819323198485 % 2 ^ 64 / 2 ^ 32) (count - 1) in
-    omega (arith, some, most)
 
 same_or_other : (i j : ℕ) → (i ≡ j) ⊎ (i ≢ j)
 same_or_other i j = grind arith

@@ -1,8 +1,8 @@
 -- How many declarations the rules of a text hold.
 use Rattle.std.specs.Prelude.{ℕ, List, length}
 use Rattle.std.specs.List.{sum_by}
-use Rattle.simplecss_text.specs.Characters.{Edition}
-use Rattle.simplecss_text.specs.Statements.{StyleRule, kept}
+use Rattle.css_text.specs.Characters.{Edition}
+use Rattle.simplecss_grammar.specs.Statements.{StyleRule, kept}
 
 -- The number of declarations of all rules. The rules of one rule set have the same declarations,
 -- which count once for each of them.

@@ -2,13 +2,13 @@
 -- has for each open element the numbers of the keys that it reports.
 use Rattle.std.specs.Prelude.{◌≡◌, ◌<◌, ◌↔◌, ◌&&◌, ℕ, List, [], ◌∷◌, ◌++◌, Bool, true, false, Option, Some, None, length, take, drop, slice_index_or, Contains, IsTrue, bytes_eq, nat_lt, filter, if◌then◌else◌}
 use Rattle.std.specs.List.{fold, flat_map, list_any, list_all}
-use Rattle.simplecss_text.specs.Components.{Component}
+use Rattle.simplecss_grammar.specs.Components.{Component}
 use Rattle.simplecss_selector.specs.AncestorKeys.{ancestor_keys}
 use Rattle.simplecss_selector.specs.Keys.{Key, Reported, reports_key}
 use Rattle.simplecss_selector.specs.Keys.Key.{by_id, by_class, by_name, by_attribute, by_nothing}
 use Rattle.simplecss_selector.specs.Trees.{Tree}
-use Rattle.simplecss_selector.specs.Wanted.{Near, Wanted, reports_wanted, wanted_of}
-use Rattle.simplecss_selector.specs.Wanted.Wanted.{of_parent}
+use Rattle.simplecss_selector.specs.Buckets.{Near, Bucket, reports_bucket, bucket_of}
+use Rattle.simplecss_selector.specs.Buckets.Bucket.{of_parent}
 use Rattle.simplecss.specs.SelectorIndices.{key_at}
 
 -- whether two keys are equal
@@ -33,7 +33,7 @@ abbrev pub numbered : List Key → ℕ → Key
 numbered keys number = slice_index_or keys number by_nothing
 
 -- Open elements, by the numbers of the keys that they report, and by the selectors that are to be
--- tested on their children since they report the key that is wanted of a parent.
+-- tested on their children since they report the key that is required of a parent.
 pub record Path : Type 0 where
   -- the selectors
   pub selectors : List (List Component)
@@ -50,10 +50,10 @@ AreReported keys reported numbers = (number : ℕ) → Contains numbers number
     ↔ ((number < length keys) × IsTrue (reports_key reported (numbered keys number)))
 
 -- this is the last index of a selector with the key
-abbrev pub IsLast : List (List Component) → Wanted → ℕ → Type 0
-IsLast selectors wanted last =
-    (last < length selectors) × (key_at selectors last ≡ wanted)
-    × ((index : ℕ) → last < index → index < length selectors → key_at selectors index ≡ wanted → ⊥)
+abbrev pub IsLast : List (List Component) → Bucket → ℕ → Type 0
+IsLast selectors bucket last =
+    (last < length selectors) × (key_at selectors last ≡ bucket)
+    × ((index : ℕ) → last < index → index < length selectors → key_at selectors index ≡ bucket → ⊥)
 
 -- the indices are the last of selectors that want a parent with a key that is reported
 abbrev pub AreParentStarts : List (List Component) → Reported → List ℕ → Type 0
@@ -92,11 +92,6 @@ abbrev pub starts_after : List (ℕ × ℕ) → List ℕ → List ℕ
 starts_after [] starts = starts
 starts_after (m ∷ ms) starts = take m.1 starts
 
--- the indices of the element that was opened last
-abbrev pub top_starts : List (ℕ × ℕ) → List ℕ → List ℕ
-top_starts [] starts = starts
-top_starts (m ∷ ms) starts = drop m.1 starts
-
 -- all but the first
 abbrev pub all_but_first : List (ℕ × ℕ) → List (ℕ × ℕ)
 all_but_first [] = []
@@ -120,14 +115,9 @@ abbrev pub are_open : List Key → List ℕ → List Component → Bool
 are_open keys listed selector =
     list_all (λ key. list_any (is_number keys key) listed) (ancestor_keys selector)
 
--- whether a path keeps the selector: open elements report those keys; without a path it is kept
-abbrev pub is_kept : List (List Component) → Option Path → List Component → Bool
-is_kept selectors None selector = true
-is_kept selectors (Some path) selector = are_open (needed_keys selectors) path.listed selector
-
 -- whether the selector is tested: its key is reported, and open elements report those of ancestors
 abbrev pub is_tested_open : Near → Path → List Component → Bool
-is_tested_open reported path selector = reports_wanted reported (wanted_of selector)
+is_tested_open reported path selector = reports_bucket reported (bucket_of selector)
     && are_open (needed_keys path.selectors) path.listed selector
 
 -- the selectors that are tested

@@ -1,13 +1,13 @@
 -- What reading texts into a style sheet gives.
 use Rattle.std.specs.Prelude.{◌≡◌, ◌≢◌, ◌↔◌, ◌<◌, ℕ, Bool, false, if◌then◌else◌, List, [], ◌∷◌, ◌++◌, filter, Result, Err, OnOk, OnErr}
 use Rattle.std.specs.List.{All, AllPass, flat_map, list_all}
-use Rattle.simplecss_text.specs.Characters.{Edition}
-use Rattle.simplecss_text.specs.Statements.{StyleRule, has_declaration, kept, is_open_comment}
-use Rattle.simplecss_text.specs.Sheets.{ordered, sheet}
-use Rattle.simplecss_text.specs.Skipped.{Skip, add_each, skipped}
-use Rattle.simplecss_text.specs.PrintingLaws.{IsNarrow, SelectorsReadBack, PrintsBack, has_wide_space}
-use Rattle.simplecss.specs.declared.sheet.sheet_error.SheetError.{SheetError}
-use Rattle.simplecss.specs.declared.sheet.sheet_error.SheetError.TheVariants.{TooManyDeclarations, Memory}
+use Rattle.css_text.specs.Characters.{Edition}
+use Rattle.simplecss_grammar.specs.Statements.{StyleRule, has_declaration, kept, is_open_comment}
+use Rattle.simplecss_grammar.specs.Sheets.{ordered, sheet}
+use Rattle.simplecss_grammar.specs.Skipped.{Skip, add_each, skipped}
+use Rattle.simplecss_grammar.specs.PrintingLaws.{IsNarrow, SelectorsReadBack, PrintsBack, has_wide_space}
+use Rattle.css_text.specs.declared.sheet_error.SheetError.{SheetError}
+use Rattle.css_text.specs.declared.sheet_error.SheetError.TheVariants.{TooManyDeclarations, Memory}
 use Rattle.simplecss.specs.DeclarationCounts.{kept_in_all}
 
 -- each text is a blank and then a comment that is not closed

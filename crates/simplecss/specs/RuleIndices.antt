@@ -1,10 +1,10 @@
 -- Rules in an ordered sheet and their indices in the source.
 use Rattle.std.specs.Prelude.{◌≡◌, ◌⊎◌, ℕ, ◌<◌, List, Some, true}
 use Rattle.std.specs.List.{slice_get}
-use Rattle.simplecss_text.specs.Ranks.{rank_by}
-use Rattle.simplecss_text.specs.Specificity.{specificity}
-use Rattle.simplecss_text.specs.Statements.{StyleRule}
-use Rattle.simplecss_text.specs.Sheets.{is_smaller}
+use Rattle.css_text.specs.Ranks.{rank_by}
+use Rattle.simplecss_grammar.specs.Specificity.{specificity}
+use Rattle.simplecss_grammar.specs.Statements.{StyleRule}
+use Rattle.simplecss_grammar.specs.Sheets.{is_smaller}
 
 -- The rule has this index in the source, and its index in the ordered list is its rank there.
 pub record IsFrom (source : List StyleRule) (i : ℕ) (a : StyleRule) : Type 0 where

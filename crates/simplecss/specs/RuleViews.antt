@@ -1,6 +1,6 @@
 -- What contracts see of rules: the components of their selectors, and their declarations.
 use Rattle.std.specs.Prelude.{List, map}
-use Rattle.simplecss_text.specs.Statements.{StyleRule}
+use Rattle.simplecss_grammar.specs.Statements.{StyleRule}
 use Rattle.simplecss_declaration.specs.DeclarationViews.{declarations_of}
 use Rattle.simplecss.specs.declared.sheet.rules.Rule.{Rule}
 use Rattle.simplecss.specs.declared.sheet.style_sheet.StyleSheet.{StyleSheet}

@@ -1,16 +1,16 @@
 -- Indices in a list of selectors.
 use Rattle.std.specs.Prelude.{◌≡◌, ℕ, ◌<◌, ◌↔◌, List, [], ◌++◌, slice_index_or, Contains}
 use Rattle.std.specs.List.Sorted.{IsStrictlyIncreasing}
-use Rattle.simplecss_text.specs.Components.{Component}
-use Rattle.simplecss_selector.specs.Wanted.{Wanted, wanted_of}
+use Rattle.simplecss_grammar.specs.Components.{Component}
+use Rattle.simplecss_selector.specs.Buckets.{Bucket, bucket_of}
 
 -- the selector at an index
 abbrev pub selector_at : List (List Component) → ℕ → List Component
 selector_at selectors index = slice_index_or selectors index []
 
 -- the key of the selector at an index
-abbrev pub key_at : List (List Component) → ℕ → Wanted
-key_at selectors index = wanted_of (selector_at selectors index)
+abbrev pub key_at : List (List Component) → ℕ → Bucket
+key_at selectors index = bucket_of (selector_at selectors index)
 
 -- the indices are in order, each once, and are exactly those below the number for which `IsWanted`
 -- is true

@@ -4,7 +4,10 @@ pub mod LastByKey
 pub mod RuleOrders
 pub mod SharedBlocks
 pub mod TextIndices
-pub mod LastByWanted
+pub mod LastByBucket
 pub mod NeededKeys
 pub mod OnlyKeys
 pub mod Counted
+pub mod Kept
+pub mod Recents
+pub mod HeadViews

@@ -5,7 +5,7 @@ use simplecss_selector::Selector;
 /// Something with a selector: a selector itself, or a rule.
 pub trait HasSelector<'a> {
     ghost use Rattle.std.specs.Prelude.{◌≡◌, List};
-    ghost use Rattle.simplecss_text.specs.Components.{Component};
+    ghost use Rattle.simplecss_grammar.specs.Components.{Component};
 
     ghost selector_in: { Self → List Component };
 

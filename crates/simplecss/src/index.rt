@@ -2,8 +2,8 @@
 //! found without asking each.
 mod find;
 mod keep;
+mod last_by_bucket;
 mod last_by_key;
-mod last_by_wanted;
 pub mod laws;
 mod link;
 mod needed_keys;

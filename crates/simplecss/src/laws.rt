@@ -12,12 +12,13 @@ pub use crate::index::laws::{answers_law, leave_law};
 pub use crate::sheet::laws::{
     cutting_law, edition_law, equality_laws, index_in_sheet_law, order_laws, sheet_law,
 };
-pub use simplecss_selector::laws::{at_most_two_errors, token_equality_law};
-pub use simplecss_selector::{
-    components_law, key_equality_law, key_law, operator_equality_laws, printing_law,
-    same_meanings_law, selector_equality_law,
-};
-pub use simplecss_text::laws::{
+pub use simplecss_grammar::laws::{
     blank_is_cut, blank_is_longest, comment_is_closed, nothing_is_lost, open_comment_breaks_blank,
     printed_skips_nothing, skips_are_cut, space_bytes_are_parts, text_equality_laws,
+};
+pub use simplecss_selector::laws::{at_most_two_errors, token_equality_law};
+pub use simplecss_selector::{
+    ancestor_keys_law, bucket_law, components_law, key_equality_law, key_law,
+    operator_equality_laws, printing_law, reported_near_law, same_meanings_law,
+    selector_equality_law,
 };

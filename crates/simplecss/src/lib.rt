@@ -21,16 +21,16 @@ mod place;
 mod sheet;
 mod skipped_lines;
 
+pub use css_text::{Error, SheetError, TextPos, stream};
 pub use has_selector::HasSelector;
-pub use hints::{Hint, HintKind, find_hints, open_parenthesis};
+pub use hints::{Hint, HintKind, find_hints, rest_of_open_value};
 pub use index::{OpenPath, RuleIndex, RuleSearch};
 pub use place::Place;
-pub use sheet::{Reading, Rule, SheetError, Statement, StatementReader, StyleSheet, find_skipped};
+pub use sheet::{Reading, Rule, Statement, StatementReader, StyleSheet, find_skipped};
 pub use simplecss_declaration::{Declaration, DeclarationTokenizer};
+pub use simplecss_grammar::report::{Kept, Refusal, Report, Silent, Skipped, Why};
 pub use simplecss_selector::{
     AttributeOperator, Element, Exact, Key, Keyed, ListRefusal, PseudoClass, Selector,
     SelectorToken, SelectorTokenizer, Tests, Warnings, refused_pos,
 };
-pub use simplecss_text::report::{Kept, Refusal, Report, Silent, Skipped, Why};
-pub use simplecss_text::{Error, TextPos, stream};
 pub use skipped_lines::SkippedLines;

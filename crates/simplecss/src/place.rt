@@ -1,11 +1,11 @@
 //! Places of a text: offsets whose positions are known.
 ghost use Rattle.std.specs.Prelude.{◌≡◌, ◌≤◌};
 ghost use Rattle.std.specs.Str.{IsCharBoundary};
-ghost use Rattle.simplecss_text.specs.Positions.{position};
+ghost use Rattle.css_text.specs.Positions.{position};
 ghost use Rattle.simplecss.specs.Places.{IsPlace};
 
-use simplecss_text::TextPos;
-use simplecss_text::stream::Stream;
+use css_text::TextPos;
+use css_text::stream::Stream;
 
 /// An offset of a text with its position. The positions of later offsets are counted from it, so
 /// that those of many parts, in order, are counted once.
@@ -40,7 +40,7 @@ fn position_from(text: &str, known: Place, offset: usize) -> TextPos
 }
 
 impl Place {
-    ghost use Rattle.simplecss_text.specs.Reading.{Ends, rest_offset};
+    ghost use Rattle.css_text.specs.Reading.{Ends, rest_offset};
     ghost use Rattle.simplecss.specs.Places.{IsPlace};
 
     /// The start of a text.

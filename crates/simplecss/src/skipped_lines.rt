@@ -1,6 +1,6 @@
 //! Lines of what is skipped.
 use crate::Place;
-use simplecss_text::report::{Report, Skipped};
+use simplecss_grammar::report::{Report, Skipped};
 use std::alloc::AllocError;
 use std::fmt::Display;
 use std::io;

@@ -1,15 +1,15 @@
 -- What a call for selectors of level 3 answers.
 -- Serves `level3::{list, refusal, page_lines, matches, select}`.
-use Rattle.std.proofs.Common.{◌≡◌, ℕ, List, length, map, None, Some, inl, inr, sym, ap, subst, ◌∙◌}
+use Rattle.std.proofs.Common.{◌≡◌, ℕ, List, length, map, Option, None, Some, inl, inr, sym, ap, subst, ◌∙◌}
 use Rattle.std.specs.Prelude.{Result, Ok, Err, MatchResult, string_bytes}
 use Rattle.std.specs.Result.{IsErrAnd}
 use Rattle.std.specs.declared.string.String.{String}
 use Rattle.std.specs.Str.{IsUtf8}
-use Rattle.css_selectors.specs.PlacedSelectors.{placed_selectors}
+use Rattle.css_syntax.specs.PlacedSelectors.{placed_selectors}
 use Rattle.css_sheet.specs.RuleSelectors.{selector_of}
-use Rattle.selectors3.specs.Components.{Selector}
-use Rattle.selectors3.specs.Grammar.{selector_list}
-use Rattle.selectors3_tree.specs.Pages.{Page}
+use Rattle.css_selectors.specs.Components.{Selector}
+use Rattle.css_selectors.specs.Grammar.{selector_list}
+use Rattle.css_tree.specs.Pages.{Page}
 use Rattle.simplecss_tree.specs.Rows.{Row}
 use Rattle.simplecss_c.specs.declared.answer.CallError.{CallError}
 use Rattle.simplecss_c.specs.declared.answer.CallError.TheVariants.{Memory}
@@ -17,11 +17,12 @@ use Rattle.simplecss_c.specs.declared.level3.reading.Reading.{Reading}
 use Rattle.simplecss_c.specs.declared.pages.LineContent.{LineContent}
 use Rattle.simplecss_c.specs.declared.pages.LineContent.TheVariants.{Numbers, Selected}
 use Rattle.simplecss_c.specs.Outcomes.{outcome_of}
-use Rattle.simplecss_c.specs.Calls.{FailsFor, HasTexts, HasNoSelector, AreSelectorsIn, HasBadEnds, IsBrokenUtf8, Passed, passed_tree}
+use Rattle.simplecss_c.specs.Calls.{FailsFor, FailsWithin, FailsLonger, HasTexts, HasNoSelector, AreSelectorsIn, HasBadEnds, IsBrokenUtf8, Passed, passed_tree}
 use Rattle.simplecss_c.specs.Level3Calls.{AreReadLines, IsListLevel3Call, IsRefusalLevel3Call, IsMatchLevel3Call, IsSelectLevel3Call}
 use Rattle.simplecss_c.specs.Level3Lines.{AreListedLines, listed_texts, IsRefusalLine, page_with, AreLevel3Lines}
 use Rattle.simplecss_c.specs.Readings.{reading_of, selector_as, selectors_of}
 use Rattle.simplecss_c.proofs.Level3Pages.{fails_wider}
+use Rattle.simplecss_c.proofs.Limits.{fails_within, within_wider, longer_wider}
 
 -- a failure that is handed on
 pub handed-on : {Z : Type 0} (Is : Result (List ℕ) CallError → Type 0) (r : Result (String Z) CallError)
@@ -38,36 +39,47 @@ handed-match Is Fails (Ok x) error is due = absurd is
 handed-match Is Fails (Err reported) error is due = subst Fails (sym is) due
 
 -- why there are no lines of a tree that is read
-abbrev pub ReadFails : ℕ → Passed → CallError → Type 0
-ReadFails number passed =
-    FailsFor (reading_of number ≡ None) (λ fault. passed_tree passed ≡ Err fault)
-    (¬ (IsUtf8 passed.strings))
+abbrev pub ReadFails : ℕ → Passed → (IsLonger : Type 0) → CallError → Type 0
+ReadFails number passed IsLonger =
+    FailsWithin (reading_of number ≡ None) (λ fault. passed_tree passed ≡ Err fault)
+    (¬ (IsUtf8 passed.strings)) ⊥ IsLonger
 
 -- the lines, or why there are none
-abbrev pub ReadLines : {Z : Type 0} → Result (String Z) CallError → (List ℕ → Type 0) → ℕ → Passed
-    → Type 0
-ReadLines r AreLines number passed =
-    MatchResult r (λ text. AreLines (string_bytes text)) (λ error. ReadFails number passed error)
+abbrev pub ReadLines : {Z : Type 0} → Result (String Z) CallError → (Option (List ℕ) → Type 0) → ℕ
+    → Passed → Type 0
+ReadLines r IsAnswer number passed =
+    MatchResult r (λ text. IsAnswer (Some (string_bytes text)))
+    (ReadFails number passed (IsAnswer None))
 
 -- the lines that are due for a page
-pub lines-due : {Z : Type 0} (content : LineContent) (number : ℕ) (selectors : List Selector)
+pub lines-due : {Z : Type 0} (most : ℕ) (content : LineContent) (number : ℕ)
+    (selectors : List Selector)
     (passed : Passed) (reading : Reading) (rows : List Row) (page : Page)
     → reading_of number ≡ Some reading → IsUtf8 passed.strings → passed_tree passed ≡ Ok rows
     → page ≡ page_with passed.elements rows → (r : Result (String Z) CallError)
-    → MatchResult r (λ text. AreLevel3Lines content (map (selector_as reading) selectors) page
-    (string_bytes text)) (λ error. error ≡ Memory)
-    → ReadLines r (AreReadLines content number selectors passed) number passed
-lines-due content number selectors passed reading rows page is utf8 tree same (Ok text) due = (
+    → MatchResult r (λ text. AreLevel3Lines most content (map (selector_as reading) selectors) page
+    (Some (string_bytes text)))
+    (FailsLonger (AreLevel3Lines most content (map (selector_as reading) selectors) page None))
+    → ReadLines r (AreReadLines most content number selectors passed) number passed
+lines-due most content number selectors passed reading rows page is utf8 tree same (Ok text) due = (
   reading,
   rows,
   is,
   utf8,
   tree,
-  subst (λ p. AreLevel3Lines content (map (selector_as reading) selectors) p (string_bytes text))
-      same due,
+  subst (λ p. AreLevel3Lines most content (map (selector_as reading) selectors) p
+      (Some (string_bytes text))) same due,
 )
-lines-due content number selectors passed reading rows page is utf8 tree same (Err error) due =
-    subst (λ e. ReadFails number passed e) (sym due) tt
+lines-due most content number selectors passed reading rows page is utf8 tree same (Err error) due =
+    longer_wider _ _ _ _ (λ longer. (
+      reading,
+      rows,
+      is,
+      utf8,
+      tree,
+      subst (λ p. AreLevel3Lines most content (map (selector_as reading) selectors) p None) same
+          longer,
+    )) error due
 
 -- the lines of the selectors of a list, of a text that was read
 pub listed-due : {Z : Type 0} (text read : List ℕ) → read ≡ text → IsUtf8 text
@@ -96,45 +108,53 @@ refusal-due text read same utf8 (Err error) due =
     subst (λ e. IsRefusalLevel3Call text (Err e)) (sym due) tt
 
 -- the lines that are due for the selectors of texts
-pub match-due : {Z : Type 0} (buffer ends : List ℕ) (number : ℕ) (passed : Passed)
+pub match-due : {Z : Type 0} (most : ℕ) (buffer ends : List ℕ) (number : ℕ) (passed : Passed)
     (texts : List (List ℕ)) (selectors : List Selector) → HasTexts buffer ends texts
     → AreSelectorsIn selector_of texts selectors → (r : Result (String Z) CallError)
-    → ReadLines r (AreReadLines Numbers number selectors passed) number passed
-    → IsMatchLevel3Call buffer ends number passed (outcome_of r)
-match-due buffer ends number passed texts selectors has read (Ok text) due =
+    → ReadLines r (AreReadLines most Numbers number selectors passed) number passed
+    → IsMatchLevel3Call most buffer ends number passed (outcome_of r)
+match-due most buffer ends number passed texts selectors has read (Ok text) due =
     (texts, selectors, has, read, due)
-match-due buffer ends number passed texts selectors has read (Err error) due =
-    fails_wider (λ none. inl none) (λ fault is. is) (λ broken. inr broken) error due
+match-due most buffer ends number passed texts selectors has read (Err error) due =
+    within_wider (λ none. inl none) (λ fault is. is) (λ broken. inr broken) (λ is. is)
+    (λ longer. (texts, selectors, has, read, longer)) error due
 
 -- why the texts are none
-pub texts-failed : (buffer ends : List ℕ) (number : ℕ) (passed : Passed) (error : CallError)
+pub texts-failed : (most : ℕ) (buffer ends : List ℕ) (number : ℕ) (passed : Passed)
+    (error : CallError)
     → FailsFor (HasBadEnds buffer ends) (λ fault. ⊥) (IsBrokenUtf8 buffer ends) error
-    → IsMatchLevel3Call buffer ends number passed (Err error)
-texts-failed buffer ends number passed error h =
-    fails_wider (λ bad. inr (inl bad)) (λ fault is. absurd is) (λ broken. inl broken) error h
+    → IsMatchLevel3Call most buffer ends number passed (Err error)
+texts-failed most buffer ends number passed error h =
+    within_wider (λ bad. inr (inl bad)) (λ fault is. absurd is) (λ broken. inl broken) (λ is. is)
+    (λ is. absurd is) error
+    (fails_within (HasBadEnds buffer ends) (λ fault. ⊥) (IsBrokenUtf8 buffer ends) ⊥ ⊥ error h)
 
 -- why the texts are no selectors
-pub selectors-failed : (buffer ends : List ℕ) (number : ℕ) (passed : Passed)
+pub selectors-failed : (most : ℕ) (buffer ends : List ℕ) (number : ℕ) (passed : Passed)
     (texts : List (List ℕ)) → HasTexts buffer ends texts → (error : CallError)
     → FailsFor (HasNoSelector selector_of texts) (λ fault. ⊥) ⊥ error
-    → IsMatchLevel3Call buffer ends number passed (Err error)
-selectors-failed buffer ends number passed texts has error h =
-    fails_wider (λ none. inr (inr (texts, has, none))) (λ fault is. absurd is) (λ is. absurd is) error h
+    → IsMatchLevel3Call most buffer ends number passed (Err error)
+selectors-failed most buffer ends number passed texts has error h =
+    within_wider (λ none. inr (inr (texts, has, none))) (λ fault is. absurd is) (λ is. absurd is)
+    (λ is. is) (λ is. absurd is) error
+    (fails_within (HasNoSelector selector_of texts) (λ fault. ⊥) ⊥ ⊥ ⊥ error h)
 
 -- the lines that are due for a list of selectors
-pub select-due : {Z : Type 0} (text : List ℕ) (number : ℕ) (passed : Passed)
+pub select-due : {Z : Type 0} (most : ℕ) (text : List ℕ) (number : ℕ) (passed : Passed)
     (selectors : List Selector) → IsUtf8 text → selectors_of text ≡ Some selectors
     → (r : Result (String Z) CallError)
-    → ReadLines r (AreReadLines Selected number selectors passed) number passed
-    → IsSelectLevel3Call text number passed (outcome_of r)
-select-due text number passed selectors utf8 is (Ok lines) due = (selectors, utf8, is, due)
-select-due text number passed selectors utf8 is (Err error) due =
-    fails_wider (λ none. inl none) (λ fault is. is) (λ broken. inr broken) error due
+    → ReadLines r (AreReadLines most Selected number selectors passed) number passed
+    → IsSelectLevel3Call most text number passed (outcome_of r)
+select-due most text number passed selectors utf8 is (Ok lines) due = (selectors, utf8, is, due)
+select-due most text number passed selectors utf8 is (Err error) due =
+    within_wider (λ none. inl none) (λ fault is. is) (λ broken. inr broken) (λ is. is)
+    (λ longer. (selectors, utf8, is, longer)) error due
 
 -- why the text is no list
-pub list-failed : (text read : List ℕ) (number : ℕ) (passed : Passed) → read ≡ text
+pub list-failed : (most : ℕ) (text read : List ℕ) (number : ℕ) (passed : Passed) → read ≡ text
     → (error : CallError) → FailsFor (selectors_of read ≡ None) (λ fault. ⊥) ⊥ error
-    → IsSelectLevel3Call text number passed (Err error)
-list-failed text read number passed same error h =
-    fails_wider (λ none. inr (ap selectors_of (sym same) ∙ none)) (λ fault is. absurd is)
-    (λ is. absurd is) error h
+    → IsSelectLevel3Call most text number passed (Err error)
+list-failed most text read number passed same error h =
+    within_wider (λ none. inr (ap selectors_of (sym same) ∙ none)) (λ fault is. absurd is)
+    (λ is. absurd is) (λ is. is) (λ is. absurd is) error
+    (fails_within (selectors_of read ≡ None) (λ fault. ⊥) ⊥ ⊥ ⊥ error h)

@@ -3,17 +3,17 @@
 use Rattle.std.proofs.Common.{◌≡◌, ◌≢◌, ℕ, true, false, List, [], ◌∷◌, ◌++◌, map, Option, None, Some, inl, inr, refl, ap, sym, subst, ◌∙◌, append_assoc, append-nil}
 use Rattle.std.specs.Prelude.{Result, Ok, Err, MatchResult}
 use Rattle.std.specs.Result.{IsErrAnd}
-use Rattle.simplecss_text.specs.AsciiBytes.{comma}
-use Rattle.simplecss_text.specs.Bytes.{past_byte}
+use Rattle.css_text.specs.AsciiBytes.{comma}
+use Rattle.css_text.specs.Bytes.{past_byte}
 use Rattle.css_syntax.specs.Tokens.{past_gap}
-use Rattle.css_selectors.specs.PlacedSelectors.{PlacedSelector, placed_selectors, more_placed_selectors}
-use Rattle.css_selectors.specs.SelectorLists.{ListedText, selector_part, next_selector}
-use Rattle.css_selectors.proofs.PlacedParts.{placed-parts-some}
+use Rattle.css_syntax.specs.PlacedSelectors.{PlacedSelector, placed_selectors, more_placed_selectors}
+use Rattle.css_syntax.specs.SelectorLists.{ListedText, selector_part, next_selector}
+use Rattle.css_syntax.proofs.PlacedParts.{placed-parts-some}
 use Rattle.css_sheet.specs.RuleSelectors.{selector_of}
-use Rattle.selectors3.specs.Components.{Selector}
-use Rattle.selectors3.specs.Readings.{Reading, refused}
-use Rattle.selectors3.specs.declared.refusal.Why.{Why}
-use Rattle.selectors3.specs.declared.refusal.Why.TheVariants.{Memory as NoMemory}
+use Rattle.css_selectors.specs.Components.{Selector}
+use Rattle.css_selectors.specs.Readings.{Reading, refused}
+use Rattle.css_selectors.specs.declared.refusal.Why.{Why}
+use Rattle.css_selectors.specs.declared.refusal.Why.TheVariants.{Memory as NoMemory}
 use Rattle.simplecss_c.specs.declared.answer.CallError.{CallError}
 use Rattle.simplecss_c.specs.Calls.{FailsFor, HasNoSelector}
 use Rattle.simplecss_c.specs.Level3Lines.{listed_line, AreListedLines}

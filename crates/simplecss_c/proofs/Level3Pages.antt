@@ -5,9 +5,9 @@ use Rattle.std.specs.Prelude.{Result, Ok, Err, if◌then◌else◌}
 use Rattle.std.proofs.lemmas.List.{take_more, take_more_set, map_more, take_all}
 use Rattle.std.proofs.lemmas.Grind.{common_steps}
 use Rattle.simplecss_tree.specs.Rows.{Row}
-use Rattle.selectors3_tree.specs.Pages.{Page}
+use Rattle.css_tree.specs.Pages.{Page}
 use Rattle.simplecss_c.specs.declared.answer.CallError.{CallError}
-use Rattle.simplecss_c.specs.declared.answer.CallError.TheVariants.{Refused, Tree, Memory, TooManyDeclarations, NotUtf8}
+use Rattle.simplecss_c.specs.declared.answer.CallError.TheVariants.{Refused, Tree, Memory, TooManyDeclarations, NotUtf8, AnswerTooLong}
 use Rattle.simplecss_c.specs.declared.elements.ElementFault.{ElementFault}
 use Rattle.simplecss_c.specs.declared.elements.TreeElement.{TreeElement}
 use Rattle.simplecss_c.specs.Calls.{FailsFor}
@@ -124,3 +124,4 @@ fails_wider r f b (Tree fault) h = f fault h
 fails_wider r f b Memory h = tt
 fails_wider r f b TooManyDeclarations h = h
 fails_wider r f b NotUtf8 h = b h
+fails_wider r f b AnswerTooLong h = h

@@ -1,6 +1,6 @@
--- What a call over a tree answers.
--- Serves `calls::{matches, select, match_selectors, style_text}`.
-use Rattle.std.proofs.Common.{◌≡◌, ℕ, List, Some, inl, inr, sym, subst}
+-- What a call over a tree answers, and one with a limit on its answer.
+-- Serves `calls::{read, matches, select, match_selectors, styles, style_text}`.
+use Rattle.std.proofs.Common.{◌≡◌, ◌<◌, ◌≤◌, ℕ, List, length, Option, None, Some, inl, inr, sym, ap, ◌∙◌, subst}
 use Rattle.std.specs.Prelude.{Result, Ok, Err, MatchResult, string_bytes}
 use Rattle.std.specs.Result.{IsErrAnd}
 use Rattle.std.specs.declared.string.String.{String}
@@ -12,64 +12,95 @@ use Rattle.simplecss.specs.ThisEdition.{this_edition}
 use Rattle.simplecss_tree.specs.Rows.{Row}
 use Rattle.cssq.specs.SelectorRuns.{selector_in}
 use Rattle.simplecss_c.specs.declared.answer.CallError.{CallError}
-use Rattle.simplecss_c.specs.declared.answer.CallError.TheVariants.{Refused, Tree, Memory, TooManyDeclarations, NotUtf8}
+use Rattle.simplecss_c.specs.declared.answer.CallError.TheVariants.{Refused, Tree, Memory, TooManyDeclarations, NotUtf8, AnswerTooLong}
 use Rattle.simplecss_c.specs.Outcomes.{outcome_of}
 use Rattle.simplecss_c.specs.declared.pages.LineContent.TheVariants.{Numbers, Selected}
-use Rattle.simplecss_c.specs.Calls.{HasTexts, IsReadWithin, Passed, passed_tree, IsPageCall, IsSelectCall, IsMatchSelectorsCall, AreSelectorsIn, HasNoSelector, HasBadEnds, IsBrokenUtf8, FailsFor}
-use Rattle.simplecss_c.specs.AnswerLines.{AreLinesOf}
+use Rattle.simplecss_c.specs.Calls.{HasTexts, IsReadWithin, Passed, passed_tree, IsReadCall, IsPageCall, IsStyleCall, IsSelectCall, IsMatchSelectorsCall, AreSelectorsIn, HasNoSelector, HasBadEnds, IsBrokenUtf8, FailsFor, FailsLonger}
+use Rattle.simplecss_c.specs.AnswerLines.{AreLinesOf, AreWinnerLines}
+use Rattle.simplecss_c.specs.SheetLines.{sheet_lines}
+use Rattle.simplecss_c.proofs.Limits.{fails_within, within_wider, longer_wider}
 
--- the text that is due, or a refused allocation
-pub page_due : {Z : Type 0} (IsText : List StyleRule → List Row → List ℕ → Type 0)
+-- the lines that are due, or why there are none
+pub page_due : {Z : Type 0} (IsAnswer : List StyleRule → List Row → Option (List ℕ) → Type 0)
     (buffer ends : List ℕ) (limit : ℕ) (passed : Passed) (texts : List (List ℕ)) (rows : List Row)
     → HasTexts buffer ends texts → IsUtf8 passed.strings → passed_tree passed ≡ Ok rows
     → (rules : List StyleRule) → IsReadWithin limit texts rules
     → (r : Result (String Z) CallError)
-    → MatchResult r (λ text. IsText rules rows (string_bytes text)) (λ failure. failure ≡ Memory)
-    → IsPageCall IsText buffer ends limit passed (outcome_of r)
-page_due IsText buffer ends limit passed texts rows has utf8 tree rules read (Ok text) due = (
+    → MatchResult r (λ text. IsAnswer rules rows (Some (string_bytes text)))
+    (FailsLonger (IsAnswer rules rows None))
+    → IsPageCall IsAnswer buffer ends limit passed (outcome_of r)
+page_due IsAnswer buffer ends limit passed texts rows has utf8 tree rules read (Ok text) due = (
   texts,
   rows,
   (has, read.1),
   utf8,
   tree,
-  subst (λ rules. IsText rules rows (string_bytes text)) read.0 due,
+  subst (λ rules. IsAnswer rules rows (Some (string_bytes text))) read.0 due,
 )
-page_due IsText buffer ends limit passed texts rows has utf8 tree rules read (Err failure) due =
-    subst (λ failure. IsPageCall IsText buffer ends limit passed (Err failure)) (sym due) tt
+page_due IsAnswer buffer ends limit passed texts rows has utf8 tree rules read (Err failure) due =
+    longer_wider _ _ _ _ (λ longer. (
+      texts,
+      rows,
+      (has, read.1),
+      utf8,
+      tree,
+      subst (λ rules. IsAnswer rules rows None) read.0 longer,
+    )) failure due
 
--- the text that is due for a list of selectors, or a refused allocation
-pub select_due : {Z : Type 0} (text : List ℕ) (passed : Passed) (selectors : List (List Component))
-    (rows : List Row)
+-- the lines that are due for a name, or why there are none
+pub style_due : {Z : Type 0} (most : ℕ) (buffer ends : List ℕ) (limit : ℕ) (passed : Passed)
+    (name : List ℕ) → IsUtf8 name → (r : Result (String Z) CallError)
+    → IsPageCall (AreWinnerLines most name) buffer ends limit passed (outcome_of r)
+    → IsStyleCall most buffer ends limit passed name (outcome_of r)
+style_due most buffer ends limit passed name utf8 (Ok text) h = (utf8, h)
+style_due most buffer ends limit passed name utf8 (Err Refused) h = h
+style_due most buffer ends limit passed name utf8 (Err (Tree fault)) h = h
+style_due most buffer ends limit passed name utf8 (Err Memory) h = tt
+style_due most buffer ends limit passed name utf8 (Err TooManyDeclarations) h = h
+style_due most buffer ends limit passed name utf8 (Err NotUtf8) h = inl h
+style_due most buffer ends limit passed name utf8 (Err AnswerTooLong) h = (utf8, h)
+
+-- the lines that are due for a list of selectors, or why there are none
+pub select_due : {Z : Type 0} (most : ℕ) (text : List ℕ) (passed : Passed)
+    (selectors : List (List Component)) (rows : List Row)
     → IsUtf8 text → list_of this_edition text ≡ Some selectors → IsUtf8 passed.strings
     → passed_tree passed ≡ Ok rows
     → (matched : List (List Component)) → matched ≡ selectors
     → (r : Result (String Z) CallError)
-    → MatchResult r (λ text. AreLinesOf Selected matched rows (string_bytes text))
-    (λ failure. failure ≡ Memory)
-    → IsSelectCall text passed (outcome_of r)
-select_due text passed selectors rows utf8 is strings tree matched are (Ok lines) due = (
+    → MatchResult r (λ text. AreLinesOf most Selected matched rows (Some (string_bytes text)))
+    (FailsLonger (AreLinesOf most Selected matched rows None))
+    → IsSelectCall most text passed (outcome_of r)
+select_due most text passed selectors rows utf8 is strings tree matched are (Ok lines) due = (
   selectors,
   rows,
   utf8,
   is,
   strings,
   tree,
-  subst (λ ss. AreLinesOf Selected ss rows (string_bytes lines)) are due,
+  subst (λ ss. AreLinesOf most Selected ss rows (Some (string_bytes lines))) are due,
 )
-select_due text passed selectors rows utf8 is strings tree matched are (Err failure) due =
-    subst (λ failure. IsSelectCall text passed (Err failure)) (sym due) tt
+select_due most text passed selectors rows utf8 is strings tree matched are (Err failure) due =
+    longer_wider _ _ _ _ (λ longer. (
+      selectors,
+      rows,
+      utf8,
+      is,
+      strings,
+      tree,
+      subst (λ ss. AreLinesOf most Selected ss rows None) are longer,
+    )) failure due
 
--- the text that is due for selectors, or a refused allocation
-pub match_due : {Z : Type 0} (buffer ends : List ℕ) (passed : Passed) (texts : List (List ℕ))
-    (rows : List Row) → HasTexts buffer ends texts
+-- the lines that are due for selectors, or why there are none
+pub match_due : {Z : Type 0} (most : ℕ) (buffer ends : List ℕ) (passed : Passed)
+    (texts : List (List ℕ)) (rows : List Row) → HasTexts buffer ends texts
     → (selectors : List (List Component)) → AreSelectorsIn selector_in texts selectors
     → IsUtf8 passed.strings → passed_tree passed ≡ Ok rows
     → (matched : List (List Component)) → matched ≡ selectors
     → (r : Result (String Z) CallError)
-    → MatchResult r (λ text. AreLinesOf Numbers matched rows (string_bytes text))
-    (λ failure. failure ≡ Memory)
-    → IsMatchSelectorsCall buffer ends passed (outcome_of r)
-match_due buffer ends passed texts rows has selectors read utf8 tree matched are (Ok lines) due = (
+    → MatchResult r (λ text. AreLinesOf most Numbers matched rows (Some (string_bytes text)))
+    (FailsLonger (AreLinesOf most Numbers matched rows None))
+    → IsMatchSelectorsCall most buffer ends passed (outcome_of r)
+match_due most buffer ends passed texts rows has selectors read utf8 tree matched are (Ok lines) due = (
   texts,
   selectors,
   rows,
@@ -77,47 +108,66 @@ match_due buffer ends passed texts rows has selectors read utf8 tree matched are
   read,
   utf8,
   tree,
-  subst (λ ss. AreLinesOf Numbers ss rows (string_bytes lines)) are due,
+  subst (λ ss. AreLinesOf most Numbers ss rows (Some (string_bytes lines))) are due,
 )
-match_due buffer ends passed texts rows has selectors read utf8 tree matched are (Err failure) due =
-    subst (λ failure. IsMatchSelectorsCall buffer ends passed (Err failure)) (sym due) tt
+match_due most buffer ends passed texts rows has selectors read utf8 tree matched are (Err failure) due =
+    longer_wider _ _ _ _ (λ longer. (
+      texts,
+      selectors,
+      rows,
+      has,
+      read,
+      utf8,
+      tree,
+      subst (λ ss. AreLinesOf most Numbers ss rows None) are longer,
+    )) failure due
+
+-- the lines of the items of a sheet that are due, of a text that was read, or why there are none
+pub read_due : {Z : Type 0} (most : ℕ) (text read : List ℕ) → read ≡ text → IsUtf8 text
+    → (r : Result (String Z) CallError)
+    → MatchResult r (λ lines. (string_bytes lines ≡ sheet_lines read)
+    × (length (string_bytes lines) ≤ most)) (FailsLonger (most < length (sheet_lines read)))
+    → IsReadCall most text (outcome_of r)
+read_due most text read same utf8 (Ok lines) due = (utf8, due.0 ∙ ap sheet_lines same, due.1)
+read_due most text read same utf8 (Err failure) due =
+    longer_wider _ _ _ _ (λ longer. (utf8, subst (λ t. most < length (sheet_lines t)) same longer)) failure
+    due
 
 -- why the texts of selectors are none
-pub texts_failed : (buffer ends : List ℕ) (passed : Passed) (failure : CallError)
+pub texts_failed : (most : ℕ) (buffer ends : List ℕ) (passed : Passed) (failure : CallError)
     → FailsFor (HasBadEnds buffer ends) (λ fault. ⊥) (IsBrokenUtf8 buffer ends) failure
-    → IsMatchSelectorsCall buffer ends passed (Err failure)
-texts_failed buffer ends passed Refused h = inl h
-texts_failed buffer ends passed (Tree fault) h = absurd h
-texts_failed buffer ends passed Memory h = tt
-texts_failed buffer ends passed TooManyDeclarations h = absurd h
-texts_failed buffer ends passed NotUtf8 h = inl h
+    → IsMatchSelectorsCall most buffer ends passed (Err failure)
+texts_failed most buffer ends passed failure h =
+    within_wider (λ bad. inl bad) (λ fault is. absurd is) (λ broken. inl broken) (λ is. absurd is)
+    (λ is. absurd is) failure
+    (fails_within (HasBadEnds buffer ends) (λ fault. ⊥) (IsBrokenUtf8 buffer ends) ⊥ ⊥ failure h)
 
 -- why the texts are no selectors
-pub selectors_failed : (buffer ends : List ℕ) (passed : Passed) (texts : List (List ℕ))
+pub selectors_failed : (most : ℕ) (buffer ends : List ℕ) (passed : Passed) (texts : List (List ℕ))
     → HasTexts buffer ends texts → (failure : CallError)
     → FailsFor (HasNoSelector selector_in texts) (λ fault. ⊥) ⊥ failure
-    → IsMatchSelectorsCall buffer ends passed (Err failure)
-selectors_failed buffer ends passed texts has Refused h = inr (texts, has, h)
-selectors_failed buffer ends passed texts has (Tree fault) h = absurd h
-selectors_failed buffer ends passed texts has Memory h = tt
-selectors_failed buffer ends passed texts has TooManyDeclarations h = absurd h
-selectors_failed buffer ends passed texts has NotUtf8 h = absurd h
+    → IsMatchSelectorsCall most buffer ends passed (Err failure)
+selectors_failed most buffer ends passed texts has failure h =
+    within_wider (λ none. inr (texts, has, none)) (λ fault is. absurd is) (λ is. absurd is)
+    (λ is. absurd is) (λ is. absurd is) failure
+    (fails_within (HasNoSelector selector_in texts) (λ fault. ⊥) ⊥ ⊥ ⊥ failure h)
 
 -- why the tree is none
-pub tree_failed : (buffer ends : List ℕ) (passed : Passed) (failure : CallError)
+pub tree_failed : (most : ℕ) (buffer ends : List ℕ) (passed : Passed) (failure : CallError)
     → FailsFor ⊥ (λ fault. passed_tree passed ≡ Err fault) (¬ (IsUtf8 passed.strings)) failure
-    → IsMatchSelectorsCall buffer ends passed (Err failure)
-tree_failed buffer ends passed Refused h = absurd h
-tree_failed buffer ends passed (Tree fault) h = h
-tree_failed buffer ends passed Memory h = tt
-tree_failed buffer ends passed TooManyDeclarations h = absurd h
-tree_failed buffer ends passed NotUtf8 h = inr h
+    → IsMatchSelectorsCall most buffer ends passed (Err failure)
+tree_failed most buffer ends passed failure h =
+    within_wider (λ is. absurd is) (λ fault is. is) (λ broken. inr broken) (λ is. absurd is)
+    (λ is. absurd is) failure
+    (fails_within ⊥ (λ fault. passed_tree passed ≡ Err fault) (¬ (IsUtf8 passed.strings)) ⊥ ⊥
+    failure h)
 
 -- a failure that is handed on
-pub failed : {Z : Type 0} (buffer ends : List ℕ) (passed : Passed) (r : Result (String Z) CallError)
+pub failed : {Z : Type 0} (most : ℕ) (buffer ends : List ℕ) (passed : Passed)
+    (r : Result (String Z) CallError)
     (failure : CallError) → IsErrAnd r (λ reported. reported ≡ failure)
-    → IsMatchSelectorsCall buffer ends passed (Err failure)
-    → IsMatchSelectorsCall buffer ends passed (outcome_of r)
-failed buffer ends passed (Ok text) failure is due = absurd is
-failed buffer ends passed (Err reported) failure is due =
-    subst (λ f. IsMatchSelectorsCall buffer ends passed (Err f)) (sym is) due
+    → IsMatchSelectorsCall most buffer ends passed (Err failure)
+    → IsMatchSelectorsCall most buffer ends passed (outcome_of r)
+failed most buffer ends passed (Ok text) failure is due = absurd is
+failed most buffer ends passed (Err reported) failure is due =
+    subst (λ f. IsMatchSelectorsCall most buffer ends passed (Err f)) (sym is) due

@@ -1,5 +1,5 @@
 -- What is written of the elements of a tree, a line for each.
-use Rattle.std.specs.Prelude.{◌≡◌, ℕ, ◌+◌, List, [], ◌∷◌, ◌++◌, length, map, decimal, Option}
+use Rattle.std.specs.Prelude.{◌≡◌, ℕ, ◌+◌, ◌<◌, ◌≤◌, List, [], ◌∷◌, ◌++◌, length, map, decimal, Option, None, Some}
 use Rattle.simplecss.specs.AsciiBytes.{newline}
 use Rattle.simplecss.specs.Components.{Component}
 use Rattle.simplecss.specs.Declarations.{StyleDeclaration}
@@ -14,6 +14,15 @@ use Rattle.cssq.specs.Winners.{IsStated, Wins, WinsForItsName, ListsInOrder}
 use Rattle.simplecss_c.specs.JsonLines.{line, declaration_array}
 use Rattle.simplecss_c.specs.declared.pages.LineContent.{LineContent}
 use Rattle.simplecss_c.specs.declared.pages.LineContent.TheVariants.{Numbers, Selected}
+
+-- A line for each index below the count, where these have at most this number of bytes. Else there is
+-- no answer: already the lines of the first indices have more.
+abbrev pub AreLinesWithin : (most : ℕ) → (ℕ → List ℕ → Type 0) → (count : ℕ) → Option (List ℕ)
+    → Type 0
+AreLinesWithin most IsLine count (Some bytes) = AreLines IsLine count bytes × (length bytes ≤ most)
+AreLinesWithin most IsLine count None =
+    (first : ℕ) × (bytes : List ℕ) × (first ≤ count) × AreLines IsLine first bytes
+    × (most < length bytes)
 
 -- the selectors of rules
 abbrev pub selectors_of : List StyleRule → List (List Component)
@@ -36,12 +45,14 @@ IsLineOf content selectors rows index line =
     × (line ≡ indices_line content (index + 1) indices)
 
 -- the lines of all elements, in order
-abbrev pub AreLinesOf : LineContent → List (List Component) → List Row → List ℕ → Type 0
-AreLinesOf content selectors rows = AreLines (IsLineOf content selectors rows) (length rows)
+abbrev pub AreLinesOf : (most : ℕ) → LineContent → List (List Component) → List Row
+    → Option (List ℕ) → Type 0
+AreLinesOf most content selectors rows =
+    AreLinesWithin most (IsLineOf content selectors rows) (length rows)
 
 -- the lines of the numbers of the rules that match each element
-abbrev pub AreMatchLines : List StyleRule → List Row → List ℕ → Type 0
-AreMatchLines rules = AreLinesOf Numbers (selectors_of rules)
+abbrev pub AreMatchLines : (most : ℕ) → List StyleRule → List Row → Option (List ℕ) → Type 0
+AreMatchLines most rules = AreLinesOf most Numbers (selectors_of rules)
 
 -- the line of what wins for a name on the element at an index
 abbrev pub IsWinnerLine : List ℕ → List StyleRule → List Row → ℕ → List ℕ → Type 0
@@ -51,8 +62,10 @@ IsWinnerLine name rules rows index line =
     × (line ≡ style_line (index + 1) winner)
 
 -- the lines of all elements, in order
-abbrev pub AreWinnerLines : List ℕ → List StyleRule → List Row → List ℕ → Type 0
-AreWinnerLines name rules rows = AreLines (IsWinnerLine name rules rows) (length rows)
+abbrev pub AreWinnerLines : (most : ℕ) → List ℕ → List StyleRule → List Row → Option (List ℕ)
+    → Type 0
+AreWinnerLines most name rules rows =
+    AreLinesWithin most (IsWinnerLine name rules rows) (length rows)
 
 -- the line of all that wins on the element at an index: for each name what wins for it, in the
 -- order of rules and of declarations in them
@@ -63,5 +76,5 @@ IsWinnersLine rules rows index text =
     × (text ≡ line (declaration_array winners))
 
 -- the lines of all elements, in order
-abbrev pub AreWinnersLines : List StyleRule → List Row → List ℕ → Type 0
-AreWinnersLines rules rows = AreLines (IsWinnersLine rules rows) (length rows)
+abbrev pub AreWinnersLines : (most : ℕ) → List StyleRule → List Row → Option (List ℕ) → Type 0
+AreWinnersLines most rules rows = AreLinesWithin most (IsWinnersLine rules rows) (length rows)

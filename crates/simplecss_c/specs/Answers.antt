@@ -3,9 +3,9 @@ use Rattle.std.specs.Prelude.{◌≡◌, ℕ, ◌<◌, ◌≤◌, List, ◌++◌
 use Rattle.simplecss_c.specs.declared.elements.ElementFault.{ElementFault}
 use Rattle.simplecss_c.specs.Elements.{fault_number, fault_element}
 use Rattle.simplecss_c.specs.declared.answer.CallError.{CallError}
-use Rattle.simplecss.specs.declared.SheetError.{SheetError}
-use Rattle.simplecss.specs.declared.SheetError.TheVariants as sheet
-use Rattle.simplecss_c.specs.declared.answer.CallError.TheVariants.{Refused, Tree, Memory, TooManyDeclarations, NotUtf8}
+use Rattle.css_text.specs.declared.SheetError.{SheetError}
+use Rattle.css_text.specs.declared.SheetError.TheVariants as sheet
+use Rattle.simplecss_c.specs.declared.answer.CallError.TheVariants.{Refused, Tree, Memory, TooManyDeclarations, NotUtf8, AnswerTooLong}
 use Rattle.simplecss_c.specs.declared.answer.TreeFault.{TreeFault}
 
 -- the status of a failure
@@ -15,6 +15,7 @@ status_of (Tree fault) = 2
 status_of Memory = 3
 status_of TooManyDeclarations = 4
 status_of NotUtf8 = 5
+status_of AnswerTooLong = 4
 
 -- the failure of a call whose sheet is not read
 abbrev pub failure_of : SheetError → CallError
@@ -47,3 +48,4 @@ IsFaultSet (Err (Tree fault)) old new = new ≡ tree_fault_of fault
 IsFaultSet (Err Memory) old new = new ≡ old
 IsFaultSet (Err TooManyDeclarations) old new = new ≡ old
 IsFaultSet (Err NotUtf8) old new = new ≡ old
+IsFaultSet (Err AnswerTooLong) old new = new ≡ old

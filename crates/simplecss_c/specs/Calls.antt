@@ -10,13 +10,14 @@ use Rattle.simplecss.specs.Sheets.{sheet}
 use Rattle.simplecss.specs.DeclarationCounts.{kept_in_all}
 use Rattle.simplecss.specs.Skipped.{skipped}
 use Rattle.simplecss_tree.specs.Rows.{Row}
+use Rattle.css_syntax.specs.Printing.{IsClosed}
 use Rattle.cssq.specs.SelectorRuns.{selector_in, selector_line}
 use Rattle.cssq.specs.SheetRuns.{sheet_output}
 use Rattle.simplecss_c.specs.declared.calls.Passed.{Passed as SeenPassed}
 use Rattle.simplecss_c.specs.declared.elements.ElementFault.{ElementFault}
 use Rattle.simplecss_c.specs.declared.elements.TreeElement.{TreeElement}
 use Rattle.simplecss_c.specs.declared.answer.CallError.{CallError}
-use Rattle.simplecss_c.specs.declared.answer.CallError.TheVariants.{Refused, Tree, Memory, TooManyDeclarations, NotUtf8}
+use Rattle.simplecss_c.specs.declared.answer.CallError.TheVariants.{Refused, Tree, Memory, TooManyDeclarations, NotUtf8, AnswerTooLong}
 use Rattle.simplecss_c.specs.declared.pages.LineContent.TheVariants.{Numbers, Selected}
 use Rattle.simplecss_c.specs.Texts.{texts_in}
 use Rattle.simplecss_c.specs.Elements.{tree_of}
@@ -32,14 +33,21 @@ FailsFor IsRefused IsFaulty IsBroken (Tree fault) = IsFaulty fault
 FailsFor IsRefused IsFaulty IsBroken Memory = Unit {0}
 FailsFor IsRefused IsFaulty IsBroken TooManyDeclarations = ⊥
 FailsFor IsRefused IsFaulty IsBroken NotUtf8 = IsBroken
+FailsFor IsRefused IsFaulty IsBroken AnswerTooLong = ⊥
 
--- the same of a call with a limit on the declarations
-abbrev pub FailsWithin : Type 0 → (ElementFault → Type 0) → Type 0 → Type 0 → CallError → Type 0
-FailsWithin IsRefused IsFaulty IsBroken IsBeyond Refused = IsRefused
-FailsWithin IsRefused IsFaulty IsBroken IsBeyond (Tree fault) = IsFaulty fault
-FailsWithin IsRefused IsFaulty IsBroken IsBeyond Memory = Unit {0}
-FailsWithin IsRefused IsFaulty IsBroken IsBeyond TooManyDeclarations = IsBeyond
-FailsWithin IsRefused IsFaulty IsBroken IsBeyond NotUtf8 = IsBroken
+-- the same of a call with limits on the declarations and on the answer
+abbrev pub FailsWithin : Type 0 → (ElementFault → Type 0) → Type 0 → Type 0 → Type 0 → CallError
+    → Type 0
+FailsWithin IsRefused IsFaulty IsBroken IsBeyond IsLonger Refused = IsRefused
+FailsWithin IsRefused IsFaulty IsBroken IsBeyond IsLonger (Tree fault) = IsFaulty fault
+FailsWithin IsRefused IsFaulty IsBroken IsBeyond IsLonger Memory = Unit {0}
+FailsWithin IsRefused IsFaulty IsBroken IsBeyond IsLonger TooManyDeclarations = IsBeyond
+FailsWithin IsRefused IsFaulty IsBroken IsBeyond IsLonger NotUtf8 = IsBroken
+FailsWithin IsRefused IsFaulty IsBroken IsBeyond IsLonger AnswerTooLong = IsLonger
+
+-- of a call that fails for nothing but a limit on the answer
+abbrev pub FailsLonger : Type 0 → CallError → Type 0
+FailsLonger = FailsWithin ⊥ (λ fault. ⊥) ⊥ ⊥
 
 -- the line of the text's selector, or why there is none
 abbrev pub IsSelectorCall : List ℕ → Result (List ℕ) CallError → Type 0
@@ -102,7 +110,7 @@ IsSheetCall IsText buffer ends limit (Ok bytes) =
     × IsText (sheet this_edition texts) bytes
 IsSheetCall IsText buffer ends limit (Err failure) =
     FailsWithin (HasBadEnds buffer ends) (λ fault. ⊥) (IsBrokenUtf8 buffer ends)
-    (IsBeyond buffer ends limit) failure
+    (IsBeyond buffer ends limit) ⊥ failure
 
 -- the printed sheet, with a newline if it has a rule
 abbrev pub IsPrinted : List StyleRule → List ℕ → Type 0
@@ -131,15 +139,22 @@ abbrev pub IsRefusalCall : List ℕ → Result (List ℕ) CallError → Type 0
 IsRefusalCall text (Ok bytes) = IsUtf8 text × (bytes ≡ read_line (list_read this_edition text))
 IsRefusalCall text (Err failure) = FailsFor ⊥ (λ fault. ⊥) (¬ (IsUtf8 text)) failure
 
--- a line in JSON for each item of the style sheet
-abbrev pub IsReadCall : List ℕ → Result (List ℕ) CallError → Type 0
-IsReadCall text (Ok bytes) = IsUtf8 text × (bytes ≡ sheet_lines text)
-IsReadCall text (Err failure) = FailsFor ⊥ (λ fault. ⊥) (¬ (IsUtf8 text)) failure
+-- a line in JSON for each item of the style sheet, in at most this number of bytes
+abbrev pub IsReadCall : (most : ℕ) → List ℕ → Result (List ℕ) CallError → Type 0
+IsReadCall most text (Ok bytes) = IsUtf8 text × (bytes ≡ sheet_lines text) × (length bytes ≤ most)
+IsReadCall most text (Err failure) =
+    FailsWithin ⊥ (λ fault. ⊥) (¬ (IsUtf8 text)) ⊥
+    (IsUtf8 text × (most < length (sheet_lines text))) failure
 
 -- a line in JSON for each item of the style attribute
 abbrev pub IsDeclarationsCall : List ℕ → Result (List ℕ) CallError → Type 0
 IsDeclarationsCall text (Ok bytes) = IsUtf8 text × (bytes ≡ item_lines text)
 IsDeclarationsCall text (Err failure) = FailsFor ⊥ (λ fault. ⊥) (¬ (IsUtf8 text)) failure
+
+-- The value with what closes it, read whole. Which values are refused is not said.
+abbrev pub IsCloseCall : List ℕ → Result (List ℕ) CallError → Type 0
+IsCloseCall value (Ok text) = IsUtf8 value × IsClosed value text
+IsCloseCall value (Err failure) = FailsFor (Unit {0}) (λ fault. ⊥) (¬ (IsUtf8 value)) failure
 
 -- A tree as a caller passes it: its elements, a buffer of their strings, and where each ends.
 pub record Passed : Type 0 where
@@ -155,16 +170,23 @@ passed_of p = record { elements = p.elements.now; strings = p.strings.now; ends 
 abbrev pub passed_tree : Passed → Result (List Row) ElementFault
 passed_tree passed = tree_of passed.elements passed.strings passed.ends
 
--- what is written for the sheet of the texts and a tree, or why nothing is
-abbrev pub IsPageCall : (List StyleRule → List Row → List ℕ → Type 0) → List ℕ → List ℕ
-    → (limit : ℕ) → Passed → Result (List ℕ) CallError → Type 0
-IsPageCall IsText buffer ends limit passed (Ok bytes) =
+-- what the sheet of the texts and a tree have for an answer, or none within a limit
+abbrev pub IsPage : (List StyleRule → List Row → Option (List ℕ) → Type 0) → List ℕ → List ℕ
+    → (limit : ℕ) → Passed → Option (List ℕ) → Type 0
+IsPage IsAnswer buffer ends limit passed answer =
     (texts : List (List ℕ)) × (rows : List Row) × HasTextsWithin buffer ends limit texts
     × IsUtf8 passed.strings × (passed_tree passed ≡ Ok rows)
-    × IsText (sheet this_edition texts) rows bytes
-IsPageCall IsText buffer ends limit passed (Err failure) =
+    × IsAnswer (sheet this_edition texts) rows answer
+
+-- what is written for the sheet of the texts and a tree, or why nothing is
+abbrev pub IsPageCall : (List StyleRule → List Row → Option (List ℕ) → Type 0) → List ℕ → List ℕ
+    → (limit : ℕ) → Passed → Result (List ℕ) CallError → Type 0
+IsPageCall IsAnswer buffer ends limit passed (Ok bytes) =
+    IsPage IsAnswer buffer ends limit passed (Some bytes)
+IsPageCall IsAnswer buffer ends limit passed (Err failure) =
     FailsWithin (HasBadEnds buffer ends) (λ fault. passed_tree passed ≡ Err fault)
-    (IsBrokenUtf8 buffer ends ⊎ ¬ (IsUtf8 passed.strings)) (IsBeyond buffer ends limit) failure
+    (IsBrokenUtf8 buffer ends ⊎ ¬ (IsUtf8 passed.strings)) (IsBeyond buffer ends limit)
+    (IsPage IsAnswer buffer ends limit passed None) failure
 
 -- Of texts, one is no selector, and those before it are.
 abbrev pub HasNoSelector : {S : Type 0} → (List ℕ → Option S) → List (List ℕ) → Type 0
@@ -181,44 +203,60 @@ HasRefusedText selector_in buffer ends =
 abbrev pub AreSelectorsIn : {S : Type 0} → (List ℕ → Option S) → List (List ℕ) → List S → Type 0
 AreSelectorsIn selector_in texts selectors = map selector_in texts ≡ map Some selectors
 
--- which of the selectors of texts match each element
-abbrev pub IsMatchSelectorsCall : List ℕ → List ℕ → Passed → Result (List ℕ) CallError → Type 0
-IsMatchSelectorsCall buffer ends passed (Ok bytes) =
+-- which of the selectors of texts match each element, or none within a limit
+abbrev pub AreMatched : (most : ℕ) → List ℕ → List ℕ → Passed → Option (List ℕ) → Type 0
+AreMatched most buffer ends passed answer =
     (texts : List (List ℕ)) × (selectors : List (List Component)) × (rows : List Row)
     × HasTexts buffer ends texts × AreSelectorsIn selector_in texts selectors
     × IsUtf8 passed.strings × (passed_tree passed ≡ Ok rows)
-    × AreLinesOf Numbers selectors rows bytes
-IsMatchSelectorsCall buffer ends passed (Err failure) =
-    FailsFor (HasBadEnds buffer ends ⊎ HasRefusedText selector_in buffer ends)
-    (λ fault. passed_tree passed ≡ Err fault)
-    (IsBrokenUtf8 buffer ends ⊎ ¬ (IsUtf8 passed.strings)) failure
+    × AreLinesOf most Numbers selectors rows answer
 
--- which rules match each element
-abbrev pub IsMatchCall : List ℕ → List ℕ → (limit : ℕ) → Passed → Result (List ℕ) CallError → Type 0
-IsMatchCall = IsPageCall AreMatchLines
-
--- all that wins on each element
-abbrev pub IsStylesCall : List ℕ → List ℕ → (limit : ℕ) → Passed → Result (List ℕ) CallError → Type 0
-IsStylesCall = IsPageCall AreWinnersLines
-
--- what wins for a name on each element; the name is UTF-8
-abbrev pub IsStyleCall : List ℕ → List ℕ → (limit : ℕ) → Passed → List ℕ
+-- which of the selectors of texts match each element, in at most this number of bytes
+abbrev pub IsMatchSelectorsCall : (most : ℕ) → List ℕ → List ℕ → Passed
     → Result (List ℕ) CallError → Type 0
-IsStyleCall buffer ends limit passed name (Err NotUtf8) =
-    IsPageCall (AreWinnerLines name) buffer ends limit passed (Err NotUtf8) ⊎ ¬ (IsUtf8 name)
-IsStyleCall buffer ends limit passed name (Err Refused) = HasBadEnds buffer ends
-IsStyleCall buffer ends limit passed name (Err Memory) = Unit {0}
-IsStyleCall buffer ends limit passed name (Err TooManyDeclarations) = IsBeyond buffer ends limit
-IsStyleCall buffer ends limit passed name (Err (Tree fault)) = passed_tree passed ≡ Err fault
-IsStyleCall buffer ends limit passed name (Ok bytes) =
-    IsUtf8 name × IsPageCall (AreWinnerLines name) buffer ends limit passed (Ok bytes)
+IsMatchSelectorsCall most buffer ends passed (Ok bytes) =
+    AreMatched most buffer ends passed (Some bytes)
+IsMatchSelectorsCall most buffer ends passed (Err failure) =
+    FailsWithin (HasBadEnds buffer ends ⊎ HasRefusedText selector_in buffer ends)
+    (λ fault. passed_tree passed ≡ Err fault)
+    (IsBrokenUtf8 buffer ends ⊎ ¬ (IsUtf8 passed.strings)) ⊥
+    (AreMatched most buffer ends passed None) failure
 
--- which elements one of the selectors of a list matches
-abbrev pub IsSelectCall : List ℕ → Passed → Result (List ℕ) CallError → Type 0
-IsSelectCall text passed (Ok bytes) =
+-- which rules match each element, in at most this number of bytes
+abbrev pub IsMatchCall : (most : ℕ) → List ℕ → List ℕ → (limit : ℕ) → Passed
+    → Result (List ℕ) CallError → Type 0
+IsMatchCall most = IsPageCall (AreMatchLines most)
+
+-- all that wins on each element, in at most this number of bytes
+abbrev pub IsStylesCall : (most : ℕ) → List ℕ → List ℕ → (limit : ℕ) → Passed
+    → Result (List ℕ) CallError → Type 0
+IsStylesCall most = IsPageCall (AreWinnersLines most)
+
+-- what wins for a name on each element, in at most this number of bytes; the name is UTF-8
+abbrev pub IsStyleCall : (most : ℕ) → List ℕ → List ℕ → (limit : ℕ) → Passed → List ℕ
+    → Result (List ℕ) CallError → Type 0
+IsStyleCall most buffer ends limit passed name (Err NotUtf8) =
+    IsPageCall (AreWinnerLines most name) buffer ends limit passed (Err NotUtf8) ⊎ ¬ (IsUtf8 name)
+IsStyleCall most buffer ends limit passed name (Err Refused) = HasBadEnds buffer ends
+IsStyleCall most buffer ends limit passed name (Err Memory) = Unit {0}
+IsStyleCall most buffer ends limit passed name (Err TooManyDeclarations) =
+    IsBeyond buffer ends limit
+IsStyleCall most buffer ends limit passed name (Err AnswerTooLong) =
+    IsUtf8 name × IsPage (AreWinnerLines most name) buffer ends limit passed None
+IsStyleCall most buffer ends limit passed name (Err (Tree fault)) = passed_tree passed ≡ Err fault
+IsStyleCall most buffer ends limit passed name (Ok bytes) =
+    IsUtf8 name × IsPageCall (AreWinnerLines most name) buffer ends limit passed (Ok bytes)
+
+-- which elements one of the selectors of a list matches, or none within a limit
+abbrev pub AreSelected : (most : ℕ) → List ℕ → Passed → Option (List ℕ) → Type 0
+AreSelected most text passed answer =
     (selectors : List (List Component)) × (rows : List Row) × IsUtf8 text
     × (list_of this_edition text ≡ Some selectors) × IsUtf8 passed.strings × (passed_tree passed ≡ Ok rows)
-    × AreLinesOf Selected selectors rows bytes
-IsSelectCall text passed (Err failure) =
-    FailsFor (list_of this_edition text ≡ None) (λ fault. passed_tree passed ≡ Err fault)
-    (¬ (IsUtf8 text) ⊎ ¬ (IsUtf8 passed.strings)) failure
+    × AreLinesOf most Selected selectors rows answer
+
+-- which elements one of the selectors of a list matches, in at most this number of bytes
+abbrev pub IsSelectCall : (most : ℕ) → List ℕ → Passed → Result (List ℕ) CallError → Type 0
+IsSelectCall most text passed (Ok bytes) = AreSelected most text passed (Some bytes)
+IsSelectCall most text passed (Err failure) =
+    FailsWithin (list_of this_edition text ≡ None) (λ fault. passed_tree passed ≡ Err fault)
+    (¬ (IsUtf8 text) ⊎ ¬ (IsUtf8 passed.strings)) ⊥ (AreSelected most text passed None) failure

@@ -13,7 +13,7 @@ use Rattle.simplecss.specs.Errors.{position_of}
 use Rattle.simplecss.specs.Quotes.{quote}
 use Rattle.simplecss.specs.Skipped.{Skip}
 use Rattle.simplecss.specs.declared.TextPos.{TextPos}
-use Rattle.selectors3.specs.Specificities.{Counts}
+use Rattle.css_selectors.specs.Specificities.{Counts}
 use Rattle.simplecss_c.specs.Json.{string, boolean, array, member, object}
 
 -- a value, and a newline

@@ -1,25 +1,24 @@
 -- What is written of selectors of level 3, and of the elements that they match.
 use Rattle.std.specs.Prelude.{◌≡◌, ℕ, ◌+◌, ◌-◌, List, [], ◌∷◌, ◌++◌, codes, length, map, Option, None, Some, if◌then◌else◌, ◌==◌}
 use Rattle.std.specs.Str.{IsCharBoundary}
-use Rattle.simplecss_text.specs.Errors.{position_of}
-use Rattle.simplecss_text.specs.Reading.{rest_offset}
-use Rattle.simplecss_text.specs.declared.TextPos.{TextPos}
-use Rattle.css_selectors.specs.PlacedSelectors.{PlacedSelector, placed_selectors}
+use Rattle.css_text.specs.Errors.{position_of}
+use Rattle.css_text.specs.Reading.{rest_offset}
+use Rattle.css_text.specs.declared.TextPos.{TextPos}
+use Rattle.css_syntax.specs.PlacedSelectors.{PlacedSelector, placed_selectors}
 use Rattle.css_sheet.specs.RuleSelectors.{selector_of}
-use Rattle.selectors3.specs.Components.{Selector}
-use Rattle.selectors3.specs.Printing.{selector_text}
-use Rattle.selectors3.specs.Readings.{Reading, got, refused}
-use Rattle.selectors3.specs.RefusalWords.{quote, why_words}
-use Rattle.selectors3.specs.Specificities.{specificity}
-use Rattle.selectors3.specs.declared.refusal.Why.{Why}
-use Rattle.selectors3_index.specs.Found.{AreMatches}
-use Rattle.selectors3_tree.specs.Pages.{Page, page_document}
-use Rattle.sibling_matching.specs.ListTrees.{spot}
+use Rattle.css_selectors.specs.Components.{Selector}
+use Rattle.css_selectors.specs.Printing.{selector_text}
+use Rattle.css_selectors.specs.Readings.{Reading, got, refused}
+use Rattle.css_selectors.specs.RefusalWords.{quote, why_words}
+use Rattle.css_selectors.specs.Specificities.{specificity}
+use Rattle.css_selectors.specs.declared.refusal.Why.{Why}
+use Rattle.css_index.specs.Found.{AreMatches}
+use Rattle.css_tree.specs.Pages.{Page, page_document}
+use Rattle.css_matching.specs.ListTrees.{spot}
 use Rattle.simplecss_tree.specs.Rows.{Row}
-use Rattle.cssq.specs.MatchRuns.{AreLines}
 use Rattle.simplecss_c.specs.declared.elements.TreeElement.{TreeElement}
 use Rattle.simplecss_c.specs.declared.pages.LineContent.{LineContent}
-use Rattle.simplecss_c.specs.AnswerLines.{indices_line}
+use Rattle.simplecss_c.specs.AnswerLines.{indices_line, AreLinesWithin}
 use Rattle.simplecss_c.specs.Elements.{has_text}
 use Rattle.simplecss_c.specs.Json.{string, member, object}
 use Rattle.simplecss_c.specs.JsonLines.{line, counts_array, position_line}
@@ -83,6 +82,7 @@ IsLevel3Line content selectors page index bytes =
     × (bytes ≡ indices_line content (index + 1) indices)
 
 -- the lines of all elements, in order
-abbrev pub AreLevel3Lines : LineContent → List Selector → Page → List ℕ → Type 0
-AreLevel3Lines content selectors page =
-    AreLines (IsLevel3Line content selectors page) (length page.rows)
+abbrev pub AreLevel3Lines : (most : ℕ) → LineContent → List Selector → Page → Option (List ℕ)
+    → Type 0
+AreLevel3Lines most content selectors page =
+    AreLinesWithin most (IsLevel3Line content selectors page) (length page.rows)

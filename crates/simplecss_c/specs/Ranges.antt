@@ -3,19 +3,9 @@ use Rattle.std.specs.Prelude.{ℕ, ◌+◌, List, [], ◌∷◌, codes, decimal,
 use Rattle.std.specs.List.{flat_map}
 use Rattle.simplecss.specs.AsciiBytes.{comma}
 use Rattle.css_syntax.specs.declared.quality.Fault.{Fault}
-use Rattle.css_syntax.specs.declared.quality.Fault.TheVariants as faults
+use Rattle.css_syntax.specs.Qualities.{fault_words}
 use Rattle.css_syntax.specs.Statements.{BlockText, AtRuleText}
 use Rattle.simplecss_c.specs.Json.{string, boolean, array, member}
-
--- the words for a fault
-abbrev pub fault_words : Fault → List ℕ
-fault_words faults.BrokenDeclaration = codes "broken declaration"
-fault_words faults.BadString = codes "bad string"
-fault_words faults.BadUrl = codes "bad url"
-fault_words faults.StrayBracket = codes "stray bracket"
-fault_words faults.TooDeep = codes "too deep"
-fault_words faults.NoBlock = codes "no block"
-fault_words faults.InvalidSelector = codes "invalid selector"
 
 -- a range: the offsets of its first byte and of the byte after it
 abbrev pub range : (start end : ℕ) → List ℕ

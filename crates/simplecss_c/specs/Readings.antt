@@ -1,12 +1,12 @@
 -- How a document reads the names of selectors, and which selectors of level 3 texts are.
 use Rattle.std.specs.Prelude.{ℕ, Bool, true, false, ◌==◌, if◌then◌else◌, List, Option, None, Some}
-use Rattle.selectors3.specs.Components.{Selector}
-use Rattle.selectors3.specs.Grammar.{selector_list}
-use Rattle.selectors3.specs.Readings.{Reading as Reads, got, refused}
-use Rattle.selectors3.specs.declared.refusal.Why.{Why}
-use Rattle.selectors3.specs.declared.refusal.Why.TheVariants.{Memory as NoMemory}
-use Rattle.selectors3_tree.specs.Html.{html_selector}
-use Rattle.selectors3_tree.specs.declared.html.HtmlMode.TheVariants.{NoQuirks, Quirks}
+use Rattle.css_selectors.specs.Components.{Selector}
+use Rattle.css_selectors.specs.Grammar.{selector_list}
+use Rattle.css_selectors.specs.Readings.{Reading as Reads, got, refused}
+use Rattle.css_selectors.specs.declared.refusal.Why.{Why}
+use Rattle.css_selectors.specs.declared.refusal.Why.TheVariants.{Memory as NoMemory}
+use Rattle.css_tree.specs.Html.{html_selector}
+use Rattle.css_tree.specs.declared.html.HtmlMode.TheVariants.{NoQuirks, Quirks}
 use Rattle.simplecss_c.specs.declared.answer.CallError.{CallError}
 use Rattle.simplecss_c.specs.declared.answer.CallError.TheVariants.{Refused, Memory}
 use Rattle.simplecss_c.specs.declared.level3.reading.Reading.{Reading}

@@ -5,15 +5,15 @@ use Rattle.std.specs.Option.{is_some}
 use Rattle.css_syntax.specs.declared.quality.Fault.{Fault}
 use Rattle.css_syntax.specs.Parts.{Stated}
 use Rattle.css_syntax.specs.Statements.{BlockText, AtRuleText, StatementText, rule_set, at_rule_statement, skipped_statement}
-use Rattle.css_selectors.specs.SelectorGrammar.{SelectorText, plain, with_element, other_valid, invalid}
-use Rattle.css_selectors.specs.SelectorLists.{prelude_fault}
-use Rattle.css_selectors.specs.PlacedSelectors.{PlacedSelector, placed_selectors}
+use Rattle.css_syntax.specs.SelectorGrammar.{SelectorText, plain, with_element, other_valid, invalid}
+use Rattle.css_syntax.specs.SelectorLists.{prelude_fault}
+use Rattle.css_syntax.specs.PlacedSelectors.{PlacedSelector, placed_selectors}
 use Rattle.css_sheet.specs.Places.{PlacesText}
 use Rattle.css_sheet.specs.RuleSelectors.{SelectorRead, selector_read}
 use Rattle.css_sheet.specs.SheetOrder.{with_element as with_name}
 use Rattle.css_sheet.specs.SheetItems.{ConditionText, SheetItemText, sheet_items}
-use Rattle.selectors3.specs.Components.{Selector}
-use Rattle.selectors3.specs.Specificities.{specificity}
+use Rattle.css_selectors.specs.Components.{Selector}
+use Rattle.css_selectors.specs.Specificities.{specificity}
 use Rattle.simplecss_c.specs.Json.{boolean, array, member, object}
 use Rattle.simplecss_c.specs.JsonLines.{line, counts_array}
 use Rattle.simplecss_c.specs.Ranges.{range, extent, head_members, fault_members, at_rule_members}

@@ -1,10 +1,10 @@
 //! What a call hands over to its caller.
 
-ghost use Rattle.std.specs.Prelude.{◌≡◌, Ok, Err};
+ghost use Rattle.std.specs.Prelude.{◌≡◌, ◌<◌, ◌≤◌, Ok, Err, MatchResult, length};
 ghost use Rattle.std.specs.Prelude.{string_bytes};
 ghost use Rattle.simplecss_c.specs.Answers.{status_of, failure_of, IsHandedOver, Answers, IsFaultSet};
 ghost use Rattle.simplecss_c.specs.Outcomes.{outcome_of};
-ghost use Rattle.simplecss_c.specs.declared.answer.CallError.TheVariants.{Memory};
+ghost use Rattle.simplecss_c.specs.declared.answer.CallError.TheVariants.{Memory, AnswerTooLong};
 
 use crate::elements::ElementFault;
 use simplecss::SheetError;
@@ -29,6 +29,8 @@ pub enum CallError {
     TooManyDeclarations,
     /// A text is not UTF-8.
     NotUtf8,
+    /// The answer would be longer than the limit.
+    AnswerTooLong,
 }
 
 impl CallError {
@@ -40,7 +42,7 @@ impl CallError {
             CallError::Refused => 1,
             CallError::Tree(_) => 2,
             CallError::Memory => 3,
-            CallError::TooManyDeclarations => 4,
+            CallError::TooManyDeclarations | CallError::AnswerTooLong => 4,
             CallError::NotUtf8 => 5,
         }
     }
@@ -80,6 +82,17 @@ impl From<TreeError> for CallError {
     fn from(_error: TreeError) -> CallError {
         CallError::Memory
     }
+}
+
+/// Fails if an answer has more bytes than it may.
+pub fn check_length(text: &String, most: usize) -> Result<(), CallError>
+    ensures { MatchResult result (λ _. length (string_bytes text.now) ≤ most)
+        (λ failure. (failure ≡ AnswerTooLong) × (most < length (string_bytes text.now))) }
+{
+    if text.len() > most {
+        return Err(CallError::AnswerTooLong);
+    }
+    Ok(())
 }
 
 /// A fault of a tree, as the caller of a function gets it.

@@ -1,15 +1,15 @@
 //! What each call answers.
 
-ghost use Rattle.std.specs.Prelude.{◌≡◌, ◌<◌, map, MatchResult, string_bytes};
+ghost use Rattle.std.specs.Prelude.{◌≡◌, ◌<◌, map, MatchResult, string_bytes, None, Some};
 ghost use Rattle.simplecss.specs.DeclarationCounts.{kept_in_all};
 ghost use Rattle.simplecss.specs.ThisEdition.{this_edition};
 ghost use Rattle.simplecss.specs.RuleViews.{rules_in};
 ghost use Rattle.cssq.specs.SelectorRuns.{selector_in};
 ghost use Rattle.simplecss_c.specs.Outcomes.{outcome_of};
 ghost use Rattle.simplecss_c.specs.AnswerLines.{AreMatchLines, AreWinnerLines};
-ghost use Rattle.simplecss_c.specs.Calls.{FailsWithin, IsReadWithin};
+ghost use Rattle.simplecss_c.specs.Calls.{FailsWithin, FailsLonger, IsReadWithin};
 ghost use Rattle.simplecss_c.specs.Calls.{IsSelectorCall, IsSheetCall, IsPrinted, IsMatchCall};
-ghost use Rattle.simplecss_c.specs.Calls.{IsReadCall, IsDeclarationsCall, IsMatchSelectorsCall};
+ghost use Rattle.simplecss_c.specs.Calls.{IsReadCall, IsDeclarationsCall, IsCloseCall, IsMatchSelectorsCall};
 ghost use Rattle.simplecss_c.specs.Calls.{AreSelectorsIn, HasNoSelector, FailsFor};
 ghost use Rattle.simplecss_c.specs.Calls.{IsPageCall, IsSelectCall, IsStyleCall, passed_of};
 ghost use Rattle.simplecss_c.specs.Calls.{IsRuleLines, IsSkippedCall, IsListCall, IsRefusalCall, IsStylesCall};
@@ -22,6 +22,7 @@ use crate::pages::{LineContent, lines, winner_lines, winners_lines};
 use crate::texts::{text_of, texts_of};
 use crate::today::sheet_lines;
 use crate::{json, lists};
+use css_syntax::closed_value;
 use cssq::runs::{selector_line, sheet_text};
 use log::sink::Discard;
 use simplecss::{Reading, Selector, Silent, StyleSheet, find_skipped};
@@ -36,7 +37,7 @@ fn read_sheet<'a>(
 ) -> Result<StyleSheet<'a>, CallError>
     ensures { MatchResult result (λ read. IsReadWithin limit (map (λ text. text.now) texts.now)
         (rules_in read)) (λ failure. FailsWithin ⊥ (λ fault. ⊥) ⊥
-        (limit < kept_in_all this_edition (map (λ text. text.now) texts.now)) failure) }
+        (limit < kept_in_all this_edition (map (λ text. text.now) texts.now)) ⊥ failure) }
 {
     let mut sheet = StyleSheet::new(alloc);
     let how = Reading {
@@ -124,13 +125,18 @@ pub struct Passed<'t> {
 }
 
 /// The numbers of the elements of a tree that one of the selectors of a list matches.
-pub fn select(alloc: Global, text: &[u8], tree: Passed<'_>) -> Result<String, CallError>
-    ensures { IsSelectCall text.now (passed_of tree.entry) (outcome_of result) }
+pub fn select(
+    alloc: Global,
+    text: &[u8],
+    tree: Passed<'_>,
+    most: usize,
+) -> Result<String, CallError>
+    ensures { IsSelectCall most text.now (passed_of tree.entry) (outcome_of result) }
 {
     let text = text_of(text)?;
     let selectors = selectors_of(alloc, text)?;
     let tree = read_tree(alloc, tree.elements, tree.strings, tree.ends)?;
-    lines(alloc, LineContent::Selected, &selectors, &tree)
+    lines(alloc, LineContent::Selected, &selectors, &tree, most)
 }
 
 /// The lines of all that wins on each element of a tree, in JSON.
@@ -140,22 +146,28 @@ pub fn styles(
     ends: &[usize],
     limit: usize,
     tree: Passed<'_>,
+    most: usize,
 ) -> Result<String, CallError>
-    ensures { IsStylesCall buffer.now ends.now limit (passed_of tree.entry) (outcome_of result) }
+    ensures { IsStylesCall most buffer.now ends.now limit (passed_of tree.entry) (outcome_of result) }
 {
     let texts = texts_of(alloc, buffer, ends)?;
     let tree = read_tree(alloc, tree.elements, tree.strings, tree.ends)?;
     let sheet = read_sheet(alloc, &texts, limit)?;
-    winners_lines(alloc, &sheet.rules, &tree)
+    winners_lines(alloc, &sheet.rules, &tree, most)
 }
 
 /// The numbers of the rules of a sheet that match each element of a tree.
-fn match_lines(alloc: Global, sheet: &StyleSheet<'_>, tree: &Tree<'_>) -> Result<String, CallError>
+fn match_lines(
+    alloc: Global,
+    sheet: &StyleSheet<'_>,
+    tree: &Tree<'_>,
+    most: usize,
+) -> Result<String, CallError>
     ensures { MatchResult result
-        (λ text. AreMatchLines (rules_in sheet.now) tree.now (string_bytes text))
-        (λ failure. failure ≡ CallError.Memory) }
+        (λ text. AreMatchLines most (rules_in sheet.now) tree.now (Some (string_bytes text)))
+        (FailsLonger (AreMatchLines most (rules_in sheet.now) tree.now None)) }
 {
-    lines(alloc, LineContent::Numbers, &sheet.rules, tree)
+    lines(alloc, LineContent::Numbers, &sheet.rules, tree, most)
 }
 
 /// The numbers of the rules that match each element of a tree.
@@ -165,20 +177,21 @@ pub fn matches(
     ends: &[usize],
     limit: usize,
     tree: Passed<'_>,
+    most: usize,
 ) -> Result<String, CallError>
-    ensures { IsMatchCall buffer.now ends.now limit (passed_of tree.entry) (outcome_of result) }
+    ensures { IsMatchCall most buffer.now ends.now limit (passed_of tree.entry) (outcome_of result) }
 {
     let texts = texts_of(alloc, buffer, ends)?;
     let tree = read_tree(alloc, tree.elements, tree.strings, tree.ends)?;
     let sheet = read_sheet(alloc, &texts, limit)?;
-    match_lines(alloc, &sheet, &tree)
+    match_lines(alloc, &sheet, &tree, most)
 }
 
 /// The lines of the items of a style sheet by the grammar of today, in JSON.
-pub fn read(alloc: Global, text: &[u8]) -> Result<String, CallError>
-    ensures { IsReadCall text.now (outcome_of result) }
+pub fn read(alloc: Global, text: &[u8], most: usize) -> Result<String, CallError>
+    ensures { IsReadCall most text.now (outcome_of result) }
 {
-    Ok(sheet_lines(alloc, text_of(text)?)?)
+    sheet_lines(alloc, text_of(text)?, most)
 }
 
 /// The lines of the items of a style attribute by the grammar of today, in JSON.
@@ -186,6 +199,16 @@ pub fn declarations(alloc: Global, text: &[u8]) -> Result<String, CallError>
     ensures { IsDeclarationsCall text.now (outcome_of result) }
 {
     Ok(item_lines(alloc, text_of(text)?)?)
+}
+
+/// The value with what closes it.
+pub fn close(alloc: Global, value: &[u8]) -> Result<String, CallError>
+    ensures { IsCloseCall value.now (outcome_of result) }
+{
+    let Some(closed) = closed_value(alloc, text_of(value)?)? else {
+        return Err(CallError::Refused);
+    };
+    Ok(closed)
 }
 
 /// The selectors of texts, or the refusal.
@@ -211,13 +234,14 @@ pub fn match_selectors(
     buffer: &[u8],
     ends: &[usize],
     tree: Passed<'_>,
+    most: usize,
 ) -> Result<String, CallError>
-    ensures { IsMatchSelectorsCall buffer.now ends.now (passed_of tree.entry) (outcome_of result) }
+    ensures { IsMatchSelectorsCall most buffer.now ends.now (passed_of tree.entry) (outcome_of result) }
 {
     let texts = texts_of(alloc, buffer, ends)?;
     let selectors = read_selectors(alloc, &texts)?;
     let tree = read_tree(alloc, tree.elements, tree.strings, tree.ends)?;
-    lines(alloc, LineContent::Numbers, &selectors, &tree)
+    lines(alloc, LineContent::Numbers, &selectors, &tree, most)
 }
 
 /// What wins for a name on each element of a tree, by the sheet of the texts.
@@ -228,14 +252,15 @@ fn style_text(
     limit: usize,
     tree: Passed<'_>,
     name: &str,
+    most: usize,
 ) -> Result<String, CallError>
-    ensures { IsPageCall (AreWinnerLines name.now) buffer.now ends.now limit
+    ensures { IsPageCall (AreWinnerLines most name.now) buffer.now ends.now limit
         (passed_of tree.entry) (outcome_of result) }
 {
     let texts = texts_of(alloc, buffer, ends)?;
     let tree = read_tree(alloc, tree.elements, tree.strings, tree.ends)?;
     let sheet = read_sheet(alloc, &texts, limit)?;
-    winner_lines(alloc, &sheet.rules, &tree, name)
+    winner_lines(alloc, &sheet.rules, &tree, name, most)
 }
 
 /// What wins for a name on each element of a tree.
@@ -246,10 +271,11 @@ pub fn style(
     limit: usize,
     tree: Passed<'_>,
     name: &[u8],
+    most: usize,
 ) -> Result<String, CallError>
-    ensures { IsStyleCall buffer.now ends.now limit (passed_of tree.entry) name.now
+    ensures { IsStyleCall most buffer.now ends.now limit (passed_of tree.entry) name.now
         (outcome_of result) }
 {
     let name = text_of(name)?;
-    style_text(alloc, buffer, ends, limit, tree, name)
+    style_text(alloc, buffer, ends, limit, tree, name, most)
 }

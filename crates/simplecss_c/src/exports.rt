@@ -1,9 +1,10 @@
 //! The functions that callers in C see.
 //!
 //! Each returns a status: 0 done, 1 refused, 2 a fault of the tree, 3 out of memory, 4 more
-//! declarations than the limit, 5 not UTF-8, 6 the buffer is too small. At 0 the answer is at the front of `out`, and `len` is its length. At 6
-//! nothing was written, and `len` is the length that the call needs. At any other status nothing was
-//! written, and `len` is 0. `fault` is set at 2 only.
+//! declarations than `limit` or an answer of more bytes than `most`, 5 not UTF-8, 6 the buffer is too
+//! small. At 0 the answer is at the front of `out`, and `len` is its length. At 6 nothing was written,
+//! and `len` is the length that the call needs. At any other status nothing was written, and `len` is
+//! 0. `fault` is set at 2 only.
 
 ghost use Rattle.std.specs.Prelude.{◌≡◌, List, ℕ, Result};
 ghost use Rattle.simplecss_c.specs.declared.answer.CallError.{CallError as CallErrorView};
@@ -11,7 +12,7 @@ ghost use Rattle.simplecss_c.specs.Answers.{Answers, IsHandedOver, IsFaultSet};
 ghost use Rattle.simplecss_c.specs.Calls.{IsSelectorCall, IsSheetCall, IsPrinted, IsMatchCall};
 ghost use Rattle.simplecss_c.specs.Calls.{IsListCall, IsRuleLines, IsSkippedCall, IsSelectCall, IsStyleCall};
 ghost use Rattle.simplecss_c.specs.Calls.{IsRefusalCall, IsStylesCall, IsDeclarationsCall};
-ghost use Rattle.simplecss_c.specs.Calls.{IsReadCall};
+ghost use Rattle.simplecss_c.specs.Calls.{IsReadCall, IsCloseCall};
 ghost use Rattle.simplecss_c.specs.Calls.{IsMatchSelectorsCall};
 ghost use Rattle.simplecss_c.specs.Level3Calls.{IsListLevel3Call, IsRefusalLevel3Call};
 ghost use Rattle.simplecss_c.specs.Level3Calls.{IsMatchLevel3Call, IsSelectLevel3Call};
@@ -126,11 +127,17 @@ pub extern "C" fn simplecss_skipped(
 /// Writes a line of JSON for each item of a style sheet by the grammar of today, with offsets into
 /// the text.
 #[unsafe(no_mangle)]
-pub extern "C" fn simplecss_read(alloc: Global, text: &[u8], out: &mut [u8], len: &mut usize) -> u32
-    ensures { (outcome : Result (List ℕ) CallErrorView) × IsReadCall text.now outcome
+pub extern "C" fn simplecss_read(
+    alloc: Global,
+    text: &[u8],
+    most: usize,
+    out: &mut [u8],
+    len: &mut usize,
+) -> u32
+    ensures { (outcome : Result (List ℕ) CallErrorView) × IsReadCall most text.now outcome
         × Answers outcome result out.old out.new len.new }
 {
-    hand_over(calls::read(alloc, text), out, len)
+    hand_over(calls::read(alloc, text, most), out, len)
 }
 
 /// Writes a line of JSON for each item of a style attribute by the grammar of today, with offsets
@@ -148,6 +155,21 @@ pub extern "C" fn simplecss_declarations(
     hand_over(calls::declarations(alloc, text), out, len)
 }
 
+/// Writes the value of a declaration with what closes it, where the end of the text left a string, a
+/// url, a comment or brackets open.
+#[unsafe(no_mangle)]
+pub extern "C" fn simplecss_close(
+    alloc: Global,
+    value: &[u8],
+    out: &mut [u8],
+    len: &mut usize,
+) -> u32
+    ensures { (outcome : Result (List ℕ) CallErrorView) × IsCloseCall value.now outcome
+        × Answers outcome result out.old out.new len.new }
+{
+    hand_over(calls::close(alloc, value), out, len)
+}
+
 /// Writes a line for each element of a tree: its number, a colon, the number of each rule that
 /// matches it after a space, and a newline. Numbers begin at 1.
 #[unsafe(no_mangle)]
@@ -159,11 +181,12 @@ pub extern "C" fn simplecss_match(
     elements: &[TreeElement],
     strings: &[u8],
     string_ends: &[usize],
+    most: usize,
     out: &mut [u8],
     len: &mut usize,
     fault: &mut TreeFault,
 ) -> u32
-    ensures { (outcome : Result (List ℕ) CallErrorView) × IsMatchCall texts.now ends.now limit
+    ensures { (outcome : Result (List ℕ) CallErrorView) × IsMatchCall most texts.now ends.now limit
         (record { elements = elements.now; strings = strings.now; ends = string_ends.now }) outcome
         × Answers outcome result out.old out.new len.new
         × IsFaultSet outcome fault.old fault.new }
@@ -173,7 +196,7 @@ pub extern "C" fn simplecss_match(
         strings,
         ends: string_ends,
     };
-    let outcome = calls::matches(alloc, texts, ends, limit, tree);
+    let outcome = calls::matches(alloc, texts, ends, limit, tree, most);
     set_fault(&outcome, fault);
     hand_over(outcome, out, len)
 }
@@ -189,11 +212,12 @@ pub extern "C" fn simplecss_match_selectors(
     elements: &[TreeElement],
     strings: &[u8],
     string_ends: &[usize],
+    most: usize,
     out: &mut [u8],
     len: &mut usize,
     fault: &mut TreeFault,
 ) -> u32
-    ensures { (outcome : Result (List ℕ) CallErrorView) × IsMatchSelectorsCall texts.now ends.now
+    ensures { (outcome : Result (List ℕ) CallErrorView) × IsMatchSelectorsCall most texts.now ends.now
         (record { elements = elements.now; strings = strings.now; ends = string_ends.now }) outcome
         × Answers outcome result out.old out.new len.new
         × IsFaultSet outcome fault.old fault.new }
@@ -203,7 +227,7 @@ pub extern "C" fn simplecss_match_selectors(
         strings,
         ends: string_ends,
     };
-    let outcome = calls::match_selectors(alloc, texts, ends, tree);
+    let outcome = calls::match_selectors(alloc, texts, ends, tree, most);
     set_fault(&outcome, fault);
     hand_over(outcome, out, len)
 }
@@ -217,11 +241,12 @@ pub extern "C" fn simplecss_select(
     elements: &[TreeElement],
     strings: &[u8],
     string_ends: &[usize],
+    most: usize,
     out: &mut [u8],
     len: &mut usize,
     fault: &mut TreeFault,
 ) -> u32
-    ensures { (outcome : Result (List ℕ) CallErrorView) × IsSelectCall selectors.now
+    ensures { (outcome : Result (List ℕ) CallErrorView) × IsSelectCall most selectors.now
         (record { elements = elements.now; strings = strings.now; ends = string_ends.now }) outcome
         × Answers outcome result out.old out.new len.new
         × IsFaultSet outcome fault.old fault.new }
@@ -231,7 +256,7 @@ pub extern "C" fn simplecss_select(
         strings,
         ends: string_ends,
     };
-    let outcome = calls::select(alloc, selectors, tree);
+    let outcome = calls::select(alloc, selectors, tree, most);
     set_fault(&outcome, fault);
     hand_over(outcome, out, len)
 }
@@ -248,11 +273,12 @@ pub extern "C" fn simplecss_style(
     strings: &[u8],
     string_ends: &[usize],
     name: &[u8],
+    most: usize,
     out: &mut [u8],
     len: &mut usize,
     fault: &mut TreeFault,
 ) -> u32
-    ensures { (outcome : Result (List ℕ) CallErrorView) × IsStyleCall texts.now ends.now limit
+    ensures { (outcome : Result (List ℕ) CallErrorView) × IsStyleCall most texts.now ends.now limit
         (record { elements = elements.now; strings = strings.now; ends = string_ends.now }) name.now outcome
         × Answers outcome result out.old out.new len.new
         × IsFaultSet outcome fault.old fault.new }
@@ -262,7 +288,7 @@ pub extern "C" fn simplecss_style(
         strings,
         ends: string_ends,
     };
-    let outcome = calls::style(alloc, texts, ends, limit, tree, name);
+    let outcome = calls::style(alloc, texts, ends, limit, tree, name, most);
     set_fault(&outcome, fault);
     hand_over(outcome, out, len)
 }
@@ -278,11 +304,12 @@ pub extern "C" fn simplecss_styles(
     elements: &[TreeElement],
     strings: &[u8],
     string_ends: &[usize],
+    most: usize,
     out: &mut [u8],
     len: &mut usize,
     fault: &mut TreeFault,
 ) -> u32
-    ensures { (outcome : Result (List ℕ) CallErrorView) × IsStylesCall texts.now ends.now limit
+    ensures { (outcome : Result (List ℕ) CallErrorView) × IsStylesCall most texts.now ends.now limit
         (record { elements = elements.now; strings = strings.now; ends = string_ends.now }) outcome
         × Answers outcome result out.old out.new len.new
         × IsFaultSet outcome fault.old fault.new }
@@ -292,7 +319,7 @@ pub extern "C" fn simplecss_styles(
         strings,
         ends: string_ends,
     };
-    let outcome = calls::styles(alloc, texts, ends, limit, tree);
+    let outcome = calls::styles(alloc, texts, ends, limit, tree, most);
     set_fault(&outcome, fault);
     hand_over(outcome, out, len)
 }
@@ -339,12 +366,13 @@ pub extern "C" fn simplecss_match_level3(
     elements: &[TreeElement],
     strings: &[u8],
     string_ends: &[usize],
+    most: usize,
     out: &mut [u8],
     len: &mut usize,
     fault: &mut TreeFault,
 ) -> u32
     ensures { (outcome : Result (List ℕ) CallErrorView)
-        × IsMatchLevel3Call texts.now ends.now reading
+        × IsMatchLevel3Call most texts.now ends.now reading
         (record { elements = elements.now; strings = strings.now; ends = string_ends.now }) outcome
         × Answers outcome result out.old out.new len.new
         × IsFaultSet outcome fault.old fault.new }
@@ -354,7 +382,7 @@ pub extern "C" fn simplecss_match_level3(
         strings,
         ends: string_ends,
     };
-    let outcome = level3::matches(alloc, texts, ends, reading, tree);
+    let outcome = level3::matches(alloc, texts, ends, reading, tree, most);
     set_fault(&outcome, fault);
     hand_over(outcome, out, len)
 }
@@ -369,11 +397,12 @@ pub extern "C" fn simplecss_select_level3(
     elements: &[TreeElement],
     strings: &[u8],
     string_ends: &[usize],
+    most: usize,
     out: &mut [u8],
     len: &mut usize,
     fault: &mut TreeFault,
 ) -> u32
-    ensures { (outcome : Result (List ℕ) CallErrorView) × IsSelectLevel3Call selectors.now reading
+    ensures { (outcome : Result (List ℕ) CallErrorView) × IsSelectLevel3Call most selectors.now reading
         (record { elements = elements.now; strings = strings.now; ends = string_ends.now }) outcome
         × Answers outcome result out.old out.new len.new
         × IsFaultSet outcome fault.old fault.new }
@@ -383,7 +412,7 @@ pub extern "C" fn simplecss_select_level3(
         strings,
         ends: string_ends,
     };
-    let outcome = level3::select(alloc, selectors, reading, tree);
+    let outcome = level3::select(alloc, selectors, reading, tree, most);
     set_fault(&outcome, fault);
     hand_over(outcome, out, len)
 }

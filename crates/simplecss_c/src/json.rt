@@ -9,14 +9,14 @@ ghost use Rattle.simplecss.specs.Skipped.{skipped};
 ghost use Rattle.simplecss.specs.SkipOffsets.{IsWithin};
 ghost use Rattle.simplecss.specs.SkipViews.{skip_of};
 ghost use Rattle.simplecss.specs.ThisEdition.{this_edition};
-ghost use Rattle.selectors3.specs.SpecificityViews.{counts_of};
+ghost use Rattle.css_selectors.specs.SpecificityViews.{counts_of};
 ghost use Rattle.simplecss_c.specs.Json.{is_escaped, escape, string, members};
 ghost use Rattle.simplecss_c.specs.JsonLines.{declaration_object, declaration_array};
 ghost use Rattle.simplecss_c.specs.JsonLines.{selector_members, counts_array, rule_line, rule_lines};
 ghost use Rattle.simplecss_c.specs.JsonLines.{selector_line, selector_lines, position_members};
 ghost use Rattle.simplecss_c.specs.JsonLines.{position_line, skipped_line, skipped_lines};
 
-use selectors3::Specificity;
+use css_selectors::Specificity;
 use simplecss::{Declaration, Place, Rule, Selector, Skipped, TextPos};
 use std::alloc::{AllocError, Global};
 use std::fmt::Write as _;

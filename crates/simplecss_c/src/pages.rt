@@ -1,6 +1,6 @@
 //! What is written of the elements of a tree, a line for each.
 
-ghost use Rattle.std.specs.Prelude.{◌≡◌, ◌+◌, ◌^◌, ◌<◌, ◌++◌, All, OnOk, MatchResult, List, ℕ};
+ghost use Rattle.std.specs.Prelude.{◌≡◌, ◌+◌, ◌^◌, ◌<◌, ◌++◌, All, OnOk, MatchResult, List, ℕ, None, Some};
 ghost use Rattle.std.specs.Prelude.{length, map, string_bytes};
 ghost use Rattle.std.specs.Option.{option_map};
 ghost use Rattle.simplecss.specs.DeclarationViews.{declaration_of};
@@ -10,8 +10,9 @@ ghost use Rattle.cssq.specs.StyleRuns.{style_line};
 ghost use Rattle.simplecss_c.specs.AnswerLines.{selected_line, indices_line, IsLineOf, AreLinesOf};
 ghost use Rattle.simplecss_c.specs.AnswerLines.{IsWinnerLine, AreWinnerLines};
 ghost use Rattle.simplecss_c.specs.AnswerLines.{IsWinnersLine, AreWinnersLines};
+ghost use Rattle.simplecss_c.specs.Calls.{FailsLonger};
 
-use crate::answer::CallError;
+use crate::answer::{CallError, check_length};
 use crate::json::push_declarations;
 use cssq::cascade::{Cascade, winning_among};
 use simplecss::{Declaration, HasSelector, Rule, RuleIndex};
@@ -115,17 +116,20 @@ fn push_line<'a, T: HasSelector<'a>>(
     push_indices(out, content, element + 1, indices.as_slice())
 }
 
-/// The lines of the elements of a tree, by which rules or selectors match each.
+/// The lines of the elements of a tree, by which rules or selectors match each, in at most this number
+/// of bytes.
 pub fn lines<'a, T: HasSelector<'a>>(
     alloc: Global,
     content: LineContent,
     rules: &[T],
     tree: &Tree<'_>,
+    most: usize,
 ) -> Result<String, CallError>
     requires { length rules.now < 2 ^ 63 }
     ensures { MatchResult result
-        (λ text. AreLinesOf content (map T.selector_in rules.now) tree.now (string_bytes text))
-        (λ failure. failure ≡ CallError.Memory) }
+        (λ text. AreLinesOf most content (map T.selector_in rules.now) tree.now
+        (Some (string_bytes text)))
+        (FailsLonger (AreLinesOf most content (map T.selector_in rules.now) tree.now None)) }
 {
     let index = RuleIndex::new(alloc, rules)?;
     let mut indices = Vec::new(alloc);
@@ -140,6 +144,7 @@ pub fn lines<'a, T: HasSelector<'a>>(
             element,
             &mut indices,
         )?;
+        check_length(&text, most)?;
     }
     Ok(text)
 }
@@ -169,22 +174,25 @@ fn push_winning<'a>(
     push_winner(out, element + 1, winner)
 }
 
-/// The lines of what wins for a name on each element of a tree.
+/// The lines of what wins for a name on each element of a tree, in at most this number of bytes.
 pub fn winner_lines(
     alloc: Global,
     rules: &[Rule<'_>],
     tree: &Tree<'_>,
     name: &str,
+    most: usize,
 ) -> Result<String, CallError>
     ensures { MatchResult result
-        (λ text. AreWinnerLines name.now (rules_of rules.now) tree.now (string_bytes text))
-        (λ failure. failure ≡ CallError.Memory) }
+        (λ text. AreWinnerLines most name.now (rules_of rules.now) tree.now
+        (Some (string_bytes text)))
+        (FailsLonger (AreWinnerLines most name.now (rules_of rules.now) tree.now None)) }
 {
     let index = RuleIndex::new(alloc, rules)?;
     let mut indices = Vec::new(alloc);
     let mut text = String::new(alloc);
     for element in 0..tree.len() {
         push_winning(&mut text, name, &index, rules, tree, element, &mut indices)?;
+        check_length(&text, most)?;
     }
     Ok(text)
 }
@@ -208,20 +216,22 @@ fn push_winners(
     out.push('\n')
 }
 
-/// The lines of all that wins on each element of a tree, in JSON.
+/// The lines of all that wins on each element of a tree, in JSON, in at most this number of bytes.
 pub fn winners_lines(
     alloc: Global,
     rules: &[Rule<'_>],
     tree: &Tree<'_>,
+    most: usize,
 ) -> Result<String, CallError>
     ensures { MatchResult result
-        (λ text. AreWinnersLines (rules_of rules.now) tree.now (string_bytes text))
-        (λ failure. failure ≡ CallError.Memory) }
+        (λ text. AreWinnersLines most (rules_of rules.now) tree.now (Some (string_bytes text)))
+        (FailsLonger (AreWinnersLines most (rules_of rules.now) tree.now None)) }
 {
     let mut cascade = Cascade::new(alloc, rules)?;
     let mut text = String::new(alloc);
     for element in 0..tree.len() {
         push_winners(&mut text, &mut cascade, tree, element)?;
+        check_length(&text, most)?;
     }
     Ok(text)
 }

@@ -5,7 +5,7 @@ ghost use Rattle.std.specs.Option.{option_map};
 ghost use Rattle.simplecss.specs.AsciiBytes.{comma};
 ghost use Rattle.css_syntax.specs.Views.{at_rule_of, block_of};
 ghost use Rattle.simplecss_c.specs.Json.{boolean, member, members};
-ghost use Rattle.simplecss_c.specs.Ranges.{fault_words as words_of, range, extent, further};
+ghost use Rattle.simplecss_c.specs.Ranges.{range, extent, further};
 ghost use Rattle.simplecss_c.specs.Ranges.{head_members, fault_members, block_members};
 ghost use Rattle.simplecss_c.specs.Ranges.{at_rule_members};
 
@@ -13,21 +13,6 @@ use crate::json::push_string;
 use css_syntax::{AtRule, Block, Fault};
 use std::alloc::AllocError;
 use std::fmt::Write as _;
-
-/// Returns the words for a fault.
-fn fault_words(fault: Fault) -> &'static str
-    ensures { result.now ≡ words_of fault }
-{
-    match fault {
-        Fault::BrokenDeclaration => "broken declaration",
-        Fault::BadString => "bad string",
-        Fault::BadUrl => "bad url",
-        Fault::StrayBracket => "stray bracket",
-        Fault::TooDeep => "too deep",
-        Fault::NoBlock => "no block",
-        Fault::InvalidSelector => "invalid selector",
-    }
-}
 
 /// Appends a range: the offsets of its first byte and of the byte after it.
 pub fn push_range(out: &mut String, start: usize, end: usize) -> Result<(), AllocError>
@@ -80,7 +65,7 @@ pub fn push_fault(out: &mut String, fault: Fault) -> Result<(), AllocError>
         ≡ string_bytes out.old ++ further (fault_members fault)) }
 {
     out.push_str(",\"fault\":")?;
-    push_string(out, fault_words(fault))
+    push_string(out, fault.words())
 }
 
 /// Appends the members of a block whose contents begin at this offset, each after a comma.

@@ -1,15 +1,15 @@
 //! The items of a style sheet by the grammar of today, in JSON.
 
-ghost use Rattle.std.specs.Prelude.{◌≡◌, ◌<◌, ◌^◌, ◌+◌, ◌++◌, ◌∷◌, [], OnOk, IfOk, codes};
+ghost use Rattle.std.specs.Prelude.{◌≡◌, ◌<◌, ◌^◌, ◌+◌, ◌++◌, ◌∷◌, ◌≤◌, [], OnOk, MatchResult, codes};
 ghost use Rattle.std.specs.Prelude.{length, map, option_map, string_bytes};
 ghost use Rattle.css_syntax.specs.Views.{prelude_of, block_of, statement_of, sheet_part_of};
-ghost use Rattle.css_selectors.specs.SelectorLists.{listed_of};
-ghost use Rattle.css_selectors.specs.SelectorViews.{form_of};
+ghost use Rattle.css_syntax.specs.SelectorLists.{listed_of};
+ghost use Rattle.css_syntax.specs.SelectorViews.{form_of};
 ghost use Rattle.css_sheet.specs.Places.{places_of};
 ghost use Rattle.css_sheet.specs.ReaderViews.{level_of, condition_at};
 ghost use Rattle.css_sheet.specs.RuleViews.{rule_selector_of};
 ghost use Rattle.css_sheet.specs.SheetOrder.{with_element};
-ghost use Rattle.selectors3.specs.SpecificityViews.{counts_of};
+ghost use Rattle.css_selectors.specs.SpecificityViews.{counts_of};
 ghost use Rattle.simplecss_c.specs.Json.{member};
 ghost use Rattle.simplecss_c.specs.Ranges.{further};
 ghost use Rattle.simplecss_c.specs.SheetLines.{level_object, level_array, element_value};
@@ -18,14 +18,16 @@ ghost use Rattle.simplecss_c.specs.SheetLines.{selector_object, selector_array, 
 ghost use Rattle.simplecss_c.specs.SheetLines.{shown_of, shown_kind, shown_members, sheet_line};
 ghost use Rattle.simplecss_c.specs.SheetLines.{sheet_lines as lines_of};
 ghost use Rattle.simplecss_c.specs.Shown.{shown_text};
+ghost use Rattle.simplecss_c.specs.Calls.{FailsLonger};
 
+use crate::answer::{CallError, check_length};
 use crate::items::{offset_of, push_items};
 use crate::json::push_specificity;
 use crate::ranges::{push_at_rule, push_extent, push_fault, push_flag, push_head, push_range};
-use css_selectors::{FoundSelector, SelectorForm, next_part, prelude_fault, read_part};
+use css_selectors::Specificity;
 use css_sheet::{Level, Places, RuleSelector, SheetReader, read_listed};
+use css_syntax::selectors::{FoundSelector, SelectorForm, next_part, prelude_fault, read_part};
 use css_syntax::{AtRule, Fault, RuleSet, SheetPart, Statement};
-use selectors3::Specificity;
 use std::alloc::{AllocError, Global};
 use std::fmt::Write as _;
 
@@ -274,14 +276,17 @@ fn push_part(
     out.push_str("}\n")
 }
 
-/// Returns the lines of the statements of a sheet.
-pub fn sheet_lines(alloc: Global, text: &str) -> Result<String, AllocError>
-    ensures { IfOk result (λ lines. string_bytes lines ≡ lines_of text.now) }
+/// Returns the lines of the statements of a sheet, in at most this number of bytes.
+pub fn sheet_lines(alloc: Global, text: &str, most: usize) -> Result<String, CallError>
+    ensures { MatchResult result
+        (λ lines. (string_bytes lines ≡ lines_of text.now) × (length (string_bytes lines) ≤ most))
+        (FailsLonger (most < length (lines_of text.now))) }
 {
     let mut out = String::new(alloc);
     let mut reader = SheetReader::new(alloc, text);
     'items: while let Some(part) = reader.read_next()? {
         push_part(&mut out, alloc, reader.levels(), reader.places(), &part)?;
+        check_length(&out, most)?;
     }
     Ok(out)
 }

@@ -7,18 +7,18 @@ use Rattle.std.proofs.lemmas.List.Sums.{sum_by-take-drop, sum_by-append}
 use mir.Val.{bool_byte}
 use Rattle.std.specs.List.{prefix_len}
 use Rattle.std.specs.Str.{IsCharBoundary}
-use Rattle.simplecss_text.specs.AsciiBytes.{close_brace, open_brace}
-use Rattle.simplecss_text.specs.Reading.{Reading, got, fails, found, each, followed_by}
-use Rattle.simplecss_text.specs.Bytes.{past_byte, after_byte}
-use Rattle.simplecss_text.specs.Characters.{Edition}
-use Rattle.simplecss_text.specs.Declarations.{StyleDeclaration, declaration, next_declaration}
-use Rattle.simplecss_text.specs.Blocks.{count_of, closes_block, block_end, from_block_end, ends_list, declaration_in_block, past_broken, past_list, block}
-use Rattle.simplecss_text.specs.Statements.{next_block}
+use Rattle.css_text.specs.AsciiBytes.{close_brace, open_brace}
+use Rattle.css_text.specs.Reading.{Reading, got, fails, found, each, followed_by}
+use Rattle.css_text.specs.Bytes.{past_byte, after_byte}
+use Rattle.css_text.specs.Characters.{Edition}
+use Rattle.simplecss_grammar.specs.Declarations.{StyleDeclaration, declaration, next_declaration}
+use Rattle.simplecss_grammar.specs.Blocks.{count_of, closes_block, block_end, from_block_end, ends_list, declaration_in_block, past_broken, past_list, block}
+use Rattle.simplecss_grammar.specs.Statements.{next_block}
 use Rattle.simplecss_declaration.specs.internal.ListEnds.{EndsAt}
-use Rattle.simplecss_text.specs.Skipped.{Skip, broken_part, if_broken, list_skips, block_skips, next_block_skips}
-use Rattle.simplecss_text.proofs.reading.EachLemmas.{took, each-none, each-some}
-use Rattle.simplecss_text.proofs.reading.DeclarationLemmas.{next_declaration-takes, declaration_in_block-takes}
-use Rattle.simplecss_text.proofs.reading.LeastLemmas.{least-is, least-none, least-le, least-passes}
+use Rattle.simplecss_grammar.specs.Skipped.{Skip, broken_part, if_broken, list_skips, block_skips, next_block_skips}
+use Rattle.css_text.proofs.reading.EachLemmas.{took, each-none, each-some}
+use Rattle.simplecss_grammar.proofs.reading.DeclarationLemmas.{next_declaration-takes, declaration_in_block-takes}
+use Rattle.simplecss_grammar.proofs.reading.LeastLemmas.{least-is, least-none, least-le, least-passes}
 use Rattle.simplecss_declaration.specs.internal.UnreportedFaults.{FailsAt}
 use Rattle.simplecss_declaration.specs.internal.BlockDepths.{closes_at, ClosesFirst, ClosesNowhere}
 use Rattle.simplecss_declaration.proofs.DeclarationLists.{found-none}

@@ -1,11 +1,11 @@
 -- The declarations of a text, one at a time.
 -- Serves `next` of `DeclarationTokenizer` (the first declaration and the others).
 use Rattle.std.proofs.Common.{◌≡◌, ℕ, List, [], ◌∷◌, None, refl, ap}
-use Rattle.simplecss_text.specs.Reading.{Reading, got, fails, found, each}
-use Rattle.simplecss_text.specs.Characters.{Edition}
-use Rattle.simplecss_text.specs.Declarations.{StyleDeclaration, declaration, next_declaration, declarations}
-use Rattle.simplecss_text.proofs.reading.EachLemmas.{each-none, each-some}
-use Rattle.simplecss_text.proofs.reading.DeclarationLemmas.{next_declaration-takes}
+use Rattle.css_text.specs.Reading.{Reading, got, fails, found, each}
+use Rattle.css_text.specs.Characters.{Edition}
+use Rattle.simplecss_grammar.specs.Declarations.{StyleDeclaration, declaration, next_declaration, declarations}
+use Rattle.css_text.proofs.reading.EachLemmas.{each-none, each-some}
+use Rattle.simplecss_grammar.proofs.reading.DeclarationLemmas.{next_declaration-takes}
 use Rattle.simplecss_declaration.specs.internal.UnreportedFaults.{FailsAt}
 
 pub declarations-some : (edition : Edition) (text rest : List ℕ) (p : StyleDeclaration)

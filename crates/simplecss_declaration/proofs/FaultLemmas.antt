@@ -1,7 +1,7 @@
 -- Readings that fail.
 -- Serves `reader::read_value` (a term that fails, fails the value).
 use Rattle.std.proofs.Common.{◌≡◌, ℕ, List, Bool, true, false, sym, ap}
-use Rattle.simplecss_text.specs.Reading.{Fault, Reading, got, fails}
+use Rattle.css_text.specs.Reading.{Fault, Reading, got, fails}
 use Rattle.simplecss_declaration.specs.internal.UnreportedFaults.{FailsAt, Passes}
 
 -- there is a fault

@@ -1,16 +1,16 @@
 -- What of a value is skipped, by where reading its terms stops.
 -- Serves `reader::find_open_value` and `blocks::{report_declared, consume_declarations}`.
 use Rattle.std.proofs.Common.{◌≡◌, ◌⊎◌, ◌==◌, ◌||◌, ℕ, Bool, true, false, not, List, [], ◌∷◌, if◌then◌else◌, ap, inl, inr, length, refl, subst, sym, ◌∙◌, Some, None}
-use Rattle.simplecss_text.specs.Reading.{Reading, got, fails, each}
-use Rattle.simplecss_text.specs.Characters.{Edition}
-use Rattle.simplecss_text.specs.Terms.{term}
-use Rattle.simplecss_text.specs.Declarations.{StyleDeclaration, declaration, stated_name, terms}
-use Rattle.simplecss_text.specs.Blocks.{ends_list, declaration_in_block}
-use Rattle.simplecss_text.specs.Skipped.{Skip, add_each, block_skips, declaration_skips, list_skips, open_skips, open_value, skips_after_name}
-use Rattle.simplecss_text.proofs.reading.EachLemmas.{Done, each-stops, not_empty}
-use Rattle.simplecss_text.proofs.reading.DeclarationLemmas.{declaration_in_block-takes}
-use Rattle.simplecss_text.proofs.reading.OpenValues.{block_skips-none, block_skips-some, declaration_skips-ended}
-use Rattle.simplecss_text.proofs.reading.SkipLemmas.{add_each-append}
+use Rattle.css_text.specs.Reading.{Reading, got, fails, each}
+use Rattle.css_text.specs.Characters.{Edition}
+use Rattle.simplecss_grammar.specs.Terms.{term}
+use Rattle.simplecss_grammar.specs.Declarations.{StyleDeclaration, declaration, stated_name, terms}
+use Rattle.simplecss_grammar.specs.Blocks.{ends_list, declaration_in_block}
+use Rattle.simplecss_grammar.specs.Skipped.{Skip, add_each, block_skips, declaration_skips, list_skips, open_skips, open_value, skips_after_name}
+use Rattle.css_text.proofs.reading.EachLemmas.{Done, each-stops, not_empty}
+use Rattle.simplecss_grammar.proofs.reading.DeclarationLemmas.{declaration_in_block-takes}
+use Rattle.simplecss_grammar.proofs.reading.OpenValues.{block_skips-none, block_skips-some, declaration_skips-ended}
+use Rattle.simplecss_grammar.proofs.reading.SkipLemmas.{add_each-append}
 use Rattle.simplecss_declaration.specs.internal.OpenValues.{open_from}
 use Rattle.simplecss_declaration.specs.internal.UnreportedFaults.{FailsAt}
 

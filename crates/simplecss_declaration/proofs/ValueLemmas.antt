@@ -3,19 +3,19 @@
 use Rattle.std.proofs.Common.{◌≡◌, ℕ, ◌<◌, ◌-◌, List, [], ◌∷◌, Bool, true, false, length, take, refl, sym, ap, ◌∙◌, subst, arith, length-take-le, slice_range}
 use Rattle.std.specs.Str.{trim, IsUtf8, IsCharBoundary}
 use Rattle.std.proofs.lemmas.Str.{IsCharBoundary-at_seam}
-use Rattle.simplecss_text.specs.AsciiBytes.{asterisk, colon as colon_byte, semicolon as semicolon_byte}
-use Rattle.simplecss_text.specs.Reading.{Fault, got, fails, each, followed_by, before, Ends}
-use Rattle.simplecss_text.specs.Bytes.{starts, past_one, past_byte, byte}
-use Rattle.simplecss_text.specs.Characters.{Edition}
-use Rattle.simplecss_text.specs.Comments.{past_blank, blank}
-use Rattle.simplecss_text.specs.Names.{name}
-use Rattle.simplecss_text.specs.Slices.{OccurBetween}
-use Rattle.simplecss_text.specs.Terms.{term}
-use Rattle.simplecss_text.specs.Declarations.{after_term, term_in_value, last_or, value, semicolon, trailing}
-use Rattle.simplecss_text.proofs.reading.EndsLemmas.{no_texts, itself, ends-ends, ends-got, ends-past_byte, occurs-got, occur-from, occur-to, occur-append}
-use Rattle.simplecss_text.proofs.reading.OccurrenceLemmas.{blank-occurs, byte-occurs, name-occurs}
-use Rattle.simplecss_text.proofs.reading.DeclarationsLawful.{semicolon-takes, term_in_value-takes, trailing-occurs}
-use Rattle.simplecss_text.proofs.reading.EachLemmas.{took, each-none, each-some}
+use Rattle.css_text.specs.AsciiBytes.{asterisk, colon as colon_byte, semicolon as semicolon_byte}
+use Rattle.css_text.specs.Reading.{Fault, got, fails, each, followed_by, before, Ends, last_or}
+use Rattle.css_text.specs.Bytes.{starts, past_one, past_byte, byte}
+use Rattle.css_text.specs.Characters.{Edition}
+use Rattle.css_text.specs.Comments.{past_blank, blank}
+use Rattle.css_text.specs.Names.{name}
+use Rattle.css_text.specs.Slices.{OccurBetween}
+use Rattle.simplecss_grammar.specs.Terms.{term}
+use Rattle.simplecss_grammar.specs.Declarations.{after_term, term_in_value, value, semicolon, trailing}
+use Rattle.css_text.proofs.reading.EndsLemmas.{no_texts, itself, ends-ends, ends-got, ends-past_byte, occurs-got, occur-from, occur-to, occur-append}
+use Rattle.simplecss_grammar.proofs.reading.OccurrenceLemmas.{blank-occurs, byte-occurs, name-occurs}
+use Rattle.simplecss_grammar.proofs.reading.DeclarationsLawful.{semicolon-takes, term_in_value-takes, trailing-occurs}
+use Rattle.css_text.proofs.reading.EachLemmas.{took, each-none, each-some}
 
 pub terms-some : (edition : Edition) (text rest : List ℕ) → term edition text ≡ got tt rest
     → each (term_in_value edition) text

@@ -2,10 +2,10 @@
 use Rattle.std.specs.Prelude.{◌≡◌, ℕ, ◌≤◌, List, [], ◌∷◌, length, Option, None, Some}
 use Rattle.std.specs.Iterator.{YieldsFirstBy}
 use Rattle.std.specs.Iterator.Runs.{EveryRun, ItemsMapTo}
-use Rattle.simplecss_text.specs.Slices.{OccurBetween}
-use Rattle.simplecss_text.specs.Cursor.{text_of, rest_of, offset_of}
-use Rattle.simplecss_text.specs.ThisEdition.{this_edition}
-use Rattle.simplecss_text.specs.Declarations.{StyleDeclaration, next_declaration, declarations}
+use Rattle.css_text.specs.Slices.{OccurBetween}
+use Rattle.css_text.specs.Cursor.{text_of, rest_of, offset_of}
+use Rattle.css_text.specs.ThisEdition.{this_edition}
+use Rattle.simplecss_grammar.specs.Declarations.{StyleDeclaration, next_declaration, declarations}
 use Rattle.simplecss_declaration.specs.declared.declarations.Declaration.{Declaration}
 use Rattle.simplecss_declaration.specs.declared.tokenizer.DeclarationTokenizer.{DeclarationTokenizer}
 use Rattle.simplecss_declaration.specs.DeclarationViews.{declaration_of}

@@ -1,6 +1,6 @@
 -- What contracts see of declarations: the bytes of their texts, wherever these are stored.
 use Rattle.std.specs.Prelude.{List, map}
-use Rattle.simplecss_text.specs.Declarations.{StyleDeclaration}
+use Rattle.simplecss_grammar.specs.Declarations.{StyleDeclaration}
 use Rattle.simplecss_declaration.specs.declared.declarations.Declaration.{Declaration}
 
 abbrev pub declaration_of : Declaration → StyleDeclaration

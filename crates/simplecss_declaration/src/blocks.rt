@@ -1,27 +1,28 @@
 //! Blocks of declarations, and what is skipped before and with a block in a style sheet.
 ghost use Rattle.std.specs.Prelude.{◌≡◌, ◌+◌, ◌<◌, ◌^◌, MatchResult, OnOk, IfOk, length, map, option_map};
+ghost use Rattle.std.specs.Prelude.{MatchOption, None, false};
 ghost use Rattle.std.specs.Str.{IsCharBoundary};
-ghost use Rattle.simplecss_text.specs.Reading.{got, each};
-ghost use Rattle.simplecss_text.specs.AsciiBytes.{semicolon, open_brace, close_brace};
-ghost use Rattle.simplecss_text.specs.Bytes.{past_byte, is_neither, past};
-ghost use Rattle.simplecss_text.specs.Declarations.{StyleDeclaration, declaration};
-ghost use Rattle.simplecss_text.specs.Blocks.{count_of, block_end as block_end_of, from_block_end};
-ghost use Rattle.simplecss_text.specs.Blocks.{ends_list, declaration_in_block, block};
-ghost use Rattle.simplecss_text.specs.Statements.{next_block, past_semicolon_or_block};
-ghost use Rattle.simplecss_text.specs.Skipped.{declaration_skips, list_end_skips, brace_skips};
-ghost use Rattle.simplecss_text.specs.Skipped.{broken_part, list_skips, block_skips};
-ghost use Rattle.simplecss_text.specs.Skipped.{next_block_skips, add_each};
-ghost use Rattle.simplecss_text.specs.ThisEdition.{this_edition};
-ghost use Rattle.simplecss_text.specs.Cursor.{text_of, rest_of};
+ghost use Rattle.css_text.specs.Reading.{got, each};
+ghost use Rattle.css_text.specs.AsciiBytes.{semicolon, open_brace, close_brace};
+ghost use Rattle.css_text.specs.Bytes.{past_byte, is_neither, past};
+ghost use Rattle.simplecss_grammar.specs.Declarations.{StyleDeclaration, declaration};
+ghost use Rattle.simplecss_grammar.specs.Blocks.{count_of, block_end as block_end_of, from_block_end};
+ghost use Rattle.simplecss_grammar.specs.Blocks.{ends_list, declaration_in_block, block};
+ghost use Rattle.simplecss_grammar.specs.Statements.{next_block, past_semicolon_or_block};
+ghost use Rattle.simplecss_grammar.specs.Skipped.{declaration_skips, list_end_skips, brace_skips};
+ghost use Rattle.simplecss_grammar.specs.Skipped.{broken_part, list_skips, block_skips};
+ghost use Rattle.simplecss_grammar.specs.Skipped.{next_block_skips, add_each};
+ghost use Rattle.css_text.specs.ThisEdition.{this_edition};
+ghost use Rattle.css_text.specs.Cursor.{text_of, rest_of};
 ghost use Rattle.simplecss_declaration.specs.internal.BlockDepths.{ClosesFirst, ClosesNowhere};
 ghost use Rattle.simplecss_declaration.specs.internal.ListEnds.{EndsAt};
 ghost use Rattle.simplecss_declaration.specs.DeclarationViews.{declaration_of};
 
 use super::declarations::Declaration;
 use super::reader::{find_open_value, take_declaration};
-use simplecss_text::report::{Report, Skipped, Why};
-use simplecss_text::stream::Stream;
-use simplecss_text::{readers, scan};
+use css_text::stream::Stream;
+use css_text::{readers, scan};
+use simplecss_grammar::report::{Report, Skipped, Why};
 use std::alloc::AllocError;
 
 /// The number of bytes that are tested at once.
@@ -202,6 +203,20 @@ fn at_list_end(s: &Stream<'_>) -> bool
         None => true,
         Some(byte) => byte == b'}',
     }
+}
+
+/// Consumes the next declaration of a block, or returns `None` where the block ends or a declaration is
+/// broken.
+pub fn take_in_block<'a>(s: &mut Stream<'a>) -> Option<Declaration<'a>>
+    ensures text { text_of s.new ≡ text_of s.old }
+    ensures reads { MatchOption result (declaration_in_block this_edition (rest_of s.old) ≡ None)
+        (λ d. (ends_list (rest_of s.old) ≡ false)
+        × (declaration this_edition (rest_of s.old) ≡ got (declaration_of d) (rest_of s.new))) }
+{
+    if at_list_end(s) {
+        return None;
+    }
+    take_declaration(s)
 }
 
 /// Reports the string or the function in the value of the declaration at the start of `text` that is

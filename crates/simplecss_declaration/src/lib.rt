@@ -9,7 +9,7 @@ mod reader;
 mod terms;
 mod tokenizer;
 
-pub use blocks::{consume_next_block, skip_semicolon_or_block};
+pub use blocks::{consume_next_block, skip_semicolon_or_block, take_in_block};
 pub use declarations::Declaration;
-pub use reader::find_value;
+pub use reader::{find_value, find_value_end};
 pub use tokenizer::DeclarationTokenizer;

@@ -1,7 +1,7 @@
 //! Prints a declaration.
 ghost use Rattle.std.specs.Prelude.{◌++◌, ◌≡◌, codes};
 ghost use Rattle.std.specs.Fmt.{WritesStyledOnOk};
-ghost use Rattle.simplecss_text.specs.Printing.{important_text};
+ghost use Rattle.simplecss_grammar.specs.Printing.{important_text};
 
 use crate::Declaration;
 use std::fmt;
@@ -11,7 +11,7 @@ use std::fmt::Display;
 /// sheet. The formatter's width, fill and flags change nothing.
 impl<'a> Display for Declaration<'a> {
     ghost use Rattle.std.specs.Prelude.{Some};
-    ghost use Rattle.simplecss_text.specs.Printing.{declaration_text};
+    ghost use Rattle.simplecss_grammar.specs.Printing.{declaration_text};
     ghost use Rattle.simplecss_declaration.specs.DeclarationViews.{declaration_of};
 
     ghost output = { λ d. Some (declaration_text (declaration_of d)) };

@@ -1,27 +1,27 @@
 //! Reads declarations from a cursor, without reporting errors.
 ghost use Rattle.std.specs.Prelude.{◌≡◌, [], ◌∷◌, IfSome, option_map};
-ghost use Rattle.simplecss_text.specs.Reading.{got, each};
-ghost use Rattle.simplecss_text.specs.AsciiBytes.{colon};
-ghost use Rattle.simplecss_text.specs.Bytes.{byte as byte_read};
-ghost use Rattle.simplecss_text.specs.Slices.{OccurBetween};
-ghost use Rattle.simplecss_text.specs.Comments.{past_blank};
-ghost use Rattle.simplecss_text.specs.Terms.{term};
-ghost use Rattle.simplecss_text.specs.Declarations.{terms, value as value_read, important_word};
-ghost use Rattle.simplecss_text.specs.Declarations.{importance, semicolon, trailing};
-ghost use Rattle.simplecss_text.specs.Declarations.{stated_name as stated_name_read};
-ghost use Rattle.simplecss_text.specs.Declarations.{declaration as declaration_read};
-ghost use Rattle.simplecss_text.specs.Skipped.{declaration_skips};
-ghost use Rattle.simplecss_text.specs.ThisEdition.{this_edition};
-ghost use Rattle.simplecss_text.specs.Cursor.{text_of, rest_of};
+ghost use Rattle.css_text.specs.Reading.{got, each};
+ghost use Rattle.css_text.specs.AsciiBytes.{colon};
+ghost use Rattle.css_text.specs.Bytes.{byte as byte_read};
+ghost use Rattle.css_text.specs.Slices.{OccurBetween};
+ghost use Rattle.css_text.specs.Comments.{past_blank};
+ghost use Rattle.simplecss_grammar.specs.Terms.{term};
+ghost use Rattle.simplecss_grammar.specs.Declarations.{terms, value as value_read, important_word};
+ghost use Rattle.simplecss_grammar.specs.Declarations.{importance, semicolon, trailing};
+ghost use Rattle.simplecss_grammar.specs.Declarations.{stated_name as stated_name_read};
+ghost use Rattle.simplecss_grammar.specs.Declarations.{declaration as declaration_read};
+ghost use Rattle.simplecss_grammar.specs.Skipped.{declaration_skips};
+ghost use Rattle.css_text.specs.ThisEdition.{this_edition};
+ghost use Rattle.css_text.specs.Cursor.{text_of, rest_of};
 ghost use Rattle.simplecss_declaration.specs.internal.UnreportedFaults.{Answers, FailsAt, Passes};
 ghost use Rattle.simplecss_declaration.specs.internal.OpenValues.{open_from};
-ghost use Rattle.simplecss_declaration.specs.ValueStarts.{value_from};
+ghost use Rattle.simplecss_declaration.specs.ValueStarts.{value_end, value_from};
 ghost use Rattle.simplecss_declaration.specs.DeclarationViews.{declaration_of};
 
 use super::declarations::Declaration;
 use super::terms::skip_term;
-use simplecss_text::stream::Stream;
-use simplecss_text::{readers, scan};
+use css_text::stream::Stream;
+use css_text::{readers, scan};
 
 /// Skips a blank, up to an open comment if there is one.
 #[inline(always)]
@@ -203,4 +203,15 @@ pub fn find_value(text: &str) -> Option<&str>
     let mut s = Stream::new(text);
     take_stated_name(&mut s)?;
     Some(s.slice_tail().trim_start())
+}
+
+/// Returns the text after the value of a declaration and the blank that follows it, or `None` where no
+/// name and colon precede a value. A string or a function that is not closed belongs to what follows.
+/// The declaration begins with the text.
+pub fn find_value_end(text: &str) -> Option<&str>
+    ensures { option_map (λ after. after.now) result ≡ value_end this_edition text.now }
+{
+    let mut s = Stream::new(text);
+    take_stated_name(&mut s)?;
+    Some(skip_terms(&mut s))
 }

@@ -1,16 +1,17 @@
 //! The terms of values.
 ghost use Rattle.std.specs.Prelude.{◌≡◌};
-ghost use Rattle.simplecss_text.specs.Reading.{ended};
-ghost use Rattle.simplecss_text.specs.AsciiBytes.{close_parenthesis};
-ghost use Rattle.simplecss_text.specs.Bytes.{past, is_digit, after_byte, closed_or};
-ghost use Rattle.simplecss_text.specs.Names.{name as name_read};
-ghost use Rattle.simplecss_text.specs.Terms.{is_hex_digit, past_hash, past_number, word, term};
-ghost use Rattle.simplecss_text.specs.ThisEdition.{this_edition};
-ghost use Rattle.simplecss_text.specs.Cursor.{text_of, rest_of};
+ghost use Rattle.css_text.specs.Reading.{ended};
+ghost use Rattle.css_text.specs.AsciiBytes.{close_parenthesis};
+ghost use Rattle.css_text.specs.Bytes.{past, is_digit, after_byte, closed_or};
+ghost use Rattle.css_text.specs.Names.{name as name_read};
+ghost use Rattle.css_text.specs.Bytes.{is_hex_digit};
+ghost use Rattle.simplecss_grammar.specs.Terms.{past_hash, past_number, word, term};
+ghost use Rattle.css_text.specs.ThisEdition.{this_edition};
+ghost use Rattle.css_text.specs.Cursor.{text_of, rest_of};
 ghost use Rattle.simplecss_declaration.specs.internal.UnreportedFaults.{Passes};
 
-use simplecss_text::stream::Stream;
-use simplecss_text::{readers, scan};
+use css_text::stream::Stream;
+use css_text::{readers, scan};
 
 /// Skips digits.
 #[inline(always)]

@@ -1,7 +1,7 @@
 //! The tokenizer of declarations.
 use super::declarations::Declaration;
 use super::reader::take_declaration;
-use simplecss_text::stream::Stream;
+use css_text::stream::Stream;
 use std::iter::FusedIterator;
 
 /// An iterator over the declarations of a text, such as that of a block or of a `style` attribute,

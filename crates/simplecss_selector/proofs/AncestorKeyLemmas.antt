@@ -3,18 +3,17 @@
 use Rattle.std.proofs.Common.{◌≡◌, ℕ, zero, suc, ◌+◌, ◌-◌, ◌<◌, ◌⊎◌, ◌↔◌, inl, inr, List, [], ◌∷◌, ◌++◌, Option, Some, None, length, refl, sym, ap, ◌∙◌, arith, append_assoc}
 use Rattle.std.specs.List.{All, cons_option}
 use Rattle.std.proofs.lemmas.List.Elements.{All-append}
-use Rattle.simplecss_text.specs.Components.{Component, Combinator}
-use Rattle.simplecss_text.specs.Components.Combinator.{none, descendant, child, adjacent}
+use Rattle.simplecss_grammar.specs.Components.{Component, Combinator}
+use Rattle.simplecss_grammar.specs.Components.Combinator.{none, descendant, child, adjacent}
 use Rattle.simplecss_selector.specs.Trees.{Tree, SiblingsShareParent}
 use Rattle.simplecss_selector.specs.Keys.{Key, compound_key}
-use Rattle.simplecss_selector.specs.Shapes.{component_at}
+use Rattle.simplecss_selector.specs.Shapes.{component_at, first_of}
 use Rattle.simplecss_selector.specs.Placements.{HasPlacement, Relates}
 use Rattle.simplecss_selector.specs.Placements.IsAncestor.{is_parent}
-use Rattle.simplecss_selector.specs.PlacementSearch.{Reaches, IsWithin, first_of}
+use Rattle.simplecss_selector.specs.internal.PlacementSearch.{Reaches, IsWithin}
 use Rattle.simplecss_selector.specs.AncestorKeys.{step_key, keys_among, ancestor_keys, SomeAncestorHas}
 use Rattle.simplecss_selector.proofs.Ancestors.{ancestor_trans, ancestor_shared, sibling_parent}
 use Rattle.simplecss_selector.proofs.KeyLemmas.{met_has_key}
-use Rattle.simplecss_selector.proofs.KeyBitLemmas.{some_step}
 use Rattle.simplecss_selector.proofs.Reaching.{first_of-suc}
 use Rattle.simplecss_selector.proofs.Greedy.{placement_of}
 
@@ -96,6 +95,14 @@ of_step b bs adjacent (inl e) = absurd (cc)
 of_step b bs adjacent (inr e) = absurd (cc)
 of_step b bs descendant h = refl
 of_step b bs child h = refl
+
+some_step : (d : Combinator) (index : ℕ) → ((d ≡ none) ↔ (index ≡ 0))
+    → (d ≡ child) ⊎ (d ≡ descendant) → 0 < index
+some_step d zero first (inl e) =
+    absurd (let n = first.1 refl in let x : none ≡ child = sym n ∙ e in cc)
+some_step d zero first (inr e) =
+    absurd (let n = first.1 refl in let x : none ≡ descendant = sym n ∙ e in cc)
+some_step d (suc index) first h = omega arith
 
 pub step_key_is : (cs : List Component) (index : ℕ) (d : Combinator) (key : Key)
     → index < length cs

@@ -2,13 +2,13 @@
 -- Serves `Selector::{matches, matches_counted}`, `laws::same_meanings_law` and `laws::key_law`.
 use Rattle.std.proofs.Common.{◌≡◌, Option, Some, None, sym, ◌∙◌, ◌⊎◌, inl, inr, subst, IsTrue}
 use Rattle.std.proofs.lemmas.Bool.{false≢true}
-use Rattle.simplecss_text.specs.Components.{Combinator}
-use Rattle.simplecss_text.specs.Components.Combinator.{none, descendant, child, adjacent}
+use Rattle.simplecss_grammar.specs.Components.{Combinator}
+use Rattle.simplecss_grammar.specs.Components.Combinator.{none, descendant, child, adjacent}
 use Rattle.simplecss_selector.specs.Trees.{Tree, SiblingsShareParent}
 use Rattle.simplecss_selector.specs.Placements.{IsAncestor, Relates, is_step}
 use Rattle.simplecss_selector.specs.Placements.IsAncestor.{is_parent, is_further}
-use Rattle.simplecss_selector.specs.PlacementSearch.{IsAtOrAbove, IsWithin}
-use Rattle.simplecss_selector.specs.PlacementSearch.IsAtOrAbove.{here, above}
+use Rattle.simplecss_selector.specs.internal.PlacementSearch.{IsAtOrAbove, IsWithin}
+use Rattle.simplecss_selector.specs.internal.PlacementSearch.IsAtOrAbove.{here, above}
 
 pub same_some : {A : Type 0} {x y : A} → Some x ≡ Some y → x ≡ y
 same_some e = cc

@@ -7,7 +7,7 @@ use Rattle.std.proofs.lemmas.List.Folds.{drop_split}
 use Rattle.std.proofs.lemmas.List.Sums.{sum_by-append, sum_by-cons}
 use Rattle.std.specs.List.{slice_range}
 use Rattle.std.specs.Option.{option_map}
-use Rattle.simplecss_text.specs.Components.{Component, Subselector}
+use Rattle.simplecss_grammar.specs.Components.{Component, Subselector}
 use Rattle.simplecss_selector.specs.internal.SelectorViews.{subselector_of, component_of_flat, components_from, Tile}
 use Rattle.simplecss_selector.specs.declared.selector.FlatComponent.{FlatComponent}
 use Rattle.simplecss_selector.specs.declared.selector.SubSelector.{SubSelector}

@@ -1,19 +1,19 @@
 -- Filling a draft role by role makes the selector of the roles.
 -- Serves `Selector::{parse, parse_front}` (the selector of the tokens of a text).
 use Rattle.std.proofs.Common.{◌≡◌, ◌<◌, ℕ, Bool, true, false, Option, Some, None, Ok, Err, is_some, List, [], ◌∷◌, ◌++◌, length, refl, sym, ap, ◌∙◌, append_assoc, append-nil, map, arith}
-use Rattle.simplecss_text.specs.Components.{Component}
-use Rattle.simplecss_text.specs.declared.error.Error.{Error}
-use Rattle.simplecss_text.specs.TokenSequences.{TokenSequence, sequence_of, items}
-use Rattle.simplecss_text.specs.Bytes.{past}
-use Rattle.simplecss_text.specs.Characters.{is_space}
-use Rattle.simplecss_text.specs.Errors.{error_of}
-use Rattle.simplecss_text.specs.Tokens.{Token}
-use Rattle.simplecss_text.specs.Skipped.{Refusal, faulty, unknown_class, unless_unknown, class_name, refusal_in, refusal, refused as refused_skip, refused_part, selector_skips}
-use Rattle.simplecss_text.specs.ThisEdition.{this_edition}
-use Rattle.simplecss_text.specs.Selectors.{Part, Role, Outcome, role_of, outcome, with_role, after_role, cut, type_among, subselectors_among, component_of, components_of, selector_of, reads}
-use Rattle.simplecss_text.specs.Selectors.Part.{any_type, of_type, with}
-use Rattle.simplecss_text.specs.Selectors.Role.{part, joined_by}
-use Rattle.simplecss_text.specs.Selectors.Outcome.{refused, accepted}
+use Rattle.simplecss_grammar.specs.Components.{Component}
+use Rattle.css_text.specs.declared.error.Error.{Error}
+use Rattle.simplecss_grammar.specs.TokenSequences.{TokenSequence, sequence_of, items}
+use Rattle.css_text.specs.Bytes.{past}
+use Rattle.css_text.specs.Characters.{is_space}
+use Rattle.css_text.specs.Errors.{error_of}
+use Rattle.simplecss_grammar.specs.Tokens.{Token}
+use Rattle.simplecss_grammar.specs.Skipped.{Refusal, faulty, unknown_class, unless_unknown, class_name, refusal_in, refusal, refused as refused_skip, refused_part, selector_skips}
+use Rattle.css_text.specs.ThisEdition.{this_edition}
+use Rattle.simplecss_grammar.specs.Selectors.{Part, Role, Outcome, role_of, outcome, with_role, after_role, cut, type_among, subselectors_among, component_of, components_of, selector_of, reads}
+use Rattle.simplecss_grammar.specs.Selectors.Part.{any_type, of_type, with}
+use Rattle.simplecss_grammar.specs.Selectors.Role.{part, joined_by}
+use Rattle.simplecss_grammar.specs.Selectors.Outcome.{refused, accepted}
 use Rattle.simplecss_selector.specs.declared.token.SelectorToken.{SelectorToken}
 use Rattle.simplecss_selector.specs.TokenViews.{token_of}
 use Rattle.simplecss_selector.specs.internal.SelectorDrafts.{Drafted, empty_draft, drafted_after, drafted_if, continued, finished, selector_after, selector_read}

@@ -8,8 +8,8 @@ use Rattle.std.proofs.lemmas.Slice.{between_is, between_to_end}
 use Rattle.std.specs.List.{slice_range}
 use Rattle.std.specs.Result.{IfOk, OnOk, OnErr}
 use Rattle.std.specs.Option.{option_map}
-use Rattle.simplecss_text.specs.Components.{Component, Combinator}
-use Rattle.simplecss_text.specs.Components.Combinator.{none}
+use Rattle.simplecss_grammar.specs.Components.{Component, Combinator}
+use Rattle.simplecss_grammar.specs.Components.Combinator.{none}
 use Rattle.simplecss_selector.specs.internal.CombinatorViews.{combinator_of}
 use Rattle.simplecss_selector.specs.internal.Stretches.{kept_ends_after}
 use Rattle.simplecss_selector.specs.Shapes.{component_at, any_component, IsSelector}

@@ -4,26 +4,26 @@ use Rattle.std.proofs.Common.{◌≡◌, ℕ, List, ◌∷◌, Bool, true, false
 use Rattle.std.specs.Prelude.{⊤}
 use Rattle.std.specs.Iterator.{YieldsFirstBy, MakesProgress, item_count}
 use Rattle.std.proofs.lemmas.Str.{IsUtf8-drop, IsUtf8-had}
-use Rattle.simplecss_text.specs.Reading.{Fault, no_comment, no_selector, unexpected_selector, unexpected_combinator, got, fails}
-use Rattle.simplecss_text.specs.Bytes.{past_one}
-use Rattle.simplecss_text.specs.Comments.{gap}
-use Rattle.simplecss_text.specs.Errors.{error_of, position_of, FailsBy}
-use Rattle.simplecss_text.specs.ThisEdition.{this_edition}
-use Rattle.simplecss_text.specs.Slices.{OccurBetween}
-use Rattle.simplecss_text.specs.declared.next_kind.NextKind.{NextKind}
-use Rattle.simplecss_text.specs.declared.next_kind.NextKind.TheVariants.{Stop, Slash, Child, Adjacent, Universal, Id, Class, Attribute, Colon, Other}
-use Rattle.simplecss_text.specs.Tokens.{Token, token_texts}
-use Rattle.simplecss_text.specs.Pieces.{IsSimplePiece, next_kind, solid_as}
-use Rattle.simplecss_text.specs.Neighbours.Side.{open_side, closed_side}
-use Rattle.simplecss_text.specs.TokenSequences.{TokenSequence, fault_sequence, items, reported_in}
-use Rattle.simplecss_text.specs.TokenSequences.TokenSequence.{item}
-use Rattle.simplecss_text.specs.declared.error.Error.{Error}
-use Rattle.simplecss_text.specs.declared.error.Error.TheVariants.{InvalidComment, SelectorMissing, UnexpectedSelector, UnexpectedCombinator}
-use Rattle.simplecss_text.proofs.reading.EndsLemmas.{ends-same, occur-ends}
-use Rattle.simplecss_text.proofs.reading.OffsetLemmas.{offset-ends}
-use Rattle.simplecss_text.proofs.reading.SequenceEndLemmas.{FirstOccurs, sequence_from-first}
-use Rattle.simplecss_text.proofs.reading.SequenceSteps.{solid_sequence, sequence_from-kind, sequence_from-open_gap, sequence_from-descends}
-use Rattle.simplecss_text.proofs.reading.GivesLemmas.{fails_by-fault}
+use Rattle.css_text.specs.Reading.{Fault, no_comment, no_selector, unexpected_selector, unexpected_combinator, got, fails}
+use Rattle.css_text.specs.Bytes.{past_one}
+use Rattle.css_text.specs.Comments.{gap}
+use Rattle.css_text.specs.Errors.{error_of, position_of, FailsBy}
+use Rattle.css_text.specs.ThisEdition.{this_edition}
+use Rattle.css_text.specs.Slices.{OccurBetween}
+use Rattle.simplecss_grammar.specs.declared.next_kind.NextKind.{NextKind}
+use Rattle.simplecss_grammar.specs.declared.next_kind.NextKind.TheVariants.{Stop, Slash, Child, Adjacent, Universal, Id, Class, Attribute, Colon, Other}
+use Rattle.simplecss_grammar.specs.Tokens.{Token, token_texts}
+use Rattle.simplecss_grammar.specs.Pieces.{IsSimplePiece, next_kind, solid_as}
+use Rattle.simplecss_grammar.specs.Neighbours.Side.{open_side, closed_side}
+use Rattle.simplecss_grammar.specs.TokenSequences.{TokenSequence, fault_sequence, items, reported_in}
+use Rattle.simplecss_grammar.specs.TokenSequences.TokenSequence.{item}
+use Rattle.css_text.specs.declared.error.Error.{Error}
+use Rattle.css_text.specs.declared.error.Error.TheVariants.{InvalidComment, SelectorMissing, UnexpectedSelector, UnexpectedCombinator}
+use Rattle.css_text.proofs.reading.EndsLemmas.{ends-same, occur-ends}
+use Rattle.simplecss_grammar.proofs.reading.OffsetLemmas.{offset-ends}
+use Rattle.simplecss_grammar.proofs.reading.SequenceEndLemmas.{FirstOccurs, sequence_from-first}
+use Rattle.simplecss_grammar.proofs.reading.SequenceSteps.{solid_sequence, sequence_from-kind, sequence_from-open_gap, sequence_from-descends}
+use Rattle.simplecss_grammar.proofs.reading.GivesLemmas.{fails_by-fault}
 use Rattle.simplecss_selector.specs.declared.token.SelectorToken.{SelectorToken}
 use Rattle.simplecss_selector.specs.declared.token.SelectorToken.TheVariants.{DescendantCombinator}
 use Rattle.simplecss_selector.specs.declared.tokenizer.Stage.{Stage}

@@ -4,7 +4,7 @@
 use Rattle.std.proofs.Common.{◌≡◌, ℕ, zero, suc, ◌+◌, ◌-◌, sub-one, ◌<◌, ◌≤◌, List, [], ◌∷◌, ◌++◌, length, get_or, refl, ap, sym, ◌∙◌, subst, arith}
 use Rattle.std.specs.List.{slice_range}
 use Rattle.std.proofs.lemmas.List.{length-append}
-use Rattle.simplecss_text.specs.Components.{Component}
+use Rattle.simplecss_grammar.specs.Components.{Component}
 use Rattle.simplecss_selector.specs.internal.CombinatorViews.{combinator_of}
 use Rattle.simplecss_selector.specs.Shapes.{component_at}
 use Rattle.simplecss_selector.specs.internal.SelectorViews.{component_of_flat, components_from, Tile}

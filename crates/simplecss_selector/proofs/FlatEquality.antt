@@ -10,11 +10,11 @@ use Rattle.std.proofs.Math.Bool.{and_assoc, and-true, and-false}
 use Rattle.std.proofs.lemmas.Bool.Decides.{Decides-eqb, same_from_decides}
 use Rattle.std.proofs.lemmas.List.{take-map, drop_all, map-append, length-map, length-take, length-drop}
 use Rattle.std.proofs.lemmas.List.Folds.{drop_split}
-use Rattle.simplecss_text.specs.Components.{Component, Subselector, Combinator}
+use Rattle.simplecss_grammar.specs.Components.{Component, Subselector, Combinator}
 use Rattle.simplecss_selector.specs.OperatorViews.{operator_of, pseudo_class_of}
 use Rattle.simplecss_selector.specs.internal.CombinatorViews.{combinator_of}
 use Rattle.simplecss_selector.specs.internal.SelectorViews.{subselector_of, components_from, Tile}
-use Rattle.simplecss_text.specs.Bytes.{text_eq}
+use Rattle.css_text.specs.Bytes.{text_eq}
 use Rattle.simplecss_selector.specs.Equality.{operator_eq, pseudo_class_eq, combinator_eq, subselector_eq, selector_eq}
 use Rattle.simplecss_selector.specs.EqualityLaws.{and_left, and_right, and_both, combinator_decides, name_decides, subselector_decides, selector_decides}
 use Rattle.simplecss_selector.specs.declared.operator.AttributeOperator.{AttributeOperator}

@@ -3,13 +3,13 @@
 use Rattle.std.proofs.Common.{refl, ◌≡◌, ℕ, zero, suc, ◌+◌, ◌<◌, ◌≤◌, ◌↔◌, List, [], ◌∷◌, length, IsTrue, arith, Some, None, sym, ◌∙◌, add-one, subst}
 use Rattle.std.proofs.Math.Seq.{take-length}
 use Rattle.std.proofs.lemmas.Bool.{false≢true}
-use Rattle.simplecss_text.specs.Components.{Component, Combinator}
-use Rattle.simplecss_text.specs.Components.Combinator.{none, descendant, child, adjacent}
+use Rattle.simplecss_grammar.specs.Components.{Component, Combinator}
+use Rattle.simplecss_grammar.specs.Components.Combinator.{none, descendant, child, adjacent}
 use Rattle.simplecss_selector.specs.Trees.{Tree, SiblingsShareParent}
 use Rattle.simplecss_selector.specs.Placements.{Meets, Relates, HasPlacement, is_step}
-use Rattle.simplecss_selector.specs.PlacementSearch.{IsAtOrAbove, IsWithin, Reaches, CanPlace, IfMore, first_of, step_from}
-use Rattle.simplecss_selector.specs.Shapes.{component_at}
-use Rattle.simplecss_selector.specs.PlacementSearch.IsAtOrAbove.{here, above}
+use Rattle.simplecss_selector.specs.internal.PlacementSearch.{IsAtOrAbove, IsWithin, Reaches, CanPlace, IfMore, step_from}
+use Rattle.simplecss_selector.specs.Shapes.{first_of, component_at}
+use Rattle.simplecss_selector.specs.internal.PlacementSearch.IsAtOrAbove.{here, above}
 use Rattle.simplecss_selector.specs.internal.StretchFits.{LeavesRest}
 use Rattle.simplecss_selector.proofs.Ancestors.{same_some, no_some, no_ancestor, ancestor_from, at_or_above_from, within_above, within_step}
 use Rattle.simplecss_selector.proofs.Reaching.{first_of-suc, reaches_from, placement_from}

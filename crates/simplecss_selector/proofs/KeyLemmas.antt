@@ -5,13 +5,13 @@ use Rattle.std.specs.Prelude.{bytes_eq, codes, if◌then◌else◌}
 use Rattle.std.specs.Option.{option_or}
 use Rattle.std.proofs.lemmas.Slice.Eq.{bytes_eq-Decides}
 use Rattle.std.proofs.lemmas.List.Elements.{All-head, All-tail}
-use Rattle.simplecss_text.specs.Components.{Operator, Subselector, Compound, Component}
-use Rattle.simplecss_text.specs.Components.Operator.{exists, equals, has_word, begins_with}
-use Rattle.simplecss_text.specs.Components.Subselector.{attribute, pseudo_class}
+use Rattle.simplecss_grammar.specs.Components.{Operator, Subselector, Compound, Component}
+use Rattle.simplecss_grammar.specs.Components.Operator.{exists, equals, has_word, begins_with}
+use Rattle.simplecss_grammar.specs.Components.Subselector.{attribute, pseudo_class}
 use Rattle.simplecss_selector.specs.Trees.{Tree}
 use Rattle.simplecss_selector.specs.Placements.{HasPlacement, Meets, HasName, Holds}
-use Rattle.simplecss_selector.specs.PlacementSearch.{Reaches, first_of}
-use Rattle.simplecss_selector.specs.Shapes.{component_at}
+use Rattle.simplecss_selector.specs.internal.PlacementSearch.{Reaches}
+use Rattle.simplecss_selector.specs.Shapes.{first_of, component_at}
 use Rattle.simplecss_selector.specs.Keys.{equal_text, wanted_word, required_id, required_class, required_attribute, first_required, key_among, compound_key, key_of, HasKey}
 use Rattle.simplecss_selector.proofs.Reaching.{first_of-suc}
 use Rattle.simplecss_selector.proofs.Greedy.{placement_of}

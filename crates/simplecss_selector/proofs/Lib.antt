@@ -17,7 +17,6 @@ pub mod Counts
 pub mod FlatEquality
 pub mod Firsts
 pub mod KeyLemmas
-pub mod WantedLemmas
+pub mod BucketLemmas
 pub mod Refused
-pub mod KeyBitLemmas
 pub mod AncestorKeyLemmas

@@ -3,7 +3,7 @@
 use Rattle.std.proofs.Common.{◌≡◌, ℕ, zero, suc, ◌+◌, ◌*◌, ◌<◌, ◌≤◌, Bool, true, false, List, [], ◌∷◌, length, IsTrue, arith, cond, subst}
 use Rattle.std.proofs.Math.Decide.{dec_lt}
 use Rattle.std.proofs.Math.Nat.{mul-le-mul_left, mul-le-mul_right}
-use Rattle.simplecss_text.specs.Components.{Component}
+use Rattle.simplecss_grammar.specs.Components.{Component}
 use Rattle.simplecss_selector.specs.Placements.{is_joined, joined_length, longest_stretch}
 use Rattle.simplecss_selector.specs.Shapes.{component_at}
 

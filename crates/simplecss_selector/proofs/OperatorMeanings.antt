@@ -4,9 +4,9 @@ use Rattle.std.proofs.Common.{◌≡◌, ℕ, ◌↔◌, Bool, true, false, IsTr
 use Rattle.std.specs.Prelude.{bytes_eq, nat_eq}
 use Rattle.std.specs.List.{starts_with}
 use Rattle.std.proofs.lemmas.Slice.Eq.{bytes_eq-Decides}
-use Rattle.simplecss_text.specs.AsciiBytes.{hyphen}
-use Rattle.simplecss_text.specs.Components.{Operator}
-use Rattle.simplecss_text.specs.Components.Operator.{exists, equals, has_word, begins_with}
+use Rattle.css_text.specs.AsciiBytes.{hyphen}
+use Rattle.simplecss_grammar.specs.Components.{Operator}
+use Rattle.simplecss_grammar.specs.Components.Operator.{exists, equals, has_word, begins_with}
 use Rattle.simplecss_selector.specs.Operators.{is_satisfied, IsSatisfied}
 use Rattle.simplecss_selector.proofs.WordLemmas.{or-true, is_word_of-OccursIn}
 

@@ -2,11 +2,11 @@
 -- Serves `Selector::{matches, matches_counted}`, `laws::same_meanings_law` and `laws::key_law`.
 use Rattle.std.proofs.Common.{◌≡◌, ℕ, suc, ◌<◌, List, [], ◌∷◌, ◌++◌, length, take, refl, ◌∙◌, ap, subst}
 use Rattle.std.proofs.Math.Seq.{take-suc}
-use Rattle.simplecss_text.specs.Components.{Component}
+use Rattle.simplecss_grammar.specs.Components.{Component}
 use Rattle.simplecss_selector.specs.Trees.{Tree}
 use Rattle.simplecss_selector.specs.Placements.{ContinuesPlacement, HasPlacement}
-use Rattle.simplecss_selector.specs.PlacementSearch.{Reaches, backwards, first_of}
-use Rattle.simplecss_selector.specs.Shapes.{component_at, any_component}
+use Rattle.simplecss_selector.specs.internal.PlacementSearch.{Reaches}
+use Rattle.simplecss_selector.specs.Shapes.{backwards, first_of, component_at, any_component}
 
 pub reaches_on : {Node : Type 0} (tree : Tree Node) (a : Component) (cs bs : List Component)
     (ns : List Node) (before end : Node) → ContinuesPlacement tree before cs ns end

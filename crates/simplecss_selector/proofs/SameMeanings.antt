@@ -2,14 +2,16 @@
 -- Serves `laws::same_meanings_law`.
 use Rattle.std.proofs.Common.{◌≡◌, ℕ, zero, suc, ◌↔◌, List, [], ◌∷◌, Option, Some, None, refl, sym, ap, ◌∙◌, subst, get_or}
 use Rattle.std.specs.Option.{option_map}
-use Rattle.simplecss_text.specs.Components.{Component, Compound, Subselector, Combinator}
-use Rattle.simplecss_text.specs.Components.Subselector.{attribute, pseudo_class}
-use Rattle.simplecss_text.specs.Components.Combinator.{none, descendant, child, adjacent}
+use Rattle.simplecss_grammar.specs.Components.{Component, Compound, Subselector, Combinator}
+use Rattle.simplecss_grammar.specs.Components.Subselector.{attribute, pseudo_class}
+use Rattle.simplecss_grammar.specs.Components.Combinator.{none, descendant, child, adjacent}
 use Rattle.simplecss_selector.specs.Trees.{Tree}
 use Rattle.simplecss_selector.specs.Placements.{IsAncestor, HasName, Holds, Meets, Relates, HasPlacement}
 use Rattle.simplecss_selector.specs.Placements.IsAncestor.{is_parent, is_further}
-use Rattle.simplecss_selector.specs.PlacementSearch.{Reaches, backwards}
-use Rattle.simplecss_selector.specs.Meanings.{AreNoneOrRelated, RelatesMeanings, AnswerAlike, AreAlikeWithin, AreAlike, KeepsMeanings}
+use Rattle.simplecss_selector.specs.internal.PlacementSearch.{Reaches}
+use Rattle.simplecss_selector.specs.Shapes.{backwards}
+use Rattle.simplecss_selector.specs.Meanings.{AreNoneOrRelated, AnswerAlike, AreAlikeWithin, AreAlike, KeepsMeanings}
+use Rattle.simplecss_selector.specs.internal.RelatedMeanings.{RelatesMeanings}
 use Rattle.simplecss_selector.proofs.Ancestors.{same_some, no_some}
 use Rattle.simplecss_selector.proofs.Reaching.{reaches_from, placement_from}
 

@@ -2,16 +2,15 @@
 -- Serves `matching::{climb, place_stretch, continues}` (a step more of a search).
 use Rattle.simplecss_selector.specs.declared.matching.Fit.{Fit}
 use Rattle.simplecss_selector.specs.declared.matching.Fit.TheVariants.{Mismatch, NoNodeLeft, Complete, Continues}
-use Rattle.std.proofs.Common.{◌≡◌, ◌<◌, ◌≤◌, ℕ, ◌+◌, arith, Option, Some, None, ap, sym, ◌∙◌, Bor}
+use Rattle.std.proofs.Common.{◌≡◌, ◌<◌, ◌≤◌, ℕ, ◌+◌, arith, Option, Some, None, ap, sym, ◌∙◌, Bor, IsTrue}
 use Rattle.std.specs.Option.{option_copied, unwrap_or, option_map_or}
-use Rattle.simplecss_text.specs.Components.{Combinator as Seen}
-use Rattle.std.proofs.Common.{IsTrue}
+use Rattle.simplecss_grammar.specs.Components.{Combinator as Seen}
 use Rattle.std.proofs.lemmas.Bool.{false≢true}
 use Rattle.simplecss_selector.specs.Placements.{is_step}
 use Rattle.simplecss_selector.specs.Trees.{Tree}
 use Rattle.simplecss_selector.specs.internal.StretchFits.{TestsPlaced}
-use Rattle.simplecss_selector.specs.PlacementSearch.{step_from}
-use Rattle.simplecss_text.specs.Components.Combinator.{descendant}
+use Rattle.simplecss_selector.specs.internal.PlacementSearch.{step_from}
+use Rattle.simplecss_grammar.specs.Components.Combinator.{descendant}
 
 taken : {T Node : Type 0} (node : T → Node) (r : Option (Bor T)) (top : Option T) (low : Bor T)
     → option_copied r ≡ top → node (unwrap_or r low).now ≡ option_map_or node top (node low.now)

@@ -2,16 +2,16 @@
 -- Serves `Selector::read_list`.
 use Rattle.std.proofs.Common.{◌≡◌, ◌<◌, ◌≤◌, ◌∷◌, [], ◌++◌, ◌∙◌, ℕ, List, Bool, true, false, length, Option, Some, None, arith, refl, ap, sym, subst, if◌then◌else◌, ◌==◌}
 use Rattle.std.specs.Option.{option_map}
-use Rattle.simplecss_text.specs.AsciiBytes.{comma}
-use Rattle.simplecss_text.specs.Bytes.{past, past_one, starts}
-use Rattle.simplecss_text.specs.Characters.{Edition, is_space}
-use Rattle.simplecss_text.specs.Components.{Component}
-use Rattle.simplecss_text.specs.Reading.{each, followed_by}
-use Rattle.simplecss_text.specs.Selectors.{reads}
-use Rattle.simplecss_text.specs.Skipped.{Refusal, Skip, after_selector, refusal, refused_part, selector_skips}
-use Rattle.simplecss_text.proofs.reading.EachLemmas.{Shrinks, Takes, took, Done, done_step, done_end, each-none, each-some}
-use Rattle.simplecss_text.proofs.reading.WithinLemmas.{length-reads}
-use Rattle.simplecss_text.proofs.skipped.CutUps.{IsDecided, selector-decided}
+use Rattle.css_text.specs.AsciiBytes.{comma}
+use Rattle.css_text.specs.Bytes.{past, past_one, starts}
+use Rattle.css_text.specs.Characters.{Edition, is_space}
+use Rattle.simplecss_grammar.specs.Components.{Component}
+use Rattle.css_text.specs.Reading.{each}
+use Rattle.simplecss_grammar.specs.Selectors.{reads}
+use Rattle.simplecss_grammar.specs.Skipped.{Refusal, after_selector, refusal, refused_part, selector_skips}
+use Rattle.css_text.proofs.reading.EachLemmas.{Shrinks, Takes, took, Done, done_step, done_end, each-none, each-some}
+use Rattle.simplecss_grammar.proofs.reading.WithinLemmas.{length-reads}
+use Rattle.simplecss_grammar.proofs.skipped.CutUps.{IsDecided, selector-decided}
 use Rattle.simplecss_selector.specs.SelectorLists.{before_comma, item_and_comma, last_item, at_end, list_of, left_over, list_skips}
 
 module _ (edition : Edition) where

@@ -8,8 +8,8 @@ use Rattle.std.proofs.lemmas.List.Elements.{All-contains, All-from_get_or, Conta
 use Rattle.std.proofs.lemmas.Map.Keys.{sorted_from_strictly_increasing, below_from_sorted}
 use Rattle.std.specs.List.{Contains, last_or}
 use Rattle.std.specs.List.Sorted.{IsStrictlyIncreasing}
-use Rattle.simplecss_text.specs.Components.{Component, Combinator}
-use Rattle.simplecss_text.specs.Components.Combinator.{none, descendant, child, adjacent}
+use Rattle.simplecss_grammar.specs.Components.{Component, Combinator}
+use Rattle.simplecss_grammar.specs.Components.Combinator.{none, descendant, child, adjacent}
 use Rattle.simplecss_selector.specs.Placements.{is_step}
 use Rattle.simplecss_selector.specs.Shapes.{component_at, any_component}
 use Rattle.simplecss_selector.specs.internal.Stretches.{BeginsStretch, IsStretch, AreStretchEnds, all_stretch_ends, kept_ends_after}

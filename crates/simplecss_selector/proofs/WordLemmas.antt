@@ -9,7 +9,7 @@ use Rattle.std.proofs.lemmas.List.{take-append-drop, get_or-take, length-take, l
 use Rattle.std.proofs.lemmas.List.Elements.{All-head, All-tail, All-cons}
 use Rattle.std.proofs.lemmas.List.Splits.{slice_split_none, slice_split_at}
 use Rattle.std.proofs.lemmas.Slice.Eq.{bytes_eq-Decides}
-use Rattle.simplecss_text.specs.AsciiBytes.{space as space_byte}
+use Rattle.css_text.specs.AsciiBytes.{space as space_byte}
 use Rattle.simplecss_selector.specs.Operators.{IsUpToSpace, IsFromSpace, OccursIn, is_word_of}
 
 -- no byte is a space

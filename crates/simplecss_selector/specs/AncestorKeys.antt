@@ -2,11 +2,11 @@
 -- child or a descendant combinator leads back.
 use Rattle.std.specs.Prelude.{List, [], ◌∷◌, ◌++◌, Option, Some, None, length}
 use Rattle.std.specs.List.{cons_option}
-use Rattle.simplecss_text.specs.Components.{Component, Combinator}
-use Rattle.simplecss_text.specs.Components.Combinator.{none, descendant, child, adjacent}
+use Rattle.simplecss_grammar.specs.Components.{Component, Combinator}
+use Rattle.simplecss_grammar.specs.Components.Combinator.{none, descendant, child, adjacent}
 use Rattle.simplecss_selector.specs.Keys.{Key, compound_key, HasKey}
 use Rattle.simplecss_selector.specs.Placements.{IsAncestor}
-use Rattle.simplecss_selector.specs.PlacementSearch.{first_of}
+use Rattle.simplecss_selector.specs.Shapes.{first_of}
 use Rattle.simplecss_selector.specs.Trees.{Tree}
 
 -- the key of the component before, if the combinator leads to an ancestor

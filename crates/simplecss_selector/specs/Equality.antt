@@ -2,12 +2,12 @@
 use Rattle.std.specs.Prelude.{ℕ, List, [], Bool, false, ◌&&◌, ◌==◌}
 use Rattle.std.specs.Cmp.Lexicographic.{pointwise}
 use Rattle.std.specs.Option.{option_eq}
-use Rattle.simplecss_text.specs.Bytes.{text_eq}
-use Rattle.simplecss_text.specs.Components.{Operator, KnownPseudoClass, Subselector, Combinator, Component}
-use Rattle.simplecss_text.specs.Components.Operator.{exists, equals, has_word, begins_with}
-use Rattle.simplecss_text.specs.PseudoClasses.{pseudo_class_name, pseudo_class_argument}
-use Rattle.simplecss_text.specs.Components.Subselector.{attribute, pseudo_class}
-use Rattle.simplecss_text.specs.Components.Combinator.{none, descendant, child, adjacent}
+use Rattle.css_text.specs.Bytes.{text_eq}
+use Rattle.simplecss_grammar.specs.Components.{Operator, KnownPseudoClass, Subselector, Combinator, Component}
+use Rattle.simplecss_grammar.specs.Components.Operator.{exists, equals, has_word, begins_with}
+use Rattle.simplecss_grammar.specs.PseudoClasses.{pseudo_class_name, pseudo_class_argument}
+use Rattle.simplecss_grammar.specs.Components.Subselector.{attribute, pseudo_class}
+use Rattle.simplecss_grammar.specs.Components.Combinator.{none, descendant, child, adjacent}
 
 -- the kind of a value, and its text if it has one
 abbrev pub operator_key : Operator → ℕ × List ℕ

@@ -7,13 +7,13 @@ use Rattle.std.specs.Cmp.{IsPartialEquivalence, partial_equiv_from_equiv, decide
 use Rattle.std.specs.Cmp.Lexicographic.{pointwise, pointwise_decides, bytes_decides}
 use Rattle.std.specs.Option.{option_eq}
 use Rattle.std.proofs.lemmas.Bool.Decides.{Decides-eqb}
-use Rattle.simplecss_text.specs.Components.{Operator, KnownPseudoClass, Subselector, Combinator, Component}
-use Rattle.simplecss_text.specs.Components.Operator.{exists, equals, has_word, begins_with}
-use Rattle.simplecss_text.specs.Components.KnownPseudoClass.{first_child, link, visited, hover, active, focus, lang}
-use Rattle.simplecss_text.specs.Components.Subselector.{attribute, pseudo_class}
-use Rattle.simplecss_text.specs.Components.Combinator.{none, descendant, child, adjacent}
-use Rattle.simplecss_text.specs.PseudoClasses.{known_pseudo_class}
-use Rattle.simplecss_text.specs.Bytes.{text_eq}
+use Rattle.simplecss_grammar.specs.Components.{Operator, KnownPseudoClass, Subselector, Combinator, Component}
+use Rattle.simplecss_grammar.specs.Components.Operator.{exists, equals, has_word, begins_with}
+use Rattle.simplecss_grammar.specs.Components.KnownPseudoClass.{first_child, link, visited, hover, active, focus, lang}
+use Rattle.simplecss_grammar.specs.Components.Subselector.{attribute, pseudo_class}
+use Rattle.simplecss_grammar.specs.Components.Combinator.{none, descendant, child, adjacent}
+use Rattle.simplecss_grammar.specs.PseudoClasses.{known_pseudo_class}
+use Rattle.css_text.specs.Bytes.{text_eq}
 use Rattle.simplecss_selector.specs.Equality.{operator_key, pseudo_class_key, combinator_key, key_eq, text_key_eq, operator_eq, pseudo_class_eq, combinator_eq, subselector_eq, component_eq, selector_eq}
 
 pub and_left : (a b : Bool) → (a && b) ≡ true → a ≡ true

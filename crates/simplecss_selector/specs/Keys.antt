@@ -2,9 +2,9 @@
 -- itself. By these an index finds the selectors that can match an element.
 use Rattle.std.specs.Prelude.{ℕ, ◌-◌, List, [], ◌∷◌, Option, Some, None, Bool, true, false, IsTrue, bytes_eq, codes, length, if◌then◌else◌}
 use Rattle.std.specs.Option.{option_or, option_map_or}
-use Rattle.simplecss_text.specs.Components.{Operator, Subselector, Compound, Component}
-use Rattle.simplecss_text.specs.Components.Operator.{exists, equals, has_word, begins_with}
-use Rattle.simplecss_text.specs.Components.Subselector.{attribute, pseudo_class}
+use Rattle.simplecss_grammar.specs.Components.{Operator, Subselector, Compound, Component}
+use Rattle.simplecss_grammar.specs.Components.Operator.{exists, equals, has_word, begins_with}
+use Rattle.simplecss_grammar.specs.Components.Subselector.{attribute, pseudo_class}
 use Rattle.simplecss_selector.specs.Operators.{is_satisfied}
 use Rattle.simplecss_selector.specs.Shapes.{component_at}
 use Rattle.simplecss_selector.specs.Trees.{Tree}

@@ -7,7 +7,6 @@ pub mod Meanings
 pub mod Shapes
 pub mod OperatorViews
 pub mod Operators
-pub mod PlacementSearch
 pub mod Equality
 pub mod EqualityLaws
 pub mod TokenViews
@@ -15,8 +14,7 @@ pub mod SelectorTokenizers
 pub mod Keys
 pub mod Exact
 pub mod KeyViews
-pub mod Wanted
-pub mod WantedViews
-pub mod KeyBits
+pub mod Buckets
+pub mod BucketViews
 pub mod AncestorKeys
 pub mod internal

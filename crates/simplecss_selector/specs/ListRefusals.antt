@@ -1,7 +1,7 @@
 -- What contracts see of a list of selectors that was read, or of why there is none.
 use Rattle.std.specs.Prelude.{List, Result, Ok, Err}
-use Rattle.simplecss_text.specs.Components.{Component}
-use Rattle.simplecss_text.specs.SkipViews.{why_of}
+use Rattle.simplecss_grammar.specs.Components.{Component}
+use Rattle.simplecss_grammar.specs.SkipViews.{why_of}
 use Rattle.simplecss_selector.specs.declared.list.ListRefusal.{ListRefusal}
 use Rattle.simplecss_selector.specs.SelectorLists.{ListFault}
 

@@ -1,7 +1,7 @@
 -- Nodes of two trees that no selector distinguishes.
 use Rattle.std.specs.Prelude.{◌≡◌, ℕ, zero, suc, List, Option, Some, None}
 use Rattle.std.specs.Option.{option_map}
-use Rattle.simplecss_text.specs.Components.{Operator, KnownPseudoClass}
+use Rattle.simplecss_grammar.specs.Components.{Operator, KnownPseudoClass}
 use Rattle.simplecss_selector.specs.Trees.{Tree}
 
 -- there is neither, or there are both and they are related
@@ -10,23 +10,6 @@ AreNoneOrRelated related None None = Unit {0}
 AreNoneOrRelated related None (Some n) = ⊥
 AreNoneOrRelated related (Some m) None = ⊥
 AreNoneOrRelated related (Some m) (Some n) = related m n
-
--- A relation between the nodes of two trees that keeps everything a selector can test: related
--- nodes return the same answers, and their parents and their previous siblings, if there are any,
--- are related. It says nothing of nodes that are not related: so descendants and later siblings may
--- differ.
-pub record RelatesMeanings {M N : Type 0} (tree : Tree M) (other : Tree N)
-    (related : M → N → Type 0) : Type 0 where
-  pub parents : (m : M) (n : N) → related m n
-      → AreNoneOrRelated related (tree.parent m) (other.parent n)
-  pub siblings : (m : M) (n : N) → related m n
-      → AreNoneOrRelated related (tree.previous_sibling m) (other.previous_sibling n)
-  pub names : (m : M) (n : N) → related m n → (name : List ℕ)
-      → tree.is_named m name ≡ other.is_named n name
-  pub attributes : (m : M) (n : N) → related m n → (name : List ℕ) (operator : Operator)
-      → tree.has_attribute m name operator ≡ other.has_attribute n name operator
-  pub pseudo_classes : (m : M) (n : N) → related m n → (class : KnownPseudoClass)
-      → tree.is_in_pseudo_class m class ≡ other.is_in_pseudo_class n class
 
 -- nodes of two trees return the same answers
 pub record AnswerAlike {M N : Type 0} (tree : Tree M) (other : Tree N) (m : M) (n : N) : Type 0 where

@@ -1,8 +1,8 @@
 -- What contracts see of operators and pseudo-classes: their kinds and the bytes of their texts,
 -- wherever these are stored.
-use Rattle.simplecss_text.specs.Components.{Operator, KnownPseudoClass}
-use Rattle.simplecss_text.specs.Components.Operator.{exists, equals, has_word, begins_with}
-use Rattle.simplecss_text.specs.Components.KnownPseudoClass.{first_child, link, visited, hover, active, focus, lang}
+use Rattle.simplecss_grammar.specs.Components.{Operator, KnownPseudoClass}
+use Rattle.simplecss_grammar.specs.Components.Operator.{exists, equals, has_word, begins_with}
+use Rattle.simplecss_grammar.specs.Components.KnownPseudoClass.{first_child, link, visited, hover, active, focus, lang}
 use Rattle.simplecss_selector.specs.declared.operator.AttributeOperator.{AttributeOperator}
 use Rattle.simplecss_selector.specs.declared.operator.AttributeOperator.TheVariants.{Exists, Matches, Contains, StartsWith}
 use Rattle.simplecss_selector.specs.declared.pseudo_class.PseudoClass.{PseudoClass}

@@ -1,9 +1,9 @@
 -- When an attribute's value satisfies an operator: as a test, and as the meaning of that test.
 use Rattle.std.specs.Prelude.{◌≡◌, ◌≢◌, ℕ, Bool, true, List, [], ◌∷◌, ◌++◌, ◌⊎◌, ◌||◌, ◌==◌, All, bytes_eq, nat_eq}
 use Rattle.std.specs.List.{list_any, slice_split, starts_with}
-use Rattle.simplecss_text.specs.AsciiBytes.{space, hyphen}
-use Rattle.simplecss_text.specs.Components.{Operator}
-use Rattle.simplecss_text.specs.Components.Operator.{exists, equals, has_word, begins_with}
+use Rattle.css_text.specs.AsciiBytes.{space, hyphen}
+use Rattle.simplecss_grammar.specs.Components.{Operator}
+use Rattle.simplecss_grammar.specs.Components.Operator.{exists, equals, has_word, begins_with}
 
 -- whether the word is one of those that single spaces separate in the value
 abbrev pub is_word_of : List ℕ → List ℕ → Bool

@@ -1,8 +1,8 @@
 -- When a selector matches: each component has a node of its own.
 use Rattle.std.specs.Prelude.{◌≡◌, ℕ, ◌+◌, List, [], ◌∷◌, Option, Some, None, All, IsTrue, max, Bool, true, false, if◌then◌else◌}
-use Rattle.simplecss_text.specs.Components.{Component, Compound, Subselector, Combinator}
-use Rattle.simplecss_text.specs.Components.Subselector.{attribute, pseudo_class}
-use Rattle.simplecss_text.specs.Components.Combinator.{none, descendant, child, adjacent}
+use Rattle.simplecss_grammar.specs.Components.{Component, Compound, Subselector, Combinator}
+use Rattle.simplecss_grammar.specs.Components.Subselector.{attribute, pseudo_class}
+use Rattle.simplecss_grammar.specs.Components.Combinator.{none, descendant, child, adjacent}
 use Rattle.simplecss_selector.specs.Trees.{Tree}
 
 -- the first node is the parent of the second, or an ancestor of that parent

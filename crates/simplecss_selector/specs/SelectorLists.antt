@@ -1,17 +1,17 @@
 -- Lists of selectors, with commas between them.
-use Rattle.std.specs.Prelude.{ℕ, ◌-◌, length, take, ◌==◌, eqb, if◌then◌else◌, List, [], ◌∷◌, ◌++◌, Option, None, Some, Result, Ok, Err}
+use Rattle.std.specs.Prelude.{ℕ, ◌-◌, length, take, eqb, if◌then◌else◌, List, [], ◌∷◌, ◌++◌, Option, None, Some, Result, Ok, Err}
 use Rattle.std.specs.List.{ends_with}
 use Rattle.std.specs.Option.{option_map}
-use Rattle.simplecss_text.specs.declared.text_pos.TextPos.{TextPos}
-use Rattle.simplecss_text.specs.AsciiBytes.{comma, colon}
-use Rattle.simplecss_text.specs.Bytes.{past_one, starts}
-use Rattle.simplecss_text.specs.Characters.{Edition}
-use Rattle.simplecss_text.specs.Components.{Component}
-use Rattle.simplecss_text.specs.Errors.{error_position}
-use Rattle.simplecss_text.specs.Positions.{in_whole, position}
-use Rattle.simplecss_text.specs.Reading.{each, before}
-use Rattle.simplecss_text.specs.Selectors.{reads}
-use Rattle.simplecss_text.specs.Skipped.{Skip, Why, leading_comma, refused_selector, after_selector, missing_block, broken_declaration, open_value, extra_brace, open_comment, at_rule, faulty, unknown_class, selector_skips, add_each}
+use Rattle.css_text.specs.declared.text_pos.TextPos.{TextPos}
+use Rattle.css_text.specs.AsciiBytes.{comma, colon}
+use Rattle.css_text.specs.Bytes.{past_one, starts}
+use Rattle.css_text.specs.Characters.{Edition}
+use Rattle.simplecss_grammar.specs.Components.{Component}
+use Rattle.css_text.specs.Errors.{error_position}
+use Rattle.css_text.specs.Positions.{in_whole, position}
+use Rattle.css_text.specs.Reading.{each, before}
+use Rattle.simplecss_grammar.specs.Selectors.{reads}
+use Rattle.simplecss_grammar.specs.Skipped.{Skip, Why, leading_comma, refused_selector, after_selector, missing_block, broken_declaration, open_value, extra_brace, open_comment, at_rule, faulty, unknown_class, selector_skips, add_each}
 
 -- a selector that was read before a comma, and the rest after the comma
 abbrev pub before_comma : Option (List Component) → List ℕ → Option (List Component × List ℕ)

@@ -2,15 +2,15 @@
 use Rattle.std.specs.Prelude.{◌≡◌, ◌≤◌, ◌+◌, ℕ, List, map, length, Option, Some, None, Result}
 use Rattle.std.specs.Iterator.{YieldsFirstBy}
 use Rattle.std.specs.Iterator.Runs.{EveryRun, ItemsMapTo}
-use Rattle.simplecss_text.specs.declared.error.Error.{Error}
-use Rattle.simplecss_text.specs.Reading.{Fault, no_selector}
-use Rattle.simplecss_text.specs.ThisEdition.{this_edition}
-use Rattle.simplecss_text.specs.Cursor.{text_of, offset_of, rest_of}
-use Rattle.simplecss_text.specs.Slices.{OccurBetween}
-use Rattle.simplecss_text.specs.Tokens.{Token}
-use Rattle.simplecss_text.specs.Neighbours.Side.{open_side, closed_side}
-use Rattle.simplecss_text.specs.TokenSequences.{TokenSequence, sequence_from, sequence_of, tokens_of, fault_sequence, items, reported_in}
-use Rattle.simplecss_text.specs.TokenSequences.TokenSequence.{item, sequence_end}
+use Rattle.css_text.specs.declared.error.Error.{Error}
+use Rattle.css_text.specs.Reading.{Fault, no_selector}
+use Rattle.css_text.specs.ThisEdition.{this_edition}
+use Rattle.css_text.specs.Cursor.{text_of, offset_of, rest_of}
+use Rattle.css_text.specs.Slices.{OccurBetween}
+use Rattle.simplecss_grammar.specs.Tokens.{Token}
+use Rattle.simplecss_grammar.specs.Neighbours.Side.{open_side, closed_side}
+use Rattle.simplecss_grammar.specs.TokenSequences.{TokenSequence, sequence_from, sequence_of, tokens_of, fault_sequence, items, reported_in}
+use Rattle.simplecss_grammar.specs.TokenSequences.TokenSequence.{item, sequence_end}
 use Rattle.simplecss_selector.specs.declared.token.SelectorToken.{SelectorToken}
 use Rattle.simplecss_selector.specs.declared.tokenizer.Stage.{Stage}
 use Rattle.simplecss_selector.specs.declared.tokenizer.Stage.TheVariants.{Open, Closed, Missing, Ended}

@@ -1,7 +1,7 @@
 -- The shape of a selector's list of components.
-use Rattle.std.specs.Prelude.{◌≡◌, ℕ, ◌<◌, ◌↔◌, List, [], None, length, slice_index_or}
-use Rattle.simplecss_text.specs.Components.{Component}
-use Rattle.simplecss_text.specs.Components.Combinator.{none}
+use Rattle.std.specs.Prelude.{◌≡◌, ℕ, ◌<◌, ◌↔◌, List, [], ◌∷◌, None, length, take, slice_index_or}
+use Rattle.simplecss_grammar.specs.Components.{Component}
+use Rattle.simplecss_grammar.specs.Components.Combinator.{none}
 
 -- any type matches
 abbrev pub any_component : Component
@@ -15,3 +15,12 @@ component_at cs k = slice_index_or cs k any_component
 abbrev pub IsSelector : List Component → Type 0
 IsSelector cs =
     (0 < length cs) × ((k : ℕ) → k < length cs → ((component_at cs k).combinator ≡ none) ↔ (k ≡ 0))
+
+-- a list reversed, before another
+abbrev pub backwards : List Component → List Component → List Component
+backwards [] after = after
+backwards (c ∷ cs) after = backwards cs (c ∷ after)
+
+-- the first n components, the last of them first
+abbrev pub first_of : List Component → ℕ → List Component
+first_of cs n = backwards (take n cs) []

@@ -1,8 +1,8 @@
 -- What contracts see of the tokens and errors that a tokenizer yields.
 use Rattle.std.specs.Prelude.{ℕ, List, [], Option, None, Some, Result, Ok, Err}
-use Rattle.simplecss_text.specs.declared.error.Error.{Error}
-use Rattle.simplecss_text.specs.Tokens.{Token, token_texts}
-use Rattle.simplecss_text.specs.Tokens.Token.{universal_selector, type_selector, id_selector, class_selector, attribute_selector, named_pseudo_class, lang_pseudo_class, descendant_combinator, child_combinator, adjacent_combinator}
+use Rattle.css_text.specs.declared.error.Error.{Error}
+use Rattle.simplecss_grammar.specs.Tokens.{Token, token_texts}
+use Rattle.simplecss_grammar.specs.Tokens.Token.{universal_selector, type_selector, id_selector, class_selector, attribute_selector, named_pseudo_class, lang_pseudo_class, descendant_combinator, child_combinator, adjacent_combinator}
 use Rattle.simplecss_selector.specs.declared.token.SelectorToken.{SelectorToken}
 use Rattle.simplecss_selector.specs.declared.token.SelectorToken.TheVariants.{UniversalSelector, TypeSelector, ClassSelector, IdSelector, AttributeSelector, PseudoClass, LangPseudoClass, DescendantCombinator, ChildCombinator, AdjacentCombinator}
 use Rattle.simplecss_selector.specs.OperatorViews.{operator_of}

@@ -1,6 +1,6 @@
 -- What elements denote: nodes of a tree, and the answers of each.
 use Rattle.std.specs.Prelude.{◌≡◌, ℕ, ◌+◌, List, Bool, Option, MatchOption, IfSome}
-use Rattle.simplecss_text.specs.Components.{Operator, KnownPseudoClass}
+use Rattle.simplecss_grammar.specs.Components.{Operator, KnownPseudoClass}
 
 -- A tree: for each node the parent and the previous sibling, if there are any, the number of its
 -- ancestors, and its answers to a type name, to an attribute's name with an operator, and to a

@@ -6,3 +6,5 @@ pub mod SelectorViews
 pub mod SelectorDrafts
 pub mod StretchFits
 pub mod Stretches
+pub mod PlacementSearch
+pub mod RelatedMeanings

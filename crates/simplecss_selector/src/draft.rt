@@ -1,6 +1,6 @@
 //! A selector under construction.
 ghost use Rattle.std.specs.Prelude.{◌≢◌, ◌≡◌, ◌+◌, ◌++◌, ◌∷◌, [], IfOk, OnErr, OnOk, vec_len};
-ghost use Rattle.simplecss_text.specs.Components.Combinator.{none as no_combinator};
+ghost use Rattle.simplecss_grammar.specs.Components.Combinator.{none as no_combinator};
 ghost use Rattle.simplecss_selector.specs.internal.CombinatorViews.{combinator_of};
 ghost use Rattle.simplecss_selector.specs.internal.SelectorDrafts.{empty_draft, with_name};
 ghost use Rattle.simplecss_selector.specs.internal.SelectorDrafts.{with_subselector, joined};

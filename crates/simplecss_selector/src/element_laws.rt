@@ -1,7 +1,7 @@
 //! Laws of elements and of the selectors that are matched against them.
 ghost use Rattle.std.specs.Prelude.{◌≡◌, ◌<◌, ◌↔◌, ℕ, List, length};
-ghost use Rattle.simplecss_text.specs.Components.{Component};
-ghost use Rattle.simplecss_text.specs.Components.Combinator.{none as no_combinator};
+ghost use Rattle.simplecss_grammar.specs.Components.{Component};
+ghost use Rattle.simplecss_grammar.specs.Components.Combinator.{none as no_combinator};
 ghost use Rattle.simplecss_selector.specs.Meanings.{AreAlike, KeepsMeanings};
 ghost use Rattle.simplecss_selector.specs.Placements.{HasPlacement};
 ghost use Rattle.simplecss_selector.specs.Shapes.{component_at};

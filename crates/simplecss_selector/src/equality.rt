@@ -1,8 +1,8 @@
 //! Equality of selectors.
 ghost use Rattle.std.specs.Prelude.{◌≡◌, ◌↔◌, List, IsTrue};
-ghost use Rattle.simplecss_text.specs.Components.{Component};
-ghost use Rattle.simplecss_text.specs.ThisEdition.{this_edition};
-ghost use Rattle.simplecss_text.specs.PrintingLaws.{PrintAlikeIfEqual};
+ghost use Rattle.simplecss_grammar.specs.Components.{Component};
+ghost use Rattle.css_text.specs.ThisEdition.{this_edition};
+ghost use Rattle.simplecss_grammar.specs.PrintingLaws.{PrintAlikeIfEqual};
 
 use crate::selector::Selector;
 

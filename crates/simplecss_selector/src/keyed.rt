@@ -1,16 +1,13 @@
-//! Elements that report by what an index finds selectors: name, id, class and attributes, and bits of the
-//! ancestors.
+//! Elements that report by what an index finds selectors: name, id, class and attributes.
 use crate::Element;
-use crate::key_bits::all_key_bits;
 
-/// An element that reports its name, its id, its class and which attributes it has, and bits of its
-/// ancestors, so that an index finds the selectors that can match it without testing it for each name,
-/// id and class of the selectors.
+/// An element that reports its name, its id, its class and which attributes it has, so that an index
+/// finds the selectors that can match it without testing it for each name, id and class of the
+/// selectors.
 ///
 /// The promise goes one way: if the element matches a name, an id, a class or an attribute, it reports
-/// that name, that id, a class value with that word, or that it has the attribute, and the bits cover
-/// all of its ancestors' keys. It may report more than it matches: an index then
-/// tests more selectors, and finds the same ones. An element whose names match without case cannot
+/// that name, that id, a class value with that word, or that it has the attribute. It may report more
+/// than it matches: an index then tests more selectors, and finds the same ones. An element whose names match without case cannot
 /// promise this, since it matches names that it does not report. It implements only `Element`, and
 /// each selector is tested against it.
 ///
@@ -46,7 +43,6 @@ use crate::key_bits::all_key_bits;
 pub trait Keyed: Element {
     ghost use Rattle.std.specs.Prelude.{◌≡◌, option_map};
     ghost use Rattle.simplecss_selector.specs.Keys.{Reported, ReportsKeys};
-    ghost use Rattle.simplecss_selector.specs.KeyBits.{CoversAncestors};
 
     ghost reported: { Self → Reported };
 
@@ -65,15 +61,6 @@ pub trait Keyed: Element {
     /// Whether there is an attribute with this name.
     fn has_attribute(&self, name: &str) -> bool
         ensures { result ≡ (reported self.now).has_attribute name.now };
-
-    /// Returns bits that cover the keys of all ancestors: those of `element_bits` of each, or, by
-    /// default, all bits. With fewer an index tests fewer selectors. It is called once for each
-    /// element.
-    fn ancestor_bits(&self) -> u64
-        ensures { CoversAncestors Self.tree (Self.node self.now) result }
-    {
-        all_key_bits()
-    }
 
     ghost reported_law: { (element : Self)
         → ReportsKeys Self.tree (Self.node element) (reported element) };

@@ -1,7 +1,7 @@
 //! Laws of selectors: each is the contract of a function that does nothing.
 ghost use Rattle.std.specs.Prelude.{◌≡◌, ◌≤◌, ◌↔◌, ℕ, List, IsTrue};
-ghost use Rattle.simplecss_text.specs.ThisEdition.{this_edition};
-ghost use Rattle.simplecss_text.specs.TokenSequences.{fault_count, sequence_of};
+ghost use Rattle.css_text.specs.ThisEdition.{this_edition};
+ghost use Rattle.simplecss_grammar.specs.TokenSequences.{fault_count, sequence_of};
 ghost use Rattle.simplecss_selector.specs.TokenViews.{token_of};
 
 use crate::SelectorToken;

@@ -1,14 +1,13 @@
 //! Selectors of CSS 2.1: their tokens, their printed text and specificity, and matching elements.
 #![tactic(auto)]
 
-mod counter;
+mod bucket;
 mod draft;
 mod element;
 mod element_laws;
 mod equality;
 mod exact;
 mod key;
-mod key_bits;
 mod key_laws;
 mod keyed;
 pub mod laws;
@@ -23,17 +22,16 @@ mod selector;
 mod specificity;
 mod token;
 mod tokenizer;
-mod wanted;
 mod warnings;
 
-pub use counter::Tests;
+pub use bucket::Bucket;
+pub use css_matching::Tests;
 pub use element::Element;
 pub use element_laws::{components_law, same_meanings_law};
 pub use equality::{printing_law, selector_equality_law};
 pub use exact::Exact;
 pub use key::Key;
-pub use key_bits::element_bits;
-pub use key_laws::{key_equality_law, key_law};
+pub use key_laws::{ancestor_keys_law, bucket_law, key_equality_law, key_law, reported_near_law};
 pub use keyed::Keyed;
 pub use list::{ListRefusal, refused_pos};
 pub use operator::AttributeOperator;
@@ -42,5 +40,4 @@ pub use pseudo_class::PseudoClass;
 pub use selector::Selector;
 pub use token::SelectorToken;
 pub use tokenizer::SelectorTokenizer;
-pub use wanted::Wanted;
 pub use warnings::Warnings;

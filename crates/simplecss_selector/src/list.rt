@@ -2,11 +2,11 @@
 ghost use Rattle.std.specs.Prelude.{◌≡◌, drop, take, length, IfOk, OnOk};
 ghost use Rattle.std.specs.Str.{IsCharBoundary};
 ghost use Rattle.std.specs.Option.{option_map};
-ghost use Rattle.simplecss_text.specs.Positions.{position};
-ghost use Rattle.simplecss_text.specs.Selectors.{reads};
-ghost use Rattle.simplecss_text.specs.Skipped.{add_each};
-ghost use Rattle.simplecss_text.specs.SkipViews.{why_of};
-ghost use Rattle.simplecss_text.specs.ThisEdition.{this_edition};
+ghost use Rattle.css_text.specs.Positions.{position};
+ghost use Rattle.simplecss_grammar.specs.Selectors.{reads};
+ghost use Rattle.simplecss_grammar.specs.Skipped.{add_each};
+ghost use Rattle.simplecss_grammar.specs.SkipViews.{why_of};
+ghost use Rattle.css_text.specs.ThisEdition.{this_edition};
 ghost use Rattle.simplecss_selector.specs.SelectorLists.{list_of, list_skips, last_item};
 ghost use Rattle.simplecss_selector.specs.SelectorLists.{before_class, without_suffix};
 ghost use Rattle.simplecss_selector.specs.SelectorLists.{refused_pos, list_read};
@@ -14,9 +14,9 @@ ghost use Rattle.simplecss_selector.specs.ListRefusals.{read_of};
 
 use crate::reading::read_front;
 use crate::selector::Selector;
-use simplecss_text::report::{Refusal, Report, Skipped, Why};
-use simplecss_text::stream::Stream;
-use simplecss_text::{TextPos, readers};
+use css_text::stream::Stream;
+use css_text::{TextPos, readers};
+use simplecss_grammar::report::{Refusal, Report, Skipped, Why};
 use std::alloc::{AllocError, Global};
 
 /// Why a text is no list of selectors, and where.
@@ -37,8 +37,8 @@ struct LastWhy<'a> {
 }
 
 impl<'a> Report<'a> for LastWhy<'a> {
-    ghost use Rattle.simplecss_text.specs.Skipped.{Why as SkipWhy};
-    ghost use Rattle.simplecss_text.specs.SkipViews.{why_of};
+    ghost use Rattle.simplecss_grammar.specs.Skipped.{Why as SkipWhy};
+    ghost use Rattle.simplecss_grammar.specs.SkipViews.{why_of};
 
     ghost State = { SkipWhy };
 

@@ -5,11 +5,12 @@ ghost use Rattle.simplecss_selector.specs.internal.CombinatorViews.{combinator_o
 ghost use Rattle.simplecss_selector.specs.internal.StretchFits.{Finds, TestsPlaced};
 ghost use Rattle.simplecss_selector.specs.Placements.{Meets, HasPlacement, longest_stretch};
 ghost use Rattle.simplecss_selector.specs.internal.Stretches.{IsStretch};
-ghost use Rattle.simplecss_selector.specs.PlacementSearch.{step_from as node_before};
+ghost use Rattle.simplecss_selector.specs.internal.PlacementSearch.{step_from as node_before};
 ghost use Rattle.simplecss_selector.specs.Shapes.{component_at};
 
+use crate::Element;
 use crate::selector::{Combinator, Selector};
-use crate::{Element, Tests};
+use css_matching::Tests;
 
 /// The result of trying a stretch at one node.
 #[derive(Drop)]
@@ -86,10 +87,10 @@ pub(crate) fn is_met_at<E: Element>(
 {
     tests.tick();
     let (flat, subselectors) = selector.component(index);
-    if let Some(name) = flat.name
-        && !element.has_local_name(name)
-    {
-        return false;
+    if let Some(name) = flat.name {
+        if !element.has_local_name(name) {
+            return false;
+        }
     }
     for subselector in subselectors {
         if !subselector.holds(element) {

@@ -1,7 +1,7 @@
 //! Conditions of selectors on an attribute's value.
 ghost use Rattle.std.specs.Prelude.{◌≡◌, ◌<◌, ◌==◌, ℕ, length, true, false, None, IfSome};
 ghost use Rattle.std.specs.Prelude.{EachIndex, slice_index};
-ghost use Rattle.simplecss_text.specs.AsciiBytes.{space};
+ghost use Rattle.css_text.specs.AsciiBytes.{space};
 ghost use Rattle.simplecss_selector.specs.Operators.{is_word_of};
 
 /// A condition on an attribute's value.

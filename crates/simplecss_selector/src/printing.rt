@@ -3,8 +3,8 @@ ghost use Rattle.std.specs.Prelude.{◌≡◌, ◌++◌, map};
 ghost use Rattle.std.specs.Fmt.{WritesStyledOnOk};
 ghost use Rattle.std.specs.List.{flat_map};
 ghost use Rattle.std.specs.Option.{option_map};
-ghost use Rattle.simplecss_text.specs.Printing.{pseudo_class_text, operator_text, subselector_text};
-ghost use Rattle.simplecss_text.specs.Printing.{combinator_text, type_text, component_text};
+ghost use Rattle.simplecss_grammar.specs.Printing.{pseudo_class_text, operator_text, subselector_text};
+ghost use Rattle.simplecss_grammar.specs.Printing.{combinator_text, type_text, component_text};
 ghost use Rattle.simplecss_selector.specs.OperatorViews.{operator_of, pseudo_class_of};
 ghost use Rattle.simplecss_selector.specs.internal.CombinatorViews.{combinator_of};
 ghost use Rattle.simplecss_selector.specs.internal.SelectorViews.{subselector_of};
@@ -16,14 +16,14 @@ use std::fmt;
 
 impl<'a> fmt::Display for PseudoClass<'a> {
     ghost use Rattle.std.specs.Prelude.{Some};
-    ghost use Rattle.simplecss_text.specs.Printing.{pseudo_class_text};
+    ghost use Rattle.simplecss_grammar.specs.Printing.{pseudo_class_text};
     ghost use Rattle.simplecss_selector.specs.OperatorViews.{pseudo_class_of};
 
     ghost output = { λ c. Some (pseudo_class_text (pseudo_class_of c)) };
 
     ghost styled_output = { λ c _. Some (pseudo_class_text (pseudo_class_of c)) };
 
-    #[tactic(auto, using(simplecss_text::proofs::round_trip::StyledWrites::plain_of_styled))]
+    #[tactic(auto, using(css_text::proofs::round_trip::StyledWrites::plain_of_styled))]
     fn fmt<W: fmt::Write>(&self, f: &mut fmt::Formatter<W>) -> fmt::Result {
         write_class(f, *self)
     }
@@ -31,13 +31,13 @@ impl<'a> fmt::Display for PseudoClass<'a> {
 
 impl<'a> fmt::Display for Selector<'a> {
     ghost use Rattle.std.specs.Prelude.{Some};
-    ghost use Rattle.simplecss_text.specs.Printing.{selector_text};
+    ghost use Rattle.simplecss_grammar.specs.Printing.{selector_text};
 
     ghost output = { λ s. Some (selector_text s) };
 
     ghost styled_output = { λ s _. Some (selector_text s) };
 
-    #[tactic(auto, using(simplecss_text::proofs::round_trip::StyledWrites::plain_of_styled))]
+    #[tactic(auto, using(css_text::proofs::round_trip::StyledWrites::plain_of_styled))]
     fn fmt<W: fmt::Write>(&self, f: &mut fmt::Formatter<W>) -> fmt::Result {
         for index in 0..self.len() {
             let (flat, subselectors) = self.component(index);

@@ -1,14 +1,14 @@
 //! Reads a selector from the start of a text.
 ghost use Rattle.std.specs.Prelude.{◌≡◌, ◌∷◌, [], drop, is_some, IfOk, IfSome, OnOk};
 ghost use Rattle.std.specs.Str.{IsCharBoundary};
-ghost use Rattle.simplecss_text.specs.PrintingLaws.{SelectorReadsBack};
-ghost use Rattle.simplecss_text.specs.Selectors.{role_of, known_pseudo_class, outcome, reads};
-ghost use Rattle.simplecss_text.specs.Bytes.{past};
-ghost use Rattle.simplecss_text.specs.Characters.{is_space};
-ghost use Rattle.simplecss_text.specs.Skipped.{class_name, refusal_in, past_refused, refused};
-ghost use Rattle.simplecss_text.specs.Skipped.{refused_part, selector_skips, add_each};
-ghost use Rattle.simplecss_text.specs.SkipViews.{refusal_of};
-ghost use Rattle.simplecss_text.specs.ThisEdition.{this_edition};
+ghost use Rattle.simplecss_grammar.specs.PrintingLaws.{SelectorReadsBack};
+ghost use Rattle.simplecss_grammar.specs.Selectors.{role_of, known_pseudo_class, outcome, reads};
+ghost use Rattle.css_text.specs.Bytes.{past};
+ghost use Rattle.css_text.specs.Characters.{is_space};
+ghost use Rattle.simplecss_grammar.specs.Skipped.{class_name, refusal_in, past_refused, refused};
+ghost use Rattle.simplecss_grammar.specs.Skipped.{refused_part, selector_skips, add_each};
+ghost use Rattle.simplecss_grammar.specs.SkipViews.{refusal_of};
+ghost use Rattle.css_text.specs.ThisEdition.{this_edition};
 ghost use Rattle.simplecss_selector.specs.internal.SelectorDrafts.{drafted_if, selector_after};
 ghost use Rattle.simplecss_selector.specs.internal.SelectorDrafts.{selector_read};
 ghost use Rattle.simplecss_selector.specs.SelectorTokenizers.{whole_text, left_of, still_to_come};
@@ -18,9 +18,9 @@ ghost use Rattle.simplecss_selector.specs.internal.KnownPseudoClasses.{pseudo_cl
 use crate::draft::Draft;
 use crate::selector::{Combinator, Selector, SubSelector};
 use crate::{AttributeOperator, PseudoClass, SelectorToken, SelectorTokenizer};
-use simplecss_text::report::{Refusal, Report, Skipped, Why};
-use simplecss_text::stream::Stream;
-use simplecss_text::{readers, scan};
+use css_text::stream::Stream;
+use css_text::{readers, scan};
+use simplecss_grammar::report::{Refusal, Report, Skipped, Why};
 use std::alloc::{AllocError, Global};
 
 /// Returns the pseudo-class with a name, if there is one.

@@ -4,23 +4,24 @@ ghost use Rattle.std.specs.Prelude.{◌≡◌, ◌+◌, ◌*◌, ◌<◌, ◌≤
 ghost use Rattle.std.specs.Prelude.{slice_index_or, IsTrue};
 ghost use Rattle.std.specs.List.{slice_range};
 ghost use Rattle.std.specs.Option.{option_map};
-ghost use Rattle.simplecss_text.specs.Components.Combinator.{none as no_combinator};
-ghost use Rattle.simplecss_text.specs.Specificity.{is_id};
+ghost use Rattle.simplecss_grammar.specs.Components.Combinator.{none as no_combinator};
+ghost use Rattle.simplecss_grammar.specs.Specificity.{is_id};
 ghost use Rattle.simplecss_selector.specs.Placements.{Holds};
 ghost use Rattle.simplecss_selector.specs.internal.CombinatorViews.{combinator_of};
 ghost use Rattle.simplecss_selector.specs.internal.SelectorViews.{component_of_flat};
 ghost use Rattle.simplecss_selector.specs.internal.SelectorViews.{subselector_of};
 ghost use Rattle.simplecss_selector.specs.Keys.{required_id, required_class, required_attribute};
 
+use crate::bucket::bucket_by;
 use crate::key::{first_attribute, first_class, first_id};
 use crate::list::{ListRefusal, read_list};
 use crate::matching::{continues, is_met_at};
 use crate::reading::read_front;
 use crate::specificity::{at_most_255, id_count, name_count};
-use crate::wanted::wanted_by;
-use crate::{AttributeOperator, Element, Key, PseudoClass, Tests, Wanted, Warnings};
+use crate::{AttributeOperator, Bucket, Element, Key, PseudoClass, Warnings};
+use css_matching::Tests;
 use log::Log;
-use simplecss_text::report::Report;
+use simplecss_grammar::report::Report;
 use std::alloc::{AllocError, Global};
 use std::marker::Model;
 
@@ -84,7 +85,7 @@ pub struct Selector<'a> {
 
 impl<'a> Model for Selector<'a> {
     ghost use Rattle.std.specs.Prelude.{List};
-    ghost use Rattle.simplecss_text.specs.Components.{Component};
+    ghost use Rattle.simplecss_grammar.specs.Components.{Component};
 
     ghost Value = { List Component };
 
@@ -248,12 +249,12 @@ impl<'a> Selector<'a> {
 impl<'a> Selector<'a> {
     ghost use Rattle.std.specs.Prelude.{◌≡◌, drop, IfOk, IfSome, OnOk};
     ghost use Rattle.std.specs.Str.{IsCharBoundary};
-    ghost use Rattle.simplecss_text.specs.ThisEdition.{this_edition};
-    ghost use Rattle.simplecss_text.specs.Selectors.{reads};
-    ghost use Rattle.simplecss_text.specs.Skipped.{selector_skips, add_each};
+    ghost use Rattle.css_text.specs.ThisEdition.{this_edition};
+    ghost use Rattle.simplecss_grammar.specs.Selectors.{reads};
+    ghost use Rattle.simplecss_grammar.specs.Skipped.{selector_skips, add_each};
     ghost use Rattle.simplecss_selector.specs.SelectorLists.{list_read};
     ghost use Rattle.simplecss_selector.specs.ListRefusals.{read_of};
-    ghost use Rattle.simplecss_text.specs.PrintingLaws.{SelectorReadsBack};
+    ghost use Rattle.simplecss_grammar.specs.PrintingLaws.{SelectorReadsBack};
 
     /// Reads the selector at the start of a text, or returns `None` if it is refused (CSS 2.1
     /// section 5).
@@ -348,14 +349,12 @@ impl<'a> Selector<'a> {
 /// Specificity, keys and copies.
 impl<'a> Selector<'a> {
     ghost use Rattle.std.specs.Prelude.{IfOk, OnOk, ◌++◌, map, option_map};
-    ghost use Rattle.simplecss_text.specs.Specificity.{specificity};
+    ghost use Rattle.simplecss_grammar.specs.Specificity.{specificity};
     ghost use Rattle.simplecss_selector.specs.Keys.{key_of, compound_key};
-    ghost use Rattle.simplecss_selector.specs.Shapes.{component_at};
     ghost use Rattle.simplecss_selector.specs.AncestorKeys.{ancestor_keys, step_key};
-    ghost use Rattle.simplecss_selector.specs.KeyBits.{ancestor_bits, step_bits};
-    ghost use Rattle.simplecss_selector.specs.PlacementSearch.{first_of};
-    ghost use Rattle.simplecss_selector.specs.Wanted.{wanted_of};
-    ghost use Rattle.simplecss_selector.specs.WantedViews.{wanted_value};
+    ghost use Rattle.simplecss_selector.specs.Shapes.{component_at, first_of};
+    ghost use Rattle.simplecss_selector.specs.Buckets.{bucket_of};
+    ghost use Rattle.simplecss_selector.specs.BucketViews.{bucket_value};
     ghost use Rattle.simplecss_selector.specs.KeyViews.{key_value};
 
     /// Returns the specificity of the selector: the number of attributes named `id` with any
@@ -410,42 +409,16 @@ impl<'a> Selector<'a> {
     /// the element must have. If that is `Key::Any` and a child or an adjacent combinator joins it
     /// to the component before, the key of that component, which the element's parent or previous
     /// sibling must have.
-    pub fn wanted(&self) -> Wanted<'a>
-        ensures { wanted_value result ≡ wanted_of self.now }
+    pub fn bucket(&self) -> Bucket<'a>
+        ensures { bucket_value result ≡ bucket_of self.now }
     {
         let last = self.last_index();
         let key = self.key_at(last);
         if last == 0 {
-            return Wanted::OfElement(key);
+            return Bucket::OfElement(key);
         }
         let before = self.key_at(last - 1);
-        wanted_by(key, self.combinator(last), before)
-    }
-
-    /// Returns the bits of the key of the component that the combinator of the one at this index
-    /// leads back to, if it leads to an ancestor.
-    fn step_bits(&self, index: usize) -> u64
-        requires { index < length self.now }
-        ensures { result
-            ≡ step_bits (component_at self.now index).combinator (first_of self.now index) }
-    {
-        match self.combinator(index) {
-            Combinator::Child | Combinator::Descendant => self.key_at(index - 1).bits(),
-            Combinator::None | Combinator::Adjacent => 0,
-        }
-    }
-
-    /// Returns the bits (`Key::bits`) of the keys that an element's ancestors must have for the
-    /// selector to match it: of each component that a child or a descendant combinator leads back
-    /// to.
-    pub fn ancestor_bits(&self) -> u64
-        ensures { result ≡ ancestor_bits self.now }
-    {
-        let mut bits = 0;
-        for index in 0..self.len() {
-            bits |= self.step_bits(index);
-        }
-        bits
+        bucket_by(key, self.combinator(last), before)
     }
 
     /// Returns the key of the component that the combinator of the one at this index leads back to,

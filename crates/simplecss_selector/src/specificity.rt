@@ -1,6 +1,6 @@
 //! The numbers of a selector's specificity.
 ghost use Rattle.std.specs.Prelude.{◌≡◌, min, count_by, is_some};
-ghost use Rattle.simplecss_text.specs.Specificity.{is_id};
+ghost use Rattle.simplecss_grammar.specs.Specificity.{is_id};
 ghost use Rattle.simplecss_selector.specs.internal.SelectorViews.{subselector_of};
 
 use crate::selector::{FlatComponent, SubSelector};

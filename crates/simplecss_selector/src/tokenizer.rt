@@ -1,16 +1,16 @@
 //! The tokenizer of selectors.
 ghost use Rattle.std.specs.Prelude.{◌≡◌, ◌<◌, ℕ, List, true, false, Some, if◌then◌else◌};
-ghost use Rattle.simplecss_text.specs.Reading.{got};
-ghost use Rattle.simplecss_text.specs.AsciiBytes.{slash};
-ghost use Rattle.simplecss_text.specs.Bytes.{all_before, past_one, starts};
-ghost use Rattle.simplecss_text.specs.Errors.{Gives, position_of};
-ghost use Rattle.simplecss_text.specs.Cursor.{text_of, rest_of};
-ghost use Rattle.simplecss_text.specs.ThisEdition.{this_edition};
-ghost use Rattle.simplecss_text.specs.Pieces.{attribute_after as attribute_read};
-ghost use Rattle.simplecss_text.specs.Pieces.{attribute_operator as operator_read};
-ghost use Rattle.simplecss_text.specs.Pieces.{lang_after as language_read};
-ghost use Rattle.simplecss_text.specs.Pieces.{pseudo_class_after as pseudo_class_read};
-ghost use Rattle.simplecss_text.specs.Pieces.{next_kind, IsSimplePiece, solid_as};
+ghost use Rattle.css_text.specs.Reading.{got};
+ghost use Rattle.css_text.specs.AsciiBytes.{slash};
+ghost use Rattle.css_text.specs.Bytes.{all_before, past_one, starts};
+ghost use Rattle.css_text.specs.Errors.{Gives, position_of};
+ghost use Rattle.css_text.specs.Cursor.{text_of, rest_of};
+ghost use Rattle.css_text.specs.ThisEdition.{this_edition};
+ghost use Rattle.simplecss_grammar.specs.Pieces.{attribute_after as attribute_read};
+ghost use Rattle.simplecss_grammar.specs.Pieces.{attribute_operator as operator_read};
+ghost use Rattle.simplecss_grammar.specs.Pieces.{lang_after as language_read};
+ghost use Rattle.simplecss_grammar.specs.Pieces.{pseudo_class_after as pseudo_class_read};
+ghost use Rattle.simplecss_grammar.specs.Pieces.{next_kind, IsSimplePiece, solid_as};
 ghost use Rattle.simplecss_selector.specs.OperatorViews.{operator_of};
 ghost use Rattle.simplecss_selector.specs.TokenViews.{token_of};
 ghost use Rattle.simplecss_selector.specs.declared.token.SelectorToken.TheVariants.{AttributeSelector};
@@ -19,9 +19,9 @@ ghost use Rattle.simplecss_selector.specs.declared.token.SelectorToken.TheVarian
 ghost use Rattle.simplecss_selector.specs.internal.NextKinds.{IsNamed, stage_after_fault};
 
 use crate::{AttributeOperator, SelectorToken};
-use simplecss_text::next_kind::{NextKind, next_kind};
-use simplecss_text::stream::Stream;
-use simplecss_text::{Error, readers, scan};
+use css_text::stream::Stream;
+use css_text::{Error, readers, scan};
+use simplecss_grammar::next_kind::{NextKind, next_kind};
 use std::iter::FusedIterator;
 
 /// The state of a tokenizer.
@@ -52,7 +52,7 @@ pub struct SelectorTokenizer<'a> {
 
 /// Consumes the operator and value after an attribute's name.
 #[inline(always)]
-#[tactic(auto, unfolding(simplecss_text::specs::Pieces::attribute_operator))]
+#[tactic(auto, unfolding(simplecss_grammar::specs::Pieces::attribute_operator))]
 fn attribute_operator<'a>(stream: &mut Stream<'a>) -> Result<AttributeOperator<'a>, Error>
     ensures text { text_of stream.new ≡ text_of stream.old }
     ensures reads { Gives operator_of (text_of stream.old)
@@ -78,7 +78,7 @@ fn attribute_operator<'a>(stream: &mut Stream<'a>) -> Result<AttributeOperator<'
 
 /// Consumes an attribute's name and the condition on its value, after the `[`.
 #[inline(never)]
-#[tactic(auto, unfolding(simplecss_text::specs::Pieces::attribute_after))]
+#[tactic(auto, unfolding(simplecss_grammar::specs::Pieces::attribute_after))]
 fn attribute<'a>(stream: &mut Stream<'a>) -> Result<(&'a str, AttributeOperator<'a>), Error>
     ensures text { text_of stream.new ≡ text_of stream.old }
     ensures reads { Gives (λ required. token_of (AttributeSelector required.0 required.1))
@@ -93,7 +93,7 @@ fn attribute<'a>(stream: &mut Stream<'a>) -> Result<(&'a str, AttributeOperator<
 
 /// Consumes the language of a `:lang`, after that name.
 #[inline(always)]
-#[tactic(auto, unfolding(simplecss_text::specs::Pieces::lang_after))]
+#[tactic(auto, unfolding(simplecss_grammar::specs::Pieces::lang_after))]
 fn language<'a>(stream: &mut Stream<'a>) -> Result<&'a str, Error>
     ensures text { text_of stream.new ≡ text_of stream.old }
     ensures reads { Gives (λ language. token_of (LangPseudoClass language)) (text_of stream.old)
@@ -111,7 +111,7 @@ fn language<'a>(stream: &mut Stream<'a>) -> Result<&'a str, Error>
 /// Consumes the name of a pseudo-class after its `:`, or the language of a `:lang`. Returns it, and
 /// whether it is a language.
 #[inline(never)]
-#[tactic(auto, unfolding(simplecss_text::specs::Pieces::pseudo_class_after))]
+#[tactic(auto, unfolding(simplecss_grammar::specs::Pieces::pseudo_class_after))]
 fn pseudo_class<'a>(stream: &mut Stream<'a>) -> Result<(&'a str, bool), Error>
     ensures text { text_of stream.new ≡ text_of stream.old }
     ensures reads { Gives
@@ -144,7 +144,7 @@ fn text_before<'a>(stream: &mut Stream<'a>, byte: u8) -> &'a str
 
 /// Consumes the `>` that the caller has seen.
 #[inline(always)]
-#[tactic(auto, unfolding(simplecss_text::specs::Pieces::next_kind))]
+#[tactic(auto, unfolding(simplecss_grammar::specs::Pieces::next_kind))]
 fn child<'a>(stream: &mut Stream<'a>) -> SelectorToken<'a>
     requires { next_kind (rest_of stream.old) ≡ NextKind.Child }
     ensures text { text_of stream.new ≡ text_of stream.old }
@@ -157,7 +157,7 @@ fn child<'a>(stream: &mut Stream<'a>) -> SelectorToken<'a>
 
 /// Consumes the `+` that the caller has seen.
 #[inline(always)]
-#[tactic(auto, unfolding(simplecss_text::specs::Pieces::next_kind))]
+#[tactic(auto, unfolding(simplecss_grammar::specs::Pieces::next_kind))]
 fn adjacent<'a>(stream: &mut Stream<'a>) -> SelectorToken<'a>
     requires { next_kind (rest_of stream.old) ≡ NextKind.Adjacent }
     ensures text { text_of stream.new ≡ text_of stream.old }
@@ -170,7 +170,7 @@ fn adjacent<'a>(stream: &mut Stream<'a>) -> SelectorToken<'a>
 
 /// Consumes the name of an id or a class after its sign, or of a type.
 #[inline(always)]
-#[tactic(auto, unfolding(simplecss_text::specs::Pieces::next_kind, simplecss_text::specs::Pieces::named_token))]
+#[tactic(auto, unfolding(simplecss_grammar::specs::Pieces::next_kind, simplecss_grammar::specs::Pieces::named_token))]
 fn name<'a>(stream: &mut Stream<'a>, follows: NextKind) -> Result<SelectorToken<'a>, Error>
     requires here { next_kind (rest_of stream.old) ≡ follows }
     requires named { IsNamed follows }
@@ -193,7 +193,7 @@ fn name<'a>(stream: &mut Stream<'a>, follows: NextKind) -> Result<SelectorToken<
 
 /// Consumes a simple piece of the kind that the caller has seen.
 #[inline(always)]
-#[tactic(auto, unfolding(simplecss_text::specs::Pieces::next_kind))]
+#[tactic(auto, unfolding(simplecss_grammar::specs::Pieces::next_kind))]
 fn simple_piece<'a>(stream: &mut Stream<'a>, follows: NextKind) -> Result<SelectorToken<'a>, Error>
     requires here { next_kind (rest_of stream.old) ≡ follows }
     requires simple { IsSimplePiece follows }
@@ -237,10 +237,10 @@ impl<'a> From<&'a str> for SelectorTokenizer<'a> {
 }
 
 impl<'a> SelectorTokenizer<'a> {
-    ghost use Rattle.simplecss_text.specs.Reading.{got as gives_value};
+    ghost use Rattle.css_text.specs.Reading.{got as gives_value};
     ghost use Rattle.std.specs.Prelude.{drop};
     ghost use Rattle.std.specs.Str.{IsCharBoundary};
-    ghost use Rattle.simplecss_text.specs.Comments.{gap};
+    ghost use Rattle.css_text.specs.Comments.{gap};
     ghost use Rattle.simplecss_selector.specs.SelectorTokenizers.{whole_text, offset_in, left_of};
     ghost use Rattle.simplecss_selector.specs.SelectorTokenizers.{sequence_in};
     ghost use Rattle.simplecss_selector.specs.SelectorTokenizers.{still_to_come, GivesFirst};

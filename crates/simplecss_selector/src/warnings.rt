@@ -1,6 +1,6 @@
 //! A logger as a reporter of skipped text.
 use log::{Log, warn};
-use simplecss_text::report::{Refusal, Report, Skipped, Why};
+use simplecss_grammar::report::{Refusal, Report, Skipped, Why};
 use std::alloc::AllocError;
 
 /// A reporter that logs a warning for each refused selector and each at-rule with a name.

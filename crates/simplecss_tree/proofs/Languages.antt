@@ -3,7 +3,7 @@
 use Rattle.std.proofs.Common.{◌≡◌, ℕ, List, None, Some, ap, ◌∙◌}
 use Rattle.std.specs.Prelude.{codes}
 use Rattle.std.specs.Option.{option_or}
-use Rattle.simplecss.specs.ListTrees.{parent_by, with_those_above, ancestors, ancestors_step}
+use Rattle.simplecss.specs.ListTrees.{parent_by, with_those_after, ancestors, ancestors_step}
 use Rattle.simplecss_tree.specs.Rows.{Row}
 use Rattle.simplecss_tree.specs.TreeNodes.{named_parent, attribute_at, first_value, language_at}
 
@@ -12,4 +12,4 @@ pub language_at-parent : (rows : List Row) (i p : ℕ) → attribute_at rows i (
 language_at-parent rows i p none up =
     ap (λ r. option_or r (first_value rows (codes "lang") (ancestors (named_parent rows) i))) none
     ∙ ap (first_value rows (codes "lang")) (ancestors_step (named_parent rows) i
-    ∙ ap (with_those_above (ancestors (named_parent rows))) up)
+    ∙ ap (with_those_after (ancestors (named_parent rows))) up)

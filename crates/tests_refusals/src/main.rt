@@ -4,17 +4,17 @@
 //! results are shown, too.
 #![tactic(auto)]
 
-mod both_kinds;
 mod free;
 
-use both_kinds::{found_by_index, read_rules};
+use css_index::SelectorIndex;
+use css_selectors::Selector as ModernSelector;
+use css_tree::NumberedTree;
 use cssq::cascade::winners;
 use cssq::runs::{RunFault, run_match, run_selector, run_sheet, run_style};
 use cssq::tree::{Page, TreeFault};
 use free::Made;
 use log::Log;
 use log::sink::{Discard, Memory};
-use selectors3_tree::NumberedTree;
 use simplecss::{
     Reading, RuleIndex, RuleSearch, Selector, SheetError, StatementReader, StyleSheet, Warnings,
     find_skipped,
@@ -336,23 +336,47 @@ fn chain<'t>(alloc: Global, names: &[&'t str]) -> Result<Tree<'t>, TreeError> {
     Ok(tree)
 }
 
-/// Finds the rules that match the elements of a tree by an index over a rule of each kind.
-fn show_both(
-    rt: &HostRuntime,
-    made: &Made<'_>,
-    old: &str,
-    new: &str,
-    names: &[&str],
-) -> io::Result<()> {
-    let rules = read_rules(rt.alloc(), old, new)?;
-    let Ok(tree) = chain(rt.alloc(), names) else {
-        return println!(rt; "no tree");
+/// Returns the sum of the numbers of the selectors that an index finds for each element of the tree.
+fn found_selectors(
+    alloc: Global,
+    selectors: &[ModernSelector<'_>],
+    page: &NumberedTree<'_, '_>,
+) -> Result<usize, AllocError> {
+    let index = SelectorIndex::new(alloc, selectors)?;
+    let mut indices = Vec::new(alloc);
+    let mut sum = 0_usize;
+    for node_index in 0..page.len() {
+        let Some(element) = page.node(node_index) else {
+            break;
+        };
+        index.matching(&element, &mut indices)?;
+        for found in &indices {
+            sum = sum.saturating_add(*found).saturating_add(1);
+        }
+    }
+    Ok(sum)
+}
+
+/// Numbers the elements of a tree of the names.
+fn show_numbered(rt: &HostRuntime, made: &Made<'_>, names: &[&str]) -> io::Result<()> {
+    let tree = chain(rt.alloc(), names)?;
+    begin(rt);
+    let page = NumberedTree::new(rt.alloc(), &tree);
+    end(rt, made);
+    show_number(rt, page.map(|page| page.len()))
+}
+
+/// Finds selectors by an index for the elements of a tree of the names.
+fn show_modern(rt: &HostRuntime, made: &Made<'_>, text: &str, names: &[&str]) -> io::Result<()> {
+    let Ok(selectors) = ModernSelector::parse_list(rt.alloc(), text) else {
+        return println!(rt; "no selectors");
     };
+    let tree = chain(rt.alloc(), names)?;
     let Ok(page) = NumberedTree::new(rt.alloc(), &tree) else {
         return println!(rt; "no tree");
     };
     begin(rt);
-    let sum = found_by_index(rt.alloc(), &rules, &page);
+    let sum = found_selectors(rt.alloc(), selectors.as_slice(), &page);
     end(rt, made);
     show_number(rt, sum)
 }
@@ -393,13 +417,14 @@ fn show<R: Log>(rt: &HostRuntime, made: &Made<'_>, log: &R, words: &[&str]) -> i
         [call @ ("index" | "winners"), text, tree] => show_found(rt, made, call, text, tree),
         ["search", text] => show_search(rt, made, text),
         ["kept", text, tree] => show_kept(rt, made, text, tree),
-        ["both", old, new, names @ ..] => show_both(rt, made, old, new, names),
         ["tree", names @ ..] => {
             begin(rt);
             let tree = chain(rt.alloc(), names);
             end(rt, made);
             show_number(rt, tree.map(|tree| tree.len()))
         }
+        ["numbered", names @ ..] => show_numbered(rt, made, names),
+        ["modern", text, names @ ..] => show_modern(rt, made, text, names),
         ["run_selector", text] => {
             begin(rt);
             let outcome = run_selector(log, rt.alloc(), text, &mut out);

@@ -4,9 +4,9 @@ use Rattle.simplecss.specs.Statements.{StyleRule}
 use Rattle.cssq.specs.declared.runs.LineContent.{LineContent}
 use Rattle.cssq.specs.declared.runs.LineContent.TheVariants.{Rules, Winner}
 use Rattle.cssq.specs.declared.runs.RunFault.{RunFault}
-use Rattle.cssq_page.specs.TreeText.{Row}
-use Rattle.cssq.specs.MatchRuns.{AreLines, IsLineOf, IsMatchRun}
-use Rattle.cssq.specs.StyleRuns.{IsStyleLineOf, IsStyleRun}
+use Rattle.cssq_tree.specs.TreeText.{Row}
+use Rattle.cssq.specs.MatchRuns.{AreLines, IsLineOf, IsMatchOutput}
+use Rattle.cssq.specs.StyleRuns.{IsStyleLineOf, IsStyleOutput}
 
 -- the line of the element at an index
 abbrev pub IsElementLine : LineContent → List StyleRule → List Row → ℕ → List ℕ → Type 0
@@ -23,7 +23,7 @@ AppendsElementLine content rules rows index old new =
 abbrev pub AreElementLines : LineContent → List StyleRule → List Row → List ℕ → Type 0
 AreElementLines content rules rows = AreLines (IsElementLine content rules rows) (length rows)
 
--- what the run must write, or the tree's fault
-abbrev pub IsPageRun : LineContent → List ℕ → List ℕ → Result (List ℕ) RunFault → Type 0
-IsPageRun Rules text tree = IsMatchRun text tree
-IsPageRun (Winner name) text tree = IsStyleRun text tree name.now
+-- what must be written of the rules and the tree, or the tree's fault
+abbrev pub IsPageOutput : LineContent → List StyleRule → List ℕ → Result (List ℕ) RunFault → Type 0
+IsPageOutput Rules rules tree = IsMatchOutput rules tree
+IsPageOutput (Winner name) rules tree = IsStyleOutput rules tree name.now

@@ -3,11 +3,11 @@
 use Rattle.std.specs.Prelude.{◌≡◌, ℕ, ◌<◌, List, map, length, Option, None, Some}
 use Rattle.std.specs.List.{slice_get}
 use Rattle.std.specs.Option.{option_map_or}
-use Rattle.simplecss_text.specs.Components.{Component}
-use Rattle.simplecss_selector.specs.Wanted.{Wanted}
+use Rattle.simplecss_grammar.specs.Components.{Component}
+use Rattle.simplecss_selector.specs.Buckets.{Bucket}
 use Rattle.simplecss.specs.SelectorIndices.{key_at}
-use Rattle.simplecss.specs.internal.LastByWanted.{last_wanted}
-use Rattle.simplecss.specs.declared.index.last_by_wanted.LastByWanted.{LastByWanted}
+use Rattle.simplecss.specs.internal.LastByBucket.{last_in_bucket}
+use Rattle.simplecss.specs.declared.index.last_by_bucket.LastByBucket.{LastByBucket}
 use Rattle.simplecss.specs.declared.index.link.Link.{Link}
 
 -- the selectors of links, in order
@@ -15,7 +15,7 @@ abbrev pub selectors_of : List Link → List (List Component)
 selectors_of links = map (λ link. link.selector.value) links
 
 -- this is the last index before the end whose selector has the key, or there is none
-abbrev pub IsLastBefore : List (List Component) → ℕ → Wanted → Option ℕ → Type 0
+abbrev pub IsLastBefore : List (List Component) → ℕ → Bucket → Option ℕ → Type 0
 IsLastBefore selectors end key None = (index : ℕ) → index < end → key_at selectors index ≡ key → ⊥
 IsLastBefore selectors end key (Some last) =
     (last < end) × (key_at selectors last ≡ key)
@@ -27,9 +27,9 @@ earlier_at links index = option_map_or (λ link. link.earlier) (slice_get links 
 
 -- Each key leads to the last selector with it, and each link leads to the last earlier selector
 -- with the key of its own.
-pub record AreChained (lasts : LastByWanted) (links : List Link) : Type 0 where
-  pub last : (key : Wanted)
-      → IsLastBefore (selectors_of links) (length links) key (last_wanted lasts key)
+pub record AreChained (lasts : LastByBucket) (links : List Link) : Type 0 where
+  pub last : (key : Bucket)
+      → IsLastBefore (selectors_of links) (length links) key (last_in_bucket lasts key)
   pub earlier : (index : ℕ) → index < length links
       → IsLastBefore (selectors_of links) index (key_at (selectors_of links) index)
       (earlier_at links index)

@@ -9,7 +9,7 @@ use Rattle.simplecss.specs.internal.LastByKey.{last_for}
 use Rattle.simplecss.specs.internal.OnlyKeys.{IsOnlyKey}
 use Rattle.simplecss.specs.internal.Chains.{selectors_of, AreChained}
 use Rattle.simplecss.specs.declared.index.last_by_key.LastByKey.{LastByKey}
-use Rattle.simplecss.specs.declared.index.last_by_wanted.LastByWanted.{LastByWanted}
+use Rattle.simplecss.specs.declared.index.last_by_bucket.LastByBucket.{LastByBucket}
 use Rattle.simplecss.specs.declared.index.link.Link.{Link}
 use Rattle.simplecss.specs.declared.index.needed_keys.NeededKeys.{NeededKeys}
 
@@ -46,7 +46,7 @@ AreOnly links = All (λ link. IsTrue link.is_only_key → IsOnlyKey link.selecto
 
 -- the links of an index: they are in chains, have the numbers of the keys that they need, and say of
 -- which selectors nothing but the key is required
-pub record AreIndexed (lasts : LastByWanted) (needed : NeededKeys) (links : List Link) : Type 0 where
+pub record AreIndexed (lasts : LastByBucket) (needed : NeededKeys) (links : List Link) : Type 0 where
   pub chained : AreChained lasts links
   pub numbered : AreNeeded needed links
   pub only : AreOnly links

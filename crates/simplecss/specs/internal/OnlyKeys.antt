@@ -1,13 +1,13 @@
 -- Selectors that require nothing but their key: they match a node that has only that.
-use Rattle.std.specs.Prelude.{◌≡◌, ℕ, ◌&&◌, List, Option, None, Some, Bool, false, IsTrue, bytes_eq, codes, refl}
-use Rattle.simplecss_text.specs.Components.{Component, Operator}
-use Rattle.simplecss_text.specs.Components.Operator.{exists, equals, has_word, begins_with}
+use Rattle.std.specs.Prelude.{◌≡◌, ℕ, ◌&&◌, List, None, Bool, true, false, bytes_eq, codes, refl}
+use Rattle.simplecss_grammar.specs.Components.{Component, Operator}
+use Rattle.simplecss_grammar.specs.Components.Operator.{exists, equals, has_word, begins_with}
 use Rattle.simplecss_selector.specs.Keys.{Key}
 use Rattle.simplecss_selector.specs.Keys.Key.{by_id, by_class, by_name, by_attribute, by_nothing}
 use Rattle.simplecss_selector.specs.Placements.{HasPlacement}
 use Rattle.simplecss_selector.specs.Trees.{Tree, DepthCountsAncestors, SiblingsShareParent}
-use Rattle.simplecss_selector.specs.Wanted.{wanted_of}
-use Rattle.simplecss_selector.specs.Wanted.Wanted.{of_element}
+use Rattle.simplecss_selector.specs.Buckets.{bucket_of}
+use Rattle.simplecss_selector.specs.Buckets.Bucket.{of_element}
 use Rattle.simplecss.specs.SelectorIndices.{selector_at}
 
 -- whether the operator is satisfied exactly by this text
@@ -60,9 +60,9 @@ only_siblings key = tt
 -- the selector requires nothing but its key: it matches a node that has only that
 abbrev pub IsOnlyKey : List Component → Type 0
 IsOnlyKey selector =
-    (key : Key) × (wanted_of selector ≡ of_element key) × HasPlacement only_tree selector key
+    (key : Key) × (bucket_of selector ≡ of_element key) × HasPlacement only_tree selector key
 
--- the selector at an index of a list, if there is one, requires nothing but its key
-abbrev pub IsKnown : Option (List (List Component)) → ℕ → Type 0
-IsKnown None index = ⊥
-IsKnown (Some selectors) index = IsOnlyKey (selector_at selectors index)
+-- the search is exact, and the selector at an index requires nothing but its key
+abbrev pub IsKnown : Bool → List (List Component) → ℕ → Type 0
+IsKnown false selectors index = ⊥
+IsKnown true selectors index = IsOnlyKey (selector_at selectors index)

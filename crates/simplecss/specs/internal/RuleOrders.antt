@@ -1,8 +1,8 @@
 -- Lists of indices that say in which order the rules of a list are to be.
 use Rattle.std.specs.Prelude.{◌≡◌, ℕ, ◌<◌, List, [], length, slice_index, slice_index_or, map}
-use Rattle.simplecss_text.specs.Specificity.{specificity}
-use Rattle.simplecss_text.specs.Statements.{StyleRule}
-use Rattle.simplecss_text.specs.Sheets.{ordered}
+use Rattle.simplecss_grammar.specs.Specificity.{specificity}
+use Rattle.simplecss_grammar.specs.Statements.{StyleRule}
+use Rattle.simplecss_grammar.specs.Sheets.{ordered}
 
 -- in place of a rule past the end
 abbrev pub no_rule : StyleRule

@@ -1,8 +1,8 @@
 -- Rules that share a block.
 use Rattle.std.specs.Prelude.{List, map}
-use Rattle.simplecss_text.specs.Components.{Component}
-use Rattle.simplecss_text.specs.Declarations.{StyleDeclaration}
-use Rattle.simplecss_text.specs.Statements.{StyleRule}
+use Rattle.simplecss_grammar.specs.Components.{Component}
+use Rattle.simplecss_grammar.specs.Declarations.{StyleDeclaration}
+use Rattle.simplecss_grammar.specs.Statements.{StyleRule}
 use Rattle.simplecss_declaration.specs.DeclarationViews.{declaration_of}
 use Rattle.simplecss.specs.declared.sheet.statements.RuleReader.{RuleReader}
 

@@ -1,31 +1,16 @@
 -- The rule indices of texts, and a table of what is known of most texts.
-use Rattle.std.specs.Prelude.{◌≡◌, ◌⊎◌, ℕ, ◌+◌, ◌-◌, ◌*◌, ◌/◌, ◌%◌, ◌^◌, List, [], ◌∷◌, length, slice_index_or, slice_set, bytes_eq, if◌then◌else◌, Option, None, Some}
+use Rattle.std.specs.Prelude.{◌≡◌, ◌⊎◌, ℕ, List, length, slice_index_or, slice_set, bytes_eq, if◌then◌else◌, Option, None, Some}
 use Rattle.std.specs.Borrow.{Bor}
 use Rattle.std.specs.BTreeMap.{BTreeMap, get_by}
 use Rattle.std.specs.Ordering.{nat_cmp}
 use Rattle.std.specs.Cmp.Lexicographic.{slice_cmp}
-use Rattle.std.specs.Int.Bits.{bit_and}
-use Rattle.simplecss_selector.specs.KeyBits.{number_from, Covers}
+use Rattle.css_matching.specs.Hashes.{place_of, mark_of, Covers}
 use Rattle.simplecss.specs.declared.index.texts.Slot.{Slot}
 use Rattle.simplecss.specs.declared.index.texts.Slot.TheVariants.{Empty, One, Several}
 
 -- the index that a map has for a text
 abbrev pub index_for_text : BTreeMap (Bor (List ℕ)) ℕ → List ℕ → Option ℕ
 index_for_text indices text = get_by (λ key. slice_cmp nat_cmp text key.now) indices
-
--- the place of a text among so many slots, by the upper half of a multiple of its number
-abbrev pub place_of : ℕ → List ℕ → ℕ
-place_of count text =
-    bit_and (number_from 0 text * 11400714819323198485 % 2 ^ 64 / 2 ^ 32) (count - 1)
-
--- one of 64 numbers, by the length and the first byte
-abbrev pub word_of : List ℕ → ℕ
-word_of [] = 0
-word_of (byte ∷ bytes) = (length (byte ∷ bytes) + byte * 7) % 64
-
--- one of 64 bits, by that number
-abbrev pub mark_of : List ℕ → ℕ
-mark_of text = 1 * 2 ^ word_of text % 2 ^ 64
 
 -- the marks have the bit of each text with an index
 abbrev pub AreMarked : ℕ → (List ℕ → Option ℕ) → Type 0

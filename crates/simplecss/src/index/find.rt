@@ -6,16 +6,15 @@ ghost use Rattle.simplecss_selector.specs.KeyViews.{key_value};
 ghost use Rattle.simplecss.specs.internal.LastByKey.{last_for, IdLeads, ClassLeads, AttributeLeads};
 ghost use Rattle.simplecss.specs.internal.LastByKey.{KeyLeads};
 ghost use Rattle.simplecss_selector.specs.Keys.{Reported};
-ghost use Rattle.simplecss_selector.specs.KeyBits.{CoversAncestors};
-ghost use Rattle.simplecss_selector.specs.Wanted.{Near, IsNear, IsReportedFor};
-ghost use Rattle.simplecss.specs.internal.LastByWanted.{NeighbourLeads};
-ghost use Rattle.simplecss.specs.Recents.{Leads, adds_wanted, names_wanted, AreStarts};
-ghost use Rattle.simplecss.specs.Matching.{AreKeyed, AreKept, AreCandidates, is_covered};
-ghost use Rattle.simplecss.specs.OpenPaths.{needed_keys, are_open, is_kept, IsOpenTo};
+ghost use Rattle.simplecss_selector.specs.Buckets.{Near, IsNear, IsReportedFor};
+ghost use Rattle.simplecss.specs.internal.LastByBucket.{NeighbourLeads};
+ghost use Rattle.simplecss.specs.internal.Recents.{Leads, adds_bucket, names_bucket, AreStarts};
+ghost use Rattle.simplecss.specs.internal.Kept.{AreKeyed, AreKept, is_kept};
+ghost use Rattle.simplecss.specs.OpenPaths.{needed_keys, are_open, IsOpenTo};
 ghost use Rattle.simplecss.specs.SelectorIndices.{key_at, selector_at, Adds};
 
+use super::last_by_bucket::LastByBucket;
 use super::last_by_key::LastByKey;
-use super::last_by_wanted::LastByWanted;
 use super::open_path::OpenPath;
 use super::recent::Recent;
 use super::rule_index::RuleIndex;
@@ -177,12 +176,12 @@ fn push_neighbour<E: Keyed>(
 /// Adds the last indices of what the element reports by its id and by other attributes, and of what
 /// its parent and its previous sibling report.
 fn push_beside<E: Keyed>(
-    lasts: &LastByWanted<'_>,
+    lasts: &LastByBucket<'_>,
     element: &E,
     indices: &mut Vec<usize>,
 ) -> Result<(), AllocError>
     ensures { OnOk result ((near : Near) × IsNear E.tree E.node E.reported element.now near
-        × Adds indices.old.items indices.new.items (Leads (adds_wanted near) lasts.now)) }
+        × Adds indices.old.items indices.new.items (Leads (adds_bucket near) lasts.now)) }
 {
     push_id(&lasts.own, element.id_value(), indices)?;
     push_attributes(&lasts.own, element, indices)?;
@@ -192,20 +191,20 @@ fn push_beside<E: Keyed>(
 
 /// Adds the last indices of what an element with this name and this class value reports by them.
 fn push_named(
-    lasts: &LastByWanted<'_>,
+    lasts: &LastByBucket<'_>,
     name: &str,
     class: Option<&str>,
     indices: &mut Vec<usize>,
 ) -> Result<(), AllocError>
     ensures { OnOk result (Adds indices.old.items indices.new.items
-        (Leads (names_wanted name.now (option_map (λ value. value.now) class.entry)) lasts.now)) }
+        (Leads (names_bucket name.now (option_map (λ value. value.now) class.entry)) lasts.now)) }
 {
     push_last(&lasts.own, Key::Any, indices)?;
     push_last(&lasts.own, Key::Name(name), indices)?;
     push_classes(&lasts.own, class, indices)
 }
 
-/// Adds the earlier indices with the key of this one, and with a path those of them alone that it
+/// Adds the earlier indices with the key of this one, and with a path only those of them that it
 /// keeps.
 fn push_earlier(
     rule_index: &RuleIndex<'_>,
@@ -229,7 +228,7 @@ fn push_earlier(
     Ok(())
 }
 
-/// Adds the earlier indices with the key of one that is there, and with a path those of them alone
+/// Adds the earlier indices with the key of one that is there, and with a path only those of them
 /// that it keeps.
 fn push_all_earlier(
     rule_index: &RuleIndex<'_>,
@@ -270,7 +269,7 @@ fn find_beside<E: Keyed>(
     indices: &mut Vec<usize>,
 ) -> Result<(), AllocError>
     ensures { OnOk result ((near : Near) × IsNear E.tree E.node E.reported element.now near
-        × AreStarts (adds_wanted near) rule_index.now indices.new.items) }
+        × AreStarts (adds_bucket near) rule_index.now indices.new.items) }
 {
     indices.clear();
     push_beside(&rule_index.lasts, element, indices)
@@ -290,7 +289,7 @@ fn find_named(
     requires { (index : ℕ) → Contains indices.old.items index → index < length rule_index.now }
     ensures { OnOk result ((near : Near) → near.own.name ≡ name.now
         → near.own.class ≡ option_map (λ value. value.now) class.entry
-        → AreStarts (adds_wanted near) rule_index.now indices.old.items
+        → AreStarts (adds_bucket near) rule_index.now indices.old.items
         → AreKept near (is_kept rule_index.now (option_map (λ p. p.now) path.entry))
         rule_index.now indices.new.items) }
 {
@@ -317,7 +316,7 @@ fn find_again(
     requires recent { recent.old ≡ rule_index.now }
     ensures found { OnOk result ((near : Near) → near.own.name ≡ name.now
         → near.own.class ≡ option_map (λ value. value.now) class.entry
-        → AreStarts (adds_wanted near) rule_index.now indices.old.items
+        → AreStarts (adds_bucket near) rule_index.now indices.old.items
         → AreKeyed near rule_index.now indices.new.items) }
     ensures recent { recent.new ≡ recent.old }
 {
@@ -332,9 +331,9 @@ fn find_again(
     recent.keep(name, class, indices)
 }
 
-/// Leaves the indices of the rules whose key is reported, in order.
+/// Leaves the indices of the rules that are to be tested, in order: those whose key is reported.
 #[inline(always)]
-fn find_keyed<E: Keyed>(
+pub(crate) fn candidates<E: Keyed>(
     rule_index: &RuleIndex<'_>,
     element: &E,
     indices: &mut Vec<usize>,
@@ -355,34 +354,6 @@ fn find_keyed<E: Keyed>(
     )
 }
 
-/// Keeps the indices of the rules whose ancestors' keys the bits cover.
-#[inline(always)]
-fn keep_covered(rule_index: &RuleIndex<'_>, above: u64, indices: &mut Vec<usize>)
-    ensures { indices.new.items ≡ filter
-        (λ index. is_covered above (selector_at rule_index.now index)) indices.old.items }
-{
-    indices.retain(|index| rule_index.is_covered(*index, above));
-}
-
-/// Leaves the indices of the rules that are to be tested, in order: those whose key is reported,
-/// and whose ancestors' keys are among those of the element's ancestors, as far as their bits show.
-pub(crate) fn candidates<E: Keyed>(
-    rule_index: &RuleIndex<'_>,
-    element: &E,
-    indices: &mut Vec<usize>,
-    recent: &mut Recent<'_>,
-) -> Result<(), AllocError>
-    requires { recent.old ≡ rule_index.now }
-    ensures found { OnOk result ((near : Near) × IsNear E.tree E.node E.reported element.now near
-        × (above : ℕ) × CoversAncestors E.tree (E.node element.now) above
-        × AreCandidates near above rule_index.now indices.new.items) }
-    ensures recent { recent.new ≡ recent.old }
-{
-    find_keyed(rule_index, element, indices, recent)?;
-    keep_covered(rule_index, element.ancestor_bits(), indices);
-    Ok(())
-}
-
 /// Leaves the last indices of the keys that the element, its parent or its previous sibling reports
 /// otherwise than by the element's name and classes. Those of the parent are the path's.
 #[inline(always)]
@@ -396,7 +367,7 @@ fn find_beside_open<E: Keyed>(
     requires open { IsOpenTo E.tree E.node E.reported path.now
         (E.tree.parent (E.node element.now)) }
     ensures { OnOk result ((near : Near) × IsNear E.tree E.node E.reported element.now near
-        × AreStarts (adds_wanted near) rule_index.now indices.new.items) }
+        × AreStarts (adds_bucket near) rule_index.now indices.new.items) }
 {
     let lasts = &rule_index.lasts;
     indices.clear();

@@ -1,6 +1,6 @@
 //! Laws of what an index finds, each the contract of a function that does nothing.
 ghost use Rattle.std.specs.Prelude.{◌≡◌, ℕ, List, Bool, Some};
-ghost use Rattle.simplecss_text.specs.Components.{Component};
+ghost use Rattle.simplecss_grammar.specs.Components.{Component};
 ghost use Rattle.simplecss.specs.Matching.{AreMatches, AreAnswers, indices_with_yes};
 ghost use Rattle.simplecss.specs.OpenPaths.{Path, IsOpenTo, left};
 

@@ -1,12 +1,11 @@
 //! What an index keeps of a rule.
 ghost use Rattle.std.specs.Prelude.{◌≡◌, IsTrue};
-ghost use Rattle.simplecss_selector.specs.KeyBits.{ancestor_bits};
-ghost use Rattle.simplecss_selector.specs.Wanted.{wanted_of};
-ghost use Rattle.simplecss_selector.specs.WantedViews.{wanted_value};
+ghost use Rattle.simplecss_selector.specs.Buckets.{bucket_of};
+ghost use Rattle.simplecss_selector.specs.BucketViews.{bucket_value};
 ghost use Rattle.simplecss.specs.internal.OnlyKeys.{IsOnlyKey};
 
 use super::only_key::is_only_key;
-use simplecss_selector::{Selector, Wanted};
+use simplecss_selector::{Bucket, Selector};
 use std::snapshot::Snapshot;
 
 /// What an index keeps of a rule.
@@ -16,26 +15,23 @@ pub(crate) struct Link<'a> {
     pub(crate) earlier: Option<usize>,
     /// The numbers of the keys that an element's ancestors must have.
     pub(crate) needed: Vec<usize>,
-    /// The bits of the keys that an element's ancestors must have.
-    pub(crate) ancestors: u64,
     /// Whether the selector requires nothing but its key.
     pub(crate) is_only_key: bool,
     /// The selector, which only contracts see. It has no bytes.
     pub(crate) selector: Snapshot<Selector<'a>>,
-    ghost ancestors_kept: { ancestors ≡ ancestor_bits selector.value },
 }
 
 impl<'a> Link<'a> {
-    /// The link of a rule with this selector, by which this is wanted. It leads to an earlier rule,
+    /// The link of a rule with this selector, which is in this bucket. It leads to an earlier rule,
     /// if there is one. The selector needs ancestors with the keys of these numbers.
     #[inline(always)]
     pub(crate) fn new(
         earlier: Option<usize>,
         needed: Vec<usize>,
         selector: &Selector<'a>,
-        wanted: Wanted<'a>,
+        bucket: Bucket<'a>,
     ) -> Link<'a>
-        requires { wanted_value wanted ≡ wanted_of selector.now }
+        requires { bucket_value bucket ≡ bucket_of selector.now }
         ensures earlier { result.earlier ≡ earlier }
         ensures needed { result.needed ≡ needed }
         ensures selector { result.selector.value ≡ selector.now }
@@ -44,8 +40,7 @@ impl<'a> Link<'a> {
         Link {
             earlier,
             needed,
-            ancestors: selector.ancestor_bits(),
-            is_only_key: is_only_key(selector, wanted),
+            is_only_key: is_only_key(selector, bucket),
             selector: Snapshot::of(selector),
         }
     }

@@ -1,10 +1,10 @@
 //! Selectors that require nothing but their key.
 ghost use Rattle.std.specs.Prelude.{◌≡◌, IsTrue};
-ghost use Rattle.simplecss_selector.specs.Wanted.{wanted_of};
-ghost use Rattle.simplecss_selector.specs.WantedViews.{wanted_value};
+ghost use Rattle.simplecss_selector.specs.Buckets.{bucket_of};
+ghost use Rattle.simplecss_selector.specs.BucketViews.{bucket_value};
 ghost use Rattle.simplecss.specs.internal.OnlyKeys.{IsOnlyKey};
 
-use simplecss_selector::{AttributeOperator, Element, Key, PseudoClass, Selector, Wanted};
+use simplecss_selector::{AttributeOperator, Bucket, Element, Key, PseudoClass, Selector};
 
 /// An element that has one key and nothing else, no parent and no sibling.
 #[derive(Drop)]
@@ -64,14 +64,14 @@ impl<'a> Element for OnlyKey<'a> {
     }
 }
 
-/// Whether the selector, by which this is wanted, requires nothing but its key, which the element
+/// Whether the selector, which is in this bucket, requires nothing but its key, which the element
 /// must have. If so, it matches each element that has the key.
-pub(crate) fn is_only_key(selector: &Selector<'_>, wanted: Wanted<'_>) -> bool
-    requires { wanted_value wanted ≡ wanted_of selector.now }
+pub(crate) fn is_only_key(selector: &Selector<'_>, bucket: Bucket<'_>) -> bool
+    requires { bucket_value bucket ≡ bucket_of selector.now }
     ensures { IsTrue result → IsOnlyKey selector.now }
 {
-    match wanted {
-        Wanted::OfElement(key) => selector.matches(&OnlyKey { key }),
-        Wanted::OfParent(_) | Wanted::OfPrevious(_) => false,
+    match bucket {
+        Bucket::OfElement(key) => selector.matches(&OnlyKey { key }),
+        Bucket::OfParent(_) | Bucket::OfPrevious(_) => false,
     }
 }

@@ -2,7 +2,8 @@
 ghost use Rattle.std.specs.Prelude.{◌≡◌, ◌<◌, ◌↔◌, ℕ, List, [], Some, IfOk, OnOk, length, Contains, IsTrue};
 ghost use Rattle.std.specs.List.{All};
 ghost use Rattle.simplecss_selector.specs.Keys.{Reported};
-ghost use Rattle.simplecss.specs.OpenPaths.{needed_keys, left, IsOpenTo, top_starts};
+ghost use Rattle.simplecss.specs.OpenPaths.{needed_keys, left, IsOpenTo};
+ghost use Rattle.simplecss.specs.internal.Kept.{top_starts};
 
 use super::find::push_keys_of;
 use super::open_keys::OpenKeys;
@@ -16,29 +17,29 @@ use std::snapshot::Snapshot;
 /// next. By them [`RuleIndex::matching_open`] leaves out each rule that needs an ancestor which an
 /// element does not have, and it does not look up what the parent reports.
 ///
-/// Whoever walks the tree enters each element before its children, and leaves it after them:
+/// A walk of the tree enters each element before its children, and leaves it after them:
 ///
 /// ```text
 /// path.enter(&index, &element)?;
 /// for child in children {
-///     index.matching_open(&sheet.rules, &child, &path, &mut indices)?;
+///     index.matching_open(&sheet.rules, &child, &path, &mut indices, &mut Tests::new())?;
 /// }
 /// path.leave();
 /// ```
 ///
-/// It takes memory for the open elements alone, and a number for each key that rules need of
+/// It takes memory only for the open elements, and a number for each key that rules need of
 /// ancestors.
 #[derive(Drop)]
 pub struct OpenPath<'a> {
     /// The numbers of the keys that the open elements report.
     keys: OpenKeys,
-    /// For all open elements, the last rules that want a parent with a key which they report.
+    /// For all open elements, the last rules that need a parent with a key which they report.
     starts: Vec<usize>,
     /// For each open element, how many numbers and rules there were before it.
     marks: Vec<(usize, usize)>,
     /// The numbers of the keys of the element that is entered. The list is reused.
     found: Vec<usize>,
-    /// The index, which contracts alone see.
+    /// The index, which only contracts see.
     index: Snapshot<RuleIndex<'a>>,
 }
 
@@ -112,7 +113,7 @@ impl<'a> OpenPath<'a> {
         self.keys.is_open(number)
     }
 
-    /// Returns the last rules that want a parent with a key which the element that was opened last
+    /// Returns the last rules that need a parent with a key which the element that was opened last
     /// reports.
     #[inline(always)]
     pub(crate) fn parent_starts(&self) -> &[usize]

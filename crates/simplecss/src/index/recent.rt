@@ -1,10 +1,10 @@
 //! What searches keep for later elements with the same name and classes.
 ghost use Rattle.std.specs.Prelude.{◌≡◌, ◌<◌, IfOk, IfSome, IsTrue, string_bytes};
 ghost use Rattle.std.specs.Option.{option_map};
-ghost use Rattle.simplecss.specs.Recents.{IsFound};
+ghost use Rattle.simplecss.specs.internal.Recents.{IsFound};
 
 use super::rule_index::RuleIndex;
-use super::texts::word_of;
+use css_matching::hashes::small_hash;
 use std::alloc::{AllocError, Global};
 use std::marker::Model;
 use std::snapshot::Snapshot;
@@ -78,17 +78,17 @@ pub(crate) struct Recent<'a> {
     alloc: Global,
     /// The results, each at the number of its name and class value.
     slots: Vec<Option<Slot>>,
-    /// The index, which contracts alone see.
+    /// The index, which only contracts see.
     index: Snapshot<RuleIndex<'a>>,
 }
 
 impl<'a> Model for Recent<'a> {
     ghost use Rattle.std.specs.Prelude.{List, All};
-    ghost use Rattle.simplecss_text.specs.Components.{Component};
+    ghost use Rattle.simplecss_grammar.specs.Components.{Component};
 
     ghost Value = { List (List Component) };
 
-    ghost use Rattle.simplecss.specs.Recents.{IsSlotOf};
+    ghost use Rattle.simplecss.specs.internal.Recents.{IsSlotOf};
 
     ghost view = { λ recent. recent.index.value };
 
@@ -98,7 +98,7 @@ impl<'a> Model for Recent<'a> {
 /// Returns the number of the slot for a name and a class value.
 #[inline(always)]
 fn slot_number(name: &str, class: Option<&str>) -> usize {
-    (word_of(name) + 5 * word_of(class.unwrap_or(""))) % SLOTS
+    (small_hash(name) + 5 * small_hash(class.unwrap_or(""))) % SLOTS
 }
 
 /// Whether a name and a class value are too long to be kept.

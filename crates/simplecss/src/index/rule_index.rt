@@ -1,21 +1,21 @@
 //! An index of rules by the keys of their selectors.
 ghost use Rattle.std.specs.Prelude.{◌≡◌, ℕ, ◌+◌, ◌<◌, ◌≤◌, ◌∷◌, ◌++◌, [], IfOk, OnOk};
-ghost use Rattle.std.specs.Prelude.{◌↔◌, All, Contains, IsTrue, IfSome, OnErr, length, map};
+ghost use Rattle.std.specs.Prelude.{◌↔◌, All, Contains, IsTrue, false, OnErr, length, map};
 ghost use Rattle.std.specs.List.{sum_by};
 ghost use Rattle.std.specs.Option.{option_map};
-ghost use Rattle.simplecss_selector.specs.KeyBits.{CoversAncestors};
 ghost use Rattle.simplecss_selector.specs.Exact.{ReportsOnlyKeys};
-ghost use Rattle.simplecss_selector.specs.Wanted.{Near, IsNear};
+ghost use Rattle.simplecss_selector.specs.Buckets.{Near, IsNear};
 ghost use Rattle.simplecss.specs.internal.Chains.{selectors_of, IsLastBefore, AreChained};
 ghost use Rattle.simplecss.specs.internal.NeededKeys.{AreNeeded, AreOnly};
 ghost use Rattle.simplecss.specs.internal.OnlyKeys.{IsOnlyKey};
-ghost use Rattle.simplecss.specs.OpenPaths.{needed_keys, are_open, is_kept, open_for, IsOpenTo};
+ghost use Rattle.simplecss.specs.OpenPaths.{needed_keys, are_open, open_for, IsOpenTo};
+ghost use Rattle.simplecss.specs.internal.Kept.{is_kept};
 ghost use Rattle.simplecss.specs.SelectorIndices.{key_at, selector_at};
-ghost use Rattle.simplecss.specs.Matching.{AreMatches, most_tests, is_covered, tested_for};
+ghost use Rattle.simplecss.specs.Matching.{AreMatches, most_tests, tested_for};
 
 use super::find::{candidates, candidates_open};
 use super::keep::keep_matching;
-use super::last_by_wanted::LastByWanted;
+use super::last_by_bucket::LastByBucket;
 use super::link::Link;
 use super::needed_keys::NeededKeys;
 use super::open_path::OpenPath;
@@ -31,7 +31,7 @@ use std::marker::Model;
 #[inline(always)]
 fn push_links<'a, T: HasSelector<'a>>(
     alloc: Global,
-    lasts: &mut LastByWanted<'a>,
+    lasts: &mut LastByBucket<'a>,
     needed: &mut NeededKeys<'a>,
     links: &mut Vec<Link<'a>>,
     rules: &[T],
@@ -51,9 +51,9 @@ fn push_links<'a, T: HasSelector<'a>>(
         keys.clear();
         selector.push_ancestor_keys(&mut keys)?;
         let numbers = needed.numbers_of(alloc, &keys)?;
-        let wanted = selector.wanted();
-        let earlier = lasts.replace(wanted, links.len())?;
-        links.push(Link::new(earlier, numbers, selector, wanted))?;
+        let bucket = selector.bucket();
+        let earlier = lasts.replace(bucket, links.len())?;
+        links.push(Link::new(earlier, numbers, selector, bucket))?;
     }
     Ok(())
 }
@@ -92,7 +92,7 @@ fn are_open(numbers: &[usize], path: &OpenPath<'_>) -> bool
 #[derive(Drop)]
 pub struct RuleIndex<'a> {
     /// The last index of each key.
-    pub(crate) lasts: LastByWanted<'a>,
+    pub(crate) lasts: LastByBucket<'a>,
     /// For each rule, in order, how it is chained to the earlier ones.
     links: Vec<Link<'a>>,
     /// The keys that rules need of ancestors.
@@ -101,7 +101,7 @@ pub struct RuleIndex<'a> {
 
 impl<'a> Model for RuleIndex<'a> {
     ghost use Rattle.std.specs.Prelude.{List, map};
-    ghost use Rattle.simplecss_text.specs.Components.{Component};
+    ghost use Rattle.simplecss_grammar.specs.Components.{Component};
 
     ghost Value = { List (List Component) };
 
@@ -119,7 +119,7 @@ impl<'a> RuleIndex<'a> {
         ensures { IfOk result (λ index. index ≡ map T.selector_in rules.now) }
     {
         let mut links: Vec<Link<'a>> = Vec::with_capacity(alloc, rules.len())?;
-        let mut lasts: LastByWanted<'a> = LastByWanted::new(alloc);
+        let mut lasts: LastByBucket<'a> = LastByBucket::new(alloc);
         let mut needed: NeededKeys<'a> = NeededKeys::new(alloc);
         push_links(alloc, &mut lasts, &mut needed, &mut links, rules)?;
         Ok(RuleIndex {
@@ -136,18 +136,6 @@ impl<'a> RuleIndex<'a> {
         ensures { IsLastBefore self.now index (key_at self.now index) result }
     {
         self.links[index].earlier
-    }
-
-    /// Whether the bits cover those of the keys that the rule at this index wants of an element's
-    /// ancestors.
-    #[inline(always)]
-    pub(crate) fn is_covered(&self, index: usize, above: u64) -> bool
-        ensures { result ≡ is_covered above (selector_at self.now index) }
-    {
-        match self.links.get(index) {
-            Some(link) => above | link.ancestors == above,
-            None => true,
-        }
     }
 
     /// Whether open elements report each key that the rule at this index needs of an element's
@@ -208,9 +196,8 @@ impl<'a> RuleIndex<'a> {
         self.matching_counted(rules, element, indices, &mut Tests::new())
     }
 
-    /// `matching`, with a count of the tests that were made. A rule is tested only if its key is
-    /// reported (`Selector::wanted`: by the element, its parent or its previous sibling), and
-    /// `Keyed::ancestor_bits` covers the bits of `Selector::ancestor_bits`.
+    /// Does what [`RuleIndex::matching`] does, and counts the tests. A rule is tested only if the key of
+    /// its bucket is reported (`Selector::bucket`): by the element, its parent or its previous sibling.
     pub fn matching_counted<T: HasSelector<'a>, E: Keyed>(
         &self,
         rules: &[T],
@@ -223,67 +210,24 @@ impl<'a> RuleIndex<'a> {
             (AreMatches E.tree (E.node element.now) self.now indices.new.items) }
         ensures tests { OnOk result ((near : Near)
             × IsNear E.tree E.node E.reported element.now near
-            × (above : ℕ) × CoversAncestors E.tree (E.node element.now) above
-            × (tests.old + length (tested_for near above self.now) ≤ tests.new)
+            × (tests.old + length (tested_for near self.now) ≤ tests.new)
             × (tests.new ≤ tests.old + sum_by (most_tests E.tree (E.node element.now))
-            (tested_for near above self.now))) }
+            (tested_for near self.now))) }
         ensures err { OnErr result (indices.new.items ≡ []) }
         ensures untested { OnErr result (tests.new ≡ tests.old) }
     {
         let mut recent = Recent::none(*indices.allocator(), self);
-        self.matching_all(rules, element, indices, &mut recent, tests)
+        self.matching_recent(rules, element, indices, &mut recent, tests)
     }
 
-    /// Does what [`RuleIndex::matching`] does for an element whose ancestors are the open elements of
-    /// a path. A rule is tested only if its key is reported, and if open elements report each key
-    /// that it needs of ancestors.
+    /// Does what [`RuleIndex::matching_counted`] does for an element whose ancestors are the open
+    /// elements of a path. A rule is tested only if its key is reported, and if open elements report
+    /// each key that it needs of ancestors.
     pub fn matching_open<T: HasSelector<'a>, E: Keyed>(
         &self,
         rules: &[T],
         element: &E,
         path: &OpenPath<'_>,
-        indices: &mut Vec<usize>,
-    ) -> Result<(), AllocError>
-        requires index { self.now ≡ map T.selector_in rules.now }
-        requires path { path.now.selectors ≡ self.now }
-        requires open { IsOpenTo E.tree E.node E.reported path.now
-            (E.tree.parent (E.node element.now)) }
-        ensures matches { OnOk result
-            (AreMatches E.tree (E.node element.now) self.now indices.new.items) }
-        ensures err { OnErr result (indices.new.items ≡ []) }
-    {
-        self.matching_path(rules, element, path, None, indices, &mut Tests::new())
-    }
-
-    /// Does what [`RuleIndex::matching_open`] does for an element that reports no more than it
-    /// matches. A rule that requires nothing but its key is not tested.
-    pub fn matching_exact<T: HasSelector<'a>, E: Exact>(
-        &self,
-        rules: &[T],
-        element: &E,
-        path: &OpenPath<'_>,
-        indices: &mut Vec<usize>,
-    ) -> Result<(), AllocError>
-        requires index { self.now ≡ map T.selector_in rules.now }
-        requires path { path.now.selectors ≡ self.now }
-        requires open { IsOpenTo E.tree E.node E.reported path.now
-            (E.tree.parent (E.node element.now)) }
-        ensures matches { OnOk result
-            (AreMatches E.tree (E.node element.now) self.now indices.new.items) }
-        ensures err { OnErr result (indices.new.items ≡ []) }
-    {
-        self.matching_path(rules, element, path, Some(self), indices, &mut Tests::new())
-    }
-
-    /// `matching_open`, and with the index itself `matching_exact`, with a count of the tests that were
-    /// made.
-    #[inline(always)]
-    fn matching_path<T: HasSelector<'a>, E: Keyed>(
-        &self,
-        rules: &[T],
-        element: &E,
-        path: &OpenPath<'_>,
-        known: Option<&RuleIndex<'_>>,
         indices: &mut Vec<usize>,
         tests: &mut Tests,
     ) -> Result<(), AllocError>
@@ -291,8 +235,6 @@ impl<'a> RuleIndex<'a> {
         requires path { path.now.selectors ≡ self.now }
         requires open { IsOpenTo E.tree E.node E.reported path.now
             (E.tree.parent (E.node element.now)) }
-        requires known { IfSome known (λ i. (i.now ≡ self.now)
-            × ReportsOnlyKeys E.tree (E.node element.now) (E.reported element.now)) }
         ensures matches { OnOk result
             (AreMatches E.tree (E.node element.now) self.now indices.new.items) }
         ensures tests { OnOk result ((near : Near)
@@ -303,19 +245,76 @@ impl<'a> RuleIndex<'a> {
         ensures err { OnErr result (indices.new.items ≡ []) }
         ensures untested { OnErr result (tests.new ≡ tests.old) }
     {
+        self.matching_along(rules, element, path, false, indices, tests)
+    }
+
+    /// Does what [`RuleIndex::matching_open`] does for an element that reports no more than it
+    /// matches. A rule that requires nothing but its key is not tested.
+    pub fn matching_exact<T: HasSelector<'a>, E: Exact>(
+        &self,
+        rules: &[T],
+        element: &E,
+        path: &OpenPath<'_>,
+        indices: &mut Vec<usize>,
+        tests: &mut Tests,
+    ) -> Result<(), AllocError>
+        requires index { self.now ≡ map T.selector_in rules.now }
+        requires path { path.now.selectors ≡ self.now }
+        requires open { IsOpenTo E.tree E.node E.reported path.now
+            (E.tree.parent (E.node element.now)) }
+        ensures matches { OnOk result
+            (AreMatches E.tree (E.node element.now) self.now indices.new.items) }
+        ensures tests { OnOk result ((near : Near)
+            × IsNear E.tree E.node E.reported element.now near
+            × (tests.new ≤ tests.old + sum_by (most_tests E.tree (E.node element.now))
+            (open_for near path.now))) }
+        ensures err { OnErr result (indices.new.items ≡ []) }
+        ensures untested { OnErr result (tests.new ≡ tests.old) }
+    {
+        self.matching_along(rules, element, path, true, indices, tests)
+    }
+
+    /// Does what [`RuleIndex::matching_open`] does, or, if the search is exact, what
+    /// [`RuleIndex::matching_exact`] does.
+    #[inline(always)]
+    fn matching_along<T: HasSelector<'a>, E: Keyed>(
+        &self,
+        rules: &[T],
+        element: &E,
+        path: &OpenPath<'_>,
+        is_exact: bool,
+        indices: &mut Vec<usize>,
+        tests: &mut Tests,
+    ) -> Result<(), AllocError>
+        requires index { self.now ≡ map T.selector_in rules.now }
+        requires path { path.now.selectors ≡ self.now }
+        requires open { IsOpenTo E.tree E.node E.reported path.now
+            (E.tree.parent (E.node element.now)) }
+        requires exact { IsTrue is_exact
+            → ReportsOnlyKeys E.tree (E.node element.now) (E.reported element.now) }
+        ensures matches { OnOk result
+            (AreMatches E.tree (E.node element.now) self.now indices.new.items) }
+        ensures tests { OnOk result ((near : Near)
+            × IsNear E.tree E.node E.reported element.now near
+            × (is_exact ≡ false → tests.old + length (open_for near path.now) ≤ tests.new)
+            × (tests.new ≤ tests.old + sum_by (most_tests E.tree (E.node element.now))
+            (open_for near path.now))) }
+        ensures err { OnErr result (indices.new.items ≡ []) }
+        ensures untested { OnErr result (tests.new ≡ tests.old) }
+    {
         if let Err(error) = candidates_open(self, element, path, indices) {
             indices.clear();
             return Err(error);
         }
-        let kept = keep_matching(rules, element, known, indices, tests);
+        let kept = keep_matching(rules, element, self, is_exact, indices, tests);
         indices.truncate(kept);
         Ok(())
     }
 
-    /// `matching_counted`, which looks up in `recent`, and keeps there, what is found by the element's
-    /// name and classes.
+    /// Does what [`RuleIndex::matching_counted`] does. It looks up in `recent`, and keeps there, what is
+    /// found by the element's name and classes.
     #[inline(always)]
-    pub(crate) fn matching_all<T: HasSelector<'a>, E: Keyed>(
+    pub(crate) fn matching_recent<T: HasSelector<'a>, E: Keyed>(
         &self,
         rules: &[T],
         element: &E,
@@ -329,10 +328,9 @@ impl<'a> RuleIndex<'a> {
             (AreMatches E.tree (E.node element.now) self.now indices.new.items) }
         ensures tests { OnOk result ((near : Near)
             × IsNear E.tree E.node E.reported element.now near
-            × (above : ℕ) × CoversAncestors E.tree (E.node element.now) above
-            × (tests.old + length (tested_for near above self.now) ≤ tests.new)
+            × (tests.old + length (tested_for near self.now) ≤ tests.new)
             × (tests.new ≤ tests.old + sum_by (most_tests E.tree (E.node element.now))
-            (tested_for near above self.now))) }
+            (tested_for near self.now))) }
         ensures err { OnErr result (indices.new.items ≡ []) }
         ensures untested { OnErr result (tests.new ≡ tests.old) }
         ensures recent { recent.new ≡ recent.old }
@@ -341,7 +339,7 @@ impl<'a> RuleIndex<'a> {
             indices.clear();
             return Err(error);
         }
-        let kept = keep_matching(rules, element, None, indices, tests);
+        let kept = keep_matching(rules, element, self, false, indices, tests);
         indices.truncate(kept);
         Ok(())
     }

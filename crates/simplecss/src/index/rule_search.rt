@@ -1,6 +1,8 @@
 //! Searches of an index that keep what they found.
-ghost use Rattle.std.specs.Prelude.{◌≡◌, [], IfOk, OnOk, OnErr, map};
-ghost use Rattle.simplecss.specs.Matching.{AreMatches};
+ghost use Rattle.std.specs.Prelude.{◌≡◌, ◌+◌, ◌≤◌, [], IfOk, OnOk, OnErr, length, map};
+ghost use Rattle.std.specs.List.{sum_by};
+ghost use Rattle.simplecss_selector.specs.Buckets.{Near, IsNear};
+ghost use Rattle.simplecss.specs.Matching.{AreMatches, most_tests, tested_for};
 
 use super::recent::Recent;
 use super::rule_index::RuleIndex;
@@ -22,7 +24,7 @@ pub struct RuleSearch<'a> {
 
 impl<'a> Model for RuleSearch<'a> {
     ghost use Rattle.std.specs.Prelude.{◌≡◌, List};
-    ghost use Rattle.simplecss_text.specs.Components.{Component};
+    ghost use Rattle.simplecss_grammar.specs.Components.{Component};
 
     ghost Value = { List (List Component) };
 
@@ -55,6 +57,31 @@ impl<'a> RuleSearch<'a> {
         ensures err { OnErr result (indices.new.items ≡ []) }
         ensures same { self.new ≡ self.old }
     {
-        self.index.matching_all(rules, element, indices, &mut self.recent, &mut Tests::new())
+        self.matching_counted(rules, element, indices, &mut Tests::new())
+    }
+
+    /// Does what [`RuleSearch::matching`] does, and counts the tests.
+    #[inline(always)]
+    pub fn matching_counted<T: HasSelector<'a>, E: Keyed>(
+        &mut self,
+        rules: &[T],
+        element: &E,
+        indices: &mut Vec<usize>,
+        tests: &mut Tests,
+    ) -> Result<(), AllocError>
+        requires { self.old ≡ map T.selector_in rules.now }
+        ensures matches { OnOk result
+            (AreMatches E.tree (E.node element.now) self.old indices.new.items) }
+        ensures tests { OnOk result ((near : Near)
+            × IsNear E.tree E.node E.reported element.now near
+            × (tests.old + length (tested_for near self.old) ≤ tests.new)
+            × (tests.new ≤ tests.old + sum_by (most_tests E.tree (E.node element.now))
+            (tested_for near self.old))) }
+        ensures err { OnErr result (indices.new.items ≡ []) }
+        ensures untested { OnErr result (tests.new ≡ tests.old) }
+        ensures same { self.new ≡ self.old }
+    {
+        self.index
+            .matching_recent(rules, element, indices, &mut self.recent, tests)
     }
 }

@@ -3,10 +3,11 @@ ghost use Rattle.std.specs.Prelude.{◌≡◌, ◌<◌, ℕ, List, length, IfOk,
 ghost use Rattle.std.specs.BTreeMap.{UpdatesBy};
 ghost use Rattle.std.specs.Cmp.Lexicographic.{slice_cmp};
 ghost use Rattle.std.specs.Ordering.{nat_cmp};
-ghost use Rattle.simplecss.specs.internal.TextIndices.{index_for_text, place_of, slot_of, mark_of};
-ghost use Rattle.simplecss.specs.internal.TextIndices.{word_of, IsJoined, IsPut, AreTold, AreMarked};
-ghost use Rattle.simplecss_selector.specs.KeyBits.{number_from, covers};
+ghost use Rattle.css_matching.specs.Hashes.{mark_of, covers};
+ghost use Rattle.simplecss.specs.internal.TextIndices.{index_for_text, slot_of};
+ghost use Rattle.simplecss.specs.internal.TextIndices.{IsJoined, IsPut, AreTold, AreMarked};
 
+use css_matching::hashes::{mark_of, place_of};
 use std::alloc::{AllocError, Global};
 use std::collections::BTreeMap;
 
@@ -36,48 +37,6 @@ pub(crate) struct Texts<'a> {
     marks: u64,
     ghost told: { AreTold slots.items (index_for_text indices) },
     ghost marked: { AreMarked marks (index_for_text indices) },
-}
-
-/// Returns a number for a text, by its length and its first byte.
-#[inline(always)]
-pub(crate) fn word_of(text: &str) -> usize
-    ensures value { result ≡ word_of text.now }
-    ensures within { result < 64 }
-{
-    match text.as_bytes() {
-        [] => 0,
-        [first, ..] => (text.len() + usize::from(*first) * 7) % 64,
-    }
-}
-
-/// Returns one of 64 bits for a text. Equal texts have the same bit; different texts may share one.
-#[inline(always)]
-fn mark_of(text: &str) -> u64
-    ensures { result ≡ mark_of text.now }
-{
-    1 << word_of(text)
-}
-
-/// Returns a number for a text.
-#[inline(always)]
-fn number_of(text: &str) -> usize
-    ensures { result ≡ number_from 0 text.now }
-{
-    let mut number = 0usize;
-    for byte in text.as_bytes() {
-        number = number.wrapping_mul(37).wrapping_add(usize::from(*byte));
-    }
-    number
-}
-
-/// Returns the place of a text among so many slots.
-#[inline(always)]
-fn place_of(text: &str, count: usize) -> usize
-    requires { 0 < count }
-    ensures value { result ≡ place_of count text.now }
-    ensures within { result < count }
-{
-    (number_of(text).wrapping_mul(0x9E37_79B9_7F4A_7C15) >> 32) & (count - 1)
 }
 
 /// Returns what becomes of a slot when a text of it gets an index.

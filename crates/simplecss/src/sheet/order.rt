@@ -1,8 +1,8 @@
 //! The order of rules by specificity.
 ghost use Rattle.std.specs.Prelude.{◌≡◌, ◌++◌, OnErr, OnOk, IfOk, filter, length};
 ghost use Rattle.std.specs.List.{range_with_len};
-ghost use Rattle.simplecss_text.specs.Statements.{has_declaration};
-ghost use Rattle.simplecss_text.specs.Sheets.{ordered};
+ghost use Rattle.simplecss_grammar.specs.Statements.{has_declaration};
+ghost use Rattle.simplecss_grammar.specs.Sheets.{ordered};
 ghost use Rattle.simplecss.specs.RuleViews.{rule_of, rules_of};
 ghost use Rattle.simplecss.specs.internal.RuleOrders.{weight_at, IsOrder, OrdersRules, IsMovedBy};
 

@@ -2,8 +2,8 @@
 ghost use Rattle.std.specs.Prelude.{◌∷◌};
 ghost use Rattle.std.specs.Fmt.{WritesStyledOnOk};
 ghost use Rattle.std.specs.List.{flat_map};
-ghost use Rattle.simplecss_text.specs.AsciiBytes.{newline};
-ghost use Rattle.simplecss_text.specs.Printing.{declaration_text, rule_text, sheet_text};
+ghost use Rattle.css_text.specs.AsciiBytes.{newline};
+ghost use Rattle.simplecss_grammar.specs.Printing.{declaration_text, rule_text, sheet_text};
 ghost use Rattle.simplecss_declaration.specs.DeclarationViews.{declaration_of, declarations_of};
 ghost use Rattle.simplecss.specs.RuleViews.{rule_of, rules_of};
 
@@ -16,14 +16,14 @@ use std::fmt::Display;
 /// the formatter change nothing.
 impl<'a> Display for StyleSheet<'a> {
     ghost use Rattle.std.specs.Prelude.{Some};
-    ghost use Rattle.simplecss_text.specs.Printing.{sheet_text};
+    ghost use Rattle.simplecss_grammar.specs.Printing.{sheet_text};
     ghost use Rattle.simplecss.specs.RuleViews.{rules_in};
 
     ghost output = { λ s. Some (sheet_text (rules_in s)) };
 
     ghost styled_output = { λ s _. Some (sheet_text (rules_in s)) };
 
-    #[tactic(auto, using(simplecss_text::proofs::round_trip::StyledWrites::plain_of_styled))]
+    #[tactic(auto, using(css_text::proofs::round_trip::StyledWrites::plain_of_styled))]
     fn fmt<W: fmt::Write>(&self, f: &mut fmt::Formatter<W>) -> fmt::Result {
         let Some((first, rest)) = self.rules.split_first() else {
             return Ok(());
@@ -42,14 +42,14 @@ impl<'a> Display for StyleSheet<'a> {
 /// the formatter change nothing.
 impl<'a> Display for Rule<'a> {
     ghost use Rattle.std.specs.Prelude.{Some};
-    ghost use Rattle.simplecss_text.specs.Printing.{rule_text};
+    ghost use Rattle.simplecss_grammar.specs.Printing.{rule_text};
     ghost use Rattle.simplecss.specs.RuleViews.{rule_of};
 
     ghost output = { λ r. Some (rule_text (rule_of r)) };
 
     ghost styled_output = { λ r _. Some (rule_text (rule_of r)) };
 
-    #[tactic(auto, using(simplecss_text::proofs::round_trip::StyledWrites::plain_of_styled))]
+    #[tactic(auto, using(css_text::proofs::round_trip::StyledWrites::plain_of_styled))]
     fn fmt<W: fmt::Write>(&self, f: &mut fmt::Formatter<W>) -> fmt::Result {
         self.selector.fmt(f)?;
         f.write_str(" { ")?;

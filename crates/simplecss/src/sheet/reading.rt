@@ -3,24 +3,23 @@ ghost use Rattle.std.specs.Prelude.{◌≡◌, ◌<◌, ◌≤◌, ◌+◌, ◌+
 ghost use Rattle.std.specs.Prelude.{IsUtf8, OnOk};
 ghost use Rattle.std.specs.Prelude.{MatchBool, MatchOption, None, Some, filter, map, true, false};
 ghost use Rattle.std.specs.List.{All, flat_map};
-ghost use Rattle.simplecss_text.specs.Comments.{past_blank};
-ghost use Rattle.simplecss_text.specs.Statements.{has_declaration, kept, statement, next_statement};
-ghost use Rattle.simplecss_text.specs.Statements.{statements, is_open_comment};
-ghost use Rattle.simplecss_text.specs.Skipped.{add_each, end_skips, skipped};
-ghost use Rattle.simplecss_text.specs.ThisEdition.{this_edition};
-ghost use Rattle.simplecss_text.specs.Cursor.{text_of, rest_of};
+ghost use Rattle.css_text.specs.Comments.{past_blank};
+ghost use Rattle.simplecss_grammar.specs.Statements.{has_declaration, kept, statement, next_statement};
+ghost use Rattle.simplecss_grammar.specs.Statements.{statements, is_open_comment};
+ghost use Rattle.simplecss_grammar.specs.Skipped.{add_each, end_skips, skipped};
+ghost use Rattle.css_text.specs.ThisEdition.{this_edition};
+ghost use Rattle.css_text.specs.Cursor.{text_of, rest_of};
 ghost use Rattle.simplecss.specs.RuleViews.{rule_of, rules_of};
 ghost use Rattle.simplecss.specs.DeclarationCounts.{kept_declarations, kept_in_all};
 ghost use Rattle.simplecss.specs.Readings.{are_open_comments, reports_of};
-ghost use Rattle.simplecss.specs.declared.sheet.sheet_error.SheetError.TheVariants.{TooManyDeclarations};
+ghost use Rattle.css_text.specs.declared.sheet_error.SheetError.TheVariants.{TooManyDeclarations};
 
 use super::order;
 use super::rules::Rule;
-use super::sheet_error::SheetError;
 use super::statements::RuleReader;
-use simplecss_text::report::{Report, Skipped, Why};
-use simplecss_text::stream::Stream;
-use simplecss_text::{readers, scan};
+use css_text::stream::Stream;
+use css_text::{SheetError, readers, scan};
+use simplecss_grammar::report::{Report, Skipped, Why};
 use std::alloc::{AllocError, Global};
 
 /// Skips a blank, and returns whether a statement follows it.

@@ -1,15 +1,15 @@
 //! The statements of a style sheet, one by one.
 ghost use Rattle.std.specs.Prelude.{◌≡◌, IfOk, MatchOption, None, OnErr, OnOk, drop};
-ghost use Rattle.simplecss_text.specs.Statements.{next_statement};
-ghost use Rattle.simplecss_text.specs.Skipped.{add_each, next_skips};
-ghost use Rattle.simplecss_text.specs.ThisEdition.{this_edition};
-ghost use Rattle.simplecss.specs.StatementOffsets.{OccursNext};
+ghost use Rattle.simplecss_grammar.specs.Statements.{next_statement};
+ghost use Rattle.simplecss_grammar.specs.Skipped.{add_each, next_skips};
+ghost use Rattle.css_text.specs.ThisEdition.{this_edition};
+ghost use Rattle.simplecss.specs.StatementOffsets.{IsNextRange, OccursNext};
 
 use super::reading::{at_statement, report_end};
 use super::rules::Rule;
 use super::statements::RuleReader;
-use simplecss_text::report::Report;
-use simplecss_text::stream::Stream;
+use css_text::stream::Stream;
+use simplecss_grammar::report::Report;
 use std::alloc::{AllocError, Global};
 use std::marker::Model;
 
@@ -28,7 +28,9 @@ pub struct Statement<'a> {
 /// Iterates over the statements of a text with their byte ranges.
 ///
 /// A style sheet of the text has the rules of all statements that have a declaration, in the order
-/// of their specificity.
+/// of their specificity. A statement's rules may take memory quadratic in its length, since each has a
+/// copy of the declarations: of a text that is not trusted [`StatementReader::next_range`] finds
+/// where the statements are, and [`StyleSheet::read`](crate::StyleSheet::read) takes a limit.
 ///
 /// A `loop` needs a measure, and a `for` over the bytes needs none:
 ///
@@ -53,7 +55,7 @@ pub struct StatementReader<'a> {
 
 impl<'a> Model for StatementReader<'a> {
     ghost use Rattle.std.specs.Prelude.{ℕ, List};
-    ghost use Rattle.simplecss_text.specs.Cursor.{text_of, offset_of};
+    ghost use Rattle.css_text.specs.Cursor.{text_of, offset_of};
 
     ghost Value = { List ℕ × ℕ };
 
@@ -107,5 +109,35 @@ impl<'a> StatementReader<'a> {
             end: stream.pos(),
             rules: reader.into_rules(),
         }))
+    }
+
+    /// Moves past the next statement as [`StatementReader::read_next`] does, keeps none of its rules,
+    /// and returns where it begins and ends. So memory is linear in the text.
+    pub fn next_range<P: Report<'a>>(
+        &mut self,
+        report: &mut P,
+        alloc: Global,
+    ) -> Result<Option<(usize, usize)>, AllocError>
+        ensures text { self.new.0 ≡ self.old.0 }
+        ensures ok { IfOk result (λ read. MatchOption read
+            ((next_statement this_edition (drop self.old.1 self.old.0) ≡ None)
+            × (self.new ≡ self.old))
+            (λ range. IsNextRange self.old.0 self.old.1 range.0 range.1
+            × (self.new.1 ≡ range.1))) }
+        ensures err { OnErr result (self.new ≡ self.old) }
+        ensures reported { OnOk result (P.state report.new ≡ add_each P.add (P.state report.old)
+            (next_skips this_edition (drop self.old.1 self.old.0))) }
+    {
+        let mut stream: Stream<'a> = self.stream;
+        let left: &'a str = stream.slice_tail();
+        if !at_statement(&mut stream) {
+            report_end(report, left)?;
+            return Ok(None);
+        }
+        let begin = stream.pos();
+        let mut reader: RuleReader<'a> = RuleReader::new(alloc);
+        reader.consume_statement(report, alloc, &mut stream)?;
+        self.stream = stream;
+        Ok(Some((begin, stream.pos())))
     }
 }

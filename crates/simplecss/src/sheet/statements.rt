@@ -1,28 +1,28 @@
 //! Rule sets and at-rules.
 ghost use Rattle.std.specs.Prelude.{◌≡◌, ◌<◌, ◌≤◌, ◌+◌, ◌-◌, ◌*◌, ◌++◌, ◌∷◌, [], IfErr, IfOk, OnOk};
 ghost use Rattle.std.specs.Prelude.{SomeIff, map, option_map, option_to_list};
-ghost use Rattle.simplecss_text.specs.Statements.{part, parts, rule_set, at_rule_rest, statement};
-ghost use Rattle.simplecss_text.specs.Names.{name as name_read};
-ghost use Rattle.simplecss_text.specs.AsciiBytes.{comma};
-ghost use Rattle.simplecss_text.specs.Bytes.{past_byte};
-ghost use Rattle.simplecss_text.specs.Skipped.{add_each, from_brace, why_after, skips_after, comma_skips};
-ghost use Rattle.simplecss_text.specs.Skipped.{part_skips, parts_skips, name_of, rule_set_skips};
-ghost use Rattle.simplecss_text.specs.Skipped.{statement_skips};
-ghost use Rattle.simplecss_text.specs.ThisEdition.{this_edition};
-ghost use Rattle.simplecss_text.specs.Cursor.{text_of, rest_of};
+ghost use Rattle.simplecss_grammar.specs.Statements.{part, parts, rule_set, at_rule_rest, statement};
+ghost use Rattle.css_text.specs.Names.{name as name_read};
+ghost use Rattle.css_text.specs.AsciiBytes.{comma};
+ghost use Rattle.css_text.specs.Bytes.{past_byte};
+ghost use Rattle.simplecss_grammar.specs.Skipped.{add_each, why_after, skips_after, comma_skips};
+ghost use Rattle.css_text.specs.Bytes.{from_brace};
+ghost use Rattle.simplecss_grammar.specs.Skipped.{part_skips, parts_skips, name_of, rule_set_skips};
+ghost use Rattle.simplecss_grammar.specs.Skipped.{statement_skips};
+ghost use Rattle.css_text.specs.ThisEdition.{this_edition};
+ghost use Rattle.css_text.specs.Cursor.{text_of, rest_of};
 ghost use Rattle.simplecss_declaration.specs.DeclarationViews.{declaration_of};
 ghost use Rattle.simplecss.specs.RuleViews.{rule_of};
 ghost use Rattle.simplecss.specs.internal.SharedBlocks.{rules_with, rules_read};
 ghost use Rattle.simplecss.specs.DeclarationCounts.{declaration_count};
-ghost use Rattle.simplecss.specs.declared.sheet.sheet_error.SheetError.TheVariants.{TooManyDeclarations};
+ghost use Rattle.css_text.specs.declared.sheet_error.SheetError.TheVariants.{TooManyDeclarations};
 
 use super::rules::Rule;
-use super::sheet_error::SheetError;
+use css_text::stream::Stream;
+use css_text::{SheetError, readers};
 use simplecss_declaration::{Declaration, consume_next_block, skip_semicolon_or_block};
+use simplecss_grammar::report::{Report, Skipped, Why};
 use simplecss_selector::Selector;
-use simplecss_text::readers;
-use simplecss_text::report::{Report, Skipped, Why};
-use simplecss_text::stream::Stream;
 use std::alloc::{AllocError, Global};
 
 /// Reports what follows a selector that was read, up to the block: nothing where a comma or the block
@@ -76,8 +76,8 @@ fn skip_comma<'a, P: Report<'a>>(report: &mut P, s: &mut Stream<'a>) -> Result<(
 
 /// Reads a part of a rule set's head and the space bytes after it, and adds its selector, if it has
 /// one. What is skipped is reported.
-#[tactic(auto, unfolding(simplecss_text::specs::Statements::part))]
-fn consume_part<'a, P: Report<'a>>(
+#[tactic(auto, unfolding(simplecss_grammar::specs::Statements::part))]
+pub(crate) fn consume_part<'a, P: Report<'a>>(
     report: &mut P,
     alloc: Global,
     s: &mut Stream<'a>,
@@ -152,7 +152,7 @@ fn push_rules<'a>(
 }
 
 /// Consumes an at-rule after its sign, and returns its name, if it has one. A faulty name ends it.
-#[tactic(auto, unfolding(simplecss_text::specs::Statements::at_rule_rest))]
+#[tactic(auto, unfolding(simplecss_grammar::specs::Statements::at_rule_rest))]
 fn take_at_rule<'a>(s: &mut Stream<'a>) -> Option<&'a str>
     ensures text { text_of s.new ≡ text_of s.old }
     ensures rest { rest_of s.new ≡ at_rule_rest this_edition (rest_of s.old) }
@@ -206,7 +206,7 @@ impl<'a> RuleReader<'a> {
 
     /// Reads a rule set. It has a rule for each part with a selector, with all declarations of the
     /// block.
-    #[tactic(auto, unfolding(simplecss_text::specs::Statements::rule_set))]
+    #[tactic(auto, unfolding(simplecss_grammar::specs::Statements::rule_set))]
     fn consume_rule_set<P: Report<'a>>(
         &mut self,
         report: &mut P,
@@ -227,7 +227,7 @@ impl<'a> RuleReader<'a> {
     }
 
     /// Reads a statement, and keeps none of its rules yet. An at-rule has none.
-    #[tactic(auto, unfolding(simplecss_text::specs::Statements::statement), using(simplecss_text::proofs::bytes::ByteLemmas::past_byte_there, simplecss_text::proofs::bytes::ByteLemmas::past_byte_not))]
+    #[tactic(auto, unfolding(simplecss_grammar::specs::Statements::statement), using(css_text::proofs::bytes::ByteLemmas::past_byte_there, css_text::proofs::bytes::ByteLemmas::past_byte_not))]
     pub fn consume_statement<P: Report<'a>>(
         &mut self,
         report: &mut P,

@@ -2,24 +2,25 @@
 ghost use Rattle.std.specs.Prelude.{◌≡◌, ◌∷◌, ◌++◌, [], ℕ, List, IfOk, OnErr, OnOk, filter, map};
 ghost use Rattle.std.specs.Prelude.{◌≢◌, ◌↔◌, ◌<◌, Err, true, false};
 ghost use Rattle.std.specs.List.{All, AllPass, flat_map};
-ghost use Rattle.simplecss_text.specs.Characters.{first_edition};
-ghost use Rattle.simplecss_text.specs.Editions.{IsCommon};
-ghost use Rattle.simplecss_text.specs.Statements.{has_declaration, kept, is_open_comment};
-ghost use Rattle.simplecss_text.specs.Sheets.{ordered, sheet};
-ghost use Rattle.simplecss_text.specs.Cutting.{ContinuesReading};
-ghost use Rattle.simplecss_text.specs.Skipped.{add_each, skipped};
-ghost use Rattle.simplecss_text.specs.SkipViews.{skip_of};
-ghost use Rattle.simplecss_text.specs.ThisEdition.{this_edition};
-ghost use Rattle.simplecss_text.specs.PrintingLaws.{SelectorsReadBack, has_wide_space, PrintsBack};
-ghost use Rattle.simplecss_text.specs.PrintingLaws.{PrintsBackAfter};
+ghost use Rattle.css_text.specs.Characters.{first_edition};
+ghost use Rattle.simplecss_grammar.specs.Editions.{IsCommon};
+ghost use Rattle.simplecss_grammar.specs.Statements.{has_declaration, kept, is_open_comment};
+ghost use Rattle.simplecss_grammar.specs.Sheets.{ordered, sheet};
+ghost use Rattle.simplecss_grammar.specs.Cutting.{ContinuesReading};
+ghost use Rattle.simplecss_grammar.specs.Skipped.{add_each, skipped};
+ghost use Rattle.simplecss_grammar.specs.SkipViews.{skip_of};
+ghost use Rattle.css_text.specs.ThisEdition.{this_edition};
+ghost use Rattle.simplecss_grammar.specs.PrintingLaws.{SelectorsReadBack, has_wide_space, PrintsBack};
+ghost use Rattle.simplecss_grammar.specs.PrintingLaws.{PrintsBackAfter};
 ghost use Rattle.simplecss.specs.RuleViews.{rules_in};
 ghost use Rattle.simplecss.specs.DeclarationCounts.{kept_declarations};
 ghost use Rattle.simplecss.specs.Readings.{ReadsInto};
 
-use crate::sheet::{Rule, SheetError, order, reading};
+use crate::sheet::{Rule, order, reading};
+use css_text::SheetError;
 use log::Log;
+use simplecss_grammar::report::{Kept, Report, Skipped};
 use simplecss_selector::Warnings;
-use simplecss_text::report::{Kept, Report, Skipped};
 use std::alloc::{AllocError, Global};
 
 /// How texts are read: the options of [`StyleSheet::read`].

@@ -2,11 +2,11 @@
 
 ghost use Rattle.std.specs.Prelude.{◌≡◌, ◌<◌, ◌^◌, ◌++◌, IfOk, OnOk, MatchResult, ℕ, List};
 ghost use Rattle.std.specs.Prelude.{None, Some, length, map, option_map, string_bytes};
-ghost use Rattle.css_selectors.specs.SelectorLists.{listed_of};
-ghost use Rattle.css_selectors.specs.PlacedSelectors.{PlacedSelector, placed_selectors};
+ghost use Rattle.css_syntax.specs.SelectorLists.{listed_of};
+ghost use Rattle.css_syntax.specs.PlacedSelectors.{PlacedSelector, placed_selectors};
 ghost use Rattle.css_sheet.specs.RuleSelectors.{selector_of};
-ghost use Rattle.selectors3.specs.Components.{Selector};
-ghost use Rattle.selectors3.specs.Grammar.{selector_list};
+ghost use Rattle.css_selectors.specs.Components.{Selector};
+ghost use Rattle.css_selectors.specs.Grammar.{selector_list};
 ghost use Rattle.simplecss_c.specs.Calls.{FailsFor, HasNoSelector, AreSelectorsIn};
 ghost use Rattle.simplecss_c.specs.Level3Lines.{string_or_null, listed_line};
 ghost use Rattle.simplecss_c.specs.Level3Lines.{AreListedLines, listed_texts};
@@ -18,8 +18,8 @@ use crate::answer::CallError;
 use crate::items::offset_of;
 use crate::json::{position_line, push_specificity, push_string};
 use crate::ranges::push_range;
-use css_selectors::{FoundSelector, next_part, read_part};
-use selectors3::{Refusal, Selector3, Why};
+use css_selectors::{Refusal, Selector, Why};
+use css_syntax::selectors::{FoundSelector, next_part, read_part};
 use std::alloc::{AllocError, Global};
 
 impl From<Refusal<'_>> for CallError {
@@ -37,15 +37,15 @@ impl From<Refusal<'_>> for CallError {
 }
 
 /// The selector that a text is, or the refusal.
-fn read_selector(alloc: Global, text: &str) -> Result<Selector3<'_>, CallError>
+fn read_selector(alloc: Global, text: &str) -> Result<Selector<'_>, CallError>
     ensures { MatchResult result (λ selector. selector_of text.now ≡ Some selector)
         (λ error. FailsFor (selector_of text.now ≡ None) (λ fault. ⊥) ⊥ error) }
 {
-    Ok(Selector3::parse(alloc, text)?)
+    Ok(Selector::parse(alloc, text)?)
 }
 
 /// The selectors of texts, one of each, or the refusal.
-pub fn read_selectors<'a>(alloc: Global, texts: &[&'a str]) -> Result<Vec<Selector3<'a>>, CallError>
+pub fn read_selectors<'a>(alloc: Global, texts: &[&'a str]) -> Result<Vec<Selector<'a>>, CallError>
     ensures { MatchResult result
         (λ selectors. AreSelectorsIn selector_of (map (λ text. text.now) texts.now) selectors.items)
         (λ error. FailsFor (HasNoSelector selector_of (map (λ text. text.now) texts.now))
@@ -59,12 +59,12 @@ pub fn read_selectors<'a>(alloc: Global, texts: &[&'a str]) -> Result<Vec<Select
 }
 
 /// The selectors of a list, or the refusal.
-pub fn read_list(alloc: Global, text: &str) -> Result<Vec<Selector3<'_>>, CallError>
+pub fn read_list(alloc: Global, text: &str) -> Result<Vec<Selector<'_>>, CallError>
     ensures { MatchResult result
         (λ selectors. selectors_of text.now ≡ Some selectors.items)
         (λ error. FailsFor (selectors_of text.now ≡ None) (λ fault. ⊥) ⊥ error) }
 {
-    Ok(Selector3::parse_list(alloc, text)?)
+    Ok(Selector::parse_list(alloc, text)?)
 }
 
 /// Appends a string, or null.
@@ -84,7 +84,7 @@ fn push_listed(
     alloc: Global,
     found: &FoundSelector<'_>,
     end: usize,
-    selector: &Selector3<'_>,
+    selector: &Selector<'_>,
 ) -> Result<(), AllocError>
     requires { end < 2 ^ 63 }
     ensures { OnOk result (string_bytes out.new ≡ string_bytes out.old
@@ -170,7 +170,7 @@ pub fn refusal_line(alloc: Global, text: &str) -> Result<String, CallError>
         (λ line. IsRefusalLine text.now (selector_list text.now) (string_bytes line))
         (λ error. error ≡ Memory) }
 {
-    let refusal = match Selector3::parse_list(alloc, text) {
+    let refusal = match Selector::parse_list(alloc, text) {
         Ok(_) => return Ok(String::new(alloc)),
         Err(refusal) => refusal,
     };

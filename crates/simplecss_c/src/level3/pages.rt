@@ -1,18 +1,19 @@
 //! Which elements of a tree selectors match.
 
-ghost use Rattle.std.specs.Prelude.{◌≡◌, ◌+◌, ◌^◌, ◌<◌, ◌++◌, OnOk, MatchResult, List, ℕ};
+ghost use Rattle.std.specs.Prelude.{◌≡◌, ◌+◌, ◌^◌, ◌<◌, ◌++◌, OnOk, MatchResult, List, ℕ, None, Some};
 ghost use Rattle.std.specs.Prelude.{length, map, string_bytes};
+ghost use Rattle.css_tree.specs.Walks.{IsOpenAt};
 ghost use Rattle.simplecss_c.specs.Level3Lines.{page_with, IsLevel3Line, AreLevel3Lines};
+ghost use Rattle.simplecss_c.specs.Calls.{FailsLonger};
 ghost use Rattle.simplecss_c.specs.Readings.{selector_as};
 ghost use Rattle.simplecss_c.specs.declared.answer.CallError.TheVariants.{Memory};
 
 use super::reading::{Reading, html_selectors};
-use crate::answer::CallError;
+use crate::answer::{CallError, check_length};
 use crate::elements::{TreeElement, has_text};
 use crate::pages::{LineContent, push_indices};
-use selectors3::Selector3;
-use selectors3_index::SelectorIndex;
-use selectors3_tree::{NumberedTree, NumberingError};
+use css_selectors::Selector;
+use css_tree::{NumberedTree, NumberingError, TreeWalk};
 use simplecss_tree::Tree;
 use std::alloc::{AllocError, Global};
 
@@ -47,44 +48,50 @@ pub fn page_of<'p, 't>(
     Ok(page)
 }
 
-/// Appends the line of an element, which is given by its index, by an index of the selectors. What was
-/// in `indices` is dropped.
+/// Appends the line of an element, which is given by its index, by a walk. What was in `indices` is
+/// dropped.
 fn push_line(
     out: &mut String,
     content: LineContent,
-    index: &SelectorIndex<'_, '_>,
+    walk: &mut TreeWalk<'_, '_>,
     page: &NumberedTree<'_, '_>,
     element: usize,
     indices: &mut Vec<usize>,
 ) -> Result<(), AllocError>
     requires element { element < length page.now.rows }
     requires number { element + 1 < 2 ^ 64 }
-    requires fits { length index.now < 2 ^ 63 }
-    ensures { OnOk result ((line : List ℕ)
-        × IsLevel3Line content index.now page.now element line
+    requires fits { length walk.old.walk.selectors < 2 ^ 63 }
+    requires opened { IsOpenAt page.now walk.old.walk walk.old.place }
+    ensures written { OnOk result ((line : List ℕ)
+        × IsLevel3Line content walk.old.walk.selectors page.now element line
         × (string_bytes out.new ≡ string_bytes out.old ++ line)) }
+    ensures opened { IsOpenAt page.now walk.new.walk walk.new.place }
+    ensures selectors { walk.new.walk.selectors ≡ walk.old.walk.selectors }
 {
-    let node = page.node(element).unwrap();
-    index.matching(&node, indices)?;
+    walk.matching(page, element, indices)?;
     push_indices(out, content, element + 1, indices.as_slice())
 }
 
-/// The lines of the elements of a page, by an index of selectors.
+/// The lines of the elements of a page, by a walk.
 fn lines_by(
     alloc: Global,
     content: LineContent,
-    index: &SelectorIndex<'_, '_>,
+    walk: &mut TreeWalk<'_, '_>,
     page: &NumberedTree<'_, '_>,
+    most: usize,
 ) -> Result<String, CallError>
-    requires { length index.now < 2 ^ 63 }
+    requires fits { length walk.old.walk.selectors < 2 ^ 63 }
+    requires opened { IsOpenAt page.now walk.old.walk walk.old.place }
     ensures { MatchResult result
-        (λ text. AreLevel3Lines content index.now page.now (string_bytes text))
-        (λ error. error ≡ Memory) }
+        (λ text. AreLevel3Lines most content walk.old.walk.selectors page.now
+        (Some (string_bytes text)))
+        (FailsLonger (AreLevel3Lines most content walk.old.walk.selectors page.now None)) }
 {
     let mut indices = Vec::new(alloc);
     let mut text = String::new(alloc);
     for element in 0..page.len() {
-        push_line(&mut text, content, index, page, element, &mut indices)?;
+        push_line(&mut text, content, walk, page, element, &mut indices)?;
+        check_length(&text, most)?;
     }
     Ok(text)
 }
@@ -93,16 +100,17 @@ fn lines_by(
 fn lines_as_written(
     alloc: Global,
     content: LineContent,
-    selectors: &[Selector3<'_>],
+    selectors: &[Selector<'_>],
     page: &NumberedTree<'_, '_>,
+    most: usize,
 ) -> Result<String, CallError>
     requires { length selectors.now < 2 ^ 63 }
     ensures { MatchResult result
-        (λ text. AreLevel3Lines content selectors.now page.now (string_bytes text))
-        (λ error. error ≡ Memory) }
+        (λ text. AreLevel3Lines most content selectors.now page.now (Some (string_bytes text)))
+        (FailsLonger (AreLevel3Lines most content selectors.now page.now None)) }
 {
-    let index = SelectorIndex::new(alloc, selectors)?;
-    lines_by(alloc, content, &index, page)
+    let mut walk = TreeWalk::new(alloc, selectors)?;
+    lines_by(alloc, content, &mut walk, page, most)
 }
 
 /// The lines of the elements of a page, by which selectors match each as a document reads them.
@@ -110,19 +118,21 @@ pub fn lines(
     alloc: Global,
     content: LineContent,
     reading: Reading,
-    selectors: &[Selector3<'_>],
+    selectors: &[Selector<'_>],
     page: &NumberedTree<'_, '_>,
+    most: usize,
 ) -> Result<String, CallError>
     requires { length selectors.now < 2 ^ 63 }
-    ensures { MatchResult result (λ text. AreLevel3Lines content
-        (map (selector_as reading) selectors.now) page.now (string_bytes text))
-        (λ error. error ≡ Memory) }
+    ensures { MatchResult result (λ text. AreLevel3Lines most content
+        (map (selector_as reading) selectors.now) page.now (Some (string_bytes text)))
+        (FailsLonger (AreLevel3Lines most content (map (selector_as reading) selectors.now)
+        page.now None)) }
 {
     match reading {
-        Reading::AsWritten => lines_as_written(alloc, content, selectors, page),
+        Reading::AsWritten => lines_as_written(alloc, content, selectors, page, most),
         Reading::Html(mode) => {
             let selectors = html_selectors(alloc, mode, selectors)?;
-            lines_as_written(alloc, content, &selectors, page)
+            lines_as_written(alloc, content, &selectors, page, most)
         }
     }
 }

@@ -1,11 +1,11 @@
 //! How a document reads the names of selectors.
 
 ghost use Rattle.std.specs.Prelude.{◌≡◌, IfOk, map};
-ghost use Rattle.selectors3_tree.specs.Html.{html_selector};
+ghost use Rattle.css_tree.specs.Html.{html_selector};
 
 use crate::answer::CallError;
-use selectors3::Selector3;
-use selectors3_tree::html::{HtmlMode, html_selector};
+use css_selectors::Selector;
+use css_tree::html::{HtmlMode, html_selector};
 use std::alloc::{AllocError, Global};
 
 /// How a document reads the names of selectors.
@@ -40,8 +40,8 @@ impl Reading {
 pub fn html_selectors<'s>(
     alloc: Global,
     mode: HtmlMode,
-    selectors: &'s [Selector3<'_>],
-) -> Result<Vec<Selector3<'s>>, AllocError>
+    selectors: &'s [Selector<'_>],
+) -> Result<Vec<Selector<'s>>, AllocError>
     ensures { IfOk result (λ read. read.items ≡ map (html_selector mode) selectors.now) }
 {
     let mut read = Vec::with_capacity(alloc, selectors.len())?;

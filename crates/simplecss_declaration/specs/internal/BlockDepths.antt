@@ -1,7 +1,7 @@
 -- Parts of a block in which other blocks begin and end.
 use Rattle.std.specs.Prelude.{◌≡◌, ℕ, ◌+◌, ◌<◌, Bool, true, false, ◌&&◌, ◌==◌, List, length, take, slice_index}
-use Rattle.simplecss_text.specs.AsciiBytes.{open_brace, close_brace}
-use Rattle.simplecss_text.specs.Blocks.{count_of}
+use Rattle.css_text.specs.AsciiBytes.{open_brace, close_brace}
+use Rattle.simplecss_grammar.specs.Blocks.{count_of}
 
 -- A closing brace is at the offset, and ends neither a block that begins in the text nor one of the
 -- `depth` blocks that are open before it.

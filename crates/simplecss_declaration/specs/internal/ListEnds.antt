@@ -1,8 +1,8 @@
 -- Where a list of declarations ends.
 use Rattle.std.specs.Prelude.{◌≡◌, ℕ, true, false, List, Option, Some, None}
-use Rattle.simplecss_text.specs.Characters.{Edition}
-use Rattle.simplecss_text.specs.Declarations.{declaration}
-use Rattle.simplecss_text.specs.Blocks.{ends_list}
+use Rattle.css_text.specs.Characters.{Edition}
+use Rattle.simplecss_grammar.specs.Declarations.{declaration}
+use Rattle.simplecss_grammar.specs.Blocks.{ends_list}
 use Rattle.simplecss_declaration.specs.internal.UnreportedFaults.{FailsAt}
 
 -- A list of declarations was read up to `here`. It ends there, at a brace or with the text, and

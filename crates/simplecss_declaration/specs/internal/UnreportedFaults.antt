@@ -1,6 +1,6 @@
 -- Calls that read without returning the fault.
 use Rattle.std.specs.Prelude.{◌≡◌, ℕ, List, Bool, true, false, Option, Some, None}
-use Rattle.simplecss_text.specs.Reading.{Reading, got, fails}
+use Rattle.css_text.specs.Reading.{Reading, got, fails}
 
 -- the reading has failed, and this is left to read
 abbrev pub FailsAt : {A : Type 0} → Reading A → List ℕ → Type 0

@@ -1,6 +1,6 @@
 -- What contracts see of a combinator.
-use Rattle.simplecss_text.specs.Components.{Combinator as SeenCombinator}
-use Rattle.simplecss_text.specs.Components.Combinator.{none, descendant, child, adjacent}
+use Rattle.simplecss_grammar.specs.Components.{Combinator as SeenCombinator}
+use Rattle.simplecss_grammar.specs.Components.Combinator.{none, descendant, child, adjacent}
 use Rattle.simplecss_selector.specs.declared.selector.Combinator.{Combinator}
 use Rattle.simplecss_selector.specs.declared.selector.Combinator.TheVariants.{None as NoCombinator, Descendant, Child, Adjacent}
 

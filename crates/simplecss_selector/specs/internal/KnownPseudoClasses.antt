@@ -1,6 +1,6 @@
 -- What contracts see of the pseudo-class with a name.
 use Rattle.std.specs.Prelude.{Option, None, Some}
-use Rattle.simplecss_text.specs.Components.{KnownPseudoClass}
+use Rattle.simplecss_grammar.specs.Components.{KnownPseudoClass}
 use Rattle.simplecss_selector.specs.declared.pseudo_class.PseudoClass.{PseudoClass}
 use Rattle.simplecss_selector.specs.OperatorViews.{pseudo_class_of}
 

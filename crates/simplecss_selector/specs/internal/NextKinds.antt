@@ -1,7 +1,6 @@
 -- What the kind of what follows a gap means to a tokenizer.
-use Rattle.simplecss_text.specs.declared.next_kind.NextKind.{NextKind}
-use Rattle.simplecss_text.specs.declared.next_kind.NextKind.TheVariants.{Stop, Slash, Child, Adjacent}
-use Rattle.simplecss_text.specs.declared.next_kind.NextKind.TheVariants.{Universal, Id, Class, Attribute, Colon, Other}
+use Rattle.simplecss_grammar.specs.declared.next_kind.NextKind.{NextKind}
+use Rattle.simplecss_grammar.specs.declared.next_kind.NextKind.TheVariants.{Stop, Slash, Child, Adjacent, Universal, Id, Class, Attribute, Colon, Other}
 use Rattle.simplecss_selector.specs.declared.tokenizer.Stage.{Stage}
 use Rattle.simplecss_selector.specs.declared.tokenizer.Stage.TheVariants.{Missing, Ended}
 

@@ -1,11 +1,11 @@
 -- A selector under construction, one component after the other.
 use Rattle.std.specs.Prelude.{ℕ, Bool, true, false, List, [], ◌∷◌, ◌++◌, Option, None, Some}
-use Rattle.simplecss_text.specs.Components.{Subselector, Combinator, Component}
-use Rattle.simplecss_text.specs.Components.Combinator.{none}
-use Rattle.simplecss_text.specs.Selectors.{Part, Role, Outcome}
-use Rattle.simplecss_text.specs.Selectors.Part.{any_type, of_type, with}
-use Rattle.simplecss_text.specs.Selectors.Role.{part, joined_by}
-use Rattle.simplecss_text.specs.Selectors.Outcome.{refused, accepted}
+use Rattle.simplecss_grammar.specs.Components.{Subselector, Combinator, Component}
+use Rattle.simplecss_grammar.specs.Components.Combinator.{none}
+use Rattle.simplecss_grammar.specs.Selectors.{Part, Role, Outcome}
+use Rattle.simplecss_grammar.specs.Selectors.Part.{any_type, of_type, with}
+use Rattle.simplecss_grammar.specs.Selectors.Role.{part, joined_by}
+use Rattle.simplecss_grammar.specs.Selectors.Outcome.{refused, accepted}
 
 -- the finished components, and the current one
 pub record Drafted : Type 0 where

@@ -4,8 +4,8 @@ use Rattle.std.specs.List.{slice_range}
 use Rattle.std.specs.Option.{option_map}
 use Rattle.simplecss_selector.specs.OperatorViews.{operator_of, pseudo_class_of}
 use Rattle.simplecss_selector.specs.internal.CombinatorViews.{combinator_of}
-use Rattle.simplecss_text.specs.Components.{Subselector, Component}
-use Rattle.simplecss_text.specs.Components.Subselector.{attribute, pseudo_class}
+use Rattle.simplecss_grammar.specs.Components.{Subselector, Component}
+use Rattle.simplecss_grammar.specs.Components.Subselector.{attribute, pseudo_class}
 use Rattle.simplecss_selector.specs.internal.SelectorDrafts.{Drafted}
 use Rattle.simplecss_selector.specs.Shapes.{IsSelector}
 use Rattle.simplecss_selector.specs.internal.Stretches.{AreStretchEnds, all_stretch_ends}

@@ -1,8 +1,9 @@
 -- The result of trying a stretch of components at a node.
 use Rattle.std.specs.Prelude.{ℕ, ◌+◌, ◌<◌, List}
-use Rattle.simplecss_text.specs.Components.{Component}
+use Rattle.simplecss_grammar.specs.Components.{Component}
 use Rattle.simplecss_selector.specs.Trees.{Tree}
-use Rattle.simplecss_selector.specs.PlacementSearch.{IsWithin, Reaches, CanPlace, first_of}
+use Rattle.simplecss_selector.specs.internal.PlacementSearch.{IsWithin, Reaches, CanPlace}
+use Rattle.simplecss_selector.specs.Shapes.{first_of}
 use Rattle.simplecss_selector.specs.declared.matching.Fit.{Fit}
 use Rattle.simplecss_selector.specs.declared.matching.Fit.TheVariants.{Mismatch, NoNodeLeft, Complete, Continues}
 

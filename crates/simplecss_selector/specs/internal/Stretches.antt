@@ -2,8 +2,8 @@
 use Rattle.std.specs.Prelude.{◌≡◌, ℕ, ◌<◌, ◌≤◌, ◌↔◌, List, [], ◌∷◌, ◌++◌, ◌⊎◌, Some, None, length}
 use Rattle.std.specs.List.{Contains, last_or}
 use Rattle.std.specs.List.Sorted.{IsStrictlyIncreasing}
-use Rattle.simplecss_text.specs.Components.{Component, Combinator}
-use Rattle.simplecss_text.specs.Components.Combinator.{none, descendant, child, adjacent}
+use Rattle.simplecss_grammar.specs.Components.{Component, Combinator}
+use Rattle.simplecss_grammar.specs.Components.Combinator.{none, descendant, child, adjacent}
 use Rattle.simplecss_selector.specs.Shapes.{component_at}
 
 -- a component begins a stretch exactly if it is the first or its combinator is descendant

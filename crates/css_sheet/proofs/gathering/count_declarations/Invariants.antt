@@ -1,4 +1,4 @@
-use Rattle.std.proofs.Common.{◌≡◌, ◌≤◌, ◌+◌, false, length, count_by}
+use Rattle.std.proofs.Common.{◌≡◌, ◌≤◌, ◌+◌, true, length, count_by}
 use Rattle.css_syntax.specs.DeclarationLists.{ListText, items}
 use Rattle.css_syntax.specs.ListReaders.{items_to_come}
 use Rattle.css_sheet.specs.SheetOrder.{is_declared}
@@ -8,7 +8,7 @@ use Rattle.css_sheet.proofs.gathering.count_declarations.Given as goal
 abbrev pub invariant-items : goal.invariant-items
 invariant-items l =
     (l.count + count_by (λ (part : ListText). is_declared part.item) (items_to_come l.declarations)
-    ≡ count_by (λ (part : ListText). is_declared part.item) (items false l.block))
+    ≡ count_by (λ (part : ListText). is_declared part.item) (items true l.block))
     × (l.count + length (items_to_come l.declarations) ≤ length l.block)
 
 abbrev pub decreases-items : goal.decreases-items

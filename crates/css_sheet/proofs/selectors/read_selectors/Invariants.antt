@@ -1,5 +1,5 @@
 use Rattle.std.proofs.Common.{◌≡◌, ◌++◌, map, length}
-use Rattle.css_selectors.specs.SelectorLists.{all_valid, selectors, selectors_to_come}
+use Rattle.css_syntax.specs.SelectorLists.{all_valid, selectors, selectors_to_come}
 use Rattle.css_sheet.specs.RuleSelectors.{selector_read}
 use Rattle.css_sheet.specs.RuleViews.{rule_selector_of}
 use Rattle.css_sheet.proofs.selectors.read_selectors.Given as goal

@@ -1,6 +1,6 @@
 use Rattle.std.proofs.Common.{◌∙◌, ap, rules, of_calls}
 use Rattle.std.proofs.lemmas.Fn.{always_returns_same}
-use Rattle.simplecss_text.specs.Ranks.{ordered_by}
+use Rattle.css_text.specs.Ranks.{ordered_by}
 use Rattle.css_sheet.specs.SheetOrder.{rule_counts, weight, is_less_specific}
 use Rattle.css_sheet.specs.SheetRuleViews.{sheet_rule_of}
 use Rattle.css_sheet.proofs.SheetRuleLemmas.{sorted-rules}

@@ -5,7 +5,7 @@ use Rattle.css_syntax.specs.Views.{declaration_of}
 use Rattle.css_sheet.specs.declared.sheet_rules.SheetRule.{SheetRule}
 use Rattle.css_sheet.specs.SheetRuleViews.{sheet_rule_of}
 use Rattle.css_sheet.specs.SheetWinners.{all_states}
-use Rattle.css_sheet.specs.WinnerSteps.{winner_from}
+use Rattle.css_sheet.specs.internal.WinnerSteps.{winner_from}
 use Rattle.css_sheet.proofs.WinnerLemmas.{winner-is}
 use Rattle.css_sheet.proofs.winners.winning.Goals as goal
 

@@ -3,7 +3,7 @@ use Rattle.std.specs.Prelude.{option_map}
 use Rattle.css_syntax.specs.Views.{declaration_of}
 use Rattle.css_sheet.specs.SheetRuleViews.{sheet_rule_of}
 use Rattle.css_sheet.specs.SheetWinners.{rule_states}
-use Rattle.css_sheet.specs.WinnerSteps.{winner_from}
+use Rattle.css_sheet.specs.internal.WinnerSteps.{winner_from}
 use Rattle.css_sheet.proofs.WinnerLemmas.{winner-next}
 use Rattle.css_sheet.proofs.winners.with_rule.Goals as goal
 

@@ -22,9 +22,9 @@ whole-only StrayBracket e = absurd (cc)
 whole-only TooDeep e = absurd (cc)
 
 -- what was read is all of the text
-whole-value : (text v rest gap : List ℕ) (q : Quality) → value text ≡ (stated v q, rest)
+whole-value : (text v rest gap : List ℕ) (q : Quality) → value true text ≡ (stated v q, rest)
     → is_whole q ≡ true → rest ≡ [] → v ≡ text → gap ≡ past_gap text → gap ≡ text
-    → IsWholeValue text
+    → IsWholeValue true text
 whole-value text v rest gap q read whole left same blank start = record {
   no_blank = sym blank ∙ start;
   whole = read ∙ ap (λ (x : List ℕ). (stated x q, rest)) same
@@ -32,8 +32,8 @@ whole-value text v rest gap q read whole left same blank start = record {
       ∙ ap (λ (x : List ℕ). (stated text Whole, x)) left;
 }
 
-pub returns-then-eq : goal.returns-then-eq
-returns-then-eq c = λ e.
+pub returns-then-eq-clause-whole : goal.returns-then-eq-clause-whole
+returns-then-eq-clause-whole c = λ e.
     let parts = c.read_value-parts.result in
     let good : is_whole parts.quality ≡ true = sym c.is_whole.ensures ∙ c.if-not-is_whole.false in
     let left : parts.rest.now ≡ [] = grind (arith, common_steps) in

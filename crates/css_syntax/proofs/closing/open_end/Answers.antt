@@ -21,4 +21,4 @@ overflow_add-waiting c =
 pub tokens-smaller : goal.tokens-smaller
 tokens-smaller c =
     token-less c.in-Some.byte c.tokens.rest.now c.in-Some.after.now _ c.in-Some.ensures
-    c.skip_token-token.ensures
+    c.read_token-token.ensures

@@ -1,5 +1,5 @@
 use Rattle.std.proofs.Common.{List, ℕ, ap, subst}
-use Rattle.simplecss_text.specs.Reading.{Ends}
+use Rattle.css_text.specs.Reading.{Ends}
 use Rattle.css_syntax.specs.DeclarationLists.{ItemText}
 use Rattle.css_syntax.proofs.ItemLemmas.{item-ends}
 use Rattle.css_syntax.proofs.declarations.read_part.Goals as goal

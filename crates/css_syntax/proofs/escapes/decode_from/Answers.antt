@@ -1,8 +1,8 @@
 use Rattle.std.proofs.Common.{◌∙◌, ◌++◌, ◌∷◌, List, ℕ, ap, sym, arith, rules, length, length-append}
 use Rattle.std.specs.String.{string_bytes}
 use Rattle.std.proofs.lemmas.Str.Pattern.{split_parts}
-use Rattle.simplecss_text.specs.AsciiBytes.{backslash}
-use Rattle.css_syntax.specs.Escapes.{decoded}
+use Rattle.css_text.specs.AsciiBytes.{backslash}
+use Rattle.css_syntax.specs.Escapes.{decoded_in}
 use Rattle.css_syntax.proofs.Decoding.{ran, decoded-whole}
 use Rattle.css_syntax.proofs.escapes.decode_from.Goals as goal
 
@@ -27,8 +27,8 @@ parts-preserved c =
     let next = c.in-Some.next.now in
     let out = string_bytes c.parts.out in (
       search rules,
-      c.in_ok-rest-2.ensures.pushed ∙ ran out _ run next some.1 c.in_ok-push_str-2.ensures.bytes
-          ∙ ap (λ (l : List ℕ). out ++ decoded l) (sym some.0)
+      c.in_ok-rest-2.ensures.pushed ∙ ran c.args.in_string out _ run next some.1 c.in_ok-push_str-2.ensures.bytes
+          ∙ ap (λ (l : List ℕ). out ++ decoded_in c.args.in_string l) (sym some.0)
           ∙ c.parts.invariant.1,
     )
 
@@ -38,5 +38,5 @@ returns c =
     (omega arith) in
     let none = rw c.in_default.is at parts in
     c.in_ok-push_str-3.ensures.bytes
-    ∙ ap (λ (l : List ℕ). string_bytes c.parts.out ++ l) (sym (decoded-whole c.parts.rest.now none))
+    ∙ ap (λ (l : List ℕ). string_bytes c.parts.out ++ l) (sym (decoded-whole c.args.in_string c.parts.rest.now none))
     ∙ c.parts.invariant.1

@@ -1,7 +1,6 @@
 use Rattle.std.proofs.Common.{◌∙◌, sym, ap, arith, ◌≡◌, List, ℕ, map, []}
-use Rattle.simplecss_text.specs.Reading.{each, followed_by, before}
-use Rattle.simplecss_text.specs.Declarations.{last_or}
-use Rattle.simplecss_text.proofs.reading.EachLemmas.{each-none, each-some}
+use Rattle.css_text.specs.Reading.{each, followed_by, before, last_or}
+use Rattle.css_text.proofs.reading.EachLemmas.{each-none, each-some}
 use Rattle.css_syntax.specs.declared.quality.Quality.{Quality}
 use Rattle.css_syntax.specs.Qualities.{first_flaw, flaw_of_all}
 use Rattle.css_syntax.specs.Parts.{part, parts}

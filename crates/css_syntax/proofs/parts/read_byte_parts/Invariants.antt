@@ -1,6 +1,5 @@
 use Rattle.std.proofs.Common.{◌≡◌, ◌≤◌, length, map}
-use Rattle.simplecss_text.specs.Reading.{each}
-use Rattle.simplecss_text.specs.Declarations.{last_or}
+use Rattle.css_text.specs.Reading.{each, last_or}
 use Rattle.css_syntax.specs.Qualities.{first_flaw, flaw_of_all}
 use Rattle.css_syntax.specs.Parts.{part}
 use Rattle.css_syntax.proofs.parts.read_byte_parts.Given as goal

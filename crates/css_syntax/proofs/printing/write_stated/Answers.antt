@@ -1,5 +1,5 @@
 use Rattle.std.proofs.Common.{refl}
-use Rattle.simplecss_text.proofs.round_trip.StyledWrites.{styled_three}
+use Rattle.css_text.proofs.round_trip.StyledWrites.{styled_three}
 use Rattle.css_syntax.proofs.printing.write_stated.Goals as goal
 
 pub returns : goal.returns

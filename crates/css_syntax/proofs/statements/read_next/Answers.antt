@@ -1,5 +1,5 @@
 use Rattle.std.proofs.Common.{List, ℕ, ap, subst}
-use Rattle.simplecss_text.specs.Reading.{Ends}
+use Rattle.css_text.specs.Reading.{Ends}
 use Rattle.css_syntax.specs.Statements.{StatementText}
 use Rattle.css_syntax.proofs.ItemLemmas.{statement-ends}
 use Rattle.css_syntax.proofs.statements.read_next.Goals as goal

@@ -5,17 +5,17 @@ use Rattle.css_syntax.proofs.texts.past_gap.Goals as goal
 
 pub overflow_sub-text : goal.overflow_sub-text
 overflow_sub-text c =
-    left-within past_gap gap-well c.as_bytes.result.now c.args.text.now c.skip_gap-rest.result.now
-    c.as_bytes.ensures.value c.skip_gap-rest.ensures
+    left-within past_gap gap-well c.as_bytes.result.now c.args.text.now c.past_gap-rest.result.now
+    c.as_bytes.ensures.value c.past_gap-rest.ensures
 
 pub range_from-requires : goal.range_from-requires
 range_from-requires c = λ some.
     left-boundary past_gap gap-well c.as_bytes.result.now c.args.text.now
-    c.skip_gap-rest.result.now c.utf8.text
-    c.as_bytes.ensures.value c.skip_gap-rest.ensures
+    c.past_gap-rest.result.now c.utf8.text
+    c.as_bytes.ensures.value c.past_gap-rest.ensures
 
 pub returns : goal.returns
 returns c =
-    left-slice past_gap gap-well c.as_bytes.result.now c.args.text.now c.skip_gap-rest.result.now
-    c.range_from.result.now c.as_bytes.ensures.value c.skip_gap-rest.ensures
+    left-slice past_gap gap-well c.as_bytes.result.now c.args.text.now c.past_gap-rest.result.now
+    c.range_from.result.now c.as_bytes.ensures.value c.past_gap-rest.ensures
     c.range_from.ensures.value

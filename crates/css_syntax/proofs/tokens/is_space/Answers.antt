@@ -1,7 +1,7 @@
 use Rattle.std.proofs.Common.{refl, arith}
-use Rattle.simplecss_text.specs.Characters.{is_space}
+use Rattle.css_text.specs.Characters.{is_space}
 use Rattle.css_syntax.specs.declared.tokens.TheConstants.{BYTES}
-use Rattle.simplecss_text.proofs.bytes.ByteTable.{agree_below, from_table}
+use Rattle.css_text.proofs.bytes.ByteTable.{agree_below, from_table}
 use Rattle.css_syntax.proofs.tokens.is_space.Goals as goal
 
 pub returns : goal.returns

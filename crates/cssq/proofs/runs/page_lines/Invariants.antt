@@ -1,7 +1,8 @@
 use Rattle.std.proofs.Common.{◌≡◌, string_bytes}
 use Rattle.simplecss.specs.RuleViews.{rules_of}
 use Rattle.cssq.specs.internal.PageRuns.{IsElementLine}
-use Rattle.cssq.specs.internal.Walks.{IsWalkOf}
+use Rattle.cssq_tree.specs.ParentsAndSiblings.{depths_of}
+use Rattle.cssq.specs.internal.Walks.{IsWalkOf, place_before}
 use Rattle.cssq.proofs.MatchLines.{LinesSoFar}
 use Rattle.cssq.proofs.runs.page_lines.Given as goal
 
@@ -12,4 +13,5 @@ invariant-loop-element l = record {
       (string_bytes l.text);
   walk : IsWalkOf l.page l.walk;
   path : l.walk.path.selectors ≡ l.index;
+  before : l.walk.place ≡ place_before (depths_of l.page) l.element;
 }

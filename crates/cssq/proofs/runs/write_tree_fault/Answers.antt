@@ -2,7 +2,7 @@ use Rattle.std.proofs.Common.{◌≡◌, ℕ, List, decimal, sym, ap, ◌∙◌,
 use Rattle.std.specs.Prelude.{codes}
 use Rattle.std.proofs.Output.{has_written_styled_of_eq}
 use Rattle.simplecss.proofs.StyledWrites.{appends_written}
-use Rattle.cssq_page.specs.TreeText.{fault_number, fault_line}
+use Rattle.cssq_tree.specs.TreeText.{fault_number, fault_line}
 use Rattle.cssq.specs.Faults.{message_of}
 use Rattle.cssq.specs.declared.runs.RunFault.TheVariants.{Tree}
 use Rattle.cssq.proofs.runs.write_tree_fault.Goals as goal

@@ -1,5 +1,5 @@
 use Rattle.std.proofs.Common.{◌≡◌, ℕ, List, length, min, ap, ◌∙◌, arith}
-use Rattle.simplecss_text.specs.Positions.{in_whole, position}
+use Rattle.css_text.specs.Positions.{in_whole, position}
 use Rattle.simplecss.proofs.PlaceLemmas.{offset-from}
 use Rattle.simplecss.proofs.place.position_from.Goals as goal
 

@@ -9,17 +9,17 @@ pub returns-in_err-texts : goal.returns-in_err-texts
 returns-in_err-texts c =
     let passed = passed_of c.args.tree in
     let failure = c.in_err-texts.field-0.0 in
-    failed c.args.buffer.now c.args.ends.now passed c.from_residual.result failure
+    failed c.args.most c.args.buffer.now c.args.ends.now passed c.from_residual.result failure
     c.from_residual.ensures.1
-    (texts_failed c.args.buffer.now c.args.ends.now passed failure c.in_err-texts.ensures)
+    (texts_failed c.args.most c.args.buffer.now c.args.ends.now passed failure c.in_err-texts.ensures)
 
 pub returns-in_err-selectors : goal.returns-in_err-selectors
 returns-in_err-selectors c =
     let passed = passed_of c.args.tree in
     let failure = c.in_err-selectors.field-0.0 in
-    failed c.args.buffer.now c.args.ends.now passed c.from_residual-in_err-selectors.result failure
+    failed c.args.most c.args.buffer.now c.args.ends.now passed c.from_residual-in_err-selectors.result failure
     c.from_residual-in_err-selectors.ensures.1
-    (selectors_failed c.args.buffer.now c.args.ends.now passed
+    (selectors_failed c.args.most c.args.buffer.now c.args.ends.now passed
     (map (λ text. text.now) c.in_ok-texts.texts.items) c.in_ok-texts.ensures failure
     (subst (λ (texts : List (Bor (List ℕ))). FailsFor (HasNoSelector selector_in (map (λ text. text.now) texts))
     (λ fault. ⊥) ⊥ failure) c.deref.ensures.value c.in_err-selectors.ensures))
@@ -28,13 +28,13 @@ pub returns-in_err-tree : goal.returns-in_err-tree
 returns-in_err-tree c =
     let passed = passed_of c.args.tree in
     let failure = c.in_err-tree.field-0.0 in
-    failed c.args.buffer.now c.args.ends.now passed c.from_residual-in_err-tree.result failure
+    failed c.args.most c.args.buffer.now c.args.ends.now passed c.from_residual-in_err-tree.result failure
     c.from_residual-in_err-tree.ensures.1
-    (tree_failed c.args.buffer.now c.args.ends.now passed failure c.in_err-tree.ensures)
+    (tree_failed c.args.most c.args.buffer.now c.args.ends.now passed failure c.in_err-tree.ensures)
 
 pub returns : goal.returns
 returns c =
-    match_due c.args.buffer.now c.args.ends.now (passed_of c.args.tree)
+    match_due c.args.most c.args.buffer.now c.args.ends.now (passed_of c.args.tree)
     (map (λ text. text.now) c.in_ok-texts.texts.items) c.in_ok-tree.tree
     c.in_ok-texts.ensures c.in_ok-selectors.selectors.items
     (subst (λ (texts : List (Bor (List ℕ))). AreSelectorsIn selector_in (map (λ text. text.now) texts)

@@ -7,7 +7,7 @@ use Rattle.simplecss_c.proofs.calls.matches.Goals as goal
 
 pub returns : goal.returns
 returns c =
-    page_due AreMatchLines c.args.buffer.now c.args.ends.now c.args.limit (passed_of c.args.tree)
+    page_due (AreMatchLines c.args.most) c.args.buffer.now c.args.ends.now c.args.limit (passed_of c.args.tree)
     (map (λ text. text.now) c.in_ok-texts.texts.items) c.in_ok-tree.tree
     c.in_ok-texts.ensures c.in_ok-tree.ensures.0 c.in_ok-tree.ensures.1
     (rules_in c.in_ok-sheet.sheet)

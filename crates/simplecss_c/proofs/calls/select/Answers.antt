@@ -8,7 +8,7 @@ use Rattle.simplecss_c.proofs.calls.select.Goals as goal
 
 pub returns : goal.returns
 returns c =
-    select_due c.args.text.now (passed_of c.args.tree)
+    select_due c.args.most c.args.text.now (passed_of c.args.tree)
     c.in_ok-selectors.selectors.items c.in_ok-tree.tree
     c.in_ok-text.ensures.1 (ap (list_of this_edition) (sym c.in_ok-text.ensures.0)
     ∙ c.in_ok-selectors.ensures) c.in_ok-tree.ensures.0 c.in_ok-tree.ensures.1

@@ -7,7 +7,7 @@ use Rattle.simplecss_c.proofs.calls.styles.Goals as goal
 
 pub returns : goal.returns
 returns c =
-    page_due AreWinnersLines c.args.buffer.now c.args.ends.now c.args.limit (passed_of c.args.tree)
+    page_due (AreWinnersLines c.args.most) c.args.buffer.now c.args.ends.now c.args.limit (passed_of c.args.tree)
     (map (λ text. text.now) c.in_ok-texts.texts.items) c.in_ok-tree.tree
     c.in_ok-texts.ensures c.in_ok-tree.ensures.0 c.in_ok-tree.ensures.1
     (rules_of c.deref-2.result.now)

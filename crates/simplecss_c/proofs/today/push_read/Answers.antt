@@ -2,7 +2,7 @@ use Rattle.std.proofs.Common.{◌∷◌, [], ◌++◌, string_bytes, ap, ◌∙�
 use Rattle.std.specs.Prelude.{codes}
 use Rattle.std.proofs.lemmas.Result.{on_ok_weaker}
 use lib.Utf8.{encode}
-use Rattle.css_selectors.specs.SelectorViews.{form_of}
+use Rattle.css_syntax.specs.SelectorViews.{form_of}
 use Rattle.css_sheet.specs.RuleViews.{rule_selector_of}
 use Rattle.simplecss_c.specs.Json.{boolean, member, object}
 use Rattle.simplecss_c.specs.Ranges.{range}

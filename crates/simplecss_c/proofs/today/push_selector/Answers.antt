@@ -1,7 +1,7 @@
 use Rattle.std.proofs.Common.{◌+◌, ◌++◌, length, string_bytes, ap, ◌∙◌, sym}
 use Rattle.std.proofs.lemmas.Result.{on_ok_weaker}
-use Rattle.css_selectors.specs.SelectorLists.{listed_of}
-use Rattle.css_selectors.specs.SelectorViews.{form_of}
+use Rattle.css_syntax.specs.SelectorLists.{listed_of}
+use Rattle.css_syntax.specs.SelectorViews.{form_of}
 use Rattle.css_sheet.specs.RuleSelectors.{SelectorRead, selector_read}
 use Rattle.simplecss_c.specs.SheetLines.{selector_with}
 use Rattle.simplecss_c.proofs.today.push_selector.Goals as goal

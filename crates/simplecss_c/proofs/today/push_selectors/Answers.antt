@@ -3,9 +3,9 @@ use Rattle.std.specs.Prelude.{codes}
 use Rattle.std.proofs.lemmas.Result.{on_ok_weaker}
 use lib.Utf8.{encode}
 use Rattle.css_syntax.specs.Tokens.{past_gap}
-use Rattle.css_selectors.specs.SelectorLists.{ListedText, listed_of, selector_part}
-use Rattle.css_selectors.specs.PlacedSelectors.{more_placed_selectors}
-use Rattle.css_selectors.proofs.PlacedParts.{placed-parts-some, placed-parts-none, part-less}
+use Rattle.css_syntax.specs.SelectorLists.{ListedText, listed_of, selector_part}
+use Rattle.css_syntax.specs.PlacedSelectors.{more_placed_selectors}
+use Rattle.css_syntax.proofs.PlacedParts.{placed-parts-some, placed-parts-none, part-less}
 use Rattle.simplecss_c.specs.Json.{array}
 use Rattle.simplecss_c.specs.Ranges.{further}
 use Rattle.simplecss_c.specs.SheetLines.{selector_object}

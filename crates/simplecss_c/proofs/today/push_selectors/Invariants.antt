@@ -1,6 +1,6 @@
 use Rattle.std.proofs.Common.{◌≡◌, ◌++◌, map, string_bytes, length}
-use Rattle.css_selectors.specs.SelectorLists.{selector_part}
-use Rattle.css_selectors.specs.PlacedSelectors.{more_placed_selectors}
+use Rattle.css_syntax.specs.SelectorLists.{selector_part}
+use Rattle.css_syntax.specs.PlacedSelectors.{more_placed_selectors}
 use Rattle.simplecss_c.specs.Ranges.{further}
 use Rattle.simplecss_c.specs.SheetLines.{selector_object}
 use Rattle.simplecss_c.proofs.today.push_selectors.Given as goal

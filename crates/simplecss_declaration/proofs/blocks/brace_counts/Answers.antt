@@ -1,5 +1,5 @@
 use Rattle.std.proofs.Common.{◌+◌, ◌∙◌, arith}
-use Rattle.simplecss_text.specs.AsciiBytes.{close_brace, open_brace}
+use Rattle.css_text.specs.AsciiBytes.{close_brace, open_brace}
 use Rattle.simplecss_declaration.proofs.BlockLemmas.{count_of-more}
 use Rattle.simplecss_declaration.proofs.blocks.brace_counts.Goals as goal
 

@@ -1,6 +1,6 @@
 use Rattle.std.proofs.Common.{◌≡◌, take}
-use Rattle.simplecss_text.specs.AsciiBytes.{close_brace, open_brace}
-use Rattle.simplecss_text.specs.Blocks.{count_of}
+use Rattle.css_text.specs.AsciiBytes.{close_brace, open_brace}
+use Rattle.simplecss_grammar.specs.Blocks.{count_of}
 use Rattle.simplecss_declaration.proofs.blocks.brace_counts.Given as goal
 
 abbrev pub invariant-loop-byte : goal.invariant-loop-byte

@@ -1,10 +1,10 @@
 use Rattle.std.proofs.Common.{◌≡◌, ap, sym, map, ◌∙◌}
 use Rattle.std.proofs.lemmas.Result.{on_ok_weaker}
-use Rattle.simplecss_text.specs.Reading.{each}
-use Rattle.simplecss_text.specs.Blocks.{declaration_in_block, from_block_end}
-use Rattle.simplecss_text.specs.Skipped.{add_each, block_skips, broken_part, list_skips}
-use Rattle.simplecss_text.specs.ThisEdition.{this_edition}
-use Rattle.simplecss_text.specs.Cursor.{rest_of}
+use Rattle.css_text.specs.Reading.{each}
+use Rattle.simplecss_grammar.specs.Blocks.{declaration_in_block, from_block_end}
+use Rattle.simplecss_grammar.specs.Skipped.{add_each, block_skips, broken_part, list_skips}
+use Rattle.css_text.specs.ThisEdition.{this_edition}
+use Rattle.css_text.specs.Cursor.{rest_of}
 use Rattle.simplecss_declaration.specs.DeclarationViews.{declaration_of}
 use Rattle.simplecss_declaration.proofs.BlockLemmas.{block-ended, block-broken, list_skips-ended, list_skips-broken}
 use Rattle.simplecss_declaration.proofs.OpenValueLemmas.{add_each-list}

@@ -1,9 +1,9 @@
 use Rattle.std.proofs.Common.{◌∷◌, [], Some, None, sym, subst, ◌∙◌, ap, refl, List, ℕ}
 use Rattle.std.proofs.lemmas.List.{map-append}
-use Rattle.simplecss_text.specs.Blocks.{declaration_in_block}
-use Rattle.simplecss_text.specs.ThisEdition.{this_edition}
-use Rattle.simplecss_text.specs.Cursor.{rest_of}
-use Rattle.simplecss_text.proofs.reading.EachLemmas.{done_start, done_step, done_end}
+use Rattle.simplecss_grammar.specs.Blocks.{declaration_in_block}
+use Rattle.css_text.specs.ThisEdition.{this_edition}
+use Rattle.css_text.specs.Cursor.{rest_of}
+use Rattle.css_text.proofs.reading.EachLemmas.{done_start, done_step, done_end}
 use Rattle.simplecss_declaration.specs.internal.ListEnds.{EndsAt}
 use Rattle.simplecss_declaration.specs.DeclarationViews.{declaration_of}
 use Rattle.simplecss_declaration.proofs.BlockLemmas.{list-some, list-less, list-none, list-broken}

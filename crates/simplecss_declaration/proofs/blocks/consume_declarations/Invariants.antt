@@ -1,9 +1,9 @@
 use Rattle.std.proofs.Common.{◌≡◌, map, length}
-use Rattle.simplecss_text.specs.Blocks.{declaration_in_block}
-use Rattle.simplecss_text.specs.Skipped.{add_each, block_skips}
-use Rattle.simplecss_text.specs.ThisEdition.{this_edition}
-use Rattle.simplecss_text.specs.Cursor.{text_of, rest_of}
-use Rattle.simplecss_text.proofs.reading.EachLemmas.{Done}
+use Rattle.simplecss_grammar.specs.Blocks.{declaration_in_block}
+use Rattle.simplecss_grammar.specs.Skipped.{add_each, block_skips}
+use Rattle.css_text.specs.ThisEdition.{this_edition}
+use Rattle.css_text.specs.Cursor.{text_of, rest_of}
+use Rattle.css_text.proofs.reading.EachLemmas.{Done}
 use Rattle.simplecss_declaration.specs.DeclarationViews.{declaration_of}
 use Rattle.simplecss_declaration.proofs.blocks.consume_declarations.Given as goal
 

@@ -1,8 +1,8 @@
 use Rattle.std.proofs.Common.{◌≡◌, ◌+◌, drop, Some, None, sym, ap, ◌∙◌, refl}
-use Rattle.simplecss_text.specs.AsciiBytes.{open_brace}
-use Rattle.simplecss_text.specs.Bytes.{after_byte}
-use Rattle.simplecss_text.specs.ThisEdition.{this_edition}
-use Rattle.simplecss_text.specs.Cursor.{rest_of}
+use Rattle.css_text.specs.AsciiBytes.{open_brace}
+use Rattle.css_text.specs.Bytes.{after_byte}
+use Rattle.css_text.specs.ThisEdition.{this_edition}
+use Rattle.css_text.specs.Cursor.{rest_of}
 use Rattle.simplecss_declaration.proofs.BlockLemmas.{next_block-some, next_block-none, next_block_skips-some, next_block_skips-none}
 use Rattle.simplecss_declaration.proofs.blocks.consume_next_block.Goals as goal
 

@@ -1,6 +1,6 @@
 use Rattle.std.proofs.Common.{◌≡◌, ℕ, ◌+◌, ◌<◌, false, take}
-use Rattle.simplecss_text.specs.AsciiBytes.{close_brace, open_brace}
-use Rattle.simplecss_text.specs.Blocks.{count_of}
+use Rattle.css_text.specs.AsciiBytes.{close_brace, open_brace}
+use Rattle.simplecss_grammar.specs.Blocks.{count_of}
 use Rattle.simplecss_declaration.specs.internal.BlockDepths.{closes_at}
 use Rattle.simplecss_declaration.proofs.blocks.outer_brace.Given as goal
 

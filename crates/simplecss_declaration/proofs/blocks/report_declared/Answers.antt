@@ -1,8 +1,8 @@
 use Rattle.std.proofs.Common.{ap, sym, ◌∙◌, false}
 use Rattle.std.specs.Bool.{IsTrue}
-use Rattle.simplecss_text.specs.Skipped.{add_each}
-use Rattle.simplecss_text.specs.ThisEdition.{this_edition}
-use Rattle.simplecss_text.specs.Cursor.{rest_of}
+use Rattle.simplecss_grammar.specs.Skipped.{add_each}
+use Rattle.css_text.specs.ThisEdition.{this_edition}
+use Rattle.css_text.specs.Cursor.{rest_of}
 use Rattle.simplecss_declaration.proofs.OpenValueLemmas.{declaration_skips-left}
 use Rattle.simplecss_declaration.proofs.blocks.report_declared.Goals as goal
 

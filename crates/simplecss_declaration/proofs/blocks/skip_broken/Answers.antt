@@ -1,12 +1,11 @@
-use Rattle.std.proofs.Common.{◌≡◌, List, ℕ, ap, ◌∙◌}
+use Rattle.std.proofs.Common.{◌≡◌, List, ℕ, ap, ◌∙◌, subst}
 use Rattle.std.specs.Result.{OnOk}
-use Rattle.std.proofs.Common.{subst}
-use Rattle.simplecss_text.specs.AsciiBytes.{close_brace}
-use Rattle.simplecss_text.specs.Bytes.{past_byte}
-use Rattle.simplecss_text.specs.Blocks.{from_block_end}
-use Rattle.simplecss_text.specs.Skipped.{list_end_skips, brace_skips, add_each}
-use Rattle.simplecss_text.specs.Cursor.{rest_of}
-use Rattle.simplecss_text.proofs.reading.SkipLemmas.{add-both_ok}
+use Rattle.css_text.specs.AsciiBytes.{close_brace}
+use Rattle.css_text.specs.Bytes.{past_byte}
+use Rattle.simplecss_grammar.specs.Blocks.{from_block_end}
+use Rattle.simplecss_grammar.specs.Skipped.{list_end_skips, brace_skips, add_each}
+use Rattle.css_text.specs.Cursor.{rest_of}
+use Rattle.simplecss_grammar.proofs.reading.SkipLemmas.{add-both_ok}
 use Rattle.simplecss_declaration.proofs.blocks.skip_broken.Goals as goal
 
 pub returns-clause-reported : goal.returns-clause-reported

@@ -1,9 +1,9 @@
 use Rattle.std.proofs.Common.{◌≡◌, drop, ap, ◌∙◌, arith, rules}
 use Rattle.std.proofs.lemmas.Grind.{common_steps}
-use Rattle.simplecss_text.specs.AsciiBytes.{open_brace, semicolon}
-use Rattle.simplecss_text.specs.Bytes.{past, is_neither}
-use Rattle.simplecss_text.specs.Cursor.{text_of, offset_of, rest_of}
-use Rattle.simplecss_text.proofs.bytes.ByteLemmas.{past_run}
+use Rattle.css_text.specs.AsciiBytes.{open_brace, semicolon}
+use Rattle.css_text.specs.Bytes.{past, is_neither}
+use Rattle.css_text.specs.Cursor.{text_of, offset_of, rest_of}
+use Rattle.css_text.proofs.bytes.ByteLemmas.{past_run}
 use Rattle.simplecss_declaration.proofs.blocks.skip_semicolon_or_block.Goals as goal
 
 pub returns-then-skip_byte-clause-rest : goal.returns-then-skip_byte-clause-rest

@@ -1,8 +1,8 @@
 use Rattle.std.proofs.Common.{◌≡◌, sym, ◌∙◌, refl, subst, List, ℕ, false}
 use Rattle.std.specs.Bool.{IsTrue}
-use Rattle.simplecss_text.specs.Declarations.{stated_name}
-use Rattle.simplecss_text.specs.ThisEdition.{this_edition}
-use Rattle.simplecss_text.specs.Cursor.{rest_of}
+use Rattle.simplecss_grammar.specs.Declarations.{stated_name}
+use Rattle.css_text.specs.ThisEdition.{this_edition}
+use Rattle.css_text.specs.Cursor.{rest_of}
 use Rattle.simplecss_declaration.specs.internal.UnreportedFaults.{FailsAt}
 use Rattle.simplecss_declaration.proofs.OpenValueLemmas.{declaration_skips-none, declaration_skips-stated, open_at-empty, open_at-left, open_at-all}
 use Rattle.simplecss_declaration.proofs.reader.find_open_value.Goals as goal

@@ -1,9 +1,9 @@
 use Rattle.std.proofs.Common.{◌≡◌, sym, ap, ◌∙◌, refl, subst, List, ℕ, Option, Some, None}
 use Rattle.std.specs.Str.{trim_start}
-use Rattle.simplecss_text.specs.Reading.{Reading, got, fails}
-use Rattle.simplecss_text.specs.Declarations.{stated_name}
-use Rattle.simplecss_text.specs.ThisEdition.{this_edition}
-use Rattle.simplecss_text.specs.Cursor.{rest_of}
+use Rattle.css_text.specs.Reading.{Reading, got, fails}
+use Rattle.simplecss_grammar.specs.Declarations.{stated_name}
+use Rattle.css_text.specs.ThisEdition.{this_edition}
+use Rattle.css_text.specs.Cursor.{rest_of}
 use Rattle.simplecss_declaration.specs.internal.UnreportedFaults.{FailsAt}
 use Rattle.simplecss_declaration.specs.ValueStarts.{from_name, value_from}
 use Rattle.simplecss_declaration.proofs.reader.find_value.Goals as goal

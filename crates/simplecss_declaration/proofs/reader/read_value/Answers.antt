@@ -1,13 +1,12 @@
 use Rattle.std.proofs.Common.{◌<◌, ◌∷◌, [], length, sym, ap, ◌∙◌, subst, List, ℕ, refl}
 use Rattle.std.specs.Str.{IsUtf8, trim}
-use Rattle.simplecss_text.specs.Reading.{before}
-use Rattle.simplecss_text.specs.Terms.{term}
-use Rattle.simplecss_text.specs.Declarations.{last_or}
-use Rattle.simplecss_text.specs.ThisEdition.{this_edition}
-use Rattle.simplecss_text.specs.Cursor.{rest_of}
-use Rattle.simplecss_text.proofs.reading.EndsLemmas.{no_texts, ends-ends, ends-got, ends-fails, occur-to, ends-same}
-use Rattle.simplecss_text.proofs.reading.OccurrenceLemmas.{ends-past_blank, occur-trim}
-use Rattle.simplecss_text.proofs.reading.DeclarationsLawful.{term-occurs}
+use Rattle.css_text.specs.Reading.{before, last_or}
+use Rattle.simplecss_grammar.specs.Terms.{term}
+use Rattle.css_text.specs.ThisEdition.{this_edition}
+use Rattle.css_text.specs.Cursor.{rest_of}
+use Rattle.css_text.proofs.reading.EndsLemmas.{no_texts, ends-ends, ends-got, ends-fails, occur-to, ends-same}
+use Rattle.simplecss_grammar.proofs.reading.OccurrenceLemmas.{ends-past_blank, occur-trim}
+use Rattle.simplecss_grammar.proofs.reading.DeclarationsLawful.{term-occurs}
 use Rattle.simplecss_declaration.proofs.FaultLemmas.{passed, not_passed, failed}
 use Rattle.simplecss_declaration.proofs.ValueLemmas.{terms-some, term-takes, value-done, boundary_at_end, before-range, trimmed}
 use Rattle.simplecss_declaration.proofs.reader.read_value.Goals as goal

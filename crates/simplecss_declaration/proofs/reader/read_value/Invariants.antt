@@ -1,9 +1,9 @@
 use Rattle.std.proofs.Common.{◌≡◌, length}
 use Rattle.std.specs.Str.{IsUtf8}
-use Rattle.simplecss_text.specs.Reading.{each, Ends}
-use Rattle.simplecss_text.specs.Declarations.{term_in_value, last_or}
-use Rattle.simplecss_text.specs.ThisEdition.{this_edition}
-use Rattle.simplecss_text.specs.Cursor.{text_of, rest_of}
+use Rattle.css_text.specs.Reading.{each, Ends, last_or}
+use Rattle.simplecss_grammar.specs.Declarations.{term_in_value}
+use Rattle.css_text.specs.ThisEdition.{this_edition}
+use Rattle.css_text.specs.Cursor.{text_of, rest_of}
 use Rattle.simplecss_declaration.proofs.reader.read_value.Given as goal
 
 -- The terms from here on and the end of the last one so far determine the end of the last of all.

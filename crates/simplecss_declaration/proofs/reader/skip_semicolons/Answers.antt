@@ -1,9 +1,9 @@
 use Rattle.std.proofs.Common.{◌≡◌, ◌<◌, length, sym, ap, ◌∙◌, subst, List, ℕ}
-use Rattle.simplecss_text.specs.AsciiBytes.{semicolon}
-use Rattle.simplecss_text.specs.Bytes.{past_one}
-use Rattle.simplecss_text.specs.Comments.{past_blank}
-use Rattle.simplecss_text.specs.Cursor.{rest_of}
-use Rattle.simplecss_text.proofs.bytes.ByteLemmas.{past_byte_there, past_byte_not}
+use Rattle.css_text.specs.AsciiBytes.{semicolon}
+use Rattle.css_text.specs.Bytes.{past_one}
+use Rattle.css_text.specs.Comments.{past_blank}
+use Rattle.css_text.specs.Cursor.{rest_of}
+use Rattle.css_text.proofs.bytes.ByteLemmas.{past_byte_there, past_byte_not}
 use Rattle.simplecss_declaration.proofs.ValueLemmas.{semicolons-some, semicolons-none, semicolon-less}
 use Rattle.simplecss_declaration.proofs.reader.skip_semicolons.Goals as goal
 

@@ -1,7 +1,7 @@
 use Rattle.std.proofs.Common.{◌≡◌, length}
-use Rattle.simplecss_text.specs.Reading.{each}
-use Rattle.simplecss_text.specs.Declarations.{semicolon}
-use Rattle.simplecss_text.specs.Cursor.{text_of, rest_of}
+use Rattle.css_text.specs.Reading.{each}
+use Rattle.simplecss_grammar.specs.Declarations.{semicolon}
+use Rattle.css_text.specs.Cursor.{text_of, rest_of}
 use Rattle.simplecss_declaration.proofs.reader.skip_semicolons.Given as goal
 
 abbrev pub invariant-semicolons : goal.invariant-semicolons

@@ -1,7 +1,7 @@
 use Rattle.std.proofs.Common.{◌<◌, length, sym, ap, ◌∙◌, subst, List, ℕ, refl}
-use Rattle.simplecss_text.specs.Terms.{term}
-use Rattle.simplecss_text.specs.ThisEdition.{this_edition}
-use Rattle.simplecss_text.specs.Cursor.{rest_of}
+use Rattle.simplecss_grammar.specs.Terms.{term}
+use Rattle.css_text.specs.ThisEdition.{this_edition}
+use Rattle.css_text.specs.Cursor.{rest_of}
 use Rattle.simplecss_declaration.specs.internal.UnreportedFaults.{FailsAt}
 use Rattle.simplecss_declaration.proofs.FaultLemmas.{passed, not_passed, failed}
 use Rattle.simplecss_declaration.proofs.ValueLemmas.{terms-some, terms-none, term-takes}

@@ -1,8 +1,8 @@
 use Rattle.std.proofs.Common.{◌≡◌, length}
 use Rattle.std.specs.Str.{IsUtf8}
-use Rattle.simplecss_text.specs.Declarations.{terms}
-use Rattle.simplecss_text.specs.ThisEdition.{this_edition}
-use Rattle.simplecss_text.specs.Cursor.{text_of, rest_of}
+use Rattle.simplecss_grammar.specs.Declarations.{terms}
+use Rattle.css_text.specs.ThisEdition.{this_edition}
+use Rattle.css_text.specs.Cursor.{text_of, rest_of}
 use Rattle.simplecss_declaration.proofs.reader.skip_terms.Given as goal
 
 -- The terms from here on end where those of the whole do.

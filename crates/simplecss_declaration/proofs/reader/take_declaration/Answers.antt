@@ -1,6 +1,6 @@
 use Rattle.std.proofs.Common.{rules}
-use Rattle.simplecss_text.specs.Declarations.{declaration}
-use Rattle.simplecss_text.specs.Cursor.{rest_of}
+use Rattle.simplecss_grammar.specs.Declarations.{declaration}
+use Rattle.css_text.specs.Cursor.{rest_of}
 use Rattle.simplecss_declaration.proofs.ValueLemmas.{declaration-slices}
 use Rattle.simplecss_declaration.proofs.reader.take_declaration.Goals as goal
 

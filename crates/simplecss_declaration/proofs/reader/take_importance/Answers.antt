@@ -1,6 +1,6 @@
 use Rattle.std.proofs.Common.{arith}
-use Rattle.simplecss_text.specs.Declarations.{importance}
-use Rattle.simplecss_text.proofs.bytes.ByteLemmas.{past_byte_there, past_byte_not}
+use Rattle.simplecss_grammar.specs.Declarations.{importance}
+use Rattle.css_text.proofs.bytes.ByteLemmas.{past_byte_there, past_byte_not}
 use Rattle.simplecss_declaration.proofs.reader.take_importance.Goals as goal
 
 pub returns-then-not-skip_byte-clause-reads : goal.returns-then-not-skip_byte-clause-reads

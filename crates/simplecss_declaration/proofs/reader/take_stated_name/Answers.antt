@@ -1,7 +1,7 @@
 use Rattle.std.proofs.Common.{rules}
-use Rattle.simplecss_text.specs.Declarations.{stated_name}
-use Rattle.simplecss_text.specs.ThisEdition.{this_edition}
-use Rattle.simplecss_text.specs.Cursor.{rest_of}
+use Rattle.simplecss_grammar.specs.Declarations.{stated_name}
+use Rattle.css_text.specs.ThisEdition.{this_edition}
+use Rattle.css_text.specs.Cursor.{rest_of}
 use Rattle.simplecss_declaration.proofs.ValueLemmas.{stated_name-slices}
 use Rattle.simplecss_declaration.proofs.reader.take_stated_name.Goals as goal
 

@@ -1,5 +1,5 @@
 use Rattle.std.proofs.Common.{rules}
-use Rattle.simplecss_text.specs.Declarations.{trailing}
+use Rattle.simplecss_grammar.specs.Declarations.{trailing}
 use Rattle.simplecss_declaration.proofs.reader.take_trailing.Goals as goal
 
 pub returns-then-not-skip_blank-clause-reads : goal.returns-then-not-skip_blank-clause-reads

@@ -1,7 +1,7 @@
 use Rattle.std.proofs.Common.{drop, ap, ◌∙◌, rules}
-use Rattle.simplecss_text.specs.Bytes.{is_digit}
-use Rattle.simplecss_text.specs.Cursor.{text_of, offset_of}
-use Rattle.simplecss_text.proofs.bytes.ByteLemmas.{past_run}
+use Rattle.css_text.specs.Bytes.{is_digit}
+use Rattle.css_text.specs.Cursor.{text_of, offset_of}
+use Rattle.css_text.proofs.bytes.ByteLemmas.{past_run}
 use Rattle.simplecss_declaration.proofs.terms.skip_digits.Goals as goal
 
 pub returns-clause-rest : goal.returns-clause-rest

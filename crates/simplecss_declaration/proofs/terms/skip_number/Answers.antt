@@ -1,6 +1,6 @@
 use Rattle.std.proofs.Common.{arith}
-use Rattle.simplecss_text.specs.Terms.{past_number}
-use Rattle.simplecss_text.proofs.bytes.ByteLemmas.{past_byte_there, past_byte_not}
+use Rattle.simplecss_grammar.specs.Terms.{past_number}
+use Rattle.css_text.proofs.bytes.ByteLemmas.{past_byte_there, past_byte_not}
 use Rattle.simplecss_declaration.proofs.terms.skip_number.Goals as goal
 
 pub returns-then-not-skip_byte-clause-rest : goal.returns-then-not-skip_byte-clause-rest

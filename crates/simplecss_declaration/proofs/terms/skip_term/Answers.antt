@@ -1,5 +1,5 @@
 use Rattle.std.proofs.Common.{rules}
-use Rattle.simplecss_text.specs.Terms.{term}
+use Rattle.simplecss_grammar.specs.Terms.{term}
 use Rattle.simplecss_declaration.proofs.terms.skip_term.Goals as goal
 
 pub returns-in-None-clause-reads : goal.returns-in-None-clause-reads

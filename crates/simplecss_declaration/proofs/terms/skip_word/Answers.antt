@@ -1,5 +1,5 @@
 use Rattle.std.proofs.Common.{rules}
-use Rattle.simplecss_text.specs.Terms.{word}
+use Rattle.simplecss_grammar.specs.Terms.{word}
 use Rattle.simplecss_declaration.proofs.terms.skip_word.Goals as goal
 
 pub returns-then-is_none-clause-reads : goal.returns-then-is_none-clause-reads

@@ -1,5 +1,5 @@
-use Rattle.simplecss_text.specs.ThisEdition.{this_edition}
-use Rattle.simplecss_text.proofs.round_trip.ReadSelectors.{prints-alike}
+use Rattle.css_text.specs.ThisEdition.{this_edition}
+use Rattle.simplecss_grammar.proofs.round_trip.ReadSelectors.{prints-alike}
 use Rattle.simplecss_selector.proofs.equality.printing_law.Goals as goal
 
 pub returns : goal.returns

@@ -1,17 +1,17 @@
-use Rattle.std.proofs.Common.{◌≡◌, ◌<◌, ◌∷◌, [], ◌++◌, ◌∙◌, ℕ, List, Some, None, length, drop, true, false, refl, sym, ap, subst, append-nil}
+use Rattle.std.proofs.Common.{◌≡◌, ◌<◌, ◌∷◌, [], ◌++◌, ◌∙◌, ℕ, List, Some, None, length, drop, refl, sym, ap, subst, append-nil}
 use Rattle.std.specs.Option.{option_map}
 use Rattle.std.specs.Str.{IsCharBoundary}
 use Rattle.std.proofs.lemmas.Bool.{false≢true}
-use Rattle.simplecss_text.specs.AsciiBytes.{comma}
-use Rattle.simplecss_text.specs.Bytes.{past_one, starts}
-use Rattle.simplecss_text.specs.Components.{Component}
-use Rattle.simplecss_text.specs.Cursor.{text_of, offset_of, rest_of}
-use Rattle.simplecss_text.specs.Selectors.{reads}
-use Rattle.simplecss_text.specs.Skipped.{add_each, after_selector, selector_skips}
-use Rattle.simplecss_text.specs.ThisEdition.{this_edition}
-use Rattle.simplecss_text.proofs.bytes.ByteLemmas.{past_byte_there}
-use Rattle.simplecss_text.proofs.reading.EachLemmas.{Done}
-use Rattle.simplecss_selector.specs.SelectorLists.{item_and_comma, at_end, list_of, list_skips, left_over}
+use Rattle.css_text.specs.AsciiBytes.{comma}
+use Rattle.css_text.specs.Bytes.{starts}
+use Rattle.simplecss_grammar.specs.Components.{Component}
+use Rattle.css_text.specs.Cursor.{text_of, offset_of, rest_of}
+use Rattle.simplecss_grammar.specs.Selectors.{reads}
+use Rattle.simplecss_grammar.specs.Skipped.{add_each, after_selector, selector_skips}
+use Rattle.css_text.specs.ThisEdition.{this_edition}
+use Rattle.css_text.proofs.bytes.ByteLemmas.{past_byte_there}
+use Rattle.css_text.proofs.reading.EachLemmas.{Done}
+use Rattle.simplecss_selector.specs.SelectorLists.{item_and_comma, at_end, left_over}
 use Rattle.simplecss_selector.proofs.SelectorListLemmas.{not_ended, left, no_comma, selector_skips-none, item-less, item-more, last-is, left-is, list-ends, skips-end}
 use Rattle.simplecss_selector.proofs.list.read_items.Goals as goal
 

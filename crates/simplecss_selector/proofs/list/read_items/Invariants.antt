@@ -1,7 +1,7 @@
 use Rattle.std.proofs.Common.{◌≡◌, length}
-use Rattle.simplecss_text.specs.ThisEdition.{this_edition}
-use Rattle.simplecss_text.specs.Cursor.{text_of, rest_of}
-use Rattle.simplecss_text.proofs.reading.EachLemmas.{Done}
+use Rattle.css_text.specs.ThisEdition.{this_edition}
+use Rattle.css_text.specs.Cursor.{text_of, rest_of}
+use Rattle.css_text.proofs.reading.EachLemmas.{Done}
 use Rattle.simplecss_selector.specs.SelectorLists.{item_and_comma}
 use Rattle.simplecss_selector.proofs.list.read_items.Given as goal
 

@@ -1,10 +1,7 @@
-use Rattle.std.proofs.Common.{◌≡◌, ◌-◌, ◌≤◌, ℕ, List, ◌++◌, Option, Some, None, Bool, true, false, eqb, length, take, ap, sym, subst, refl, ◌∙◌, arith, if◌then◌else◌}
-use Rattle.std.specs.Prelude.{MatchOption}
+use Rattle.std.proofs.Common.{◌≡◌, ◌-◌, Bool, true, false, eqb, length, take, ap, sym, subst, ◌∙◌, arith, if◌then◌else◌}
 use Rattle.std.specs.List.{ends_with}
 use Rattle.std.specs.Str.{IsCharBoundary}
-use Rattle.std.specs.Str.Pattern.{FindsTextSuffix}
 use Rattle.std.proofs.lemmas.Str.Pattern.{ends_text}
-use Rattle.simplecss_selector.specs.SelectorLists.{without_suffix}
 use Rattle.simplecss_selector.proofs.list.without_suffix.Goals as goal
 
 pub returns-in-Some : goal.returns-in-Some

@@ -1,7 +1,7 @@
 use Rattle.std.proofs.Common.{◌+◌, ◌*◌, length, refl, sym, arith, inl, inr}
 use Rattle.std.proofs.lemmas.Bool.{false≢true}
 use Rattle.simplecss_selector.specs.Placements.{longest_stretch}
-use Rattle.simplecss_selector.specs.PlacementSearch.IsAtOrAbove.{here}
+use Rattle.simplecss_selector.specs.internal.PlacementSearch.IsAtOrAbove.{here}
 use Rattle.simplecss_selector.proofs.Depths.{depth-below}
 use Rattle.simplecss_selector.proofs.Greedy.{placement_of, first_rest, misfit_up, misfit_top, rest_up, alone_fails}
 use Rattle.simplecss_selector.proofs.StretchEnds.{AreStretchEnds-last, AreStretchEnds-before, begun-after, before-within}

@@ -1,7 +1,8 @@
 use Rattle.std.proofs.Common.{◌≡◌, ◌+◌, ◌*◌, ◌<◌, ◌≤◌, ◌↔◌, ◌∷◌, length, get_or}
 use Rattle.simplecss_selector.specs.Placements.{HasPlacement, longest_stretch}
 use Rattle.simplecss_selector.specs.internal.Stretches.{IsStretch}
-use Rattle.simplecss_selector.specs.PlacementSearch.{CanPlace, first_of}
+use Rattle.simplecss_selector.specs.internal.PlacementSearch.{CanPlace}
+use Rattle.simplecss_selector.specs.Shapes.{first_of}
 use Rattle.simplecss_selector.proofs.matching.continues.Given as goal
 
 -- the selector matches exactly if the components up to the end of the stretch can be placed at or

@@ -23,8 +23,8 @@ loop-subselector-preserved g c =
 pub component-requires : goal.component-requires
 component-requires g c = c.requires
 
-pub returns-clause-answer : goal.returns-clause-answer
-returns-clause-answer g c =
+pub returns-then-not-has_local_name-clause-answer : goal.returns-then-not-has_local_name-clause-answer
+returns-then-not-has_local_name-clause-answer g c =
     not_named g.E.Element.tree
     (g.E.Element.node c.args.element.now) c.component.result.0 c.component.result.1.now
     (component_at c.args.selector.now c.args.index) c.in-Some.name c.has_local_name.result
@@ -34,8 +34,8 @@ pub loop-subselector-smaller : goal.loop-subselector-smaller
 loop-subselector-smaller g c = fewer_left (length c.component.result.1.now)
     c.loop-subselector.subselector-index c.loop-subselector-test.true
 
-pub returns-2-clause-answer : goal.returns-2-clause-answer
-returns-2-clause-answer g c =
+pub returns-clause-answer : goal.returns-clause-answer
+returns-clause-answer g c =
     whole_holds (Holds g.E.Element.tree (g.E.Element.node c.args.element.now)) subselector_of
     c.component.result.1.now c.loop-subselector.subselector-index c.loop-subselector-test.false
     c.loop-subselector.invariant

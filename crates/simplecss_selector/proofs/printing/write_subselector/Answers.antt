@@ -1,7 +1,7 @@
 use Rattle.std.proofs.Common.{◌≡◌, ℕ, List, ◌++◌, true, Bor, refl}
 use Rattle.std.specs.Prelude.{codes}
-use Rattle.simplecss_text.proofs.round_trip.StyledWrites.{styled_two, styled_four}
-use Rattle.simplecss_text.specs.Printing.{operator_text, pseudo_class_text, subselector_text}
+use Rattle.css_text.proofs.round_trip.StyledWrites.{styled_two, styled_four}
+use Rattle.simplecss_grammar.specs.Printing.{operator_text, pseudo_class_text, subselector_text}
 use Rattle.simplecss_selector.specs.OperatorViews.{operator_of, pseudo_class_of}
 use Rattle.simplecss_selector.specs.internal.SelectorViews.{subselector_of}
 use Rattle.simplecss_selector.specs.declared.operator.AttributeOperator.{AttributeOperator}

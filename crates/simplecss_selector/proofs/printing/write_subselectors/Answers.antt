@@ -3,9 +3,9 @@ use Rattle.std.specs.List.{flat_map}
 use Rattle.std.proofs.lemmas.List.{take_all}
 use Rattle.std.proofs.Output.{has_written_styled_of_eq}
 use Rattle.std.proofs.lemmas.List.Folds.{flat_map-map}
-use Rattle.simplecss_text.specs.Printing.{subselector_text}
+use Rattle.simplecss_grammar.specs.Printing.{subselector_text}
 use Rattle.simplecss_selector.specs.internal.SelectorViews.{subselector_of}
-use Rattle.simplecss_text.proofs.round_trip.StyledWrites.{styled_step_at}
+use Rattle.css_text.proofs.round_trip.StyledWrites.{styled_step_at}
 use Rattle.simplecss_selector.proofs.printing.write_subselectors.Goals as goal
 
 pub loop-subselector-preserved : goal.loop-subselector-preserved

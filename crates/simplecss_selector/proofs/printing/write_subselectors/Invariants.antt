@@ -1,7 +1,7 @@
 use Rattle.std.proofs.Common.{take}
 use Rattle.std.specs.List.{flat_map}
 use Rattle.std.specs.Fmt.{HasWrittenStyled, IsFlush}
-use Rattle.simplecss_text.specs.Printing.{subselector_text}
+use Rattle.simplecss_grammar.specs.Printing.{subselector_text}
 use Rattle.simplecss_selector.specs.internal.SelectorViews.{subselector_of}
 use Rattle.simplecss_selector.proofs.printing.write_subselectors.Given as goal
 

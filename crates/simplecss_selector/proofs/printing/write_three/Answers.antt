@@ -1,5 +1,5 @@
 use Rattle.std.proofs.Common.{true, refl}
-use Rattle.simplecss_text.proofs.round_trip.StyledWrites.{styled_three}
+use Rattle.css_text.proofs.round_trip.StyledWrites.{styled_three}
 use Rattle.simplecss_selector.proofs.Refused.{not_done}
 use Rattle.simplecss_selector.proofs.printing.write_three.Goals as goal
 

@@ -1,7 +1,7 @@
 use Rattle.std.proofs.Common.{◌≡◌, ◌∷◌, [], List, ℕ, Option, Some, None, drop, sym, ◌∙◌, ap, subst}
-use Rattle.simplecss_text.specs.Bytes.{past}
-use Rattle.simplecss_text.specs.Characters.{is_space}
-use Rattle.simplecss_text.specs.Skipped.{Refusal, faulty, unknown_class, class_name, refusal_in, refused, refused_part, add_each}
+use Rattle.css_text.specs.Bytes.{past}
+use Rattle.css_text.specs.Characters.{is_space}
+use Rattle.simplecss_grammar.specs.Skipped.{Refusal, faulty, unknown_class, class_name, refusal_in, refused, refused_part, add_each}
 use Rattle.simplecss_selector.specs.TokenViews.{token_of}
 use Rattle.simplecss_selector.specs.SelectorTokenizers.{whole_text, left_of, still_to_come}
 use Rattle.simplecss_selector.proofs.Drafting.{token-filled, token-unknown, token-fewer, error-refused, end-finished, refusal-filled, refusal-unknown, refusal-error, refusal-end, refused-reported}

@@ -1,7 +1,7 @@
 use Rattle.std.proofs.Common.{◌≡◌, length}
-use Rattle.simplecss_text.specs.TokenSequences.{items}
-use Rattle.simplecss_text.specs.Selectors.{outcome}
-use Rattle.simplecss_text.specs.Skipped.{refusal_in}
+use Rattle.simplecss_grammar.specs.TokenSequences.{items}
+use Rattle.simplecss_grammar.specs.Selectors.{outcome}
+use Rattle.simplecss_grammar.specs.Skipped.{refusal_in}
 use Rattle.simplecss_selector.specs.internal.SelectorDrafts.{selector_after}
 use Rattle.simplecss_selector.specs.SelectorTokenizers.{whole_text, still_to_come}
 use Rattle.simplecss_selector.proofs.reading.fill_all.Given as goal

@@ -1,9 +1,9 @@
 use Rattle.std.proofs.Common.{true, false, drop, sym, ap, ◌∙◌}
 use Rattle.std.proofs.lemmas.Result.{IfOk-from_err}
-use Rattle.simplecss_text.specs.ThisEdition.{this_edition}
-use Rattle.simplecss_text.proofs.round_trip.ReadSelectors.{found-reads_back}
+use Rattle.css_text.specs.ThisEdition.{this_edition}
+use Rattle.simplecss_grammar.proofs.round_trip.ReadSelectors.{found-reads_back}
 use Rattle.simplecss_selector.specs.SelectorTokenizers.{left_of, still_to_come}
-use Rattle.simplecss_text.specs.Skipped.{add_each}
+use Rattle.simplecss_grammar.specs.Skipped.{add_each}
 use Rattle.simplecss_selector.proofs.Drafting.{read-whole, selector_skips-is}
 use Rattle.simplecss_selector.proofs.reading.read_front.Goals as goal
 

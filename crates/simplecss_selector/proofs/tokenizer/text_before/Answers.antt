@@ -1,8 +1,8 @@
 use Rattle.std.proofs.Common.{◌≡◌, ℕ, List, take, drop, sym, ap, ◌∙◌, ◌-◌, arith}
-use Rattle.simplecss_text.specs.Reading.{got}
-use Rattle.simplecss_text.specs.Bytes.{all_before}
-use Rattle.simplecss_text.specs.Cursor.{rest_of}
-use Rattle.simplecss_text.proofs.reading.BeforeLemmas.{all_before-found, all_before-none}
+use Rattle.css_text.specs.Reading.{got}
+use Rattle.css_text.specs.Bytes.{all_before}
+use Rattle.css_text.specs.Cursor.{rest_of}
+use Rattle.simplecss_grammar.proofs.reading.BeforeLemmas.{all_before-found, all_before-none}
 use Rattle.simplecss_selector.proofs.tokenizer.text_before.Goals as goal
 use Rattle.simplecss_selector.proofs.tokenizer.text_before.Goals.{in-Some, in-None}
 

@@ -1,6 +1,6 @@
 use Rattle.std.proofs.Common.{◌++◌, true, refl, ap, ◌∙◌}
 use Rattle.std.specs.Prelude.{codes}
-use Rattle.simplecss_text.proofs.round_trip.StyledWrites.{styled_four, plain_of_styled}
+use Rattle.css_text.proofs.round_trip.StyledWrites.{styled_four, plain_of_styled}
 use Rattle.css_syntax.specs.Printing.{lone_end}
 use Rattle.css_syntax.proofs.printing.DeclarationDisplay.fmt.Goals as goal
 

@@ -4,9 +4,9 @@ use Rattle.std.specs.List.{flat_map}
 use Rattle.std.proofs.Output.{has_written_styled_of_eq, has_written_styled_append}
 use Rattle.std.proofs.lemmas.List.{take_all}
 use Rattle.std.proofs.lemmas.List.Folds.{flat_map-map}
-use Rattle.simplecss_text.specs.AsciiBytes.{space as space_byte}
+use Rattle.css_text.specs.AsciiBytes.{space as space_byte}
 use Rattle.css_syntax.specs.Printing.{declaration_text, list_text}
-use Rattle.simplecss_text.proofs.round_trip.StyledWrites.{plain_of_styled, styled_step_at, styled_two}
+use Rattle.css_text.proofs.round_trip.StyledWrites.{plain_of_styled, styled_step_at, styled_two}
 use Rattle.css_syntax.specs.Views.{declaration_of, declarations_in}
 use Rattle.css_syntax.proofs.PrintedLists.{join_first}
 use Rattle.css_syntax.proofs.printing.DeclarationListDisplay.fmt.Goals as goal

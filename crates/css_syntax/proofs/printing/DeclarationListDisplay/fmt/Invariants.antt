@@ -1,7 +1,7 @@
 use Rattle.std.proofs.Common.{◌∷◌, take}
 use Rattle.std.specs.List.{flat_map}
 use Rattle.std.specs.Fmt.{HasWrittenStyled, IsFlush}
-use Rattle.simplecss_text.specs.AsciiBytes.{space}
+use Rattle.css_text.specs.AsciiBytes.{space}
 use Rattle.css_syntax.specs.Printing.{declaration_text}
 use Rattle.css_syntax.specs.Views.{declaration_of}
 use Rattle.css_syntax.proofs.printing.DeclarationListDisplay.fmt.Given as goal

@@ -1,10 +1,11 @@
 use Rattle.std.proofs.Common.{subst}
 use Rattle.std.proofs.lemmas.Result.{on_ok_weaker}
-use Rattle.simplecss.specs.OpenPaths.{AreOpened, top_starts}
-use Rattle.simplecss.specs.Recents.{adds_wanted}
+use Rattle.simplecss.specs.OpenPaths.{AreOpened}
+use Rattle.simplecss.specs.internal.Kept.{top_starts}
+use Rattle.simplecss.specs.internal.Recents.{adds_bucket}
 use Rattle.simplecss.proofs.Candidates.{starts_led}
 use Rattle.simplecss.proofs.OpenPathLemmas.{parent_led, adds_slice}
-use Rattle.simplecss.proofs.WantedIndices.{beside_added}
+use Rattle.simplecss.proofs.BucketIndices.{beside_added}
 use Rattle.simplecss.proofs.index.find.find_beside_open.Goals as goal
 
 pub returns : goal.returns
@@ -32,7 +33,7 @@ returns g c =
     ) previous in (
       beside.0,
       beside.1,
-      starts_led (adds_wanted beside.0) lasts links
+      starts_led (adds_bucket beside.0) lasts links
           c.args.rule_index.now c.rule_index.invariant.chained c.rule_index.view_is
           c.clear.new.self.items c.push_neighbour.new.indices.items c.clear.ensures.items beside.2,
     ))

@@ -1,5 +1,5 @@
 use Rattle.std.proofs.lemmas.Result.{on_ok_weaker}
-use Rattle.simplecss.proofs.WantedIndices.{beside_added}
+use Rattle.simplecss.proofs.BucketIndices.{beside_added}
 use Rattle.simplecss.proofs.index.find.push_beside.Goals as goal
 
 pub returns : goal.returns

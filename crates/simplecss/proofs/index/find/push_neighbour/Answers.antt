@@ -1,6 +1,6 @@
 use Rattle.std.proofs.Common.{None, Some, refl}
 use Rattle.std.proofs.lemmas.Result.{on_ok_weaker}
-use Rattle.simplecss.proofs.WantedIndices.{no_neighbour}
+use Rattle.simplecss.proofs.BucketIndices.{no_neighbour}
 use Rattle.simplecss.proofs.index.find.push_neighbour.Goals as goal
 
 pub returns-in-Some : goal.returns-in-Some

@@ -3,7 +3,7 @@ use Rattle.std.specs.Str.Iter.{split_text, split_has_more, split_pattern}
 use Rattle.std.proofs.lemmas.Iterator.Consumers.{YieldsList-end}
 use Rattle.std.proofs.lemmas.Iterator.Splits.{YieldsList-from_str_split}
 use Rattle.std.proofs.lemmas.List.{map-append}
-use Rattle.simplecss_text.specs.AsciiBytes.{space}
+use Rattle.css_text.specs.AsciiBytes.{space}
 use Rattle.simplecss.specs.SelectorIndices.{Adds}
 use Rattle.simplecss.proofs.LastIndices.{OfClasses, no_classes, class_more, all_classes}
 use Rattle.simplecss.proofs.index.find.push_words.Goals as goal

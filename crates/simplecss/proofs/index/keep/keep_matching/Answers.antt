@@ -1,18 +1,19 @@
-use Rattle.std.proofs.Common.{◌≡◌, ◌+◌, ◌<◌, ◌≤◌, ℕ, List, length, map, refl, subst, sym, ap, ◌∙◌, arith}
+use Rattle.std.proofs.Common.{◌≡◌, ◌+◌, ◌<◌, ◌≤◌, ℕ, List, length, map, refl, subst, sym, ap, arith}
 use Rattle.std.specs.List.{sum_by}
 use Rattle.std.proofs.lemmas.Bool.{false≢true}
 use Rattle.std.proofs.lemmas.List.{take_all}
-use Rattle.simplecss_text.specs.Components.{Component}
+use Rattle.simplecss_grammar.specs.Components.{Component}
 use Rattle.simplecss_selector.specs.Placements.{HasPlacement}
 use Rattle.simplecss.specs.Matching.{most_tests}
 use Rattle.simplecss.specs.SelectorIndices.{selector_at}
 use Rattle.simplecss.proofs.Keeping.{Keeps, Met, keep_none, keeps_met, keeps_unmet, keep_all, tested_more}
+use Rattle.simplecss.proofs.OnlyKeyLemmas.{never_known}
 use Rattle.simplecss.proofs.index.keep.keep_matching.Goals as goal
 use Rattle.simplecss.proofs.index.keep.keep_matching.Goals.{then-is_match, else-is_match}
 
 pub indices-init : goal.indices-init
 indices-init g c =
-    record { keeps = keep_none _ c.args.indices.now; least = omega arith; tested = omega arith }
+    record { keeps = keep_none _ c.args.indices.now; least = λ plain. omega arith; tested = omega arith }
 
 pub indices-preserved : goal.indices-preserved
 indices-preserved g c =
@@ -40,7 +41,12 @@ indices-preserved g c =
     ] in
     record {
       keeps = keeps;
-      least = omega (arith, c.indices.invariant.least, c.is_match.ensures.at_least_one);
+      least = λ plain. omega (
+        arith,
+        c.indices.invariant.least plain,
+        c.is_match.ensures.at_least_one (never_known c.args.is_exact c.is_known.result plain
+            c.is_known.ensures.exact),
+      );
       tested = tested_more g.T.HasSelector.selector_in IsMet rules indices c.indices.indices
           c.indices.kept c.indices.i v before lt c.requires.within cost c.args.tests.now
           c.indices.tests c.is_match.new.tests c.indices.invariant.tested
@@ -60,4 +66,5 @@ returns-clause-counted g c =
     (take_all c.indices.i c.args.indices.now c.indices-test.false) c.indices.invariant.tested
 
 pub returns-clause-tested : goal.returns-clause-tested
-returns-clause-tested g c = omega (arith, c.indices-test.false, c.indices.invariant.least)
+returns-clause-tested g c =
+    λ plain. omega (arith, c.indices-test.false, c.indices.invariant.least plain)

@@ -1,4 +1,4 @@
-use Rattle.std.proofs.Common.{◌+◌, ◌≤◌, map, take}
+use Rattle.std.proofs.Common.{◌≡◌, ◌+◌, ◌≤◌, false, map, take}
 use Rattle.std.specs.List.{sum_by}
 use Rattle.simplecss_selector.specs.Placements.{HasPlacement}
 use Rattle.simplecss.specs.Matching.{most_tests}
@@ -12,7 +12,7 @@ invariant-indices g l = record {
   keeps : Keeps (λ index. HasPlacement g.E.Element.tree
       (selector_at (map g.T.HasSelector.selector_in l.rules) index) (g.E.Element.node l.element))
       l.initial.indices l.indices l.kept l.i;
-  least : l.initial.tests + l.i ≤ l.tests;
+  least : l.is_exact ≡ false → l.initial.tests + l.i ≤ l.tests;
   tested : l.tests
       ≤ l.initial.tests + sum_by (λ index. most_tests g.E.Element.tree (g.E.Element.node l.element)
       (selector_at (map g.T.HasSelector.selector_in l.rules) index)) (take l.i l.initial.indices);

@@ -1,6 +1,6 @@
 use Rattle.std.proofs.Common.{subst, ◌≡◌, ◌<◌, ◌++◌, ◌∷◌, [], length, map, take, sym, ap, ◌∙◌, arith, append_assoc}
 use Rattle.std.proofs.lemmas.List.{map_more}
-use Rattle.simplecss_selector.specs.WantedViews.{wanted_value}
+use Rattle.simplecss_selector.specs.BucketViews.{bucket_value}
 use Rattle.simplecss.specs.internal.Chains.{selectors_of}
 use Rattle.std.specs.List.{fold}
 use Rattle.simplecss_selector.specs.AncestorKeys.{ancestor_keys}
@@ -26,8 +26,8 @@ loop-rule-preserved g c =
     let index : c.len.result ≡ length links.items = omega (arith, c.len.ensures, links.ok.0) in
     let linked =
     link_more c.loop-rule.lasts c.replace.new.self links.items c.push.new.self.items c.new.result
-    c.len.result c.in_ok-earlier.earlier c.selector-selector.result.now (wanted_value c.wanted-wanted.result)
-    c.loop-rule.invariant.chained index c.wanted-wanted.ensures c.in_ok-earlier.ensures.known
+    c.len.result c.in_ok-earlier.earlier c.selector-selector.result.now (bucket_value c.bucket-bucket.result)
+    c.loop-rule.invariant.chained index c.bucket-bucket.ensures c.in_ok-earlier.ensures.known
     c.in_ok-earlier.ensures.taken c.new.ensures.earlier c.new.ensures.selector
     c.in_ok-push.ensures.items in
     let selector = c.selector-selector.result.now in

@@ -1,7 +1,7 @@
 use Rattle.std.proofs.Common.{◌≡◌, ◌≤◌, ℕ, List, sym, subst, arith}
 use Rattle.std.specs.Str.{IsCharBoundary}
-use Rattle.simplecss_text.specs.Positions.{position}
-use Rattle.simplecss_text.proofs.cutting.RestBoundaries.{boundary_at_rest}
+use Rattle.css_text.specs.Positions.{position}
+use Rattle.simplecss_grammar.proofs.cutting.RestBoundaries.{boundary_at_rest}
 use Rattle.simplecss.specs.declared.place.Place.{Place}
 use Rattle.simplecss.specs.Places.{IsPlace}
 use Rattle.simplecss.proofs.PlaceLemmas.{place-start}

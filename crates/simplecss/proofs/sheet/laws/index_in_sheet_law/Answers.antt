@@ -1,6 +1,6 @@
 use Rattle.std.specs.List.{flat_map}
-use Rattle.simplecss_text.specs.Statements.{kept}
-use Rattle.simplecss_text.specs.ThisEdition.{this_edition}
+use Rattle.simplecss_grammar.specs.Statements.{kept}
+use Rattle.css_text.specs.ThisEdition.{this_edition}
 use Rattle.simplecss.proofs.RuleRanks.{comes_before}
 use Rattle.simplecss.proofs.sheet.laws.index_in_sheet_law.Goals as goal
 

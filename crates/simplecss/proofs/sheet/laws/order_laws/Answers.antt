@@ -1,7 +1,7 @@
 use Rattle.std.proofs.Common.{sym}
-use Rattle.simplecss_text.specs.Sheets.{is_smaller}
-use Rattle.simplecss_text.proofs.order.OrderLemmas.{smaller_order}
-use Rattle.simplecss_text.proofs.order.RankLemmas.{ordered_keeps, ordered_at_rank, ordered_is, ordered_arranges, arranges_from_sort, ordered_twice, sorted_from_rises}
+use Rattle.simplecss_grammar.specs.Sheets.{is_smaller}
+use Rattle.simplecss_grammar.proofs.order.OrderLemmas.{smaller_order}
+use Rattle.css_text.proofs.order.RankLemmas.{ordered_keeps, ordered_at_rank, ordered_is, ordered_arranges, arranges_from_sort, ordered_twice, sorted_from_rises}
 use Rattle.simplecss.proofs.sheet.laws.order_laws.Goals as goal
 
 pub returns-clause-keeps : goal.returns-clause-keeps

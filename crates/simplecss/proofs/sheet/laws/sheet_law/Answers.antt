@@ -1,5 +1,5 @@
-use Rattle.simplecss_text.specs.ThisEdition.{this_edition}
-use Rattle.simplecss_text.proofs.round_trip.KeptSelectors.{sheet-reads_back}
+use Rattle.css_text.specs.ThisEdition.{this_edition}
+use Rattle.simplecss_grammar.proofs.round_trip.KeptSelectors.{sheet-reads_back}
 use Rattle.simplecss.proofs.SheetLemmas.{AllPass-sheet}
 use Rattle.simplecss.proofs.sheet.laws.sheet_law.Goals as goal
 

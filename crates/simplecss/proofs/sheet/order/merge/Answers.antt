@@ -2,12 +2,12 @@ use Rattle.std.proofs.Common.{◌≡◌, ◌++◌, ◌∙◌, ap, sym, map, rule
 use Rattle.std.specs.List.{filter}
 use Rattle.std.proofs.lemmas.List.{map-append}
 use Rattle.std.proofs.lemmas.List.Elements.{filter_from_retain}
-use Rattle.simplecss_text.specs.Statements.{has_declaration}
-use Rattle.simplecss_text.specs.Sheets.{is_smaller, ordered}
+use Rattle.simplecss_grammar.specs.Statements.{has_declaration}
+use Rattle.simplecss_grammar.specs.Sheets.{is_smaller, ordered}
 use Rattle.simplecss.specs.RuleViews.{rule_of}
-use Rattle.simplecss_text.proofs.order.OrderLemmas.{smaller_order}
-use Rattle.simplecss_text.proofs.order.ListFacts.{filter-map}
-use Rattle.simplecss_text.proofs.order.RankLemmas.{ordered_filter}
+use Rattle.simplecss_grammar.proofs.order.OrderLemmas.{smaller_order}
+use Rattle.css_text.proofs.order.ListFacts.{filter-map}
+use Rattle.css_text.proofs.order.RankLemmas.{ordered_filter}
 use Rattle.simplecss.proofs.sheet.order.merge.Goals as goal
 
 -- the rules are dropped after they are ordered, since the order may fail for memory

@@ -1,9 +1,9 @@
 use Rattle.std.proofs.Common.{◌+◌, ◌<◌, length, arith, rules, sym, take}
 use Rattle.std.proofs.Output.{has_written_styled_of_eq}
 use Rattle.std.proofs.lemmas.List.Folds.{flat_map-map}
-use Rattle.simplecss_text.specs.Printing.{declaration_text}
+use Rattle.simplecss_grammar.specs.Printing.{declaration_text}
 use Rattle.simplecss_declaration.specs.DeclarationViews.{declaration_of}
-use Rattle.simplecss_text.proofs.round_trip.StyledWrites.{styled_step_at}
+use Rattle.css_text.proofs.round_trip.StyledWrites.{styled_step_at}
 use Rattle.simplecss.proofs.sheet.printing.write_declarations.Goals as goal
 
 pub loop-declaration-preserved : goal.loop-declaration-preserved

@@ -1,7 +1,7 @@
 use Rattle.std.proofs.Common.{take}
 use Rattle.std.specs.List.{flat_map}
 use Rattle.std.specs.Fmt.{HasWrittenStyled, IsFlush}
-use Rattle.simplecss_text.specs.Printing.{declaration_text}
+use Rattle.simplecss_grammar.specs.Printing.{declaration_text}
 use Rattle.simplecss_declaration.specs.DeclarationViews.{declarations_of}
 use Rattle.simplecss.proofs.sheet.printing.write_declarations.Given as goal
 

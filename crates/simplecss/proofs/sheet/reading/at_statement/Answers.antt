@@ -1,8 +1,8 @@
 use Rattle.std.proofs.Common.{sym}
-use Rattle.simplecss_text.specs.Comments.{past_blank}
-use Rattle.simplecss_text.specs.Reading.{no_comment}
-use Rattle.simplecss_text.specs.ThisEdition.{this_edition}
-use Rattle.simplecss_text.specs.Cursor.{rest_of}
+use Rattle.css_text.specs.Comments.{past_blank}
+use Rattle.css_text.specs.Reading.{no_comment}
+use Rattle.css_text.specs.ThisEdition.{this_edition}
+use Rattle.css_text.specs.Cursor.{rest_of}
 use Rattle.simplecss.proofs.StatementLemmas.{next_statement-open, next_statement-after, blank-got}
 use Rattle.simplecss.proofs.sheet.reading.at_statement.Goals as goal
 

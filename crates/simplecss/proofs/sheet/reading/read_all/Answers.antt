@@ -2,13 +2,13 @@ use Rattle.std.proofs.Common.{◌≡◌, ◌++◌, ◌∷◌, [], ◌<◌, ◌+�
 use Rattle.std.specs.List.{All, filter}
 use Rattle.std.proofs.lemmas.List.{map-append, map_more, take_all, take_more, take-map}
 use Rattle.std.proofs.lemmas.List.Elements.{All-push, filter-append}
-use Rattle.simplecss_text.specs.Statements.{has_declaration, kept, statements}
+use Rattle.simplecss_grammar.specs.Statements.{has_declaration, kept, statements}
 use Rattle.simplecss.proofs.Reports.{add-more, passed_on}
 use Rattle.simplecss.proofs.TextCounts.{open_not, open_still, left_of-more, texts_exceed}
-use Rattle.simplecss.specs.declared.sheet.sheet_error.SheetError.TheVariants.{TooManyDeclarations}
+use Rattle.css_text.specs.declared.sheet_error.SheetError.TheVariants.{TooManyDeclarations}
 use Rattle.simplecss.specs.DeclarationCounts.{kept_in_all}
 use Rattle.simplecss.specs.Readings.{are_open_comments, reports_of}
-use Rattle.simplecss_text.specs.ThisEdition.{this_edition}
+use Rattle.css_text.specs.ThisEdition.{this_edition}
 use Rattle.simplecss.specs.declared.sheet.rules.Rule.{Rule}
 use Rattle.simplecss.specs.RuleViews.{rule_of, rules_of}
 use Rattle.simplecss.proofs.SheetLemmas.{texts_more, texts_open}

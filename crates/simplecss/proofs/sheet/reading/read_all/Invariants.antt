@@ -1,7 +1,7 @@
 use Rattle.std.proofs.Common.{◌≡◌, ◌+◌, map, take, flat_map, IsUtf8}
 use Rattle.std.specs.List.{filter, All}
-use Rattle.simplecss_text.specs.ThisEdition.{this_edition}
-use Rattle.simplecss_text.specs.Statements.{has_declaration, kept}
+use Rattle.css_text.specs.ThisEdition.{this_edition}
+use Rattle.simplecss_grammar.specs.Statements.{has_declaration, kept}
 use Rattle.simplecss.specs.RuleViews.{rules_of}
 use Rattle.simplecss.specs.DeclarationCounts.{kept_in_all}
 use Rattle.simplecss.specs.Readings.{are_open_comments, reports_of}

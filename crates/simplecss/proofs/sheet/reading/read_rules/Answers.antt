@@ -1,12 +1,12 @@
 use Rattle.std.proofs.Common.{◌≡◌, ◌+◌, ◌++◌, ◌<◌, List, ℕ, length, map, drop, sym, ◌∙◌, ap, subst, true, false, append_assoc, append-nil, refl, arith}
-use Rattle.simplecss.specs.declared.sheet.sheet_error.SheetError.TheVariants.{TooManyDeclarations}
-use Rattle.simplecss_text.specs.Reading.{no_comment}
-use Rattle.simplecss_text.specs.Comments.{opens_comment, past_blank}
-use Rattle.simplecss_text.specs.Statements.{statement}
-use Rattle.simplecss_text.specs.Skipped.{add_each, end_skips, statement_skips, skipped}
-use Rattle.simplecss_text.proofs.reading.SkipLemmas.{add_each-append, skipped-some, skipped-none, skipped-blank}
-use Rattle.simplecss_text.specs.ThisEdition.{this_edition}
-use Rattle.simplecss_text.specs.Cursor.{rest_of}
+use Rattle.css_text.specs.declared.sheet_error.SheetError.TheVariants.{TooManyDeclarations}
+use Rattle.css_text.specs.Reading.{no_comment}
+use Rattle.css_text.specs.Comments.{opens_comment, past_blank}
+use Rattle.simplecss_grammar.specs.Statements.{statement}
+use Rattle.simplecss_grammar.specs.Skipped.{add_each, end_skips, statement_skips, skipped}
+use Rattle.simplecss_grammar.proofs.reading.SkipLemmas.{add_each-append, skipped-some, skipped-none, skipped-blank}
+use Rattle.css_text.specs.ThisEdition.{this_edition}
+use Rattle.css_text.specs.Cursor.{rest_of}
 use Rattle.simplecss.specs.RuleViews.{rule_of}
 use Rattle.simplecss.specs.internal.SharedBlocks.{rules_read}
 use Rattle.simplecss.specs.DeclarationCounts.{declaration_count, kept_declarations}

@@ -1,7 +1,7 @@
 use Rattle.std.proofs.Common.{◌≡◌, ◌+◌, ◌++◌, map, length}
-use Rattle.simplecss_text.specs.Skipped.{add_each, skipped}
-use Rattle.simplecss_text.specs.ThisEdition.{this_edition}
-use Rattle.simplecss_text.specs.Cursor.{rest_of}
+use Rattle.simplecss_grammar.specs.Skipped.{add_each, skipped}
+use Rattle.css_text.specs.ThisEdition.{this_edition}
+use Rattle.css_text.specs.Cursor.{rest_of}
 use Rattle.simplecss.specs.RuleViews.{rule_of}
 use Rattle.simplecss.specs.DeclarationCounts.{declaration_count}
 use Rattle.simplecss.proofs.StatementLemmas.{rules_from}

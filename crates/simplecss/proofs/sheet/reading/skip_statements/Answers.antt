@@ -1,8 +1,8 @@
 use Rattle.std.proofs.Common.{◌++◌, ◌<◌, List, ℕ, length, drop, sym, ◌∙◌, ap, subst, refl}
-use Rattle.simplecss_text.specs.Skipped.{add_each, end_skips, statement_skips, skipped}
-use Rattle.simplecss_text.proofs.reading.SkipLemmas.{add_each-append, skipped-some, skipped-none}
-use Rattle.simplecss_text.specs.ThisEdition.{this_edition}
-use Rattle.simplecss_text.specs.Cursor.{rest_of}
+use Rattle.simplecss_grammar.specs.Skipped.{add_each, end_skips, statement_skips, skipped}
+use Rattle.simplecss_grammar.proofs.reading.SkipLemmas.{add_each-append, skipped-some, skipped-none}
+use Rattle.css_text.specs.ThisEdition.{this_edition}
+use Rattle.css_text.specs.Cursor.{rest_of}
 use Rattle.simplecss.proofs.StatementLemmas.{statement-less}
 use Rattle.simplecss.proofs.sheet.reading.skip_statements.Goals as goal
 

@@ -1,7 +1,7 @@
 use Rattle.std.proofs.Common.{◌≡◌, length}
-use Rattle.simplecss_text.specs.Skipped.{add_each, skipped}
-use Rattle.simplecss_text.specs.ThisEdition.{this_edition}
-use Rattle.simplecss_text.specs.Cursor.{rest_of}
+use Rattle.simplecss_grammar.specs.Skipped.{add_each, skipped}
+use Rattle.css_text.specs.ThisEdition.{this_edition}
+use Rattle.css_text.specs.Cursor.{rest_of}
 use Rattle.simplecss.proofs.sheet.reading.skip_statements.Given as goal
 
 -- what was reported and what is skipped from here on are what the text skips

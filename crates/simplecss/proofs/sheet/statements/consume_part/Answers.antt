@@ -1,12 +1,12 @@
 use Rattle.std.proofs.Common.{List, ℕ, Some, None, drop, sym, ap, ◌∙◌, refl}
-use Rattle.simplecss_text.specs.Bytes.{past}
-use Rattle.simplecss_text.specs.Characters.{is_space}
-use Rattle.simplecss_text.specs.Selectors.{reads}
-use Rattle.simplecss_text.specs.Statements.{part}
-use Rattle.simplecss_text.specs.Skipped.{selector_skips, skips_after, add_each}
-use Rattle.simplecss_text.specs.ThisEdition.{this_edition}
-use Rattle.simplecss_text.specs.Cursor.{rest_of}
-use Rattle.simplecss_text.proofs.reading.SkipLemmas.{add-part}
+use Rattle.css_text.specs.Bytes.{past}
+use Rattle.css_text.specs.Characters.{is_space}
+use Rattle.simplecss_grammar.specs.Selectors.{reads}
+use Rattle.simplecss_grammar.specs.Statements.{part}
+use Rattle.simplecss_grammar.specs.Skipped.{selector_skips, skips_after, add_each}
+use Rattle.css_text.specs.ThisEdition.{this_edition}
+use Rattle.css_text.specs.Cursor.{rest_of}
+use Rattle.simplecss_grammar.proofs.reading.SkipLemmas.{add-part}
 use Rattle.simplecss.proofs.sheet.statements.consume_part.Goals as goal
 
 pub returns-in_ok-report_left-in-Some-clause-reported :

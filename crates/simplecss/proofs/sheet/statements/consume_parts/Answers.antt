@@ -1,13 +1,13 @@
 use Rattle.std.proofs.Common.{◌≡◌, ◌++◌, ◌<◌, List, ℕ, Option, length, option_to_list, refl, sym, ◌∙◌, ap, subst, append_assoc}
-use Rattle.simplecss_text.specs.AsciiBytes.{comma as comma_byte}
-use Rattle.simplecss_text.specs.Bytes.{past_one}
-use Rattle.simplecss_text.specs.Components.{Component}
-use Rattle.simplecss_text.specs.Statements.{part, parts}
-use Rattle.simplecss_text.specs.Skipped.{add_each, part_skips, parts_skips}
-use Rattle.simplecss_text.proofs.reading.SkipLemmas.{add_each-append, parts_skips-some, parts_skips-last}
-use Rattle.simplecss_text.specs.ThisEdition.{this_edition}
-use Rattle.simplecss_text.specs.Cursor.{rest_of}
-use Rattle.simplecss_text.proofs.bytes.ByteLemmas.{past_byte_there, past_byte_not}
+use Rattle.css_text.specs.AsciiBytes.{comma as comma_byte}
+use Rattle.css_text.specs.Bytes.{past_one}
+use Rattle.simplecss_grammar.specs.Components.{Component}
+use Rattle.simplecss_grammar.specs.Statements.{part, parts}
+use Rattle.simplecss_grammar.specs.Skipped.{add_each, part_skips, parts_skips}
+use Rattle.simplecss_grammar.proofs.reading.SkipLemmas.{add_each-append, parts_skips-some, parts_skips-last}
+use Rattle.css_text.specs.ThisEdition.{this_edition}
+use Rattle.css_text.specs.Cursor.{rest_of}
+use Rattle.css_text.proofs.bytes.ByteLemmas.{past_byte_there, past_byte_not}
 use Rattle.simplecss.proofs.StatementLemmas.{parts-some, parts-last, parts-less, pair-of}
 use Rattle.simplecss.proofs.sheet.statements.consume_parts.Goals as goal
 

@@ -1,8 +1,8 @@
 use Rattle.std.proofs.Common.{◌≡◌, ◌++◌, length}
-use Rattle.simplecss_text.specs.Statements.{parts}
-use Rattle.simplecss_text.specs.Skipped.{add_each, parts_skips}
-use Rattle.simplecss_text.specs.ThisEdition.{this_edition}
-use Rattle.simplecss_text.specs.Cursor.{text_of, rest_of}
+use Rattle.simplecss_grammar.specs.Statements.{parts}
+use Rattle.simplecss_grammar.specs.Skipped.{add_each, parts_skips}
+use Rattle.css_text.specs.ThisEdition.{this_edition}
+use Rattle.css_text.specs.Cursor.{text_of, rest_of}
 use Rattle.simplecss.proofs.sheet.statements.consume_parts.Given as goal
 
 -- The selectors so far and those of the parts from here on are those of all parts.

@@ -1,8 +1,8 @@
 use Rattle.std.proofs.Common.{◌∙◌, ◌++◌, map, ap}
-use Rattle.simplecss_text.specs.Skipped.{skipped}
-use Rattle.simplecss_text.specs.SkipViews.{skip_of}
-use Rattle.simplecss_text.specs.ThisEdition.{this_edition}
-use Rattle.simplecss_text.proofs.reading.SkipLemmas.{add_each-kept}
+use Rattle.simplecss_grammar.specs.Skipped.{skipped}
+use Rattle.simplecss_grammar.specs.SkipViews.{skip_of}
+use Rattle.css_text.specs.ThisEdition.{this_edition}
+use Rattle.simplecss_grammar.proofs.reading.SkipLemmas.{add_each-kept}
 use Rattle.simplecss.proofs.sheet.style_sheet.find_skipped.Goals as goal
 
 pub returns : goal.returns

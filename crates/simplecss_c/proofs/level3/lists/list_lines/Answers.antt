@@ -1,7 +1,7 @@
 use Rattle.std.proofs.Common.{length, string_bytes}
-use Rattle.css_selectors.specs.PlacedSelectors.{PlacedSelector, placed_selectors, more_placed_selectors}
-use Rattle.css_selectors.specs.SelectorLists.{listed_of}
-use Rattle.css_selectors.proofs.PlacedParts.{placed-parts-none, part-less}
+use Rattle.css_syntax.specs.PlacedSelectors.{PlacedSelector, placed_selectors, more_placed_selectors}
+use Rattle.css_syntax.specs.SelectorLists.{listed_of}
+use Rattle.css_syntax.proofs.PlacedParts.{placed-parts-none, part-less}
 use Rattle.css_sheet.specs.RuleSelectors.{selector_of}
 use Rattle.simplecss_c.specs.Calls.{FailsFor, HasNoSelector}
 use Rattle.simplecss_c.specs.Level3Lines.{AreListedLines, listed_texts}

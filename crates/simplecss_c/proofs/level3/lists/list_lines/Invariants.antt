@@ -1,5 +1,5 @@
 use Rattle.std.proofs.Common.{length, string_bytes}
-use Rattle.css_selectors.specs.PlacedSelectors.{placed_selectors, more_placed_selectors}
+use Rattle.css_syntax.specs.PlacedSelectors.{placed_selectors, more_placed_selectors}
 use Rattle.simplecss_c.proofs.Level3Lists.{ListedSoFar}
 use Rattle.simplecss_c.proofs.level3.lists.list_lines.Given as goal
 

@@ -2,8 +2,8 @@ use Rattle.std.proofs.Common.{◌-◌, ◌++◌, length, string_bytes, ap, ◌�
 use Rattle.std.specs.Prelude.{codes}
 use Rattle.std.proofs.lemmas.Result.{on_ok_weaker}
 use lib.Utf8.{encode}
-use Rattle.selectors3.specs.Printing.{selector_text}
-use Rattle.selectors3.specs.Specificities.{specificity}
+use Rattle.css_selectors.specs.Printing.{selector_text}
+use Rattle.css_selectors.specs.Specificities.{specificity}
 use Rattle.simplecss_c.specs.Json.{string}
 use Rattle.simplecss_c.specs.JsonLines.{counts_array}
 use Rattle.simplecss_c.specs.Level3Lines.{string_or_null}

@@ -1,5 +1,5 @@
 use Rattle.std.proofs.Common.{◌≡◌, Some, refl, sym, ap}
-use Rattle.selectors3.specs.Grammar.{selector_list}
+use Rattle.css_selectors.specs.Grammar.{selector_list}
 use Rattle.simplecss_c.specs.Readings.{if_read, selectors_of}
 use Rattle.simplecss_c.proofs.Level3Lists.{parse-refused}
 use Rattle.simplecss_c.proofs.level3.lists.read_list.Goals as goal

@@ -1,6 +1,6 @@
 use Rattle.std.proofs.Common.{◌≡◌, Some, refl, sym, ap}
 use Rattle.css_sheet.specs.RuleSelectors.{if_read, selector_of}
-use Rattle.selectors3.specs.Grammar.{selector}
+use Rattle.css_selectors.specs.Grammar.{selector}
 use Rattle.simplecss_c.proofs.Level3Lists.{parse-refused}
 use Rattle.simplecss_c.proofs.level3.lists.read_selector.Goals as goal
 

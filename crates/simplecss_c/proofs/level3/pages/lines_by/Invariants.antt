@@ -1,9 +1,14 @@
-use Rattle.std.proofs.Common.{string_bytes}
-use Rattle.cssq.proofs.MatchLines.{LinesSoFar}
+use Rattle.std.proofs.Common.{◌≡◌, string_bytes}
+use Rattle.css_tree.specs.Walks.{IsOpenAt}
+use Rattle.simplecss_c.proofs.PageLines.{LinesWithin}
 use Rattle.simplecss_c.specs.Level3Lines.{IsLevel3Line}
 use Rattle.simplecss_c.proofs.level3.pages.lines_by.Given as goal
 
--- the lines of the elements so far
+-- the lines of the elements so far, which are short enough, by a walk of the same selectors
 abbrev pub invariant-loop-element : goal.invariant-loop-element
-invariant-loop-element l =
-    LinesSoFar (IsLevel3Line l.content l.index l.page) l.element (string_bytes l.text)
+invariant-loop-element l = record {
+  lines : LinesWithin l.most (IsLevel3Line l.content l.fn.walk.walk.selectors l.page) l.element
+      (string_bytes l.text);
+  opened : IsOpenAt l.page l.walk.walk l.walk.place;
+  selectors : l.walk.walk.selectors ≡ l.fn.walk.walk.selectors;
+}

@@ -1,5 +1,5 @@
 use Rattle.std.proofs.Common.{◌+◌, length, ap, sym, subst, ◌∙◌, arith}
-use Rattle.selectors3_tree.specs.Pages.{Page}
+use Rattle.css_tree.specs.Pages.{Page}
 use Rattle.simplecss_c.proofs.Level3Pages.{TextsSoFar, texts-none, text-known, no-text-known, texts-known}
 use Rattle.simplecss_c.proofs.level3.pages.page_of.Goals.{then-has_text, else-has_text}
 use Rattle.simplecss_c.proofs.level3.pages.page_of.Goals as goal

@@ -1,5 +1,5 @@
 use Rattle.std.proofs.Common.{◌≡◌, map, take}
-use Rattle.selectors3_tree.specs.Html.{html_selector}
+use Rattle.css_tree.specs.Html.{html_selector}
 use Rattle.simplecss_c.proofs.level3.reading.html_selectors.Given as goal
 
 -- the selectors so far

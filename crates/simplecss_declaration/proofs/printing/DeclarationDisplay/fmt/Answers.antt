@@ -1,6 +1,6 @@
 use Rattle.std.proofs.Common.{◌++◌, true, refl, ap}
 use Rattle.std.specs.Prelude.{codes}
-use Rattle.simplecss_text.proofs.round_trip.StyledWrites.{styled_three, plain_of_styled}
+use Rattle.css_text.proofs.round_trip.StyledWrites.{styled_three, plain_of_styled}
 use Rattle.simplecss_declaration.proofs.printing.DeclarationDisplay.fmt.Goals as goal
 
 pub returns-clause-styled : goal.returns-clause-styled

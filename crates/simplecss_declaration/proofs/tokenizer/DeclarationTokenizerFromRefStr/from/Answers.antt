@@ -1,8 +1,8 @@
 use Rattle.std.proofs.Common.{◌≡◌, ◌≤◌, List, length, refl, ap, subst, sym}
-use Rattle.simplecss_text.specs.Cursor.{rest_of}
-use Rattle.simplecss_text.specs.Declarations.{StyleDeclaration, declarations}
-use Rattle.simplecss_text.specs.ThisEdition.{this_edition}
-use Rattle.simplecss_text.proofs.reading.CountLemmas.{length-declarations}
+use Rattle.css_text.specs.Cursor.{rest_of}
+use Rattle.simplecss_grammar.specs.Declarations.{StyleDeclaration, declarations}
+use Rattle.css_text.specs.ThisEdition.{this_edition}
+use Rattle.simplecss_grammar.proofs.reading.CountLemmas.{length-declarations}
 use Rattle.std.proofs.iter.runs.Sources.{from_front}
 use Rattle.simplecss_declaration.specs.DeclarationViews.{declaration_of}
 use Rattle.simplecss_declaration.specs.DeclarationTokenizers.{still_to_come, GivesDeclaration}

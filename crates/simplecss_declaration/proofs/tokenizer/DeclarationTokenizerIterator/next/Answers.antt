@@ -1,11 +1,10 @@
 use Rattle.std.proofs.Common.{◌∙◌, Some, sym, subst, ap, length, List, ℕ, arith}
-use Rattle.simplecss_text.specs.Reading.{Ends}
-use Rattle.simplecss_text.specs.Cursor.{rest_of}
-use Rattle.simplecss_text.specs.Declarations.{StyleDeclaration, declaration, declarations}
-use Rattle.simplecss_text.specs.ThisEdition.{this_edition}
-use Rattle.simplecss_text.specs.Reading.{found}
-use Rattle.simplecss_text.proofs.reading.EndsLemmas.{ends-nil, occur-ends}
-use Rattle.simplecss_text.proofs.reading.OffsetLemmas.{offset-ends}
+use Rattle.css_text.specs.Reading.{Ends, found}
+use Rattle.css_text.specs.Cursor.{rest_of}
+use Rattle.simplecss_grammar.specs.Declarations.{StyleDeclaration, declaration, declarations}
+use Rattle.css_text.specs.ThisEdition.{this_edition}
+use Rattle.css_text.proofs.reading.EndsLemmas.{ends-nil, occur-ends}
+use Rattle.simplecss_grammar.proofs.reading.OffsetLemmas.{offset-ends}
 use Rattle.simplecss_declaration.specs.DeclarationViews.{declaration_of}
 use Rattle.simplecss_declaration.specs.DeclarationTokenizers.{given_texts}
 use Rattle.simplecss_declaration.proofs.DeclarationLists.{declarations-some, declarations-none, declarations-nil, found-none}

@@ -1,7 +1,7 @@
 use Rattle.std.proofs.Common.{false, refl, ap, arith}
 use Rattle.std.proofs.lemmas.Grind.{common_steps}
 use Rattle.std.proofs.lemmas.Bool.{false≢true}
-use Rattle.simplecss_text.specs.Components.Operator.{has_word}
+use Rattle.simplecss_grammar.specs.Components.Operator.{has_word}
 use Rattle.simplecss_selector.specs.OperatorViews.{operator_of}
 use Rattle.simplecss_selector.proofs.OperatorMeanings.{required_by, starts_not, is_satisfied-IsSatisfied}
 use Rattle.simplecss_selector.proofs.operator.AttributeOperator.matches.Goals as goal

@@ -2,9 +2,9 @@ use Rattle.std.proofs.Common.{ap, arith, rules}
 use Rattle.std.specs.List.{flat_map}
 use Rattle.std.proofs.lemmas.List.{take_all}
 use Rattle.std.proofs.Output.{has_written_styled_of_eq}
-use Rattle.simplecss_text.specs.Printing.{component_text}
+use Rattle.simplecss_grammar.specs.Printing.{component_text}
 use Rattle.simplecss_selector.specs.Shapes.{any_component}
-use Rattle.simplecss_text.proofs.round_trip.StyledWrites.{plain_of_styled, styled_step_at}
+use Rattle.css_text.proofs.round_trip.StyledWrites.{plain_of_styled, styled_step_at}
 use Rattle.simplecss_selector.proofs.printing.SelectorDisplay.fmt.Goals as goal
 
 pub returns-clause-styled : goal.returns-clause-styled

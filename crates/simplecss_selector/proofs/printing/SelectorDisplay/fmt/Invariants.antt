@@ -1,7 +1,7 @@
 use Rattle.std.proofs.Common.{take}
 use Rattle.std.specs.List.{flat_map}
 use Rattle.std.specs.Fmt.{HasWrittenStyled, IsFlush}
-use Rattle.simplecss_text.specs.Printing.{component_text}
+use Rattle.simplecss_grammar.specs.Printing.{component_text}
 use Rattle.simplecss_selector.proofs.printing.SelectorDisplay.fmt.Given as goal
 
 -- what is written is the text of the first components

@@ -1,4 +1,4 @@
-use Rattle.std.proofs.Common.{◌<◌, ◌∷◌, ◌++◌, [], Some, None, map, sym, ap, ◌∙◌, subst, append-nil}
+use Rattle.std.proofs.Common.{◌<◌, ◌∷◌, [], Some, None, map, sym, ap, ◌∙◌, subst, append-nil}
 use Rattle.std.specs.Option.{option_map}
 use Rattle.std.proofs.lemmas.List.{map-append}
 use Rattle.simplecss_selector.specs.KeyViews.{key_value}

@@ -1,7 +1,7 @@
 use Rattle.std.proofs.Common.{◌≡◌, ◌++◌, map}
 use Rattle.simplecss_selector.specs.AncestorKeys.{keys_among}
 use Rattle.simplecss_selector.specs.KeyViews.{key_value}
-use Rattle.simplecss_selector.specs.PlacementSearch.{first_of}
+use Rattle.simplecss_selector.specs.Shapes.{first_of}
 use Rattle.simplecss_selector.proofs.selector.Selector.push_ancestor_keys.Given as goal
 
 -- the keys of the components so far were appended

@@ -1,5 +1,5 @@
 use Rattle.std.proofs.Common.{◌≡◌, ℕ, is_some, ◌++◌, ◌∷◌, [], length, ap, ◌∙◌, arith, min, not, count_by}
-use Rattle.simplecss_text.specs.Specificity.{is_id}
+use Rattle.simplecss_grammar.specs.Specificity.{is_id}
 use Rattle.simplecss_selector.specs.internal.SelectorViews.{subselector_of, Tile}
 use Rattle.simplecss_selector.proofs.Counts.{sum_by-components_from, count_by-components_from, count_by-not, count_by-push, bool_byte-is}
 use Rattle.simplecss_selector.proofs.selector.Selector.specificity.Goals as goal

@@ -1,5 +1,5 @@
-use Rattle.std.proofs.Common.{◌≡◌, ◌⊎◌, ◌∙◌, ap, sym, inl, inr}
-use Rattle.simplecss_text.specs.Components.Combinator.{none, child, descendant, adjacent}
+use Rattle.std.proofs.Common.{◌≡◌, ◌⊎◌, ap, inl, inr}
+use Rattle.simplecss_grammar.specs.Components.Combinator.{none, child, descendant, adjacent}
 use Rattle.simplecss_selector.specs.internal.CombinatorViews.{combinator_of}
 use Rattle.simplecss_selector.specs.KeyViews.{key_value}
 use Rattle.simplecss_selector.proofs.AncestorKeyLemmas.{step_key_is, no_step_key}

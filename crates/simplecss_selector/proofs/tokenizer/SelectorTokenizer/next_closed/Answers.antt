@@ -1,8 +1,8 @@
 use Rattle.std.proofs.Common.{ℕ, List, ap, sym, ◌∙◌, inl, inr}
-use Rattle.simplecss_text.specs.Errors.{position_of}
-use Rattle.simplecss_text.specs.declared.error.Error.TheVariants.{InvalidComment}
-use Rattle.simplecss_text.specs.Cursor.{rest_of}
-use Rattle.simplecss_text.proofs.reading.KindLemmas.{slash-starts}
+use Rattle.css_text.specs.Errors.{position_of}
+use Rattle.css_text.specs.declared.error.Error.TheVariants.{InvalidComment}
+use Rattle.css_text.specs.Cursor.{rest_of}
+use Rattle.simplecss_grammar.proofs.reading.KindLemmas.{slash-starts}
 use Rattle.simplecss_selector.specs.SelectorTokenizers.{whole_text, left_of}
 use Rattle.simplecss_selector.proofs.Firsts.{simple_unless, closed_gap-first, closed_stop-first, closed_slash-first, closed_end-first, closed_joint-first, closed_spaced-first}
 use Rattle.simplecss_selector.proofs.tokenizer.SelectorTokenizer.next_closed.Goals as goal

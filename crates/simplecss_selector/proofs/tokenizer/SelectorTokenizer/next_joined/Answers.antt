@@ -1,4 +1,4 @@
-use Rattle.simplecss_text.specs.Cursor.{rest_of}
+use Rattle.css_text.specs.Cursor.{rest_of}
 use Rattle.simplecss_selector.specs.SelectorTokenizers.{whole_text, left_of}
 use Rattle.simplecss_selector.proofs.Firsts.{joined_universal-first, joined_type-first, joined_sub-first, joined_fault-first}
 use Rattle.simplecss_selector.proofs.tokenizer.SelectorTokenizer.next_joined.Goals as goal

@@ -1,8 +1,8 @@
 use Rattle.std.proofs.Common.{ℕ, List, ◌∙◌, subst}
-use Rattle.simplecss_text.specs.Errors.{FailsBy}
-use Rattle.simplecss_text.specs.Pieces.{solid_as}
-use Rattle.simplecss_text.specs.ThisEdition.{this_edition}
-use Rattle.simplecss_text.specs.Cursor.{rest_of}
+use Rattle.css_text.specs.Errors.{FailsBy}
+use Rattle.simplecss_grammar.specs.Pieces.{solid_as}
+use Rattle.css_text.specs.ThisEdition.{this_edition}
+use Rattle.css_text.specs.Cursor.{rest_of}
 use Rattle.simplecss_selector.specs.SelectorTokenizers.{whole_text, left_of}
 use Rattle.simplecss_selector.proofs.Firsts.{simple_unless, open_gap-first, open_none-first, open_joint-first, open_token-first, open_fault-first}
 use Rattle.simplecss_selector.proofs.tokenizer.SelectorTokenizer.next_open.Goals as goal

@@ -1,11 +1,11 @@
 use Rattle.std.proofs.Common.{◌≡◌, ◌≤◌, ◌+◌, length, map, refl, ap, arith}
 use Rattle.std.proofs.lemmas.List.{length-map}
 use Rattle.std.proofs.iter.runs.Sources.{from_front}
-use Rattle.simplecss_text.specs.Cursor.{rest_of}
-use Rattle.simplecss_text.specs.ThisEdition.{this_edition}
-use Rattle.simplecss_text.specs.Neighbours.Side.{open_side}
-use Rattle.simplecss_text.specs.TokenSequences.{sequence_of, tokens_of, items, reported_in}
-use Rattle.simplecss_text.proofs.reading.CountLemmas.{length-sequence_from}
+use Rattle.css_text.specs.Cursor.{rest_of}
+use Rattle.css_text.specs.ThisEdition.{this_edition}
+use Rattle.simplecss_grammar.specs.Neighbours.Side.{open_side}
+use Rattle.simplecss_grammar.specs.TokenSequences.{sequence_of, tokens_of, items, reported_in}
+use Rattle.simplecss_grammar.proofs.reading.CountLemmas.{length-sequence_from}
 use Rattle.simplecss_selector.specs.TokenViews.{item_view}
 use Rattle.simplecss_selector.specs.SelectorTokenizers.{items_left, GivesItem}
 use Rattle.simplecss_selector.proofs.tokenizer.SelectorTokenizerFromRefStr.from.Goals as goal

@@ -1,5 +1,5 @@
 use Rattle.std.proofs.Common.{Some, None, Err, refl}
-use Rattle.simplecss_text.specs.declared.error.Error.TheVariants.{SelectorMissing}
+use Rattle.css_text.specs.declared.error.Error.TheVariants.{SelectorMissing}
 use Rattle.simplecss_selector.specs.declared.tokenizer.Stage.TheVariants as stages
 use Rattle.simplecss_selector.specs.SelectorTokenizers.{whole_text, left_of}
 use Rattle.simplecss_selector.proofs.Firsts.{missing-first, ended-first, gives-item, given-fewer}

@@ -1,5 +1,5 @@
 use Rattle.std.proofs.Common.{◌≡◌, drop, refl, ap, ◌∙◌, subst}
-use Rattle.simplecss.specs.OpenPaths.{top_starts}
+use Rattle.simplecss.specs.internal.Kept.{top_starts}
 use Rattle.simplecss.proofs.OpenPathLemmas.{last_starts, no_starts, got_starts}
 use Rattle.simplecss.proofs.index.open_path.OpenPath.parent_starts.Goals as goal
 

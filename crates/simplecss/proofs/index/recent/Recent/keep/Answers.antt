@@ -1,6 +1,6 @@
 use Rattle.std.proofs.Common.{subst, sym, string_bytes}
 use Rattle.std.specs.Option.{option_map}
-use Rattle.simplecss.specs.Recents.{IsFound}
+use Rattle.simplecss.specs.internal.Recents.{IsFound}
 use Rattle.simplecss.proofs.RecentSlots.{slot_set, found_as}
 use Rattle.simplecss.proofs.index.recent.Recent.keep.Goals as goal
 

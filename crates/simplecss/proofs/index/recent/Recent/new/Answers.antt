@@ -1,6 +1,6 @@
 use Rattle.std.proofs.Common.{sym, subst}
 use Rattle.std.specs.List.{All}
-use Rattle.simplecss.specs.Recents.{IsSlotOf}
+use Rattle.simplecss.specs.internal.Recents.{IsSlotOf}
 use Rattle.simplecss.proofs.RecentSlots.{no_slots, empty_more}
 use Rattle.simplecss.proofs.index.recent.Recent.new.Goals as goal
 

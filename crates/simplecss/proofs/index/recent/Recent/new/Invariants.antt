@@ -1,5 +1,5 @@
 use Rattle.std.specs.List.{All}
-use Rattle.simplecss.specs.Recents.{IsSlotOf}
+use Rattle.simplecss.specs.internal.Recents.{IsSlotOf}
 use Rattle.simplecss.proofs.index.recent.Recent.new.Given as goal
 
 abbrev pub invariant-slots : goal.invariant-slots

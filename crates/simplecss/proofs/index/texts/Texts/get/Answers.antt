@@ -1,4 +1,4 @@
-use Rattle.std.proofs.Common.{cond, None, Some, false, sym, ap, ◌∙◌}
+use Rattle.std.proofs.Common.{cond, None, Some, sym, ap, ◌∙◌}
 use Rattle.simplecss.specs.internal.TextIndices.{index_for_text}
 use Rattle.simplecss.proofs.TextSlots.{unmarked_none}
 use Rattle.simplecss.proofs.index.texts.Texts.get.Goals as goal

@@ -2,9 +2,9 @@ use Rattle.std.proofs.Common.{◌≡◌, ℕ, List, [], ◌∷◌, ◌++◌, ref
 use Rattle.std.specs.Fmt.{HasWrittenStyled, IsFlush}
 use Rattle.std.specs.List.{flat_map}
 use Rattle.std.specs.Result.{IsOk}
-use Rattle.simplecss_text.specs.AsciiBytes.{close_brace, open_brace, space}
-use Rattle.simplecss_text.specs.Printing.{declaration_text, rule_text, selector_text}
-use Rattle.simplecss_text.proofs.round_trip.StyledWrites.{plain_of_styled, styled_four}
+use Rattle.css_text.specs.AsciiBytes.{close_brace, open_brace, space}
+use Rattle.simplecss_grammar.specs.Printing.{declaration_text, rule_text, selector_text}
+use Rattle.css_text.proofs.round_trip.StyledWrites.{plain_of_styled, styled_four}
 use Rattle.simplecss_declaration.specs.DeclarationViews.{declarations_of}
 use Rattle.simplecss.specs.RuleViews.{rule_of}
 use Rattle.simplecss.proofs.sheet.printing.RuleDisplay.fmt.Goals as goal

@@ -4,9 +4,9 @@ use Rattle.std.specs.List.{flat_map}
 use Rattle.std.proofs.Output.{has_written_styled_of_eq, has_written_styled_append}
 use Rattle.std.proofs.lemmas.List.{take_all}
 use Rattle.std.proofs.lemmas.List.Folds.{flat_map-map}
-use Rattle.simplecss_text.specs.AsciiBytes.{newline as newline_byte}
-use Rattle.simplecss_text.specs.Printing.{rule_text, sheet_text}
-use Rattle.simplecss_text.proofs.round_trip.StyledWrites.{plain_of_styled, styled_step, styled_two}
+use Rattle.css_text.specs.AsciiBytes.{newline as newline_byte}
+use Rattle.simplecss_grammar.specs.Printing.{rule_text, sheet_text}
+use Rattle.css_text.proofs.round_trip.StyledWrites.{plain_of_styled, styled_step, styled_two}
 use Rattle.simplecss.specs.RuleViews.{rule_of, rules_in}
 use Rattle.simplecss.proofs.Joins.{join_first}
 use Rattle.simplecss.proofs.sheet.printing.StyleSheetDisplay.fmt.Goals as goal

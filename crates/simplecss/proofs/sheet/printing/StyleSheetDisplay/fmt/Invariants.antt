@@ -1,8 +1,8 @@
 use Rattle.std.proofs.Common.{◌∷◌, take}
 use Rattle.std.specs.List.{flat_map}
 use Rattle.std.specs.Fmt.{HasWrittenStyled, IsFlush}
-use Rattle.simplecss_text.specs.AsciiBytes.{newline}
-use Rattle.simplecss_text.specs.Printing.{rule_text}
+use Rattle.css_text.specs.AsciiBytes.{newline}
+use Rattle.simplecss_grammar.specs.Printing.{rule_text}
 use Rattle.simplecss.specs.RuleViews.{rule_of}
 use Rattle.simplecss.proofs.sheet.printing.StyleSheetDisplay.fmt.Given as goal
 

@@ -1,8 +1,8 @@
 use Rattle.std.proofs.Common.{◌≡◌, ◌++◌, List, ℕ, Some, drop, map, refl, sym, ap, ◌∙◌, subst}
 use Rattle.std.specs.Str.{IsCharBoundary}
-use Rattle.simplecss_text.specs.Cursor.{text_of, rest_of}
-use Rattle.simplecss_text.specs.Statements.{statement}
-use Rattle.simplecss_text.specs.ThisEdition.{this_edition}
+use Rattle.css_text.specs.Cursor.{text_of, rest_of}
+use Rattle.simplecss_grammar.specs.Statements.{statement}
+use Rattle.css_text.specs.ThisEdition.{this_edition}
 use Rattle.simplecss.specs.StatementOffsets.{OccursNext}
 use Rattle.simplecss.specs.RuleViews.{rule_of}
 use Rattle.simplecss.specs.internal.SharedBlocks.{rules_read}

@@ -1,9 +1,9 @@
 use Rattle.std.proofs.Common.{◌≡◌, sym, ap}
 use Rattle.std.proofs.lemmas.Result.{on_ok_weaker}
-use Rattle.simplecss_text.specs.Skipped.{add_each, next_block_skips}
-use Rattle.simplecss_text.specs.ThisEdition.{this_edition}
-use Rattle.simplecss_text.specs.Cursor.{rest_of}
-use Rattle.simplecss_text.proofs.reading.SkipLemmas.{add-rule_set}
+use Rattle.simplecss_grammar.specs.Skipped.{add_each, next_block_skips}
+use Rattle.css_text.specs.ThisEdition.{this_edition}
+use Rattle.css_text.specs.Cursor.{rest_of}
+use Rattle.simplecss_grammar.proofs.reading.SkipLemmas.{add-rule_set}
 use Rattle.simplecss.proofs.sheet.statements.RuleReader.consume_rule_set.Goals as goal
 
 pub returns-clause-reported : goal.returns-clause-reported

@@ -1,12 +1,12 @@
 use Rattle.std.proofs.Common.{◌≡◌, ◌∙◌, ◌∷◌, [], List, ℕ, option_map, sym, ap, true, false}
 use Rattle.std.proofs.lemmas.Result.{on_ok_weaker}
-use Rattle.simplecss_text.specs.AsciiBytes.{at_sign}
-use Rattle.simplecss_text.specs.Bytes.{starts, past_one}
-use Rattle.simplecss_text.specs.Skipped.{add_each, rule_set_skips, at_rule}
-use Rattle.simplecss_text.specs.ThisEdition.{this_edition}
-use Rattle.simplecss_text.specs.Cursor.{rest_of}
-use Rattle.simplecss_text.proofs.reading.SkipLemmas.{skips-at_rule, skips-rule_set}
-use Rattle.simplecss_text.proofs.bytes.ByteLemmas.{past_byte_there, past_byte_not}
+use Rattle.css_text.specs.AsciiBytes.{at_sign}
+use Rattle.css_text.specs.Bytes.{starts, past_one}
+use Rattle.simplecss_grammar.specs.Skipped.{add_each, rule_set_skips, at_rule}
+use Rattle.css_text.specs.ThisEdition.{this_edition}
+use Rattle.css_text.specs.Cursor.{rest_of}
+use Rattle.simplecss_grammar.proofs.reading.SkipLemmas.{skips-at_rule, skips-rule_set}
+use Rattle.css_text.proofs.bytes.ByteLemmas.{past_byte_there, past_byte_not}
 use Rattle.simplecss.proofs.sheet.statements.RuleReader.consume_statement.Goals as goal
 
 pub returns-then-skip_byte-clause-reported : goal.returns-then-skip_byte-clause-reported

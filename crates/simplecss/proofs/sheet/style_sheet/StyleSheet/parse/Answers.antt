@@ -1,9 +1,9 @@
 use Rattle.std.proofs.Common.{◌≡◌, [], ◌∙◌, false}
 use Rattle.std.proofs.lemmas.List.Elements.{All-nil, All-cons}
-use Rattle.simplecss_text.specs.Characters.{first_edition}
-use Rattle.simplecss_text.specs.PrintingLaws.{has_wide_space}
-use Rattle.simplecss_text.specs.ThisEdition.{this_edition}
-use Rattle.simplecss_text.proofs.editions.SheetEditions.{sheet-editions}
+use Rattle.css_text.specs.Characters.{first_edition}
+use Rattle.simplecss_grammar.specs.PrintingLaws.{has_wide_space}
+use Rattle.css_text.specs.ThisEdition.{this_edition}
+use Rattle.simplecss_grammar.proofs.editions.SheetEditions.{sheet-editions}
 use Rattle.simplecss.proofs.sheet.style_sheet.StyleSheet.parse.Goals as goal
 
 pub returns-in-Ok-clause-sheet : goal.returns-in-Ok-clause-sheet

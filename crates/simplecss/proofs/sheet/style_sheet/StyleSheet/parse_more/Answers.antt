@@ -1,5 +1,5 @@
-use Rattle.simplecss_text.specs.ThisEdition.{this_edition}
-use Rattle.simplecss_text.proofs.cutting.CuttingLaws.{goes_on}
+use Rattle.css_text.specs.ThisEdition.{this_edition}
+use Rattle.simplecss_grammar.proofs.cutting.CuttingLaws.{goes_on}
 use Rattle.simplecss.specs.RuleViews.{rules_in}
 use Rattle.simplecss.proofs.sheet.style_sheet.StyleSheet.parse_more.Goals as goal
 

@@ -1,9 +1,9 @@
 use Rattle.std.proofs.Common.{◌≡◌, ◌<◌, ℕ, List, ap, sym, map, refl, IsUtf8}
 use Rattle.std.proofs.lemmas.List.Elements.{All-map}
-use Rattle.simplecss_text.specs.ThisEdition.{this_edition}
+use Rattle.css_text.specs.ThisEdition.{this_edition}
 use Rattle.simplecss.specs.RuleViews.{rules_of}
 use Rattle.simplecss.specs.DeclarationCounts.{kept_in_all}
-use Rattle.simplecss.specs.declared.sheet.sheet_error.SheetError.TheVariants.{TooManyDeclarations, Memory}
+use Rattle.css_text.specs.declared.sheet_error.SheetError.TheVariants.{TooManyDeclarations, Memory}
 use Rattle.simplecss.proofs.Reports.{passed_on}
 use Rattle.simplecss.proofs.ReadFacts.{into, into_none, reads-ok, reads-err}
 use Rattle.simplecss.proofs.sheet.style_sheet.StyleSheet.read.Goals as goal

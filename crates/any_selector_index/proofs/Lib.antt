@@ -1,5 +1,0 @@
-mod Unions
-mod Picking
-mod Parting
-mod Joining
-mod Either

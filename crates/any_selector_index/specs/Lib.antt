@@ -1,4 +1,0 @@
-pub mod AnySelectors
-pub mod AnySelectorViews
-pub mod Matching
-pub mod internal

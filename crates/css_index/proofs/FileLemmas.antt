@@ -1,0 +1,286 @@
+-- Entries, and their places.
+-- Serves `table` and `selector_index`.
+use Rattle.std.proofs.Common.{◌≡◌, ℕ, ◌+◌, ◌<◌, ◌%◌, ◌*◌, ◌^◌, ◌==◌, Bool, IsTrue, true, false, cond, List, [], ◌∷◌, ◌++◌, length, map, take, get_or, set, Some, eqb-true, eq-eqb, arith, refl, sym, ap, ◌∙◌, subst, append-nil, append_assoc}
+use Rattle.std.specs.Char.{to_ascii_lowercase}
+use Rattle.std.specs.Prelude.{filter}
+use Rattle.std.specs.Str.{str_eq_ignore_ascii_case}
+use Rattle.std.specs.Global.{Vec}
+use Rattle.std.specs.List.{slice_get}
+use Rattle.std.proofs.lemmas.Bool.{false≢true}
+use Rattle.std.proofs.lemmas.List.{map-append, take_more, length-map, length-take, length-set, get_or-set_same, get_or-set_other}
+use Rattle.std.proofs.lemmas.List.Elements.{filter-append}
+use Rattle.std.proofs.lemmas.Option.{slice_get_within, slice_get-get_or, get_or_from_slice_get}
+use Rattle.std.proofs.lemmas.Slice.Eq.{bytes_eq-Decides}
+use Rattle.css_selectors.specs.Components.{Selector}
+use Rattle.css_selectors.specs.Keys.{Key}
+use Rattle.css_selectors.specs.Keys.Key.{by_id, by_class, by_name, by_attribute, by_nothing}
+use Rattle.css_selectors.specs.KeyViews.{key_of}
+use Rattle.css_index.specs.declared.entry.Entry.{Entry}
+use Rattle.css_index.specs.KeyNumbers.{number_from, number_of, is_same}
+use Rattle.css_index.specs.internal.Filed.{place_by, place_of, entry_of, with_index, filed_keys, entries_from, entries_of, entries_at, AreFiled, is_found_by, found_by}
+
+entries_from-push : (n : ℕ) (ss : List Selector) (s : Selector)
+    → entries_from n (ss ++ s ∷ [])
+    ≡ entries_from n ss ++ with_index (n + length ss) (filed_keys s)
+entries_from-push n [] s =
+    let e : n ≡ n + 0 = omega arith in
+    append-nil (with_index n (filed_keys s))
+    ∙ ap (λ i. with_index i (filed_keys s)) e
+entries_from-push n (x ∷ ss) s =
+    let e : n + 1 + length ss ≡ n + length (x ∷ ss) = omega arith in
+    ap (λ es. with_index n (filed_keys x) ++ es) (entries_from-push (n + 1) ss s
+    ∙ ap (λ i. entries_from (n + 1) ss ++ with_index i (filed_keys s)) e)
+    ∙ sym (append_assoc (with_index n (filed_keys x)) (entries_from (n + 1) ss)
+    (with_index (n + length (x ∷ ss)) (filed_keys s)))
+
+-- the entries of one more rule
+pub entries_more : {V : Type 0} (f : V → Selector) (vs : List V) (i : ℕ) (v : V) → i < length vs
+    → v ≡ get_or vs i v
+    → entries_of (map f (take (i + 1) vs))
+    ≡ entries_of (map f (take i vs)) ++ with_index i (filed_keys (f v))
+entries_more f vs i v lt read =
+    let l : length (map f (take i vs)) ≡ length (take i vs) = length-map (take i vs) f in
+    let t = length-take i vs in
+    let e : 0 + length (map f (take i vs)) ≡ i = omega (arith, l, t, lt) in
+    ap (λ xs. entries_of (map f xs))
+    (take_more vs i v lt ∙ ap (λ x. take i vs ++ x ∷ []) (sym read))
+    ∙ ap entries_of (map-append f (take i vs) (v ∷ []))
+    ∙ entries_from-push 0 (map f (take i vs)) (f v)
+    ∙ ap (λ n. entries_of (map f (take i vs)) ++ with_index n (filed_keys (f v))) e
+
+at_more : (count place : ℕ) (xs : List (Key × ℕ)) (e : Key × ℕ) (t : Bool)
+    → (place_of count e.0 == place) ≡ t
+    → entries_at count place (xs ++ e ∷ []) ≡ entries_at count place xs ++ cond t (e ∷ []) []
+at_more count place xs e t is =
+    filter-append (λ x. place_of count x.0 == place) xs (e ∷ [])
+    ∙ ap (λ b. entries_at count place xs ++ cond b (e ∷ []) []) is
+
+more_entries : (entries : List Entry) (i : ℕ) (d : Entry) → i < length entries
+    → map entry_of (take (i + 1) entries)
+    ≡ map entry_of (take i entries) ++ entry_of (get_or entries i d) ∷ []
+more_entries entries i d lt =
+    ap (map entry_of) (take_more entries i d lt)
+    ∙ map-append entry_of (take i entries) (get_or entries i d ∷ [])
+
+-- one more entry, at its place
+pub filed_more : (entries : List Entry) (i : ℕ) (d : Entry) (buckets : List (Vec Entry)) (place : ℕ)
+    (old new : Vec Entry) → AreFiled (map entry_of (take i entries)) buckets → i < length entries
+    → d ≡ get_or entries i d → place ≡ place_by (length buckets) d.number
+    → place < length buckets → old ≡ get_or buckets place old
+    → new.items ≡ old.items ++ d ∷ [] → AreFiled (map entry_of (take (i + 1) entries)) (set buckets place new)
+filed_more entries i d buckets place old new filed lt read by_number within was pushed = record {
+  some = let some = filed.some in omega (arith, some, same);
+  filed = λ p b there. subst (λ n. map entry_of b.items
+      ≡ entries_at n p (map entry_of (take (i + 1) entries))) (sym same)
+      (in_bucket p b there (place == p) refl);
+}
+  where
+    e : Entry
+    e = get_or entries i d
+
+    same : length (set buckets place new) ≡ length buckets
+    same = length-set buckets place new
+
+    count : ℕ
+    count = length buckets
+
+    at : place ≡ place_of (length buckets) (key_of (get_or entries i d).key)
+    at = by_number ∙ ap (λ x. place_by (length buckets) x.number) read
+        ∙ ap (place_by (length buckets)) (get_or entries i d).numbered
+
+    is : new.items ≡ old.items ++ get_or entries i d ∷ []
+    is = pushed ∙ ap (λ x. old.items ++ x ∷ []) read
+
+    before : List (Key × ℕ)
+    before = map entry_of (take i entries)
+
+    in_bucket : (p : ℕ) (b : Vec Entry) → slice_get (set buckets place new) p ≡ Some b → (t : Bool)
+        → (place == p) ≡ t
+        → map entry_of b.items ≡ entries_at count p (map entry_of (take (i + 1) entries))
+    in_bucket p b there true here =
+        let p_is : p ≡ place = sym (eqb-true place p here) in
+        let b_is : b ≡ new =
+        sym (get_or_from_slice_get (set buckets place new) p b b there)
+        ∙ ap (λ j. get_or (set buckets place new) j b) p_is
+        ∙ get_or-set_same buckets place new b within in
+        let known : map entry_of old.items ≡ entries_at count place before =
+        filed.filed place old (slice_get-get_or buckets place old within ∙ ap Some (sym was)) in
+        ap (λ v. map entry_of v.items) b_is ∙ ap (map entry_of) is
+        ∙ map-append entry_of old.items (e ∷ [])
+        ∙ ap (λ xs. xs ++ entry_of e ∷ []) (known ∙ ap (λ q. entries_at count q before) (sym p_is))
+        ∙ sym (at_more count p before (entry_of e) true (ap (λ q. q == p) (sym at) ∙ here))
+        ∙ ap (entries_at count p) (sym (more_entries entries i d lt))
+    in_bucket p b there false here =
+        let inside : p < length buckets =
+        let l = slice_get_within (set buckets place new) p b there in omega (arith, l, same) in
+        let kept : get_or buckets p b ≡ b =
+        sym (get_or-set_other buckets place p new b
+        (λ k. false≢true (sym here ∙ eq-eqb place p (sym k))))
+        ∙ get_or_from_slice_get (set buckets place new) p b b there in
+        filed.filed p b (slice_get-get_or buckets p b inside ∙ ap Some kept)
+        ∙ sym (append-nil (entries_at count p before))
+        ∙ sym (at_more count p before (entry_of e) false (ap (λ q. q == p) (sym at) ∙ here))
+        ∙ ap (entries_at count p) (sym (more_entries entries i d lt))
+
+number_lowered : (n : ℕ) (a b : List ℕ) → map to_ascii_lowercase a ≡ map to_ascii_lowercase b
+    → number_from n a ≡ number_from n b
+number_lowered n [] [] e = refl
+number_lowered n [] (y ∷ b) e = absurd (cc)
+number_lowered n (x ∷ a) [] e = absurd (cc)
+number_lowered n (x ∷ a) (y ∷ b) e =
+    let first : to_ascii_lowercase x ≡ to_ascii_lowercase y = cc in
+    let rest : map to_ascii_lowercase a ≡ map to_ascii_lowercase b = cc in
+    ap (λ k. number_from ((n * 37 % 2 ^ 64 + k) % 2 ^ 64) a) first
+    ∙ number_lowered ((n * 37 % 2 ^ 64 + to_ascii_lowercase y) % 2 ^ 64) a b rest
+
+-- names that are the same but for case have the same number
+same_name_number : (n : ℕ) (a b : List ℕ) → IsTrue (str_eq_ignore_ascii_case a b)
+    → number_from n a ≡ number_from n b
+same_name_number n a b h =
+    number_lowered n a b
+    ((bytes_eq-Decides (map to_ascii_lowercase a) (map to_ascii_lowercase b)).0 h)
+
+-- keys that are the same have the same number
+same_number : (own key : Key) → is_same own key ≡ true → number_of own ≡ number_of key
+same_number (by_id a) (by_id b) h = ap (number_from 1) ((bytes_eq-Decides a b).0 h)
+same_number (by_class a) (by_class b) h = ap (number_from 2) ((bytes_eq-Decides a b).0 h)
+same_number (by_name a) (by_name b) h = same_name_number 3 a b h
+same_number (by_attribute a) (by_attribute b) h = same_name_number 4 a b h
+same_number by_nothing by_nothing h = refl
+same_number (by_id a) (by_class b) h = absurd (cc)
+same_number (by_id a) (by_name b) h = absurd (cc)
+same_number (by_id a) (by_attribute b) h = absurd (cc)
+same_number (by_id a) by_nothing h = absurd (cc)
+same_number (by_class a) (by_id b) h = absurd (cc)
+same_number (by_class a) (by_name b) h = absurd (cc)
+same_number (by_class a) (by_attribute b) h = absurd (cc)
+same_number (by_class a) by_nothing h = absurd (cc)
+same_number (by_name a) (by_id b) h = absurd (cc)
+same_number (by_name a) (by_class b) h = absurd (cc)
+same_number (by_name a) (by_attribute b) h = absurd (cc)
+same_number (by_name a) by_nothing h = absurd (cc)
+same_number (by_attribute a) (by_id b) h = absurd (cc)
+same_number (by_attribute a) (by_class b) h = absurd (cc)
+same_number (by_attribute a) (by_name b) h = absurd (cc)
+same_number (by_attribute a) by_nothing h = absurd (cc)
+same_number by_nothing (by_id b) h = absurd (cc)
+same_number by_nothing (by_class b) h = absurd (cc)
+same_number by_nothing (by_name b) h = absurd (cc)
+same_number by_nothing (by_attribute b) h = absurd (cc)
+
+same_place : (count : ℕ) (own key : Key) → is_same own key ≡ true
+    → (place_of count own == place_of count key) ≡ true
+same_place count own key h =
+    eq-eqb (place_of count own) (place_of count key)
+    (ap (place_by count) (same_number own key h))
+
+-- those at the place of a key are all that are the same
+same_at : (count : ℕ) (key : Key) (es : List (Key × ℕ))
+    → filter (is_found_by key) (entries_at count (place_of count key) es)
+    ≡ filter (is_found_by key) es
+same_at count key [] = refl
+same_at count key (e ∷ es) =
+    by (place_of count e.0 == place_of count key) (is_found_by key e) refl refl (same_at count key es)
+  where
+    by : (t s : Bool) → (place_of count e.0 == place_of count key) ≡ t → is_found_by key e ≡ s
+        → filter (is_found_by key) (entries_at count (place_of count key) es)
+        ≡ filter (is_found_by key) es
+        → filter (is_found_by key)
+        (cond t (e ∷ entries_at count (place_of count key) es)
+        (entries_at count (place_of count key) es))
+        ≡ cond s (e ∷ filter (is_found_by key) es) (filter (is_found_by key) es)
+    by true s at is ih =
+        ap (λ b. cond b (e ∷ filter (is_found_by key)
+        (entries_at count (place_of count key) es))
+        (filter (is_found_by key) (entries_at count (place_of count key) es))) is
+        ∙ ap (λ xs. cond s (e ∷ xs) xs) ih
+    by false true at is ih = absurd (false≢true (sym at ∙ same_place count e.0 key is))
+    by false false at is ih = ih
+
+-- what the list at the place of a key has for it
+pub found_there : (entries : List (Key × ℕ)) (buckets : List (Vec Entry)) (key : Key) (place : ℕ)
+    (bucket : Vec Entry) → AreFiled entries buckets → place ≡ place_of (length buckets) key
+    → place < length buckets → bucket ≡ get_or buckets place bucket
+    → found_by (map entry_of bucket.items) key ≡ found_by entries key
+found_there entries buckets key place bucket filed at within was =
+    ap (λ es. found_by es key)
+    (filed.filed place bucket (slice_get-get_or buckets place bucket within ∙ ap Some (sym was))
+    ∙ ap (λ p. entries_at (length buckets) p entries) at)
+    ∙ ap (map (λ e. e.1)) (same_at (length buckets) key entries)
+
+-- one more entry
+pub found_more : (entries : List Entry) (i : ℕ) (d : Entry) (key : Key) (t : Bool)
+    → i < length entries → is_found_by key (entry_of (get_or entries i d)) ≡ t
+    → found_by (map entry_of (take (i + 1) entries)) key
+    ≡ found_by (map entry_of (take i entries)) key
+    ++ cond t ((get_or entries i d).rule ∷ []) []
+found_more entries i d key t lt is =
+    ap (λ es. found_by es key) (more_entries entries i d lt)
+    ∙ ap (map (λ x. x.1))
+    (filter-append (is_found_by key) (map entry_of (take i entries)) (entry_of e ∷ []))
+    ∙ map-append (λ x. x.1) (filter (is_found_by key) (map entry_of (take i entries)))
+    (filter (is_found_by key) (entry_of e ∷ []))
+    ∙ ap (λ xs. found_by (map entry_of (take i entries)) key ++ xs) (last t is)
+  where
+    e : Entry
+    e = get_or entries i d
+
+    last : (b : Bool) → is_found_by key (entry_of e) ≡ b
+        → map (λ x. x.1) (filter (is_found_by key) (entry_of e ∷ [])) ≡ cond b (e.rule ∷ []) []
+    last true h = ap (λ b. map (λ x. x.1) (cond b (entry_of e ∷ []) [])) h
+    last false h = ap (λ b. map (λ x. x.1) (cond b (entry_of e ∷ []) [])) h
+
+-- one more entry was looked at
+pub found_step : (old before after : List ℕ) (entries : List Entry) (i : ℕ) (d : Entry) (key : Key)
+    (t : Bool) → before ≡ old ++ found_by (map entry_of (take i entries)) key
+    → after ≡ before ++ cond t (d.rule ∷ []) [] → i < length entries → d ≡ get_or entries i d
+    → is_found_by key (entry_of d) ≡ t
+    → after ≡ old ++ found_by (map entry_of (take (i + 1) entries)) key
+found_step old before after entries i d key t known next lt read is =
+    next ∙ ap (λ x. before ++ cond t (x.rule ∷ []) []) read ∙ ap (λ xs. xs ++ cond t ((get_or entries i d).rule ∷ []) []) known
+    ∙ append_assoc old (found_by (map entry_of (take i entries)) key)
+    (cond t ((get_or entries i d).rule ∷ []) [])
+    ∙ ap (λ xs. old ++ xs) (sym (found_more entries i d key t lt
+    (ap (λ x. is_found_by key (entry_of x)) (sym read) ∙ is)))
+
+-- an entry whose number is not that of the key is not found
+pub other_number : (e : Entry) (key : Key) (number : ℕ) → number ≡ number_of key
+    → (e.number ≡ number → ⊥) → false ≡ is_found_by key (entry_of e)
+other_number e key number is ne = by (is_same (key_of e.key) key) refl
+  where
+    by : (t : Bool) → is_same (key_of e.key) key ≡ t → false ≡ t
+    by true h = absurd (ne (e.numbered ∙ same_number (key_of e.key) key h ∙ sym is))
+    by false h = refl
+
+-- a list with the same entries, at its place
+pub filed_same : (es : List (Key × ℕ)) (buckets : List (Vec Entry)) (place : ℕ)
+    (old new : Vec Entry) → AreFiled es buckets → place < length buckets
+    → old ≡ get_or buckets place old → new.items ≡ old.items → AreFiled es (set buckets place new)
+filed_same es buckets place old new filed within was is = record {
+  some = let some = filed.some in omega (arith, some, same);
+  filed = λ p b there. subst (λ n. map entry_of b.items ≡ entries_at n p es) (sym same)
+      (in_bucket p b there (place == p) refl);
+}
+  where
+    same : length (set buckets place new) ≡ length buckets
+    same = length-set buckets place new
+
+    in_bucket : (p : ℕ) (b : Vec Entry) → slice_get (set buckets place new) p ≡ Some b → (t : Bool)
+        → (place == p) ≡ t → map entry_of b.items ≡ entries_at (length buckets) p es
+    in_bucket p b there true here =
+        let p_is : p ≡ place = sym (eqb-true place p here) in
+        let b_is : b ≡ new =
+        sym (get_or_from_slice_get (set buckets place new) p b b there)
+        ∙ ap (λ j. get_or (set buckets place new) j b) p_is
+        ∙ get_or-set_same buckets place new b within in
+        ap (λ v. map entry_of v.items) b_is ∙ ap (map entry_of) is
+        ∙ filed.filed place old (slice_get-get_or buckets place old within ∙ ap Some (sym was))
+        ∙ ap (λ q. entries_at (length buckets) q es) (sym p_is)
+    in_bucket p b there false here =
+        let inside : p < length buckets =
+        let l = slice_get_within (set buckets place new) p b there in omega (arith, l, same) in
+        let kept : get_or buckets p b ≡ b =
+        sym (get_or-set_other buckets place p new b
+        (λ k. false≢true (sym here ∙ eq-eqb place p (sym k))))
+        ∙ get_or_from_slice_get (set buckets place new) p b b there in
+        filed.filed p b (slice_get-get_or buckets p b inside ∙ ap Some kept)

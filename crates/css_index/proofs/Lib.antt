@@ -1,0 +1,10 @@
+mod FoundLemmas
+mod TruthLemmas
+mod KeptLemmas
+mod KeyedLemmas
+mod WordLemmas
+mod DistinctLemmas
+mod FileLemmas
+mod MatchLemmas
+pub mod WalkLemmas
+mod OpenLemmas

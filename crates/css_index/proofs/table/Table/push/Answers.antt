@@ -1,0 +1,26 @@
+use Rattle.std.proofs.Common.{rules, ◌≡◌, length, map, set, sym, ap, ◌∙◌, subst, arith}
+use Rattle.std.proofs.lemmas.Grind.{common_steps}
+use Rattle.css_index.specs.internal.Filed.{entry_of, AreFiled, place_by}
+use Rattle.css_index.proofs.FileLemmas.{filed_same}
+use Rattle.css_index.proofs.WalkLemmas.{filed_push}
+use Rattle.css_index.proofs.table.Table.push.Goals as goal
+
+pub invariant_of-self-in-Err : goal.invariant_of-self-in-Err
+invariant_of-self-in-Err c =
+    let entries = c.self.inside.entries.items in
+    let buckets = c.self.inside.buckets.items in
+    let back : c.pop.new.self.items ≡ entries = grind (arith, common_steps) in
+    subst (λ es. AreFiled (map entry_of es) (set buckets c.place_of-place.result c.push-2.new.self)) (sym back)
+    (filed_same (map entry_of entries) buckets c.place_of-place.result c.index_mut.result.now
+    c.push-2.new.self c.self.invariant (search rules) c.index_mut.ensures.value (search rules))
+
+pub invariant_of-self-in_default : goal.invariant_of-self-in_default
+invariant_of-self-in_default c =
+    let entries = c.self.inside.entries.items in
+    let buckets = c.self.inside.buckets.items in
+    let len : c.len.result ≡ length buckets = search rules in
+    subst (λ es. AreFiled (map entry_of es) (set buckets c.place_of-place.result c.push-2.new.self)) (sym c.in_ok-push.ensures.items)
+    (filed_push entries c.args.entry buckets c.place_of-place.result c.index_mut.result.now
+    c.push-2.new.self c.self.invariant
+    (c.place_of-place.ensures.value ∙ ap (λ n. place_by n c.args.entry.number) len)
+    (search rules) c.index_mut.ensures.value c.in_default.ensures.items)

@@ -1,0 +1,5 @@
+pub mod Reported
+pub mod KeyNumbers
+pub mod Found
+pub mod Walks
+pub mod internal

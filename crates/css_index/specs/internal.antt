@@ -1,0 +1,4 @@
+-- What contracts of private functions and proofs name, and no contract of a public call.
+pub mod Filed
+pub mod Candidates
+pub mod Walking

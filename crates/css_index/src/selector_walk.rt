@@ -1,0 +1,254 @@
+//! A walk along a page.
+ghost use Rattle.std.specs.Prelude.{◌≡◌, ◌↔◌, List, [], Some, Contains, IsTrue, IfOk, OnOk, OnErr, map};
+ghost use Rattle.std.specs.List.{All};
+ghost use Rattle.css_open_elements.specs.Opened.{IsOpen, IsOfLast, all_but_last};
+ghost use Rattle.css_selectors.specs.AncestorKeys.{ancestor_keys, parent_keys};
+ghost use Rattle.css_index.specs.Found.{AreAll, AreMatches};
+ghost use Rattle.css_index.specs.Walks.{AreNumbered, AreNumbersOf, AreNeeds, IsMore, IsKeptAt};
+ghost use Rattle.css_index.specs.Walks.{IsOpenTo};
+ghost use Rattle.css_index.specs.internal.Candidates.{PassesAt};
+ghost use Rattle.css_index.specs.internal.Walking.{need_of as need_view, IsTriedAt};
+
+use crate::selector_index::{SelectorIndex, selectors_of, sort_once};
+use crate::table::Table;
+use crate::{HasSelector, Keyed};
+use css_open_elements::OpenElements;
+use css_selectors::{Key, Selector};
+use std::alloc::{AllocError, Global};
+use std::marker::Model;
+
+/// The numbers of the keys that a selector needs above an element.
+#[derive(Drop)]
+pub(crate) struct Need {
+    /// Those of ancestors.
+    pub(crate) ancestors: Vec<usize>,
+    /// Those of the parent.
+    pub(crate) parent: Vec<usize>,
+}
+
+/// Returns the numbers of what a selector needs. What was in `keys` and `found` is dropped.
+fn need_of<'s>(
+    alloc: Global,
+    selector: &'s Selector<'_>,
+    needed: &mut Table<'s>,
+    keys: &mut Vec<Key<'s>>,
+    found: &mut Vec<usize>,
+) -> Result<Need, AllocError>
+    requires { AreNumbered needed.old }
+    ensures numbered { OnOk result (AreNumbered needed.new) }
+    ensures more { OnOk result (IsMore needed.old needed.new) }
+    ensures ancestors { IfOk result (λ need.
+        AreNumbersOf needed.new (ancestor_keys selector.now) need.ancestors.items) }
+    ensures parent { IfOk result (λ need.
+        AreNumbersOf needed.new (parent_keys selector.now) need.parent.items) }
+{
+    keys.clear();
+    selector.push_ancestor_keys(keys)?;
+    let mut ancestors = Vec::new(alloc);
+    needed.push_numbers(keys.as_slice(), found, &mut ancestors)?;
+    keys.clear();
+    selector.push_parent_keys(keys)?;
+    let mut parent = Vec::new(alloc);
+    needed.push_numbers(keys.as_slice(), found, &mut parent)?;
+    Ok(Need { ancestors, parent })
+}
+
+/// Returns the keys that selectors need above an element, and the numbers of what each needs.
+fn needs_of<'s>(
+    alloc: Global,
+    selectors: &[&'s Selector<'_>],
+) -> Result<(Table<'s>, Vec<Need>), AllocError>
+    ensures numbered { IfOk result (λ it. AreNumbered it.0) }
+    ensures needs { IfOk result (λ it. AreNeeds it.0 (map (λ s. s.now) selectors.now)
+        (map need_view it.1.items)) }
+{
+    let mut needed: Table<'s> = Table::empty(alloc, selectors.len().saturating_mul(2).max(1))?;
+    let mut needs: Vec<Need> = Vec::new(alloc);
+    let mut keys = Vec::new(alloc);
+    let mut found = Vec::new(alloc);
+    for selector in selectors {
+        let need = need_of(alloc, *selector, &mut needed, &mut keys, &mut found)?;
+        needs.push(need)?;
+    }
+    Ok((needed, needs))
+}
+
+/// Whether open elements have all of the numbers.
+fn are_open(numbers: &[usize], path: &OpenElements) -> bool
+    ensures { IsTrue result ↔ All (IsOpen path.now.opened) numbers.now }
+{
+    for number in numbers {
+        if !path.is_open(*number) {
+            return false;
+        }
+    }
+    true
+}
+
+/// Whether the element that was opened last has all of the numbers.
+fn are_of_last(numbers: &[usize], path: &OpenElements) -> bool
+    ensures { IsTrue result ↔ All (IsOfLast path.now.opened) numbers.now }
+{
+    for number in numbers {
+        if !path.is_of_last(*number) {
+            return false;
+        }
+    }
+    true
+}
+
+/// An index of selectors, and the elements that are open while a page is walked in order: those of
+/// which a descendant is matched next.
+///
+/// ```text
+/// walk.matching(&element, &mut indices)?;
+/// walk.enter(&element)?;
+/// for child in children { .. }
+/// walk.leave();
+/// ```
+#[derive(Drop)]
+pub struct SelectorWalk<'s, 'a> {
+    /// The index.
+    index: SelectorIndex<'s, 'a>,
+    /// The keys that selectors need above an element, each with a number.
+    needed: Table<'s>,
+    /// For each selector, the numbers of those that it needs.
+    needs: Vec<Need>,
+    /// The numbers that open elements have.
+    path: OpenElements,
+    /// Those of the element that is entered. The list is reused.
+    found: Vec<usize>,
+}
+
+impl<'s, 'a> Model for SelectorWalk<'s, 'a> {
+    ghost use Rattle.std.specs.Prelude.{map};
+    ghost use Rattle.std.specs.Coded.{Coded, codes};
+    ghost use Rattle.css_selectors.specs.Codes.{condition_code};
+    ghost use Rattle.css_selectors.specs.Components.{Simple};
+    ghost use Rattle.css_index.specs.Walks.{Walk};
+    ghost use Rattle.css_index.specs.internal.Walking.{need_of, IsWalk};
+
+    ghost Value = { Walk };
+
+    ghost coded = { let simples : Coded Simple = Prim.hlevel codes in
+        Prim.hlevel (codes, condition_code simples) };
+
+    ghost view = { λ walk. record {
+      selectors = walk.index;
+      needed = walk.needed;
+      needs = map need_of walk.needs.items;
+      opened = walk.path.opened;
+    } };
+
+    ghost invariant = { λ walk. IsWalk walk.index walk.needed (map need_of walk.needs.items)
+        walk.path.size };
+}
+
+impl<'s, 'a> SelectorWalk<'s, 'a> {
+    /// Returns an index of the selectors of rules, with no element open. Fails only if an allocation
+    /// fails.
+    pub fn new<T: HasSelector<'a>>(
+        alloc: Global,
+        rules: &'s [T],
+    ) -> Result<SelectorWalk<'s, 'a>, AllocError>
+        ensures selectors { IfOk result (λ walk. walk.selectors ≡ map T.selector_in rules.now) }
+        ensures none { IfOk result (λ walk. walk.opened ≡ []) }
+    {
+        let selectors = selectors_of(alloc, rules)?;
+        let (needed, needs) = needs_of(alloc, selectors.as_slice())?;
+        let path = OpenElements::new(alloc, needed.len())?;
+        let index = SelectorIndex::from_selectors(alloc, selectors)?;
+        Ok(SelectorWalk {
+            index,
+            needed,
+            needs,
+            path,
+            found: Vec::new(alloc),
+        })
+    }
+
+    /// Opens an element, whose parent is the one that was opened last. After an error the walk is as
+    /// before.
+    pub fn enter<E: Keyed>(&mut self, element: &E) -> Result<(), AllocError>
+        ensures selectors { self.new.selectors ≡ self.old.selectors }
+        ensures opened { OnOk result
+            (IsOpenTo E.document E.node E.reported self.old
+            (E.document.parent (E.node element.now))
+            → IsOpenTo E.document E.node E.reported self.new (Some (E.node element.now))) }
+        ensures err { OnErr result (self.new ≡ self.old) }
+    {
+        self.found.clear();
+        self.needed.push_keyed(element, &mut self.found)?;
+        self.path.enter(&self.found)?;
+        Ok(())
+    }
+
+    /// Closes the element that was opened last, if one is open.
+    pub fn leave(&mut self)
+        ensures selectors { self.new.selectors ≡ self.old.selectors }
+        ensures needed { self.new.needed ≡ self.old.needed }
+        ensures needs { self.new.needs ≡ self.old.needs }
+        ensures opened { self.new.opened ≡ all_but_last self.old.opened }
+    {
+        self.path.leave();
+    }
+
+    /// Whether open elements have all that a selector needs.
+    fn is_kept(&self, index: usize) -> bool
+        ensures { IsTrue result ↔ IsKeptAt self.now index }
+    {
+        match self.needs.get(index) {
+            Some(need) => are_open(&need.ancestors, &self.path)
+                && are_of_last(&need.parent, &self.path),
+            None => false,
+        }
+    }
+
+    /// Whether there is a selector at the index, and it requires nothing but its keys or matches.
+    fn passes_at<E: Keyed>(&self, index: usize, element: &E) -> bool
+        ensures { IsTrue result
+            ↔ PassesAt E.document (E.node element.now) self.now.selectors index }
+    {
+        self.index.passes_at(index, element)
+    }
+
+    /// Returns how many selectors there are, and says that their numbers are known.
+    fn count(&self) -> usize
+        ensures needs { AreNeeds self.now.needed self.now.selectors self.now.needs }
+    {
+        self.needs.len()
+    }
+
+    /// Finds the indices of the selectors that are tried, in order: those of which the element reports
+    /// a key, and of which open elements report all that they need above an element.
+    pub fn tried<E: Keyed>(&self, element: &E, indices: &mut Vec<usize>) -> Result<(), AllocError>
+        ensures tried { OnOk result (AreAll (IsTriedAt E.document (E.node element.now)
+            (E.reported element.now) self.now) indices.new.items) }
+        ensures err { OnErr result (indices.new.items ≡ []) }
+    {
+        self.index.gather(element, indices)?;
+        indices.retain(|index| self.is_kept(*index));
+        sort_once(indices);
+        Ok(())
+    }
+
+    /// Does what [`SelectorIndex::matching`] does for an element whose ancestors are the open
+    /// elements. Only a selector is tested of which open elements report all keys that it needs of
+    /// ancestors, and the parent those that it needs of the parent.
+    pub fn matching<E: Keyed>(
+        &self,
+        element: &E,
+        indices: &mut Vec<usize>,
+    ) -> Result<(), AllocError>
+        requires { IsOpenTo E.document E.node E.reported self.now
+            (E.document.parent (E.node element.now)) }
+        ensures matches { OnOk result
+            (AreMatches E.document (E.node element.now) self.now.selectors indices.new.items) }
+        ensures err { OnErr result (indices.new.items ≡ []) }
+    {
+        let _count = self.count();
+        self.tried(element, indices)?;
+        indices.retain(|index| self.passes_at(*index, element));
+        Ok(())
+    }
+}

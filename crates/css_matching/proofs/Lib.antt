@@ -1,0 +1,6 @@
+pub mod Chains
+pub mod Steps
+pub mod Counting
+pub mod Placing
+pub mod HashLemmas
+pub mod Charging

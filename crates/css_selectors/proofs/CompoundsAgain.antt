@@ -1,0 +1,539 @@
+-- Printed compound selectors, and lists of complex ones, read back.
+-- Serves `printing_laws::printing_law`.
+use Rattle.std.proofs.Common.{◌≡◌, ℕ, zero, suc, ◌≤◌, ◌⊎◌, inl, inr, Bool, true, false, List, [], ◌∷◌, ◌++◌, None, Some, All, length, flat_map, append_assoc, arith, refl, sym, ap, ◌∙◌, subst, eqb-true}
+use Rattle.std.specs.Prelude.{codes, if◌then◌else◌}
+use Rattle.std.proofs.lemmas.List.Elements.{All-cons, All-head, All-tail}
+use Rattle.css_text.specs.AsciiBytes.{asterisk, close_parenthesis, colon, comma, greater_than_sign, open_parenthesis, plus_sign, space, tilde}
+use Rattle.css_text.specs.Bytes.{starts_by, starts}
+use Rattle.css_text.specs.Comments.{opens_comment}
+use Rattle.css_text.proofs.bytes.GapLemmas.{no_gap-byte, NoGap}
+use Rattle.css_matching.specs.declared.Combinator.{Combinator}
+use Rattle.css_matching.specs.declared.Combinator.TheVariants.{Descendant, Child, Adjacent, Sibling}
+use Rattle.css_selectors.specs.declared.components.ListKind.{ListKind}
+use Rattle.css_selectors.specs.declared.components.ListKind.TheVariants.{Not, Is, Where}
+use Rattle.css_selectors.specs.Components.{Simple, Condition, Selectors, Part, selectors_from}
+use Rattle.css_selectors.specs.Components.Simple.{universal, type_name, id, class, has_attribute, attribute, structure, language, state}
+use Rattle.css_selectors.specs.Components.Condition.{simple, negation, any_of, where_any}
+use Rattle.css_selectors.specs.Readings.{Reading, got, refused, follow, give, ◌>>=◌, ◌>>◌, Step, item, none, stop, as_item, with_first, items}
+use Rattle.css_selectors.specs.Grammar.{gap, begins_compound, closing, one_more, list_kind, function_named, with_argument, type_selector, next_simple, after_type, some_of, Finder, ListReader, compound, after_gap, listed, begins_pseudo_class, simple_item, condition_here, condition_by, too_deep, next_condition, deepest, after_type_name, some_or_element, conditions, CompoundReader, sign_combinator, first_sign, joined_by, by_sign, part_after, joined_compound, next_part_in, complex, next_complex, complex_list, may_join}
+use Rattle.css_selectors.specs.Printing.{identifier_text, further_text, list_text, condition_text, selectors_text, combinator_text, part_text, parts_text}
+use Rattle.css_selectors.specs.WellFormed.{IsName, IsFurtherCondition, IsFirstCondition, IsList, AreConditions}
+use Rattle.css_selectors.proofs.GapLemmas.{no_comments}
+use Rattle.css_selectors.proofs.SpelledAgain.{name-again}
+use Rattle.css_selectors.proofs.NumbersAgain.{no_gap, one_blank}
+use Rattle.css_selectors.proofs.NestedLists.{selectors_in, selectors_from-in, row_text, rows_text, IsRow, IsLink, IsChain, AreChains, chains_out}
+use Rattle.css_selectors.proofs.SimplesAgain.{EachReads, items-again, ends, ends_name, begins_solid, differ, name_other, name_compound, named_text, is_start, by_start, further_starts, call-again, further-again}
+
+-- ---- how conditions begin
+
+-- it begins with the sign of a condition that may follow others
+abbrev Starts : List ℕ → Type 0
+Starts text = starts_by is_start text ≡ true
+
+start_ends : (text rest : List ℕ) → Starts text → ends (text ++ rest) ≡ true
+start_ends [] rest h = absurd (cc)
+start_ends (b ∷ text) rest h =
+    by_start (λ d. ends (d ∷ (text ++ rest)) ≡ true) refl refl refl refl b h
+
+start_some : (text : List ℕ) → Starts text → 1 ≤ length text
+start_some [] h = absurd (cc)
+start_some (b ∷ text) h = omega arith
+
+-- no type selector is where a sign is
+start_untyped : (text rest : List ℕ) → Starts text → type_selector (text ++ rest) ≡ none
+unfolding type_selector
+start_untyped [] rest h = absurd (cc)
+start_untyped (b ∷ text) rest h =
+    by_start (λ d. type_selector (d ∷ (text ++ rest)) ≡ none) refl refl refl refl b h
+
+start_begins : (text rest : List ℕ) → Starts text → starts_by begins_compound (text ++ rest) ≡ true
+start_begins [] rest h = absurd (cc)
+start_begins (b ∷ text) rest h = by_start (λ d. begins_compound d ≡ true) refl refl refl refl b h
+
+condition_starts : (n : ℕ) (c : Condition) → IsFurtherCondition n c → Starts (condition_text c)
+condition_starts n (simple s) w = further_starts s w
+condition_starts n (negation _) w = refl
+condition_starts n (any_of _) w = refl
+condition_starts n (where_any _) w = refl
+
+-- `*` or a type
+star-again : (rest : List ℕ) → type_selector (asterisk ∷ rest) ≡ item universal rest
+unfolding type_selector
+star-again rest = refl
+
+type-again : (n rest : List ℕ) → IsName n → ends rest ≡ true
+    → type_selector (identifier_text n ++ rest) ≡ item (type_name n) rest
+unfolding type_selector
+type-again n rest some h =
+    let begins = named_text n rest some h in
+    let star : starts asterisk (identifier_text n ++ rest) ≡ false =
+    name_other asterisk (identifier_text n ++ rest) begins refl in
+    let reads = name-again n rest some (ends_name rest h) in
+    rw (star, begins, reads) refl
+
+-- the condition is `*` or a type, which is read
+record IsTyped (c : Condition) (rest : List ℕ) : Type 0 where
+  pub value : Simple
+  pub is : simple value ≡ c
+  pub reads : type_selector (condition_text c ++ rest) ≡ item value rest
+  pub begins : starts_by begins_compound (condition_text c ++ rest) ≡ true
+
+-- a condition that may be the first is a type, or may follow others
+first_kind : (n : ℕ) (c : Condition) (rest : List ℕ) → IsFirstCondition n c → ends rest ≡ true
+    → IsTyped c rest ⊎ IsFurtherCondition n c
+first_kind n (simple universal) rest w h =
+    inl (record { value = universal; is = refl; reads = star-again rest; begins = refl })
+first_kind n (simple (type_name name)) rest w h =
+    inl (record {
+      value = type_name name;
+      is = refl;
+      reads = type-again name rest w h;
+      begins = name_compound (identifier_text name ++ rest) (named_text name rest w h);
+    })
+first_kind n (simple (id name)) rest w h = inr w
+first_kind n (simple (class name)) rest w h = inr w
+first_kind n (simple (has_attribute name)) rest w h = inr w
+first_kind n (simple (attribute name c v ignores)) rest w h = inr w
+first_kind n (simple (structure s)) rest w h = inr w
+first_kind n (simple (language ranges)) rest w h = inr w
+first_kind n (simple (state name)) rest w h = inr w
+first_kind n (negation _) rest w h = inr w
+first_kind n (any_of _) rest w h = inr w
+first_kind n (where_any _) rest w h = inr w
+
+-- ---- compound selectors, at a depth
+
+-- further conditions end what is before them
+conditions_end : (n : ℕ) (cs : List Condition) (rest : List ℕ) → All (IsFurtherCondition n) cs
+    → ends rest ≡ true → ends (row_text cs ++ rest) ≡ true
+conditions_end n [] rest all h = h
+conditions_end n (c ∷ cs) rest all h =
+    ap ends (append_assoc (condition_text c) (row_text cs) rest)
+    ∙ start_ends (condition_text c) (row_text cs ++ rest)
+    (condition_starts n c (All-head (IsFurtherCondition n) c cs all))
+
+row_begins : (n : ℕ) (cs : List Condition) (rest : List ℕ) → IsRow n cs → ends rest ≡ true
+    → starts_by begins_compound (row_text cs ++ rest) ≡ true
+row_begins n [] rest w h = absurd w
+row_begins n (c ∷ cs) rest w h =
+    ap (starts_by begins_compound) (append_assoc (condition_text c) (row_text cs) rest)
+    ∙ by (first_kind n c (row_text cs ++ rest) w.0 (conditions_end n cs rest w.1 h))
+  where
+    by : IsTyped c (row_text cs ++ rest) ⊎ IsFurtherCondition n c
+        → starts_by begins_compound (condition_text c ++ (row_text cs ++ rest)) ≡ true
+    by (inl t) = t.begins
+    by (inr f) = start_begins (condition_text c) (row_text cs ++ rest) (condition_starts n c f)
+
+-- what is read after a type or without one; `accept` judges conditions that are read without one
+abbrev pub Accept : Type 0
+Accept = List ℕ → Reading (List Condition) → Reading (List Condition)
+
+abbrev pub row_after : Accept → Finder → List ℕ → Step Simple → Reading (List Condition)
+row_after accept next text (item s rest) = with_first (simple s) (items next rest)
+row_after accept next text none = accept text (items next text)
+row_after accept next text (stop why rest) = refused why rest
+
+pub some_after : (next : Finder) (text : List ℕ) (step : Step Simple)
+    → after_type next text step ≡ row_after some_of next text step
+some_after next text (item s rest) = refl
+some_after next text none = refl
+some_after next text (stop why rest) = refl
+
+pub some_or_element_after : (text : List ℕ) (step : Step Simple)
+    → after_type_name text step ≡ row_after some_or_element (next_condition deepest) text step
+some_or_element_after text (item s rest) = refl
+some_or_element_after text none = refl
+some_or_element_after text (stop why rest) = refl
+
+-- a further condition is read before what ends it
+abbrev ReadsFurther : ℕ → Type 0
+ReadsFurther n = (c : Condition) (rest : List ℕ) → IsFurtherCondition n c → ends rest ≡ true
+    → next_condition n (condition_text c ++ rest) ≡ item c rest
+
+-- the conditions of a compound selector are read before what ends them
+module _ (n : ℕ) (reads : ReadsFurther n) where
+  each_condition : (cs : List Condition) (rest : List ℕ) → All (IsFurtherCondition n) cs
+      → ends rest ≡ true → next_condition n rest ≡ none
+      → EachReads (next_condition n) condition_text cs rest
+  each_condition [] rest all h stops = stops
+  each_condition (c ∷ cs) rest all h stops =
+      let w = All-head (IsFurtherCondition n) c cs all in
+      let more = All-tail (IsFurtherCondition n) c cs all in (
+        start_some (condition_text c) (condition_starts n c w),
+        reads c (row_text cs ++ rest) w (conditions_end n cs rest more h),
+        each_condition cs rest more h stops,
+      )
+
+  row-again : (accept : Accept)
+      → ((text : List ℕ) (c : Condition) (cs : List Condition) (rest : List ℕ)
+      → accept text (got (c ∷ cs) rest) ≡ got (c ∷ cs) rest)
+      → (cs : List Condition) (rest : List ℕ) → IsRow n cs → ends rest ≡ true
+      → next_condition n rest ≡ none
+      → row_after accept (next_condition n) (row_text cs ++ rest)
+      (type_selector (row_text cs ++ rest))
+      ≡ got cs rest
+  row-again accept accepts [] rest w h stops = absurd w
+  row-again accept accepts (c ∷ cs) rest w h stops =
+      ap (λ l. row_after accept (next_condition n) l (type_selector l)) joined
+      ∙ by (first_kind n c after w.0 (conditions_end n cs rest w.1 h))
+    where
+      after : List ℕ
+      after = row_text cs ++ rest
+
+      text : List ℕ
+      text = condition_text c ++ after
+
+      joined : row_text (c ∷ cs) ++ rest ≡ text
+      joined = append_assoc (condition_text c) (row_text cs) rest
+
+      by : IsTyped c after ⊎ IsFurtherCondition n c
+          → row_after accept (next_condition n) text (type_selector text) ≡ got (c ∷ cs) rest
+      by (inl t) =
+          ap (row_after accept (next_condition n) text) t.reads
+          ∙ ap (with_first (simple t.value))
+          (items-again (next_condition n) condition_text cs rest
+          (each_condition cs rest w.1 h stops))
+          ∙ ap (λ d. got (d ∷ cs) rest) t.is
+      by (inr f) =
+          ap (row_after accept (next_condition n) text)
+          (start_untyped (condition_text c) after (condition_starts n c f))
+          ∙ ap (accept text) (ap (items (next_condition n)) (sym joined)
+          ∙ items-again (next_condition n) condition_text (c ∷ cs) rest
+          (each_condition (c ∷ cs) rest (All-cons (IsFurtherCondition n) c cs f w.1) h stops))
+          ∙ accepts text c cs rest
+
+  compound-again : (cs : List Condition) (rest : List ℕ) → IsRow n cs → ends rest ≡ true
+      → next_condition n rest ≡ none
+      → compound (next_condition n) (row_text cs ++ rest) ≡ got cs rest
+  unfolding compound
+  compound-again cs rest w h stops =
+      some_after (next_condition n) (row_text cs ++ rest) (type_selector (row_text cs ++ rest))
+      ∙ row-again some_of (λ text c ds end. refl) cs rest w h stops
+
+-- no condition is where neither a pseudo-class nor another simple selector begins
+pub none_read : (n : ℕ) (text : List ℕ) → opens_comment text ≡ false
+    → begins_pseudo_class text ≡ false → next_simple text ≡ none → next_condition n text ≡ none
+unfolding next_condition
+none_read n text c e f = by n
+  where
+    here : (list : ListReader) → condition_here list text ≡ none
+    here list = rw e (ap simple_item f)
+
+    other : (list : ListReader) → condition_by list text ≡ none
+    other list = ap (condition_here list) (no_comments text c) ∙ here list
+
+    by : (n : ℕ) → next_condition n text ≡ none
+    by zero = other too_deep
+    by (suc n) = other (complex_list (may_join n) (next_condition n))
+
+-- ---- compound selectors after others
+
+-- a compound selector after another, by what reads it
+pub part-again : (one : CompoundReader) (c : Combinator) (cs : List Condition) (rest : List ℕ)
+    → starts_by begins_compound (row_text cs ++ rest) ≡ true
+    → one (row_text cs ++ rest) ≡ got cs rest
+    → part_after one (gap ((combinator_text c ++ row_text cs) ++ rest)) ≡ item (joined_by c cs) rest
+part-again one c cs rest begins reads = by c
+  where
+    text : List ℕ
+    text = row_text cs ++ rest
+
+    solid : NoGap text
+    solid = begins_solid text begins
+
+    no_sign : (l : List ℕ) → starts_by begins_compound l ≡ true → first_sign l ≡ None
+    no_sign [] h = refl
+    no_sign (b ∷ l) h =
+        rw (
+          differ begins_compound b greater_than_sign h refl,
+          differ begins_compound b plus_sign h refl,
+          differ begins_compound b tilde h refl,
+        ) refl
+
+    signed : (b : ℕ) (k : Combinator) → NoGap (b ∷ space ∷ text) → sign_combinator b ≡ Some k
+        → part_after one (gap (space ∷ b ∷ space ∷ text)) ≡ item (joined_by k cs) rest
+    signed b k calm is =
+        ap (part_after one) (one_blank (b ∷ space ∷ text) calm)
+        ∙ ap (by_sign one true (b ∷ space ∷ text)) is
+        ∙ ap (λ r. as_item (joined_by k) (follow r (λ x. one))) (one_blank text solid)
+        ∙ ap (as_item (joined_by k)) reads
+
+    by : (k : Combinator) → part_after one (gap ((combinator_text k ++ row_text cs) ++ rest))
+        ≡ item (joined_by k cs) rest
+    by Descendant =
+        ap (part_after one) (one_blank text solid)
+        ∙ ap (by_sign one true text) (no_sign text begins)
+        ∙ ap (λ (t : Bool). if t then as_item (joined_by Descendant) (one text) else none) begins
+        ∙ ap (as_item (joined_by Descendant)) reads
+    by Child = signed greater_than_sign Child (no_gap-byte greater_than_sign (space ∷ text) refl refl) refl
+    by Adjacent = signed plus_sign Adjacent (no_gap-byte plus_sign (space ∷ text) refl refl) refl
+    by Sibling = signed tilde Sibling (no_gap-byte tilde (space ∷ text) refl refl) refl
+
+pub part_some : (p : Part) → 1 ≤ length (part_text p)
+part_some p = by p.combinator
+  where
+    by : (c : Combinator) → 1 ≤ length (combinator_text c ++ row_text p.conditions)
+    by Descendant = omega arith
+    by Child = omega arith
+    by Adjacent = omega arith
+    by Sibling = omega arith
+
+-- none is before a byte that is neither a gap nor a sign
+pub no_part_at : (one : CompoundReader) (b : ℕ) (rest : List ℕ) → NoGap (b ∷ rest)
+    → sign_combinator b ≡ None → part_after one (gap (b ∷ rest)) ≡ none
+no_part_at one b rest calm is =
+    ap (part_after one) (no_gap (b ∷ rest) calm) ∙ ap (by_sign one false (b ∷ rest)) is
+
+-- ---- complex selectors in a list
+
+-- what follows a compound selector or a list's complex selector
+record Stops (n : ℕ) (joins : Bool) (rest : List ℕ) : Type 0 where
+  pub ended : ends rest ≡ true
+  pub last : next_condition n rest ≡ none
+  pub no_part : next_part_in joins (next_condition n) rest ≡ none
+
+-- what follows a compound selector of it
+links_follow : (n : ℕ) (joins : Bool) (ps : List Part) (rest : List ℕ) → Stops n joins rest
+    → (ends (flat_map part_text ps ++ rest) ≡ true)
+    × (next_condition n (flat_map part_text ps ++ rest) ≡ none)
+unfolding next_simple
+links_follow n joins [] rest stops = (stops.ended, stops.last)
+links_follow n joins (p ∷ ps) rest stops = by p.combinator
+  where
+    by : (c : Combinator)
+        → (ends (((combinator_text c ++ row_text p.conditions) ++ flat_map part_text ps) ++ rest)
+        ≡ true)
+        × (next_condition n
+        (((combinator_text c ++ row_text p.conditions) ++ flat_map part_text ps) ++ rest) ≡ none)
+    by Descendant = (refl, none_read n _ refl refl refl)
+    by Child = (refl, none_read n _ refl refl refl)
+    by Adjacent = (refl, none_read n _ refl refl refl)
+    by Sibling = (refl, none_read n _ refl refl refl)
+
+module _ (n : ℕ) (reads : ReadsFurther n) where
+  link_next : (p : Part) (rest : List ℕ) → IsLink n p → ends rest ≡ true
+      → next_condition n rest ≡ none
+      → next_part_in (may_join n) (next_condition n) (part_text p ++ rest) ≡ item p rest
+  unfolding next_part_in joined_compound
+  link_next p rest w h stops =
+      ap (λ j. next_part_in j (next_condition n) (part_text p ++ rest)) w.0
+      ∙ part-again (compound (next_condition n)) p.combinator p.conditions rest
+      (row_begins n p.conditions rest w.1 h)
+      (compound-again n reads p.conditions rest w.1 h stops)
+
+  each_link : (ps : List Part) (rest : List ℕ) → All (IsLink n) ps → Stops n (may_join n) rest
+      → EachReads (next_part_in (may_join n) (next_condition n)) part_text ps rest
+  each_link [] rest all stops = stops.no_part
+  each_link (p ∷ ps) rest all stops =
+      let follows = links_follow n (may_join n) ps rest stops in (
+        part_some p,
+        link_next p _ (All-head (IsLink n) p ps all) follows.0 follows.1,
+        each_link ps rest (All-tail (IsLink n) p ps all) stops,
+      )
+
+  chain_begins : (ps : List Part) (rest : List ℕ) → IsChain n ps → Stops n (may_join n) rest
+      → starts_by begins_compound (parts_text ps ++ rest) ≡ true
+  chain_begins [] rest w stops = absurd w
+  chain_begins (p ∷ ps) rest w stops =
+      let follows = links_follow n (may_join n) ps rest stops in
+      ap (starts_by begins_compound)
+      (append_assoc (row_text p.conditions) (flat_map part_text ps) rest)
+      ∙ row_begins n p.conditions (flat_map part_text ps ++ rest) w.1 follows.0
+
+  complex-again : (ps : List Part) (rest : List ℕ) → IsChain n ps → Stops n (may_join n) rest
+      → complex (may_join n) (next_condition n) (parts_text ps ++ rest) ≡ got ps rest
+  unfolding complex
+  complex-again [] rest w stops = absurd w
+  complex-again (p ∷ ps) rest w stops =
+      let next : List ℕ → Step Part = next_part_in (may_join n) (next_condition n) in
+      let others : List ℕ = flat_map part_text ps ++ rest in
+      let follows = links_follow n (may_join n) ps rest stops in
+      ap (complex (may_join n) (next_condition n))
+      (append_assoc (row_text p.conditions) (flat_map part_text ps) rest)
+      ∙ ap (λ r. follow r (λ first. one_more (joined_by Descendant first) (items next)))
+      (compound-again n reads p.conditions others w.1 follows.0 follows.1)
+      ∙ ap (with_first (joined_by Descendant p.conditions))
+      (items-again next part_text ps rest (each_link ps rest w.2 stops))
+      ∙ ap (λ c. got (joined_by c p.conditions ∷ ps) rest) (sym w.0)
+
+  -- a further complex selector of a list
+  complex_next : (ps : List Part) (rest : List ℕ) → IsChain n ps → Stops n (may_join n) rest
+      → next_complex (may_join n) (next_condition n) (further_text parts_text ps ++ rest)
+      ≡ item ps rest
+  unfolding next_complex
+  complex_next ps rest w stops =
+      let text : List ℕ = parts_text ps ++ rest in
+      ap (after_gap (may_join n) (next_condition n))
+      (no_gap (comma ∷ space ∷ text) (no_gap-byte comma (space ∷ text) refl refl))
+      ∙ ap (λ r. as_item (λ c. c) (follow r (λ x. complex (may_join n) (next_condition n))))
+      (one_blank text (begins_solid text (chain_begins ps rest w stops)))
+      ∙ ap (as_item (λ c. c)) (complex-again ps rest w stops)
+
+complex_end : (joins : Bool) (next : Finder) (rest : List ℕ)
+    → next_complex joins next (close_parenthesis ∷ rest) ≡ none
+unfolding next_complex
+complex_end joins next rest =
+    ap (after_gap joins next)
+    (no_gap (close_parenthesis ∷ rest) (no_gap-byte close_parenthesis rest refl refl))
+
+-- what follows a complex selector of a list
+list_stops : (n : ℕ) (joins : Bool) (ss : List (List Part)) (rest : List ℕ)
+    → Stops n joins (flat_map (further_text parts_text) ss ++ (close_parenthesis ∷ rest))
+unfolding next_simple next_part_in
+list_stops n joins [] rest = record {
+  ended = refl;
+  last = none_read n (close_parenthesis ∷ rest) refl refl refl;
+  no_part = no_part_at (joined_compound joins (next_condition n)) close_parenthesis rest
+      (no_gap-byte close_parenthesis rest refl refl) refl;
+}
+list_stops n joins (s ∷ ss) rest = record {
+  ended = refl;
+  last = none_read n (comma ∷ _) refl refl refl;
+  no_part = no_part_at (joined_compound joins (next_condition n)) comma _
+      (no_gap-byte comma _ refl refl) refl;
+}
+
+-- ---- lists
+
+module _ (n : ℕ) (reads : ReadsFurther n) where
+  each_complex : (ss : List (List Part)) (rest : List ℕ) → All (IsChain n) ss
+      → EachReads (next_complex (may_join n) (next_condition n)) (further_text parts_text) ss
+      (close_parenthesis ∷ rest)
+  each_complex [] rest all = complex_end (may_join n) (next_condition n) rest
+  each_complex (s ∷ ss) rest all = (
+    omega arith,
+    complex_next n reads s _ (All-head (IsChain n) s ss all) (list_stops n (may_join n) ss rest),
+    each_complex ss rest (All-tail (IsChain n) s ss all),
+  )
+
+  complexes-again : (opened rest : List ℕ) (ss : List (List Part)) → AreChains n ss
+      → complex_list (may_join n) (next_condition n) opened
+      (list_text parts_text ss ++ (close_parenthesis ∷ rest))
+      ≡ got ss rest
+  unfolding complex_list
+  complexes-again opened rest [] w = absurd (omega (arith, w.0))
+  complexes-again opened rest (s ∷ ss) w =
+      let joins : Bool = may_join n in
+      let next : Finder = next_condition n in
+      let end : List ℕ = close_parenthesis ∷ rest in
+      let others : List ℕ = flat_map (further_text parts_text) ss ++ end in
+      let one = All-head (IsChain n) s ss w.1 in
+      let stops = list_stops n joins ss rest in
+      ap (complex_list joins next opened)
+      (append_assoc (parts_text s) (flat_map (further_text parts_text) ss) end)
+      ∙ ap (λ r. follow r (λ x. complex joins next >>= λ first.
+      one_more first (items (next_complex joins next)) >>= λ all.
+      gap >> (closing close_parenthesis >> give all)))
+      (no_gap (parts_text s ++ others)
+      (begins_solid (parts_text s ++ others) (chain_begins n reads s others one stops)))
+      ∙ ap (λ r. follow r (λ first. one_more first (items (next_complex joins next)) >>= λ all.
+      gap >> (closing close_parenthesis >> give all)))
+      (complex-again n reads s others one stops)
+      ∙ ap (λ r. follow (with_first s r) (λ all.
+      gap >> (closing close_parenthesis >> give all)))
+      (items-again (next_complex joins next) (further_text parts_text) ss end
+      (each_complex ss rest (All-tail (IsChain n) s ss w.1)))
+      ∙ ap (λ r. follow r (λ x. closing close_parenthesis >> give (s ∷ ss)))
+      (no_gap end (no_gap-byte close_parenthesis rest refl refl))
+
+-- ---- conditions
+
+-- a list is read, up to its closing parenthesis
+abbrev ReadsLists : ℕ → ListReader → Type 0
+ReadsLists n list = (opened rest : List ℕ) (selectors : Selectors) → IsList n selectors
+    → list opened (selectors_text selectors ++ (close_parenthesis ∷ rest))
+    ≡ got (selectors_in selectors) rest
+
+module _ (n : ℕ) (list : ListReader) (reads : ReadsLists n list) where
+  list-again : (name rest : List ℕ) (kind : ListKind) (selectors : Selectors) → IsName name
+      → list_kind name ≡ Some kind → IsList n selectors
+      → condition_by list (colon ∷ (identifier_text name ++ (open_parenthesis ∷
+      ((selectors_text selectors ++ (close_parenthesis ∷ [])) ++ rest))))
+      ≡ item (listed kind (selectors_in selectors)) rest
+  list-again name rest kind selectors some is w =
+      call-again list name argument rest (listed kind (selectors_in selectors)) some (λ opened.
+      ap (λ k. with_argument list opened k (function_named name) argument) is
+      ∙ ap (with_argument list opened (Some kind) (function_named name))
+      (append_assoc (selectors_text selectors) (close_parenthesis ∷ []) rest)
+      ∙ ap (λ r. follow r (λ all. give (listed kind all))) (reads opened rest selectors w))
+    where
+      argument : List ℕ
+      argument = (selectors_text selectors ++ (close_parenthesis ∷ [])) ++ rest
+
+  condition_by-again : (c : Condition) (rest : List ℕ) → IsFurtherCondition n c
+      → ends rest ≡ true → condition_by list (condition_text c ++ rest) ≡ item c rest
+  condition_by-again (simple s) rest w h = further-again list s rest w h
+  condition_by-again (negation selectors) rest w h =
+      list-again (codes "not") rest Not selectors (omega arith) refl w
+      ∙ ap (λ cs. item (negation cs) rest) (selectors_from-in selectors)
+  condition_by-again (any_of selectors) rest w h =
+      list-again (codes "is") rest Is selectors (omega arith) refl w
+      ∙ ap (λ cs. item (any_of cs) rest) (selectors_from-in selectors)
+  condition_by-again (where_any selectors) rest w h =
+      list-again (codes "where") rest Where selectors (omega arith) refl w
+      ∙ ap (λ cs. item (where_any cs) rest) (selectors_from-in selectors)
+
+complex_list-again : (n : ℕ) → ReadsFurther n
+    → ReadsLists (suc n) (complex_list (may_join n) (next_condition n))
+complex_list-again n reads opened rest selectors w =
+    let ss : List (List Part) = selectors_in selectors in
+    let same : selectors ≡ selectors_from ss = sym (selectors_from-in selectors) in
+    ap (λ l. complex_list (may_join n) (next_condition n) opened (l ++ (close_parenthesis ∷ rest)))
+    (ap selectors_text same ∙ rows_text ss)
+    ∙ complexes-again n reads opened rest ss (chains_out n ss (subst (IsList (suc n)) same w))
+
+pub condition-again : (n : ℕ) → ReadsFurther n
+unfolding next_condition
+condition-again zero c rest w h =
+    condition_by-again zero too_deep (λ opened end selectors v. absurd v) c rest w h
+condition-again (suc n) c rest w h =
+    condition_by-again (suc n) (complex_list (may_join n) (next_condition n))
+    (complex_list-again n (condition-again n)) c rest w h
+
+-- ---- the compound selectors of a selector
+
+-- what follows the conditions of a compound selector
+pub record Follows (before_element : Bool) (rest : List ℕ) : Type 0 where
+  pub ended : ends rest ≡ true
+  pub last : next_condition deepest rest ≡ none
+  pub element : before_element ≡ true → starts colon rest ≡ true
+
+-- no compound selector is before a pseudo-element
+no_conditions : (rest : List ℕ) → next_condition deepest rest ≡ none → starts colon rest ≡ true
+    → (conditions rest ≡ got [] rest) × (starts_by begins_compound rest ≡ true)
+unfolding conditions
+no_conditions [] stops h = absurd (cc)
+no_conditions (b ∷ rest) stops h =
+    let is : b ≡ colon = eqb-true b colon h in
+    let untyped : type_selector (b ∷ rest) ≡ none =
+    start_untyped (b ∷ []) rest (ap is_start is) in (
+      ap (after_type_name (b ∷ rest)) untyped
+          ∙ ap (some_or_element (b ∷ rest))
+          (items-again (next_condition deepest) condition_text [] (b ∷ rest) stops)
+          ∙ ap (λ (t : Bool). if t then got [] (b ∷ rest)
+          else some_of (b ∷ rest) (got [] (b ∷ rest))) h,
+      ap begins_compound is,
+    )
+
+element_accepts : (text : List ℕ) (c : Condition) (cs : List Condition) (rest : List ℕ)
+    → some_or_element text (got (c ∷ cs) rest) ≡ got (c ∷ cs) rest
+element_accepts text c cs rest = by (starts colon text)
+  where
+    by : (t : Bool) → (if t then got (c ∷ cs) rest else some_of text (got (c ∷ cs) rest))
+        ≡ got (c ∷ cs) rest
+    by true = refl
+    by false = refl
+
+pub conditions-again : (e : Bool) (cs : List Condition) (rest : List ℕ) → AreConditions e cs
+    → Follows e rest → conditions (row_text cs ++ rest) ≡ got cs rest
+unfolding conditions
+conditions-again e [] rest w f = (no_conditions rest f.last (f.element w)).0
+conditions-again e (c ∷ cs) rest w f =
+    some_or_element_after (row_text (c ∷ cs) ++ rest) (type_selector (row_text (c ∷ cs) ++ rest))
+    ∙ row-again deepest (condition-again deepest) some_or_element element_accepts (c ∷ cs) rest w
+    f.ended f.last
+
+pub conditions_begin : (e : Bool) (cs : List Condition) (rest : List ℕ) → AreConditions e cs
+    → Follows e rest → starts_by begins_compound (row_text cs ++ rest) ≡ true
+conditions_begin e [] rest w f = (no_conditions rest f.last (f.element w)).1
+conditions_begin e (c ∷ cs) rest w f = row_begins deepest (c ∷ cs) rest w f.ended

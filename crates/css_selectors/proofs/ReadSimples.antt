@@ -1,0 +1,521 @@
+-- What a text reads as: simple selectors that are well-formed.
+-- Serves `printing_laws::printing_law`.
+use Rattle.std.proofs.Common.{◌≡◌, ℕ, zero, suc, ◌<◌, ◌≤◌, ◌==◌, ◌||◌, ◌&&◌, nat_le, eqb-true, Bool, true, false, List, [], ◌∷◌, Option, None, Some, All, length, length-append, arith, refl, ap, subst}
+use Rattle.std.specs.Prelude.{codes, if◌then◌else◌}
+use Rattle.std.specs.Str.{str_eq_ignore_ascii_case}
+use Rattle.std.proofs.lemmas.List.Elements.{All-nil, All-cons}
+use Rattle.css_text.specs.AsciiBytes.{asterisk, full_stop, number_sign, open_bracket, close_bracket, close_parenthesis, hyphen, underscore}
+use Rattle.css_text.specs.Bytes.{starts_by, starts, past_one, is_digit}
+use Rattle.css_text.specs.Characters.{is_letter}
+use Rattle.css_text.specs.Reading.{before}
+use Rattle.css_syntax.specs.Tokens.{is_name_byte, begins_escape, past_word}
+use Rattle.css_syntax.specs.Statements.{begins_cdc}
+use Rattle.css_syntax.specs.Escapes.{decoded_in}
+use Rattle.css_syntax.proofs.Decoding.{decoded-some_bytes}
+use Rattle.css_syntax.proofs.PartTexts.{word_ends}
+use Rattle.css_syntax.proofs.Shorter.{word-less}
+use Rattle.css_selectors.specs.declared.components.Numbering.{Numbering}
+use Rattle.css_selectors.specs.declared.components.Numbering.TheVariants.{Child as OfChild, LastChild as OfLastChild, OfType, LastOfType as OfLastType}
+use Rattle.css_selectors.specs.declared.components.Function.{Function}
+use Rattle.css_selectors.specs.declared.components.Function.TheVariants.{Numbered, Language}
+use Rattle.css_selectors.specs.Components.{Comparison, Signed, Progression, Structure, Simple}
+use Rattle.css_selectors.specs.Components.Structure.{root, empty, first_child, last_child, only_child, first_of_type, last_of_type, only_of_type}
+use Rattle.css_selectors.specs.Components.Simple.{universal, type_name, id, class, has_attribute, attribute, structure, language, state}
+use Rattle.css_selectors.specs.Readings.{Reading, got, refused, Reader, follow, give, ◌>>=◌, ◌>>◌, Step, item, none, stop, step_after, as_item, with_first, go_on, items, items_up_to}
+use Rattle.css_selectors.specs.declared.refusal.Why.TheVariants.{NoName, NoProgression}
+use Rattle.css_selectors.specs.Grammar.{gap, past_comments, ident_sequence, name, begins_name, begins_plain_name, begins_word, value, comparison, flag, compared, by_comparison, attribute_selector, closing, progression, digits, with_digit, sign, is_sign, is_n, signed, stepping, offset_after, offset_or_none, with_offset, is_number, subtracted, by_tail, n_word, numbered, is_lone_plus, unsigned, odd_or_even, word_progression, one_more, is_word, plain_structure, plain_pseudo, numbered_by, next_range, language_ranges, functional, is_old_element, named_pseudo, type_selector, next_simple}
+use Rattle.css_selectors.specs.WellFormed.{IsName, IsSize, IsProgression, IsStructure, IsFurther, IsFirst}
+
+-- ---- readers
+
+-- what is read after another was read after it
+pub record Followed {A B : Type 0} (r : Reading A) (next : A
+    → Reader B) (y : B) (rest : List ℕ) : Type 0 where
+  pub value : A
+  pub middle : List ℕ
+  pub first : r ≡ got value middle
+  pub second : next value middle ≡ got y rest
+
+pub followed : {A B : Type 0} (r : Reading A) (next : A → Reader B) (y : B) (rest : List ℕ)
+    → follow r next ≡ got y rest → Followed r next y rest
+followed (got x mid) next y rest h =
+    record { value = x; middle = mid; first = refl; second = h }
+followed (refused why mid) next y rest h = absurd (cc)
+
+-- an item that is found after a value was found after it
+pub record FoundAfter {A B : Type 0} (r : Reading A) (next : A → List ℕ → Step B) (y : B)
+    (rest : List ℕ) : Type 0 where
+  pub value : A
+  pub middle : List ℕ
+  pub first : r ≡ got value middle
+  pub second : next value middle ≡ item y rest
+
+pub found_after : {A B : Type 0} (r : Reading A) (next : A → List ℕ → Step B) (y : B)
+    (rest : List ℕ) → step_after r next ≡ item y rest → FoundAfter r next y rest
+found_after (got x mid) next y rest h =
+    record { value = x; middle = mid; first = refl; second = h }
+found_after (refused why mid) next y rest h = absurd (cc)
+
+-- an item is what was read
+pub record Made {A B : Type 0} (make : A → B) (r : Reading A) (y : B) (rest : List ℕ) : Type 0 where
+  pub value : A
+  pub first : r ≡ got value rest
+  pub is : make value ≡ y
+
+pub made : {A B : Type 0} (make : A → B) (r : Reading A) (y : B) (rest : List ℕ)
+    → as_item make r ≡ item y rest → Made make r y rest
+made make (got x mid) y rest h =
+    let same : mid ≡ rest = cc in
+    record { value = x; first = ap (got x) same; is = cc }
+made make (refused why mid) y rest h = absurd (cc)
+
+-- a first value and those that were read after it
+pub record FirstOf {A : Type 0} (x : A) (r : Reading (List A)) (xs : List A) (rest : List ℕ)
+    : Type 0 where
+  pub others : List A
+  pub reads : r ≡ got others rest
+  pub is : x ∷ others ≡ xs
+
+pub first_of_all : {A : Type 0} (x : A) (r : Reading (List A)) (xs : List A) (rest : List ℕ)
+    → with_first x r ≡ got xs rest → FirstOf x r xs rest
+first_of_all x (got ys mid) xs rest h =
+    let same : mid ≡ rest = cc in
+    record { others = ys; reads = ap (got ys) same; is = cc }
+first_of_all x (refused why mid) xs rest h = absurd (cc)
+
+some_first : {A : Type 0} (x : A) (r : Reading (List A)) (xs : List A) (rest : List ℕ)
+    → FirstOf x r xs rest → 0 < length xs
+some_first x r xs rest f = subst (λ l. 0 < length l) f.is (omega arith)
+
+module _ {A : Type 0} (read : List ℕ → Step A) (P : A → Type 0)
+    (each : (text : List ℕ) (x : A) (rest : List ℕ) → read text ≡ item x rest → P x) where
+  all_up_to : (n : ℕ) (text : List ℕ) (xs : List A) (rest : List ℕ)
+      → items_up_to n read text ≡ got xs rest → All P xs
+  all_up_to zero text xs rest h =
+      let nothing : [] ≡ xs = cc in subst (All P) nothing (All-nil P)
+  all_up_to (suc n) text xs rest h = by (read text) refl h (all_up_to n)
+    where
+      by : (s : Step A) → read text ≡ s → go_on text s (items_up_to n read) ≡ got xs rest
+          → ((t : List ℕ) (ys : List A) (end : List ℕ) → items_up_to n read t ≡ got ys end
+          → All P ys)
+          → All P xs
+      by none e k more = let nothing : [] ≡ xs = cc in subst (All P) nothing (All-nil P)
+      by (stop why t) e k more = absurd (cc)
+      by (item x t) e k more =
+          let f = first_of_all x (items_up_to n read t) xs rest k in
+          subst (All P) f.is
+          (All-cons P x f.others (each text x t e) (more t f.others rest f.reads))
+
+  pub all_items : (text : List ℕ) (xs : List A) (rest : List ℕ) → items read text ≡ got xs rest
+      → All P xs
+  all_items text xs rest h = all_up_to (length text) text xs rest h
+
+-- where no item is read, nothing is
+pub nothing_read : {A : Type 0} (read : List ℕ → Step A) (n : ℕ) (text rest : List ℕ)
+    → items_up_to n read text ≡ got [] rest → rest ≡ text
+nothing_read read zero text rest h = cc
+nothing_read {A} read (suc n) text rest h = by (read text) h
+  where
+    by : (s : Step A) → go_on text s (items_up_to n read) ≡ got [] rest → rest ≡ text
+    by none k = cc
+    by (stop why t) k = absurd (cc)
+    by (item x t) k =
+        let f = first_of_all x (items_up_to n read t) [] rest k in
+        absurd (let is = f.is in cc)
+
+-- ---- names
+
+name_starts : (b : ℕ) (text : List ℕ) → begins_name (b ∷ text) ≡ true
+    → (is_name_byte b || begins_escape (b ∷ text)) ≡ true
+name_starts b text h =
+    by (begins_word b) (begins_escape (b ∷ text)) (b == hyphen) refl refl h
+  where
+    name_byte : (l u w d y : Bool) → (l || u || w) ≡ true → (l || d || u || y || w) ≡ true
+    name_byte true u w d y k = refl
+    name_byte false true w true y k = refl
+    name_byte false true w false y k = refl
+    name_byte false false true true y k = refl
+    name_byte false false true false true k = refl
+    name_byte false false true false false k = refl
+    name_byte false false false d y k = absurd (cc)
+
+    or_other : (t e : Bool) → e ≡ true → (t || e) ≡ true
+    or_other true e k = refl
+    or_other false e k = k
+
+    by : (w e y : Bool) → begins_word b ≡ w → (b == hyphen) ≡ y
+        → ((w || e) || (y && (begins_plain_name text || starts hyphen text))) ≡ true
+        → (is_name_byte b || e) ≡ true
+    by true e y ew ey k =
+        let is : is_name_byte b ≡ true =
+        name_byte (is_letter b) (b == underscore) (nat_le 128 b) (is_digit b) (b == hyphen) ew in
+        rw is refl
+    by false true y ew ey k = or_other (is_name_byte b) true refl
+    by false false true ew ey k =
+        let is : is_name_byte b ≡ true = ap is_name_byte (eqb-true b hyphen ey) in rw is refl
+    by false false false ew ey k = absurd (cc)
+
+name_value : (text : List ℕ) → begins_name text ≡ true
+    → 0 < length (decoded_in false (before text (past_word text)))
+name_value [] h = absurd (cc)
+name_value (b ∷ text) h =
+    let rest = past_word (b ∷ text) in
+    decoded-some_bytes false refl (before (b ∷ text) rest)
+    (omega (
+      arith,
+      word-less b text (name_starts b text h),
+      ap length (word_ends (b ∷ text)),
+      length-append (before (b ∷ text) rest) rest,
+    ))
+
+pub ident_well : (text n rest : List ℕ) → ident_sequence text ≡ got n rest → IsName n
+unfolding ident_sequence
+ident_well text n rest h = by (begins_name text) refl h
+  where
+    by : (t : Bool) → begins_name text ≡ t
+        → (if t then got (decoded_in false (before text (past_word text))) (past_word text)
+        else refused NoName text) ≡ got n rest → IsName n
+    by false e k = absurd (cc)
+    by true e k =
+        let is : decoded_in false (before text (past_word text)) ≡ n = cc in
+        subst (λ (l : List ℕ). 0 < length l) is (name_value text e)
+
+pub name_well : (text n rest : List ℕ) → name text ≡ got n rest → IsName n
+unfolding name
+name_well text n rest h = by (begins_cdc text) h
+  where
+    by : (t : Bool) → (if t then refused NoName text else ident_sequence text) ≡ got n rest
+        → IsName n
+    by true k = absurd (cc)
+    by false k = ident_well text n rest k
+
+-- ---- An+B
+
+digits_small : (n : ℕ) (text : List ℕ) → n ≤ 4294967295 → (digits n text).0 ≤ 4294967295
+digits_small n [] h = h
+digits_small n (b ∷ text) h =
+    by (is_digit b) (digits_small (with_digit n b) text (omega arith))
+  where
+    by : (t : Bool) → (digits (with_digit n b) text).0 ≤ 4294967295
+        → (if t then digits (with_digit n b) text else (n, b ∷ text)).0 ≤ 4294967295
+    by true k = k
+    by false k = h
+
+offset_well : (step : Signed) (negative : Bool) (text : List ℕ) (p : Progression) (rest : List ℕ)
+    → IsSize step → offset_after step negative text ≡ got p rest → IsProgression p
+offset_well step negative text p rest fits h = by (starts_by is_digit text) h
+  where
+    by : (t : Bool) → (if t then got (stepping step (signed negative (digits 0 text).0))
+        (digits 0 text).1
+        else refused NoProgression text) ≡ got p rest → IsProgression p
+    by false k = absurd (cc)
+    by true k =
+        let is : stepping step (signed negative (digits 0 text).0) ≡ p = cc in
+        subst IsProgression is (fits, digits_small 0 text (omega arith))
+
+with_offset_well : (step : Signed) (text : List ℕ) (p : Progression) (rest : List ℕ)
+    → IsSize step → with_offset step text ≡ got p rest → IsProgression p
+unfolding with_offset offset_or_none
+with_offset_well step text p rest fits h =
+    let f = followed (gap text) (λ x. offset_or_none step) p rest h in
+    by f.middle (starts_by is_sign f.middle) f.second
+  where
+    by : (mid : List ℕ) (t : Bool) → (if t
+        then follow (gap (sign mid).1) (λ x. offset_after step (sign mid).0)
+        else got (stepping step (signed false 0)) mid) ≡ got p rest → IsProgression p
+    by mid true k =
+        let f = followed (gap (sign mid).1) (λ x. offset_after step (sign mid).0) p rest k in
+        offset_well step (sign mid).0 f.middle p rest fits f.second
+    by mid false k =
+        let is : stepping step (signed false 0) ≡ p = cc in
+        subst IsProgression is (fits, omega arith)
+
+odd_well : (start word text : List ℕ) (p : Progression) (rest : List ℕ)
+    → odd_or_even start word text ≡ got p rest → IsProgression p
+odd_well start word text p rest h =
+    by (str_eq_ignore_ascii_case word (codes "odd")) (str_eq_ignore_ascii_case word
+    (codes "even")) h
+  where
+    by : (o e : Bool) → (if o then got (stepping (signed false 2) (signed false 1)) text
+        else (if e then got (stepping (signed false 2) (signed false 0)) text
+        else refused NoProgression start)) ≡ got p rest → IsProgression p
+    by true e k =
+        let is : stepping (signed false 2) (signed false 1) ≡ p = cc in
+        subst IsProgression is (omega arith, omega arith)
+    by false true k =
+        let is : stepping (signed false 2) (signed false 0) ≡ p = cc in
+        subst IsProgression is (omega arith, omega arith)
+    by false false k = absurd (cc)
+
+subtracted_well : (start : List ℕ) (step : Signed) (number text : List ℕ) (p : Progression)
+    (rest : List ℕ) → IsSize step → subtracted start step number text ≡ got p rest
+    → IsProgression p
+unfolding subtracted
+subtracted_well start step [] text p rest fits h =
+    let f = followed (gap text) (λ x. offset_after step true) p rest h in
+    offset_well step true f.middle p rest fits f.second
+subtracted_well start step (b ∷ number) text p rest fits h = by (is_number (b ∷ number)) h
+  where
+    by : (t : Bool) → (if t then got (stepping step (signed true (digits 0 (b ∷ number)).0)) text
+        else refused NoProgression start) ≡ got p rest → IsProgression p
+    by false k = absurd (cc)
+    by true k =
+        let is : stepping step (signed true (digits 0 (b ∷ number)).0) ≡ p = cc in
+        subst IsProgression is (fits, digits_small 0 (b ∷ number) (omega arith))
+
+tail_well : (start : List ℕ) (step : Signed) (tail text : List ℕ) (p : Progression)
+    (rest : List ℕ) → IsSize step → by_tail start step tail text ≡ got p rest → IsProgression p
+unfolding by_tail
+tail_well start step [] text p rest fits h = with_offset_well step text p rest fits h
+tail_well start step (b ∷ tail) text p rest fits h = by (b == hyphen) h
+  where
+    by : (t : Bool) → (if t then subtracted start step tail text
+        else refused NoProgression start) ≡ got p rest → IsProgression p
+    by false k = absurd (cc)
+    by true k = subtracted_well start step tail text p rest fits k
+
+n_word_well : (start : List ℕ) (step : Signed) (word text : List ℕ) (p : Progression)
+    (rest : List ℕ) → IsSize step → n_word start step word text ≡ got p rest → IsProgression p
+unfolding n_word
+n_word_well start step word text p rest fits h = by (starts_by is_n word) h
+  where
+    by : (t : Bool) → (if t then by_tail start step (past_one word) text
+        else refused NoProgression start) ≡ got p rest → IsProgression p
+    by false k = absurd (cc)
+    by true k = tail_well start step (past_one word) text p rest fits k
+
+word_well : (start word text : List ℕ) (p : Progression) (rest : List ℕ)
+    → word_progression start word text ≡ got p rest → IsProgression p
+word_well start word text p rest h = by (starts hyphen word) (starts_by is_n word) h
+  where
+    by : (m n : Bool) → (if m then n_word start (signed true 1) (past_one word) text
+        else (if n then n_word start (signed false 1) word text
+        else odd_or_even start word text)) ≡ got p rest → IsProgression p
+    by true n k = n_word_well start (signed true 1) (past_one word) text p rest (omega arith) k
+    by false true k = n_word_well start (signed false 1) word text p rest (omega arith) k
+    by false false k = odd_well start word text p rest k
+
+numbered_well : (start : List ℕ) (negative : Bool) (size : ℕ) (text : List ℕ) (p : Progression)
+    (rest : List ℕ) → size ≤ 4294967295 → numbered start negative size text ≡ got p rest
+    → IsProgression p
+numbered_well start negative size text p rest fits h = by (begins_name text) h
+  where
+    by : (t : Bool) → (if t then follow (ident_sequence text) (n_word start (signed negative size))
+        else got (stepping (signed false 0) (signed negative size)) text) ≡ got p rest
+        → IsProgression p
+    by true k =
+        let f = followed (ident_sequence text) (n_word start (signed negative size)) p rest k in
+        n_word_well start (signed negative size) f.value f.middle p rest fits f.second
+    by false k =
+        let is : stepping (signed false 0) (signed negative size) ≡ p = cc in
+        subst IsProgression is (omega arith, fits)
+
+unsigned_well : (start : List ℕ) (negative : Bool) (text : List ℕ) (p : Progression)
+    (rest : List ℕ) → unsigned start negative text ≡ got p rest → IsProgression p
+unsigned_well start negative text p rest h = by (starts_by is_digit text) h
+  where
+    by : (t : Bool) → (if t then numbered start negative (digits 0 text).0 (digits 0 text).1
+        else follow (name start) (word_progression start)) ≡ got p rest → IsProgression p
+    by true k =
+        numbered_well start negative (digits 0 text).0 (digits 0 text).1 p rest
+        (digits_small 0 text (omega arith)) k
+    by false k =
+        let f = followed (name start) (word_progression start) p rest k in
+        word_well start f.value f.middle p rest f.second
+
+progression_well : (text : List ℕ) (p : Progression) (rest : List ℕ)
+    → progression text ≡ got p rest → IsProgression p
+unfolding progression
+progression_well text p rest h = by (is_lone_plus text) h
+  where
+    named : List ℕ
+    named = past_comments (past_one text)
+
+    by : (t : Bool) → (if t then follow (name named) (n_word text (signed false 1))
+        else unsigned text (sign text).0 (sign text).1) ≡ got p rest → IsProgression p
+    by true k =
+        let f = followed (name named) (n_word text (signed false 1)) p rest k in
+        n_word_well text (signed false 1) f.value f.middle p rest (omega arith) f.second
+    by false k = unsigned_well text (sign text).0 (sign text).1 p rest k
+
+-- ---- simple selectors
+
+-- what is given after a closing byte was there before it
+pub closed_well : {A : Type 0} (P : A → Type 0) (byte : ℕ) (x y : A)
+    (text rest : List ℕ) → follow (gap text) (λ z. closing byte >> give x) ≡ got y rest
+    → P x → P y
+closed_well P byte x y text rest h =
+    let f = followed (gap text) (λ z. closing byte >> give x) y rest h in
+    let g = followed (closing byte f.middle) (λ z. give x) y rest f.second in
+    let is : x ≡ y = (let k = g.second in cc) in
+    subst P is
+
+attribute_well : (text : List ℕ) (s : Simple) (rest : List ℕ)
+    → attribute_selector text ≡ got s rest → IsFurther s
+unfolding attribute_selector compared
+attribute_well text s rest h =
+    let f = followed (gap text) (λ x. name >>= λ n. gap >>
+    (comparison >>= by_comparison n))
+    s rest h in
+    let g = followed (name f.middle) (λ n. gap >>
+    (comparison >>= by_comparison n)) s rest
+    f.second in
+    let i = followed (gap g.middle) (λ x. comparison >>= by_comparison g.value) s rest
+    g.second in
+    let k = followed (comparison i.middle) (by_comparison g.value) s rest i.second in
+    by g.value (name_well f.middle g.value g.middle g.first) k.value k.middle k.second
+  where
+    by : (n : List ℕ) → IsName n → (o : Option Comparison) (mid : List ℕ)
+        → by_comparison n o mid ≡ got s rest → IsFurther s
+    by n some None mid k =
+        let f = followed (closing close_bracket mid) (λ x. give
+        (has_attribute n)) s rest k in
+        let is : has_attribute n ≡ s = (let e = f.second in cc) in
+        subst IsFurther is some
+    by n some (Some c) mid k =
+        let f = followed (gap mid) (λ x. value >>= λ v. gap >> (flag >>= λ i. gap >>
+        (closing close_bracket >> give (attribute n c v i)))) s rest k in
+        let g = followed (value f.middle) (λ v. gap >> (flag >>= λ i. gap >>
+        (closing close_bracket >> give (attribute n c v i)))) s rest f.second in
+        let j = followed (gap g.middle) (λ x. flag >>= λ i. gap >>
+        (closing close_bracket >> give (attribute n c g.value i))) s rest g.second in
+        let l = followed (flag j.middle) (λ i. gap >>
+        (closing close_bracket >> give (attribute n c g.value i))) s rest j.second in
+        closed_well IsFurther close_bracket (attribute n c g.value l.value) s l.middle rest
+        l.second some
+
+ranges_well : (text : List ℕ) (ranges : List (List ℕ)) (rest : List ℕ)
+    → language_ranges text ≡ got ranges rest → 0 < length ranges
+unfolding language_ranges
+ranges_well text ranges rest h =
+    let f = followed (gap text) (λ x. value >>= λ first. one_more first
+    (items next_range) >>= λ all.
+    gap >> (closing close_parenthesis >> give all)) ranges rest h in
+    let g = followed (value f.middle) (λ first. one_more first (items next_range) >>= λ all.
+    gap >> (closing close_parenthesis >> give all)) ranges rest f.second in
+    let i = followed (one_more g.value (items next_range) g.middle) (λ all.
+    gap >> (closing close_parenthesis >> give all)) ranges rest g.second in
+    let all = first_of_all g.value (items next_range g.middle) i.value i.middle i.first in
+    closed_well (λ (l : List (List ℕ)). 0 < length l) close_parenthesis i.value ranges
+    i.middle rest i.second (some_first g.value (items next_range g.middle) i.value i.middle all)
+
+pub functional_well : (opened text : List ℕ) (kind : Option Function) (s : Simple) (rest : List ℕ)
+    → functional opened kind text ≡ got s rest → IsFurther s
+functional_well opened text None s rest h = absurd (cc)
+functional_well opened text (Some Language) s rest h =
+    let f = followed (language_ranges text) (λ ranges. give (language ranges)) s rest h in
+    let is : language f.value ≡ s = (let e = f.second in cc) in
+    subst IsFurther is (ranges_well text f.value f.middle f.first)
+functional_well opened text (Some (Numbered kind)) s rest h =
+    let f = followed (gap text) (λ x. progression >>= λ p. gap >>
+    (closing close_parenthesis >> give (structure (numbered_by kind p)))) s rest h in
+    let g = followed (progression f.middle) (λ p. gap >>
+    (closing close_parenthesis >> give (structure (numbered_by kind p)))) s rest f.second in
+    closed_well IsFurther close_parenthesis (structure (numbered_by kind g.value)) s g.middle
+    rest g.second
+    (by kind g.value (progression_well f.middle g.value g.middle g.first))
+  where
+    by : (k : Numbering) (p : Progression) → IsProgression p
+        → IsFurther (structure (numbered_by k p))
+    by OfChild p w = w
+    by OfLastChild p w = w
+    by OfType p w = w
+    by OfLastType p w = w
+
+-- a pseudo-class that is only a name
+PlainWell : Option Structure → Type 0
+PlainWell None = Unit {0}
+PlainWell (Some s) = IsStructure s
+
+either_plain : (t : Bool) (a b : Option Structure) → PlainWell a → PlainWell b
+    → PlainWell (if t then a else b)
+either_plain true a b h k = h
+either_plain false a b h k = k
+
+plain_well : (n : List ℕ) → PlainWell (plain_structure n)
+unfolding PlainWell
+plain_well n =
+    either_plain (is_word (codes "root") n) (Some root) _ tt
+    (either_plain (is_word (codes "empty") n) (Some empty) _ tt
+    (either_plain (is_word (codes "first-child") n) (Some first_child) _ tt
+    (either_plain (is_word (codes "last-child") n) (Some last_child) _ tt
+    (either_plain (is_word (codes "only-child") n) (Some only_child) _ tt
+    (either_plain (is_word (codes "first-of-type") n) (Some first_of_type) _ tt
+    (either_plain (is_word (codes "last-of-type") n) (Some last_of_type) _ tt
+    (either_plain (is_word (codes "only-of-type") n) (Some only_of_type) None tt tt)))))))
+
+plain_pseudo_well : (n : List ℕ) → IsName n → is_old_element n ≡ false
+    → IsFurther (plain_pseudo n (plain_structure n))
+unfolding PlainWell
+plain_pseudo_well n some other = by (plain_structure n) refl (plain_well n)
+  where
+    by : (o : Option Structure) → plain_structure n ≡ o → PlainWell o
+        → IsFurther (plain_pseudo n o)
+    by None e w = (some, e, other)
+    by (Some s) e w = w
+
+pub named_pseudo_well : (n text : List ℕ) (s : Simple) (rest : List ℕ) → IsName n
+    → named_pseudo n text ≡ item s rest → IsFurther s
+named_pseudo_well n text s rest some h = by (is_old_element n) refl h
+  where
+    by : (t : Bool) → is_old_element n ≡ t
+        → (if t then none else item (plain_pseudo n (plain_structure n)) text) ≡ item s rest
+        → IsFurther s
+    by true e k = absurd (cc)
+    by false e k =
+        let is : plain_pseudo n (plain_structure n) ≡ s = cc in
+        subst IsFurther is (plain_pseudo_well n some e)
+
+-- what is a name after a sign
+named_well : (make : List ℕ → Simple) → ((n : List ℕ) → IsName n → IsFurther (make n))
+    → (r : Reading (List ℕ)) → ((n rest : List ℕ) → r ≡ got n rest → IsName n) → (s : Simple)
+    (rest : List ℕ) → as_item make r ≡ item s rest → IsFurther s
+named_well make well r are s rest h =
+    let m = made make r s rest h in
+    subst IsFurther m.is (well m.value (are m.value rest m.first))
+
+pub next_simple_well : (text : List ℕ) (s : Simple) (rest : List ℕ)
+    → next_simple text ≡ item s rest → IsFurther s
+unfolding next_simple
+next_simple_well [] s rest h = absurd (cc)
+next_simple_well (b ∷ text) s rest h =
+    by (b == full_stop) (b == number_sign) (b == open_bracket) h
+  where
+    by : (c i o : Bool) → (if c then as_item class (name (past_comments text))
+        else (if i then as_item id (ident_sequence text)
+        else (if o then as_item (λ s. s) (attribute_selector text) else none))) ≡ item s rest
+        → IsFurther s
+    by true i o k =
+        named_well class (λ n some. some) (name (past_comments text))
+        (name_well (past_comments text)) s rest k
+    by false true o k =
+        named_well id (λ n some. some) (ident_sequence text) (ident_well text) s rest k
+    by false false true k =
+        let m = made (λ x. x) (attribute_selector text) s rest k in
+        subst IsFurther m.is (attribute_well text m.value rest m.first)
+    by false false false k = absurd (cc)
+
+pub type_well : (text : List ℕ) (s : Simple) (rest : List ℕ) → type_selector text ≡ item s rest
+    → IsFirst s
+unfolding type_selector
+type_well text s rest h = by (starts asterisk text) (begins_name text) h
+  where
+    by : (a n : Bool) → (if a then item universal (past_one text)
+        else (if n then as_item type_name (name text) else none)) ≡ item s rest → IsFirst s
+    by true n k = let is : universal ≡ s = cc in subst IsFirst is tt
+    by false true k =
+        let m = made type_name (name text) s rest k in
+        subst IsFirst m.is (name_well text m.value rest m.first)
+    by false false k = absurd (cc)
+
+-- what may follow others may be the first
+pub first_of_further : (s : Simple) → IsFurther s → IsFirst s
+first_of_further universal w = tt
+first_of_further (type_name n) w = absurd w
+first_of_further (id n) w = w
+first_of_further (class n) w = w
+first_of_further (has_attribute n) w = w
+first_of_further (attribute n c v ignores) w = w
+first_of_further (structure s) w = w
+first_of_further (language ranges) w = w
+first_of_further (state n) w = w

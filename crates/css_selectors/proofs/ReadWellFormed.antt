@@ -1,0 +1,476 @@
+-- What a text reads as is well-formed.
+-- Serves `printing_laws::printing_law`.
+use Rattle.std.proofs.Common.{◌≡◌, ℕ, zero, suc, ◌⊎◌, inl, inr, ◌&&◌, eqb-true, Bool, true, false, List, [], ◌∷◌, Option, None, Some, length, arith, refl, sym, ap, ◌∙◌, subst}
+use Rattle.std.specs.Prelude.{if◌then◌else◌}
+use Rattle.std.specs.Option.{is_some}
+use Rattle.std.proofs.lemmas.List.Elements.{All-cons, All-head, All-tail}
+use Rattle.css_text.specs.AsciiBytes.{comma, close_parenthesis, colon, open_parenthesis}
+use Rattle.css_text.specs.Bytes.{starts_by, starts, past_one}
+use Rattle.css_text.specs.Comments.{opens_comment}
+use Rattle.css_matching.specs.declared.Combinator.{Combinator}
+use Rattle.css_matching.specs.declared.Combinator.TheVariants.{Descendant}
+use Rattle.css_selectors.specs.declared.components.ListKind.{ListKind}
+use Rattle.css_selectors.specs.declared.components.ListKind.TheVariants.{Not, Is, Where}
+use Rattle.css_selectors.specs.Components.{Simple, Condition, selectors_from, Part, Selector}
+use Rattle.css_selectors.specs.Components.Condition.{simple, negation, any_of, where_any}
+use Rattle.css_selectors.specs.Readings.{Reading, got, refused, follow, give, ◌>>=◌, ◌>>◌, Step, item, none, stop, step_after, as_item, go_on, items, items_up_to, with_first}
+use Rattle.css_selectors.specs.Grammar.{gap, comments, past_comments, past_colon, condition_here, name, begins_compound, closing, one_more, list_kind, function_named, functional, named_pseudo, type_selector, next_simple, some_of, Finder, compound, after_gap, listed, ListReader, begins_pseudo_class, simple_item, with_argument, pseudo_condition, condition_by, deepest, too_deep, next_condition, some_or_element, conditions, first_sign, joined_by, signed_part, by_sign, part_after, next_part, pseudo_element, selector_with, at_end, parts, listed_selector, selector, CompoundReader, joined_compound, next_part_in, complex, comma_complex, next_complex, complex_list, may_join}
+use Rattle.css_selectors.specs.WellFormed.{IsName, IsFurther, IsFurtherCondition, IsFirstCondition, IsList, AreConditions, is_last, AreParts, BeginsPlain, IsWellFormed}
+use Rattle.css_text.proofs.bytes.GapLemmas.{no_gap-byte}
+use Rattle.css_selectors.proofs.NestedLists.{IsRow, IsLink, IsChain, AreChains, chains_in}
+use Rattle.css_selectors.proofs.CompoundsAgain.{Accept, row_after, some_after, some_or_element_after, no_part_at}
+use Rattle.css_selectors.proofs.GapLemmas.{no_comments}
+use Rattle.css_selectors.proofs.ReadSimples.{followed, found_after, made, all_items, nothing_read, first_of_all, name_well, closed_well, functional_well, named_pseudo_well, next_simple_well, type_well, first_of_further}
+
+-- ---- compound selectors, at a depth
+
+first_of_condition : (n : ℕ) (c : Condition) → IsFurtherCondition n c → IsFirstCondition n c
+first_of_condition n (simple s) w = first_of_further s w
+first_of_condition n (negation _) w = w
+first_of_condition n (any_of _) w = w
+first_of_condition n (where_any _) w = w
+
+some_keeps : (text : List ℕ) (r : Reading (List Condition)) (cs : List Condition) (rest : List ℕ)
+    → some_of text r ≡ got cs rest → r ≡ got cs rest
+some_keeps text (got [] u) cs rest h = absurd (cc)
+some_keeps text (got (c ∷ ds) u) cs rest h = h
+some_keeps text (refused why u) cs rest h = h
+
+element_keeps : (text : List ℕ) (r : Reading (List Condition)) (cs : List Condition)
+    (rest : List ℕ) → some_or_element text r ≡ got cs rest → r ≡ got cs rest
+element_keeps text r cs rest h = by (starts colon text) h
+  where
+    by : (t : Bool) → (if t then r else some_of text r) ≡ got cs rest → r ≡ got cs rest
+    by true k = k
+    by false k = some_keeps text r cs rest k
+
+-- each condition that is read may follow others
+abbrev FurtherWell : ℕ → Type 0
+FurtherWell n = (text : List ℕ) (c : Condition) (rest : List ℕ)
+    → next_condition n text ≡ item c rest → IsFurtherCondition n c
+
+-- there is a condition, or there is none and that is accepted
+abbrev Row : ℕ → Accept → List ℕ → List Condition → List ℕ → Type 0
+Row n accept text cs rest =
+    IsRow n cs ⊎ ((cs ≡ []) × (rest ≡ text) × (accept text (got [] rest) ≡ got [] rest))
+
+module _ (n : ℕ) (well : FurtherWell n) where
+  row_well : (accept : Accept) → ((text : List ℕ) (r : Reading (List Condition))
+      (cs : List Condition) (rest : List ℕ) → accept text r ≡ got cs rest → r ≡ got cs rest)
+      → (text : List ℕ) (cs : List Condition) (rest : List ℕ)
+      → row_after accept (next_condition n) text (type_selector text) ≡ got cs rest
+      → Row n accept text cs rest
+  row_well accept keeps text cs rest h = by (type_selector text) refl h
+    where
+      untyped : (ds : List Condition) → items (next_condition n) text ≡ got ds rest
+          → accept text (got ds rest) ≡ got ds rest → Row n accept text ds rest
+      untyped [] e k = inr (refl, nothing_read (next_condition n) (length text) text rest e, k)
+      untyped (d ∷ ds) e k =
+          let all = all_items (next_condition n) (IsFurtherCondition n) well text (d ∷ ds) rest e in
+          inl (
+            first_of_condition n d (All-head (IsFurtherCondition n) d ds all),
+            All-tail (IsFurtherCondition n) d ds all,
+          )
+
+      by : (step : Step Simple) → type_selector text ≡ step
+          → row_after accept (next_condition n) text step ≡ got cs rest
+          → Row n accept text cs rest
+      by (item s t) e k =
+          let f = first_of_all (simple s) (items (next_condition n) t) cs rest k in
+          let all =
+          all_items (next_condition n) (IsFurtherCondition n) well t f.others rest f.reads in
+          inl (subst (IsRow n) f.is (type_well text s t e, all))
+      by none e k =
+          let kept = keeps text (items (next_condition n) text) cs rest k in
+          untyped cs kept (ap (accept text) (sym kept) ∙ k)
+      by (stop why t) e k = absurd (cc)
+
+  compound_well : (text : List ℕ) (cs : List Condition) (rest : List ℕ)
+      → compound (next_condition n) text ≡ got cs rest → IsRow n cs
+  unfolding compound
+  compound_well text cs rest h =
+      by (row_well some_of some_keeps text cs rest
+      (sym (some_after (next_condition n) text (type_selector text)) ∙ h))
+    where
+      by : Row n some_of text cs rest → IsRow n cs
+      by (inl w) = w
+      by (inr w) = absurd (let k = w.2 in cc)
+
+-- a compound selector after another, by what reads it
+module _ (one : CompoundReader) (P : List Condition → List ℕ → Type 0)
+    (each : (text : List ℕ) (cs : List Condition) (rest : List ℕ) → one text ≡ got cs rest
+    → P cs rest) where
+  pub part_after_well : (text : List ℕ) (p : Part) (rest : List ℕ)
+      → part_after one (gap text) ≡ item p rest → P p.conditions rest
+  part_after_well text p rest h = by (gap text) h
+    where
+      read : (c : Combinator) (t : List ℕ) → as_item (joined_by c) (one t) ≡ item p rest
+          → P p.conditions rest
+      read c t k =
+          let m = made (joined_by c) (one t) p rest k in
+          subst (λ (q : Part). P q.conditions rest) m.is (each t m.value rest m.first)
+
+      signed_well : (c : Combinator) (t : List ℕ)
+          → as_item (joined_by c) (signed_part one t) ≡ item p rest → P p.conditions rest
+      signed_well c t k =
+          let m = made (joined_by c) (signed_part one t) p rest k in
+          let f = followed (gap t) (λ x. one) m.value rest m.first in
+          subst (λ (q : Part). P q.conditions rest) m.is (each f.middle m.value rest f.second)
+
+      sign_well : (spaced : Bool) (t : List ℕ) (o : Option Combinator)
+          → by_sign one spaced t o ≡ item p rest → P p.conditions rest
+      sign_well spaced t (Some c) k = signed_well c (past_one t) k
+      sign_well spaced t None k = plain (spaced && starts_by begins_compound t) k
+        where
+          plain : (b : Bool)
+              → (if b then as_item (joined_by Descendant) (one t) else none) ≡ item p rest
+              → P p.conditions rest
+          plain true k = read Descendant t k
+          plain false k = absurd (cc)
+
+      by : (r : Reading Bool) → part_after one r ≡ item p rest → P p.conditions rest
+      by (refused why t) k = absurd (cc)
+      by (got spaced t) k = sign_well spaced t (first_sign t) k
+
+-- ---- complex selectors in a list
+
+module _ (n : ℕ) (well : FurtherWell n) where
+  link_well : (text : List ℕ) (p : Part) (rest : List ℕ)
+      → next_part_in (may_join n) (next_condition n) text ≡ item p rest → IsLink n p
+  unfolding next_part_in joined_compound
+  link_well text p rest h = by (may_join n) refl h
+    where
+      by : (j : Bool) → may_join n ≡ j → next_part_in j (next_condition n) text ≡ item p rest
+          → IsLink n p
+      by true e k = (
+        e,
+        part_after_well (compound (next_condition n)) (λ cs rest. IsRow n cs)
+            (compound_well n well) text p rest k,
+      )
+      by false e k = absurd (part_after_well (joined_compound false (next_condition n)) (λ cs rest. ⊥)
+          (λ t cs r g. absurd (cc)) text p rest k)
+
+  complex_well : (text : List ℕ) (ps : List Part) (rest : List ℕ)
+      → complex (may_join n) (next_condition n) text ≡ got ps rest → IsChain n ps
+  unfolding complex
+  complex_well text ps rest h =
+      let next : List ℕ → Step Part = next_part_in (may_join n) (next_condition n) in
+      let f = followed (compound (next_condition n) text)
+      (λ first. one_more (joined_by Descendant first) (items next)) ps rest h in
+      let g = first_of_all (joined_by Descendant f.value) (items next f.middle) ps rest f.second in
+      subst (IsChain n) g.is (
+        refl,
+        compound_well n well text f.value f.middle f.first,
+        all_items next (IsLink n) link_well f.middle g.others rest g.reads,
+      )
+
+  next_complex_well : (text : List ℕ) (ps : List Part) (rest : List ℕ)
+      → next_complex (may_join n) (next_condition n) text ≡ item ps rest → IsChain n ps
+  unfolding next_complex
+  next_complex_well text ps rest h = by (gap text) h
+    where
+      by : (r : Reading Bool) → after_gap (may_join n) (next_condition n) r ≡ item ps rest
+          → IsChain n ps
+      by (refused why t) k = absurd (cc)
+      by (got spaced t) k = after (starts comma t) k
+        where
+          after : (c : Bool) → (if c
+              then as_item (λ c. c) (comma_complex (may_join n) (next_condition n) (past_one t))
+              else none)
+              ≡ item ps rest → IsChain n ps
+          after false k = absurd (cc)
+          after true k =
+              let m = made (λ c. c) (comma_complex (may_join n) (next_condition n) (past_one t)) ps
+              rest k in
+              let f = followed (gap (past_one t)) (λ x. complex (may_join n) (next_condition n))
+              m.value rest m.first in
+              subst (IsChain n) m.is (complex_well f.middle m.value rest f.second)
+
+  chains_well : (ps : List Part) (text : List ℕ) (ss : List (List Part)) (rest : List ℕ)
+      → IsChain n ps
+      → with_first ps (items (next_complex (may_join n) (next_condition n)) text) ≡ got ss rest
+      → AreChains n ss
+  chains_well ps text ss rest w h =
+      let next : List ℕ → Step (List Part) = next_complex (may_join n) (next_condition n) in
+      let f = first_of_all ps (items next text) ss rest h in
+      subst (AreChains n) f.is (
+        omega arith,
+        All-cons (IsChain n) ps f.others w
+            (all_items next (IsChain n) next_complex_well text f.others rest f.reads),
+      )
+
+  complexes_well : (opened text : List ℕ) (ss : List (List Part)) (rest : List ℕ)
+      → complex_list (may_join n) (next_condition n) opened text ≡ got ss rest → AreChains n ss
+  unfolding complex_list
+  complexes_well opened text ss rest h =
+      let joins : Bool = may_join n in
+      let next : Finder = next_condition n in
+      let f = followed (gap text) (λ x. complex joins next >>= λ c.
+      one_more c (items (next_complex joins next)) >>= λ all.
+      gap >> (closing close_parenthesis >> give all)) ss rest h in
+      let g = followed (complex joins next f.middle) (λ c.
+      one_more c (items (next_complex joins next)) >>= λ all.
+      gap >> (closing close_parenthesis >> give all)) ss rest f.second in
+      let i = followed (one_more g.value (items (next_complex joins next)) g.middle) (λ all.
+      gap >> (closing close_parenthesis >> give all)) ss rest g.second in
+      closed_well (AreChains n) close_parenthesis i.value ss i.middle rest i.second
+      (chains_well g.value g.middle i.value i.middle
+      (complex_well f.middle g.value g.middle g.first) i.first)
+
+-- ---- conditions
+
+module _ (n : ℕ) (list : ListReader) (well : (opened text : List ℕ) (ss : List (List Part))
+    (rest : List ℕ) → list opened text ≡ got ss rest → IsList n (selectors_from ss)) where
+  argument_well : (opened name text : List ℕ) (kind : Option ListKind) (c : Condition)
+      (rest : List ℕ) → with_argument list opened kind (function_named name) text ≡ got c rest
+      → IsFurtherCondition n c
+  argument_well opened name text None c rest h =
+      let f = followed (functional opened (function_named name) text) (λ s. give (simple s)) c rest
+      h in
+      let is : simple f.value ≡ c = (let e = f.second in cc) in
+      subst (IsFurtherCondition n) is
+      (functional_well opened text (function_named name) f.value f.middle f.first)
+  argument_well opened name text (Some kind) c rest h =
+      let f = followed (list opened text) (λ all. give (listed kind all)) c rest h in
+      let is : listed kind f.value ≡ c = (let e = f.second in cc) in
+      subst (IsFurtherCondition n) is (by kind f.value (well opened text f.value f.middle f.first))
+    where
+      by : (k : ListKind) (ss : List (List Part)) → IsList n (selectors_from ss)
+          → IsFurtherCondition n (listed k ss)
+      by Not ss w = w
+      by Is ss w = w
+      by Where ss w = w
+
+  condition_here_well : (text : List ℕ) (c : Condition) (rest : List ℕ)
+      → condition_here list text ≡ item c rest → IsFurtherCondition n c
+  condition_here_well text c rest h = by (begins_pseudo_class text) h
+    where
+      further : (step : Step Simple) → ((s : Simple) (t : List ℕ) → step ≡ item s t → IsFurther s)
+          → simple_item step ≡ item c rest → IsFurtherCondition n c
+      further (item s t) well k =
+          let is : simple s ≡ c = cc in
+          subst (IsFurtherCondition n) is (well s t refl)
+      further none well k = absurd (cc)
+      further (stop why t) well k = absurd (cc)
+
+      after : (m t : List ℕ) → IsName m → (o : Bool) → (if o
+          then as_item (λ c. c)
+          (with_argument list text (list_kind m) (function_named m) (past_one t))
+          else simple_item (named_pseudo m t)) ≡ item c rest → IsFurtherCondition n c
+      after m t some true k =
+          let f = made (λ x. x)
+          (with_argument list text (list_kind m) (function_named m) (past_one t)) c rest k in
+          subst (IsFurtherCondition n) f.is
+          (argument_well text m (past_one t) (list_kind m) f.value rest f.first)
+      after m t some false k =
+          further (named_pseudo m t) (λ s u e. named_pseudo_well m t s u some e) k
+
+      named : List ℕ
+      named = past_comments (past_one text)
+
+      by : (t : Bool) → (if t then step_after (name named) (pseudo_condition list text)
+          else simple_item (next_simple text)) ≡ item c rest → IsFurtherCondition n c
+      by false k = further (next_simple text) (next_simple_well text) k
+      by true k =
+          let f = found_after (name named) (pseudo_condition list text) c rest k in
+          after f.value f.middle (name_well named f.value f.middle f.first)
+          (starts open_parenthesis f.middle) f.second
+
+  condition_by_well : (text : List ℕ) (c : Condition) (rest : List ℕ)
+      → condition_by list text ≡ item c rest → IsFurtherCondition n c
+  condition_by_well text c rest h = condition_here_well (past_comments text) c rest h
+
+next_condition_well : (n : ℕ) → FurtherWell n
+unfolding next_condition
+next_condition_well zero text c rest h =
+    condition_by_well zero too_deep (λ opened t ss u e. absurd (cc)) text c rest h
+next_condition_well (suc n) text c rest h =
+    condition_by_well (suc n) (complex_list (may_join n) (next_condition n)) (λ opened t ss u e.
+    chains_in n ss (complexes_well n (next_condition_well n) opened t ss u e)) text c rest h
+
+-- the conditions of a compound selector, of which there may be none before a pseudo-element
+abbrev Conditions : List Condition → List ℕ → Type 0
+Conditions cs rest =
+    AreConditions false cs ⊎ ((cs ≡ []) × (starts colon rest ≡ true))
+
+conditions_well : (text : List ℕ) (cs : List Condition) (rest : List ℕ)
+    → conditions text ≡ got cs rest → Conditions cs rest
+unfolding conditions
+conditions_well text cs rest h =
+    by (row_well deepest (next_condition_well deepest) some_or_element element_keeps text cs rest
+    (sym (some_or_element_after text (type_selector text)) ∙ h))
+  where
+    some : (ds : List Condition) → IsRow deepest ds → AreConditions false ds
+    some [] w = absurd w
+    some (d ∷ ds) w = w
+
+    element : (t : Bool) → starts colon text ≡ t
+        → (if t then got [] rest else some_of {A = Condition} text (got [] rest)) ≡ got [] rest
+        → starts colon text ≡ true
+    element true e k = e
+    element false e k = absurd (cc)
+
+    by : Row deepest some_or_element text cs rest → Conditions cs rest
+    by (inl w) = inl (some cs w)
+    by (inr w) = inr (w.0, ap (starts colon) w.1 ∙ element (starts colon text) refl w.2)
+
+-- ---- selectors
+
+-- a compound selector after another
+part_well : (text : List ℕ) (p : Part) (rest : List ℕ) → next_part text ≡ item p rest
+    → Conditions p.conditions rest
+unfolding next_part
+part_well text p rest h = part_after_well conditions Conditions conditions_well text p rest h
+
+-- no compound selector follows where a pseudo-element begins
+no_part_there : (text : List ℕ) → starts colon text ≡ true → next_part text ≡ none
+unfolding next_part
+no_part_there [] h = absurd (cc)
+no_part_there (b ∷ text) h =
+    subst (λ (d : ℕ). next_part (d ∷ text) ≡ none) (sym (eqb-true b colon h))
+    (no_part_at conditions colon text (no_gap-byte colon text refl refl) refl)
+
+-- conditions of which there are some stay so before a pseudo-element
+any_conditions : (e : Bool) (cs : List Condition) → AreConditions false cs → AreConditions e cs
+any_conditions e [] w = absurd (cc)
+any_conditions e (c ∷ cs) w = w
+
+last_well : (p : Part) (text : List ℕ) → Conditions p.conditions text
+    → AreConditions (starts colon text && true) p.conditions
+last_well p text (inl w) = any_conditions (starts colon text && true) p.conditions w
+last_well p text (inr w) =
+    subst (AreConditions (starts colon text && true)) (sym w.0) (ap (λ t. t && true) w.1)
+
+parts_up_to : (n : ℕ) (p : Part) (text : List ℕ) (ps : List Part) (end : List ℕ)
+    → Conditions p.conditions text → items_up_to n next_part text ≡ got ps end
+    → AreParts (starts colon end) (p ∷ ps)
+parts_up_to zero p text ps end w h =
+    let none : [] ≡ ps = cc in
+    let same : text ≡ end = cc in
+    subst (λ (qs : List Part). AreParts (starts colon end) (p ∷ qs)) none (
+      subst (λ (t : List ℕ). AreConditions (starts colon t && true) p.conditions) same
+          (last_well p text w),
+      tt,
+    )
+parts_up_to (suc n) p text ps end w h = by (next_part text) refl h (parts_up_to n)
+  where
+    front : (s : Part) (t : List ℕ) → next_part text ≡ item s t → Conditions p.conditions text
+        → AreConditions false p.conditions
+    front s t e (inl v) = v
+    front s t e (inr v) = absurd (let k = no_part_there text v.1 in cc)
+
+    by : (s : Step Part) → next_part text ≡ s → go_on text s (items_up_to n next_part) ≡ got ps end
+        → ((q : Part) (t : List ℕ) (qs : List Part) (u : List ℕ) → Conditions q.conditions t
+        → items_up_to n next_part t ≡ got qs u → AreParts (starts colon u) (q ∷ qs))
+        → AreParts (starts colon end) (p ∷ ps)
+    by none e k more =
+        let none : [] ≡ ps = cc in
+        let same : text ≡ end = cc in
+        subst (λ (qs : List Part). AreParts (starts colon end) (p ∷ qs)) none (
+          subst (λ (t : List ℕ). AreConditions (starts colon t && true) p.conditions) same
+              (last_well p text w),
+          tt,
+        )
+    by (stop why t) e k more = absurd (cc)
+    by (item s t) e k more =
+        let f = first_of_all s (items_up_to n next_part t) ps end k in
+        subst (λ (l : List Part). AreParts (starts colon end) (p ∷ l)) f.is (
+          any_conditions (starts colon end && false) p.conditions (front s t e w),
+          more s t f.others end (part_well text s t e) f.reads,
+        )
+
+-- the compound selectors of a selector
+record PartsWell (ps : List Part) (end : List ℕ) : Type 0 where
+  pub plain : BeginsPlain ps
+  pub are : AreParts (starts colon end) ps
+
+first_parts : (p : Part) (text : List ℕ) (ps : List Part) (end : List ℕ)
+    → p.combinator ≡ Descendant → Conditions p.conditions text
+    → with_first p (items next_part text) ≡ got ps end → PartsWell ps end
+first_parts p text ps end plain w h =
+    let f = first_of_all p (items next_part text) ps end h in
+    subst (λ (l : List Part). PartsWell l end) f.is
+    (record { plain = plain; are = parts_up_to (length text) p text f.others end w f.reads })
+
+parts_well : (text : List ℕ) (ps : List Part) (end : List ℕ) → parts text ≡ got ps end
+    → PartsWell ps end
+unfolding parts
+parts_well text ps end h =
+    let f = followed (gap text) (λ x. conditions >>= λ first.
+    one_more (joined_by Descendant first) (items next_part)) ps end h in
+    let g = followed (conditions f.middle) (λ first.
+    one_more (joined_by Descendant first) (items next_part)) ps end f.second in
+    first_parts (joined_by Descendant g.value) g.middle ps end refl
+    (conditions_well f.middle g.value g.middle g.first) g.second
+
+-- the pseudo-element, if there is one
+record ElementWell (text : List ℕ) (element : Option (List ℕ)) : Type 0 where
+  pub there : starts colon text ≡ is_some element
+  pub named : (n : List ℕ) → element ≡ Some n → IsName n
+
+element_well : (text : List ℕ) (element : Option (List ℕ)) (rest : List ℕ)
+    → pseudo_element text ≡ got element rest → ElementWell text element
+unfolding pseudo_element
+element_well text element rest h = by (starts colon text) refl h
+  where
+    named : List ℕ
+    named = past_colon (past_comments (past_one text))
+
+    by : (t : Bool) → starts colon text ≡ t
+        → (if t then follow (name named) (λ n. give (Some n)) else got None text)
+        ≡ got element rest → ElementWell text element
+    by false e k =
+        let is : None ≡ element = cc in
+        subst (ElementWell text) is (record { there = e; named = λ n same. absurd (cc) })
+    by true e k =
+        let f = followed (name named) (λ n. give (Some n)) element rest k in
+        let is : Some f.value ≡ element = (let g = f.second in cc) in
+        let well = name_well named f.value f.middle f.first in
+        subst (ElementWell text) is (record {
+          there = e;
+          named = λ n same. let own : f.value ≡ n = cc in subst IsName own well;
+        })
+
+-- what is before a pseudo-element may be before comments and one
+parts_stay : (e : Bool) (ps : List Part) → AreParts false ps → AreParts e ps
+parts_stay e [] w = tt
+parts_stay e (p ∷ ps) w =
+    (any_conditions (e && is_last ps) p.conditions w.0, parts_stay e ps w.1)
+
+before_comments : (text : List ℕ) (ps : List Part) (t : Bool) → starts colon text ≡ t
+    → AreParts (starts colon text) ps → AreParts (starts colon (past_comments text)) ps
+before_comments text ps true e w = by text e w
+  where
+    by : (l : List ℕ) → starts colon l ≡ true → AreParts (starts colon l) ps
+        → AreParts (starts colon (past_comments l)) ps
+    by [] h v = absurd (cc)
+    by (b ∷ l) h v =
+        let is : b ≡ colon = eqb-true b colon h in
+        let none : opens_comment (b ∷ l) ≡ false =
+        subst (λ d. opens_comment (d ∷ l) ≡ false) (sym is) refl in
+        subst (λ (m : List ℕ). AreParts (starts colon m) ps) (sym (no_comments (b ∷ l) none)) v
+before_comments text ps false e w =
+    parts_stay (starts colon (past_comments text)) ps
+    (subst (λ (t : Bool). AreParts t ps) e w)
+
+pub selector-well : (text : List ℕ) (s : Selector) (rest : List ℕ) → selector text ≡ got s rest
+    → IsWellFormed s
+unfolding selector listed_selector
+selector-well text s rest h =
+    let f = followed (listed_selector text) (λ x. at_end >> give x) s rest h in
+    let end = followed (at_end f.middle) (λ x. give f.value) s rest f.second in
+    let g = followed (parts text) (λ all. comments >> (pseudo_element >>= λ e. gap >> give
+    (selector_with all e))) f.value f.middle f.first in
+    let i = followed (pseudo_element (past_comments g.middle)) (λ e. gap >> give (selector_with g.value e)) f.value
+    f.middle g.second in
+    let k = followed (gap i.middle) (λ x. give (selector_with g.value i.value)) f.value f.middle
+    i.second in
+    let is : selector_with g.value i.value ≡ s = (let e = k.second in let d = end.second in cc) in
+    let p = parts_well text g.value g.middle g.first in
+    let e = element_well (past_comments g.middle) i.value i.middle i.first in
+    subst IsWellFormed {x = selector_with g.value i.value} is (
+      p.plain,
+      subst (λ (t : Bool). AreParts t g.value) e.there
+          (before_comments g.middle g.value (starts colon g.middle) refl p.are),
+      e.named,
+    )

@@ -1,0 +1,535 @@
+-- Printed simple selectors read back.
+-- Serves `printing_laws::printing_law`.
+use Rattle.std.proofs.Common.{◌≡◌, ℕ, zero, suc, ◌<◌, ◌≤◌, ◌==◌, ◌||◌, ◌&&◌, not, Bool, true, false, List, [], ◌∷◌, ◌++◌, None, Some, length, length-append, flat_map, append_assoc, arith, refl, sym, ap, ◌∙◌, subst, eqb-true}
+use Rattle.std.specs.Prelude.{codes}
+use Rattle.css_text.specs.AsciiBytes.{backslash, close_bracket, close_parenthesis, colon, comma, double_quote, form_feed, full_stop, hyphen, newline, carriage_return, number_sign, open_bracket, open_parenthesis, slash, space, tab}
+use Rattle.css_text.specs.Bytes.{starts_by, starts}
+use Rattle.css_text.specs.Comments.{opens_comment}
+use Rattle.css_text.proofs.bytes.GapLemmas.{NoGap, no_gap-byte}
+use Rattle.css_syntax.specs.Tokens.{is_name_byte}
+use Rattle.css_selectors.specs.declared.components.Numbering.{Numbering}
+use Rattle.css_selectors.specs.declared.components.Numbering.TheVariants.{Child as OfChild, LastChild as OfLastChild, OfType, LastOfType as OfLastType}
+use Rattle.css_selectors.specs.declared.components.Function.TheVariants.{Numbered, Language}
+use Rattle.css_selectors.specs.Components.{Comparison, Progression, Structure, Simple, Condition}
+use Rattle.css_selectors.specs.Components.Comparison.{equals, has_word, has_subtag, starts as starts_with, ends as ends_with, contains}
+use Rattle.css_selectors.specs.Components.Structure.{root, empty, first_child, last_child, only_child, first_of_type, last_of_type, only_of_type, nth_child, nth_last_child, nth_of_type, nth_last_of_type}
+use Rattle.css_selectors.specs.Components.Simple.{universal, type_name, id, class, has_attribute, attribute, structure, language, state}
+use Rattle.css_selectors.specs.Components.Condition.{simple}
+use Rattle.css_selectors.specs.Readings.{got, follow, give, ◌>>=◌, ◌>>◌, Step, item, none, as_item, with_first, go_on, items, items_up_to}
+use Rattle.css_selectors.specs.Grammar.{gap, past_comments, name, begins_name, begins_word, begins_compound, value, comparison, flag, flag_named, compared, by_comparison, attribute_selector, closing, progression, one_more, plain_structure, plain_pseudo, list_kind, function_named, numbered_by, next_range, range_after, language_ranges, functional, is_old_element, next_simple, simple_item, ListReader, with_argument, pseudo_condition, condition_here, condition_by}
+use Rattle.css_selectors.specs.Printing.{identifier_text, string_text, progression_text, comparison_text, flag_text, structure_text, further_text, list_text, simple_text}
+use Rattle.css_selectors.specs.WellFormed.{IsName, IsProgression, IsStructure, IsFurther}
+use Rattle.css_selectors.proofs.GapLemmas.{no_comments}
+use Rattle.css_selectors.proofs.SpelledAgain.{EndsName, ident-again, name-again, begins-again, value-again, all_below, passes, either_fails}
+use Rattle.css_selectors.proofs.NumbersAgain.{no_gap, one_blank, progression-again, progression_calm}
+
+-- ---- items
+
+-- each text is read as its item before what follows it, and nothing more after the last
+abbrev pub EachReads : {A : Type 0} → (List ℕ → Step A) → (A → List ℕ) → List A → List ℕ → Type 0
+EachReads read text_of [] rest = read rest ≡ none
+EachReads read text_of (x ∷ xs) rest =
+    (1 ≤ length (text_of x))
+    × (read (text_of x ++ (flat_map text_of xs ++ rest)) ≡ item x (flat_map text_of xs ++ rest))
+    × EachReads read text_of xs rest
+
+module _ {A : Type 0} (read : List ℕ → Step A) (text_of : A → List ℕ) where
+  up_to : (xs : List A) (rest : List ℕ) (n : ℕ) → length xs ≤ n → EachReads read text_of xs rest
+      → items_up_to n read (flat_map text_of xs ++ rest) ≡ got xs rest
+  up_to [] rest zero less reads = refl
+  up_to [] rest (suc n) less reads = ap (λ s. go_on rest s (items_up_to n read)) reads
+  up_to (x ∷ xs) rest zero less reads = absurd (omega arith)
+  up_to (x ∷ xs) rest (suc n) less reads =
+      ap (λ l. go_on l (read l) (items_up_to n read))
+      (append_assoc (text_of x) (flat_map text_of xs) rest)
+      ∙ ap (λ s. go_on (text_of x ++ (flat_map text_of xs ++ rest)) s (items_up_to n read))
+      reads.1
+      ∙ ap (with_first x) (up_to xs rest n (omega arith) reads.2)
+
+  each_some : (xs : List A) (rest : List ℕ) → EachReads read text_of xs rest
+      → length xs ≤ length (flat_map text_of xs ++ rest)
+  each_some [] rest reads = omega arith
+  each_some (x ∷ xs) rest reads =
+      omega (
+        arith,
+        reads.0,
+        each_some xs rest reads.2,
+        length-append (text_of x) (flat_map text_of xs),
+        length-append (text_of x ++ flat_map text_of xs) rest,
+        length-append (flat_map text_of xs) rest,
+      )
+
+  pub items-again : (xs : List A) (rest : List ℕ) → EachReads read text_of xs rest
+      → items read (flat_map text_of xs ++ rest) ≡ got xs rest
+  items-again xs rest reads =
+      up_to xs rest (length (flat_map text_of xs ++ rest)) (each_some xs rest reads) reads
+
+-- ---- what is around a simple selector
+
+-- a byte before which a simple selector ends
+abbrev pub is_end : ℕ → Bool
+is_end b =
+    b == number_sign || b == full_stop || b == open_bracket || b == colon || b == space || b ==
+    comma
+    || b == close_parenthesis
+
+-- a simple selector ends there
+abbrev pub ends : List ℕ → Bool
+ends [] = true
+ends (b ∷ text) = is_end b
+
+end_low : (b : ℕ) → is_end b ≡ true → b < 128
+end_low b h =
+    by (b == number_sign) (b == full_stop) (b == open_bracket) (b == colon) (b == space)
+    (b == comma) (b == close_parenthesis) refl refl refl refl refl refl refl h
+  where
+    by : (n f o c s k p : Bool) → (b == number_sign) ≡ n → (b == full_stop) ≡ f
+        → (b == open_bracket) ≡ o → (b == colon) ≡ c → (b == space) ≡ s → (b == comma) ≡ k
+        → (b == close_parenthesis) ≡ p → (n || f || o || c || s || k || p) ≡ true → b < 128
+    by true f o c s k p en ef eo ec es ek ep h = omega (arith, eqb-true b number_sign en)
+    by false true o c s k p en ef eo ec es ek ep h = omega (arith, eqb-true b full_stop ef)
+    by false false true c s k p en ef eo ec es ek ep h =
+        omega (arith, eqb-true b open_bracket eo)
+    by false false false true s k p en ef eo ec es ek ep h = omega (arith, eqb-true b colon ec)
+    by false false false false true k p en ef eo ec es ek ep h = omega (arith, eqb-true b space es)
+    by false false false false false true p en ef eo ec es ek ep h =
+        omega (arith, eqb-true b comma ek)
+    by false false false false false false true en ef eo ec es ek ep h =
+        omega (arith, eqb-true b close_parenthesis ep)
+    by false false false false false false false en ef eo ec es ek ep h = absurd (cc)
+
+-- no such byte passes a test that none passes
+end_fails : (test : ℕ → Bool) → all_below (λ k. not (is_end k && test k)) 128 ≡ true → (b : ℕ)
+    → is_end b ≡ true → test b ≡ false
+end_fails test all b h =
+    either_fails (is_end b) (test b)
+    (passes (λ k. not (is_end k && test k)) 128 b all (end_low b h)) h
+
+pub ends_name : (text : List ℕ) → ends text ≡ true → EndsName text
+ends_name [] h = record { bare = refl; calm = refl; apart = refl }
+ends_name (b ∷ text) h = record {
+  bare = end_fails is_name_byte refl b h;
+  calm = let stops = end_fails (λ k. k == backslash) refl b h in rw stops refl;
+  apart = end_fails (λ k. k == 62) refl b h;
+}
+
+-- a comment begins with a slash
+pub no_comment_here : (text : List ℕ) → starts slash text ≡ false → opens_comment text ≡ false
+no_comment_here [] h = refl
+no_comment_here (b ∷ text) h = rw h refl
+
+opens_none : (text : List ℕ) → ends text ≡ true → starts open_parenthesis text ≡ false
+opens_none [] h = refl
+opens_none (b ∷ text) h = end_fails (λ k. k == open_parenthesis) refl b h
+
+-- two bytes differ of which a test is true and false
+pub differ : (test : ℕ → Bool) (b c : ℕ) → test b ≡ true → test c ≡ false → (b == c) ≡ false
+differ test b c holds stops = by (b == c) refl
+  where
+    by : (t : Bool) → (b == c) ≡ t → t ≡ false
+    by true e = absurd (let k = ap test (eqb-true b c e) in cc)
+    by false e = refl
+
+-- a text that begins a compound selector begins no gap
+pub begins_solid : (text : List ℕ) → starts_by begins_compound text ≡ true → NoGap text
+begins_solid [] h = absurd (cc)
+begins_solid (b ∷ text) h =
+    no_gap-byte b text
+    (rw (
+      differ begins_compound b space h refl,
+      differ begins_compound b tab h refl,
+      differ begins_compound b newline h refl,
+      differ begins_compound b carriage_return h refl,
+      differ begins_compound b form_feed h refl,
+    ) refl)
+    (differ begins_compound b slash h refl)
+
+-- a byte that a name may begin with
+abbrev pub may_begin : ℕ → Bool
+may_begin b = begins_word b || b == backslash || b == hyphen
+
+pub name_first : (text : List ℕ) → begins_name text ≡ true → starts_by may_begin text ≡ true
+name_first [] h = absurd (cc)
+name_first (b ∷ text) h = by (begins_word b) (b == backslash) (b == hyphen) _ _ h
+  where
+    by : (w s y : Bool) (x z : Bool) → ((w || (s && x)) || (y && z)) ≡ true → (w || s || y) ≡ true
+    by true s y x z h = refl
+    by false true y x z h = refl
+    by false false true x z h = refl
+    by false false false x z h = absurd (cc)
+
+pub name_other : (c : ℕ) (text : List ℕ) → begins_name text ≡ true → may_begin c ≡ false
+    → starts c text ≡ false
+name_other c [] h stops = refl
+name_other c (b ∷ text) h stops = differ may_begin b c (name_first (b ∷ text) h) stops
+
+pub name_compound : (text : List ℕ) → begins_name text ≡ true
+    → starts_by begins_compound text ≡ true
+name_compound [] h = absurd (cc)
+name_compound (b ∷ text) h =
+    by (begins_word b) (b == backslash) (b == hyphen) refl refl refl (name_first (b ∷ text) h)
+  where
+    by : (w s y : Bool) → begins_word b ≡ w → (b == backslash) ≡ s → (b == hyphen) ≡ y
+        → (w || s || y) ≡ true → begins_compound b ≡ true
+    by true s y ew es ey h = rw ew refl
+    by false true y ew es ey h =
+        subst (λ k. begins_compound k ≡ true) (sym (eqb-true b backslash es)) refl
+    by false false true ew es ey h =
+        subst (λ k. begins_compound k ≡ true) (sym (eqb-true b hyphen ey)) refl
+    by false false false ew es ey h = absurd (cc)
+
+-- a printed name begins a name
+pub named_text : (n rest : List ℕ) → IsName n → ends rest ≡ true
+    → begins_name (identifier_text n ++ rest) ≡ true
+named_text n rest some h = begins-again n rest some (ends_name rest h)
+
+-- ---- simple selectors but pseudo-classes
+
+-- no gap begins with what a printed name begins with
+name_solid : (n rest : List ℕ) → IsName n → EndsName rest → NoGap (identifier_text n ++ rest)
+name_solid n rest some e =
+    begins_solid (identifier_text n ++ rest)
+    (name_compound (identifier_text n ++ rest) (begins-again n rest some e))
+
+-- an attribute selector, as far as its operator
+attribute_front : (n rest : List ℕ) → IsName n → EndsName rest → NoGap rest
+    → attribute_selector (identifier_text n ++ rest)
+    ≡ follow (comparison rest) (by_comparison n)
+unfolding attribute_selector
+attribute_front n rest some e calm =
+    ap (λ r. follow r (λ x. name >>= λ m. gap >> (comparison >>= by_comparison m)))
+    (no_gap (identifier_text n ++ rest) (name_solid n rest some e))
+    ∙ ap (λ r. follow r (λ m. gap >> (comparison >>= by_comparison m)))
+    (name-again n rest some e)
+    ∙ ap (λ r. follow r (λ x. comparison >>= by_comparison n)) (no_gap rest calm)
+
+has_attribute-again : (n rest : List ℕ) → IsName n
+    → attribute_selector (identifier_text n ++ (close_bracket ∷ rest))
+    ≡ got (has_attribute n) rest
+unfolding comparison
+has_attribute-again n rest some =
+    attribute_front n (close_bracket ∷ rest) some (record { bare = refl; calm = refl; apart = refl })
+    (no_gap-byte close_bracket rest refl refl)
+
+-- the flag and the bracket at the end
+flag_end : (rest n v : List ℕ) (c : Comparison) (ignores : Bool)
+    → follow (gap (flag_text ignores ++ (close_bracket ∷ rest)))
+    (λ x. flag >>= λ i. gap >> (closing close_bracket >> give (attribute n c v i)))
+    ≡ got (attribute n c v ignores) rest
+unfolding flag
+flag_end rest n v c ignores = by ignores
+  where
+    closed : (i : Bool) → gap (close_bracket ∷ rest) ≡ got false (close_bracket ∷ rest)
+        → (gap >> (closing close_bracket >> give (attribute n c v i))) (close_bracket ∷ rest)
+        ≡ got (attribute n c v i) rest
+    closed i calm =
+        ap (λ r. follow r (λ x. closing close_bracket >> give (attribute n c v i))) calm
+
+    calm : gap (close_bracket ∷ rest) ≡ got false (close_bracket ∷ rest)
+    calm = no_gap (close_bracket ∷ rest) (no_gap-byte close_bracket rest refl refl)
+
+    by : (i : Bool) → follow (gap (flag_text i ++ (close_bracket ∷ rest)))
+        (λ x. flag >>= λ j. gap >> (closing close_bracket >> give
+        (attribute n c v j)))
+        ≡ got (attribute n c v i) rest
+    by false =
+        ap (λ r. follow r (λ x. flag >>= λ j. gap >>
+        (closing close_bracket >> give (attribute n c v j)))) calm
+        ∙ closed false calm
+    by true =
+        ap (λ r. follow r (λ x. flag >>= λ j. gap >>
+        (closing close_bracket >> give (attribute n c v j))))
+        (one_blank (105 ∷ close_bracket ∷ rest) (no_gap-byte 105 (close_bracket ∷ rest) refl refl))
+        ∙ ap (λ r. follow (follow r (flag_named (105 ∷ close_bracket ∷ rest))) (λ j. gap >>
+        (closing close_bracket >> give (attribute n c v j))))
+        (name-again (codes "i") (close_bracket ∷ rest) (omega arith)
+        (record { bare = refl; calm = refl; apart = refl }))
+        ∙ closed true calm
+
+-- the operator of an attribute selector
+operator-again : (rest : List ℕ) (c : Comparison)
+    → comparison (comparison_text c ++ (double_quote ∷ rest))
+    ≡ got (Some c) (double_quote ∷ rest)
+unfolding comparison
+operator-again rest equals = refl
+operator-again rest has_word = refl
+operator-again rest has_subtag = refl
+operator-again rest starts_with = refl
+operator-again rest ends_with = refl
+operator-again rest contains = refl
+
+operator_end : (c : Comparison) (rest : List ℕ)
+    → EndsName (comparison_text c ++ rest) × NoGap (comparison_text c ++ rest)
+operator_end equals rest =
+    (record { bare = refl; calm = refl; apart = refl }, no_gap-byte 61 rest refl refl)
+operator_end has_word rest =
+    (record { bare = refl; calm = refl; apart = refl }, no_gap-byte 126 (61 ∷ rest) refl refl)
+operator_end has_subtag rest =
+    (record { bare = refl; calm = refl; apart = refl }, no_gap-byte 124 (61 ∷ rest) refl refl)
+operator_end starts_with rest =
+    (record { bare = refl; calm = refl; apart = refl }, no_gap-byte 94 (61 ∷ rest) refl refl)
+operator_end ends_with rest =
+    (record { bare = refl; calm = refl; apart = refl }, no_gap-byte 36 (61 ∷ rest) refl refl)
+operator_end contains rest =
+    (record { bare = refl; calm = refl; apart = refl }, no_gap-byte 42 (61 ∷ rest) refl refl)
+
+attribute-again : (n v rest : List ℕ) (c : Comparison) (ignores : Bool) → IsName n
+    → attribute_selector (identifier_text n ++ (comparison_text c ++ (string_text v
+    ++ (flag_text ignores ++ (close_bracket ∷ rest)))))
+    ≡ got (attribute n c v ignores) rest
+unfolding compared
+attribute-again n v rest c ignores some =
+    let end : List ℕ = flag_text ignores ++ (close_bracket ∷ rest) in
+    let quoted : List ℕ = string_text v ++ end in
+    let p = operator_end c quoted in
+    attribute_front n (comparison_text c ++ quoted) some p.0 p.1
+    ∙ ap (λ r. follow r (by_comparison n)) (operator-again _ c)
+    ∙ ap (λ r. follow r (λ x. value >>= λ t. gap >> (flag >>= λ i. gap >>
+    (closing close_bracket >> give (attribute n c t i)))))
+    (no_gap quoted (no_gap-byte double_quote _ refl refl))
+    ∙ ap (λ r. follow r (λ t. gap >> (flag >>= λ i. gap >>
+    (closing close_bracket >> give (attribute n c t i)))))
+    (value-again v end)
+    ∙ flag_end rest n v c ignores
+
+-- ---- arguments of pseudo-classes
+
+-- the argument of a pseudo-class with `An+B`
+numbered_argument : (opened rest : List ℕ) (kind : Numbering) (p : Progression) → IsProgression p
+    → functional opened (Some (Numbered kind)) (progression_text p ++ (close_parenthesis ∷ rest))
+    ≡ got (structure (numbered_by kind p)) rest
+numbered_argument opened rest kind p w =
+    ap (λ r. follow r (λ x. progression >>= λ q. gap >>
+    (closing close_parenthesis >> give (structure (numbered_by kind q)))))
+    (no_gap _ (progression_calm p (close_parenthesis ∷ rest) w.0 w.1))
+    ∙ ap (λ r. follow r (λ q. gap >>
+    (closing close_parenthesis >> give (structure (numbered_by kind q)))))
+    (progression-again p rest w.0 w.1)
+    ∙ ap (λ r. follow r (λ x. closing close_parenthesis >>
+    give (structure (numbered_by kind p))))
+    (no_gap (close_parenthesis ∷ rest) (no_gap-byte close_parenthesis rest refl refl))
+
+-- a further language range
+range-again : (range rest : List ℕ)
+    → next_range (further_text string_text range ++ rest) ≡ item range rest
+unfolding next_range
+range-again range rest =
+    let text : List ℕ = string_text range ++ rest in
+    ap range_after (no_gap (comma ∷ space ∷ text) (no_gap-byte comma (space ∷ text) refl refl))
+    ∙ ap (λ r. as_item (λ x. x) (follow r (λ x. value)))
+    (one_blank text (no_gap-byte double_quote _ refl refl))
+    ∙ ap (as_item (λ x. x)) (value-again range rest)
+
+range_end : (rest : List ℕ) → next_range (close_parenthesis ∷ rest) ≡ none
+unfolding next_range
+range_end rest =
+    ap range_after
+    (no_gap (close_parenthesis ∷ rest) (no_gap-byte close_parenthesis rest refl refl))
+
+each_range : (ranges : List (List ℕ)) (rest : List ℕ)
+    → EachReads next_range (further_text string_text) ranges (close_parenthesis ∷ rest)
+each_range [] rest = range_end rest
+each_range (range ∷ ranges) rest =
+    (omega arith, range-again range _, each_range ranges rest)
+
+ranges-again : (rest : List ℕ) (ranges : List (List ℕ)) → 0 < length ranges
+    → language_ranges (list_text string_text ranges ++ (close_parenthesis ∷ rest))
+    ≡ got ranges rest
+unfolding language_ranges
+ranges-again rest [] some = absurd (omega arith)
+ranges-again rest (range ∷ ranges) some =
+    let end : List ℕ = close_parenthesis ∷ rest in
+    let others : List ℕ = flat_map (further_text string_text) ranges ++ end in
+    ap language_ranges
+    (append_assoc (string_text range) (flat_map (further_text string_text) ranges) end)
+    ∙ ap (λ r. follow r (λ x. value >>= λ first. one_more first (items next_range) >>= λ all.
+    gap >> (closing close_parenthesis >> give all)))
+    (no_gap (string_text range ++ others) (no_gap-byte double_quote _ refl refl))
+    ∙ ap (λ r. follow r (λ first. one_more first (items next_range) >>= λ all.
+    gap >> (closing close_parenthesis >> give all)))
+    (value-again range others)
+    ∙ ap (λ r. follow (with_first range r) (λ all.
+    gap >> (closing close_parenthesis >> give all)))
+    (items-again next_range (further_text string_text) ranges end (each_range ranges rest))
+    ∙ ap (λ r. follow r (λ x. closing close_parenthesis >> give (range ∷ ranges)))
+    (no_gap end (no_gap-byte close_parenthesis rest refl refl))
+
+language_argument : (opened rest : List ℕ) (ranges : List (List ℕ)) → 0 < length ranges
+    → functional opened (Some Language) (list_text string_text ranges ++ (close_parenthesis ∷ rest))
+    ≡ got (language ranges) rest
+language_argument opened rest ranges some =
+    ap (λ r. follow r (λ all. give (language all))) (ranges-again rest ranges some)
+
+-- ---- pseudo-classes without a list
+
+-- the bytes that begin simple selectors but types
+abbrev pub is_start : ℕ → Bool
+is_start b = b == number_sign || b == full_stop || b == open_bracket || b == colon
+
+pub by_start : (P : ℕ → Type 0) → P number_sign → P full_stop → P open_bracket → P colon → (b : ℕ)
+    → is_start b ≡ true → P b
+by_start P pn pf po pc b h =
+    by (b == number_sign) (b == full_stop) (b == open_bracket) (b == colon) refl refl refl refl h
+  where
+    by : (n f o c : Bool) → (b == number_sign) ≡ n → (b == full_stop) ≡ f
+        → (b == open_bracket) ≡ o → (b == colon) ≡ c → (n || f || o || c) ≡ true → P b
+    by true f o c en ef eo ec h = subst P (sym (eqb-true b number_sign en)) pn
+    by false true o c en ef eo ec h = subst P (sym (eqb-true b full_stop ef)) pf
+    by false false true c en ef eo ec h = subst P (sym (eqb-true b open_bracket eo)) po
+    by false false false true en ef eo ec h = subst P (sym (eqb-true b colon ec)) pc
+    by false false false false en ef eo ec h = absurd (cc)
+
+-- a further simple selector is no type
+pub further_starts : (s : Simple) → IsFurther s → starts_by is_start (simple_text s) ≡ true
+further_starts universal w = absurd w
+further_starts (type_name n) w = absurd w
+further_starts (id n) w = refl
+further_starts (class n) w = refl
+further_starts (has_attribute n) w = refl
+further_starts (attribute n c v ignores) w = refl
+further_starts (structure s) w = by s
+  where
+    by : (s : Structure) → starts_by is_start (structure_text s) ≡ true
+    by root = refl
+    by empty = refl
+    by first_child = refl
+    by last_child = refl
+    by only_child = refl
+    by first_of_type = refl
+    by last_of_type = refl
+    by only_of_type = refl
+    by (nth_child p) = refl
+    by (nth_last_child p) = refl
+    by (nth_of_type p) = refl
+    by (nth_last_of_type p) = refl
+further_starts (language ranges) w = refl
+further_starts (state n) w = refl
+
+pub call_end : (argument : List ℕ) → EndsName (open_parenthesis ∷ argument)
+call_end argument = record { bare = refl; calm = refl; apart = refl }
+
+attribute_assoc : (a b c d e f : List ℕ)
+    → (((((a ++ b) ++ c) ++ d) ++ e)) ++ f ≡ a ++ (b ++ (c ++ (d ++ (e ++ f))))
+attribute_assoc a b c d e f = simp append_assoc
+
+module _ (list : ListReader) where
+  -- a pseudo-class is read by its name
+  pseudo_named : (n rest : List ℕ) → IsName n → EndsName rest
+      → condition_by list (colon ∷ (identifier_text n ++ rest))
+      ≡ pseudo_condition list (colon ∷ (identifier_text n ++ rest)) n rest
+  pseudo_named n rest some e =
+      let text : List ℕ = identifier_text n ++ rest in
+      let one : starts colon text ≡ false =
+      name_other colon text (begins-again n rest some e) refl in
+      let none : past_comments text ≡ text =
+      no_comments text (no_comment_here text (name_other slash text (begins-again n rest some e) refl))
+      in
+      let reads = name-again n rest some e in
+      ap (condition_here list) (no_comments (colon ∷ text) refl) ∙ rw (none, one, reads) refl
+
+  -- a pseudo-class that is only a name
+  plain-again : (n rest : List ℕ) (s : Simple) → IsName n → is_old_element n ≡ false
+      → ends rest ≡ true → plain_pseudo n (plain_structure n) ≡ s
+      → condition_by list (colon ∷ (identifier_text n ++ rest)) ≡ item (simple s) rest
+  plain-again n rest s some other h is =
+      let stops = opens_none rest h in
+      pseudo_named n rest some (ends_name rest h)
+      ∙ rw (stops, other) (ap (λ x. item (simple x) rest) is)
+
+  -- a functional pseudo-class, by what its argument is read as
+  pub call-again : (n argument rest : List ℕ) (c : Condition) → IsName n
+      → ((opened : List ℕ)
+      → with_argument list opened (list_kind n) (function_named n) argument ≡ got c rest)
+      → condition_by list (colon ∷ (identifier_text n ++ (open_parenthesis ∷ argument)))
+      ≡ item c rest
+  call-again n argument rest c some reads =
+      pseudo_named n (open_parenthesis ∷ argument) some (call_end argument)
+      ∙ ap (as_item (λ x. x)) (reads _)
+
+  numbered-again : (n rest : List ℕ) (kind : Numbering) (p : Progression) → IsName n
+      → list_kind n ≡ None → function_named n ≡ Some (Numbered kind) → IsProgression p
+      → condition_by list (colon ∷ (identifier_text n ++ (open_parenthesis ∷ ((progression_text p
+      ++ (close_parenthesis ∷ [])) ++ rest))))
+      ≡ item (simple (structure (numbered_by kind p))) rest
+  numbered-again n rest kind p some no_list is w =
+      call-again n argument rest (simple (structure (numbered_by kind p))) some reads
+    where
+      argument : List ℕ
+      argument = (progression_text p ++ (close_parenthesis ∷ [])) ++ rest
+
+      reads : (opened : List ℕ)
+          → with_argument list opened (list_kind n) (function_named n) argument
+          ≡ got (simple (structure (numbered_by kind p))) rest
+      reads opened =
+          ap (λ k. with_argument list opened k (function_named n) argument) no_list
+          ∙ ap (λ f. with_argument list opened None f argument) is
+          ∙ ap (with_argument list opened None (Some (Numbered kind)))
+          (append_assoc (progression_text p) (close_parenthesis ∷ []) rest)
+          ∙ ap (λ r. follow r (λ s. give (simple s))) (numbered_argument opened rest kind p w)
+
+  structure-again : (s : Structure) (rest : List ℕ) → IsStructure s → ends rest ≡ true
+      → condition_by list (structure_text s ++ rest) ≡ item (simple (structure s)) rest
+  structure-again root rest w h = plain-again (codes "root") rest _ (omega arith) refl h refl
+  structure-again empty rest w h = plain-again (codes "empty") rest _ (omega arith) refl h refl
+  structure-again first_child rest w h =
+      plain-again (codes "first-child") rest _ (omega arith) refl h refl
+  structure-again last_child rest w h =
+      plain-again (codes "last-child") rest _ (omega arith) refl h refl
+  structure-again only_child rest w h =
+      plain-again (codes "only-child") rest _ (omega arith) refl h refl
+  structure-again first_of_type rest w h =
+      plain-again (codes "first-of-type") rest _ (omega arith) refl h refl
+  structure-again last_of_type rest w h =
+      plain-again (codes "last-of-type") rest _ (omega arith) refl h refl
+  structure-again only_of_type rest w h =
+      plain-again (codes "only-of-type") rest _ (omega arith) refl h refl
+  structure-again (nth_child p) rest w h =
+      numbered-again (codes "nth-child") rest OfChild p (omega arith) refl refl w
+  structure-again (nth_last_child p) rest w h =
+      numbered-again (codes "nth-last-child") rest OfLastChild p (omega arith) refl refl w
+  structure-again (nth_of_type p) rest w h =
+      numbered-again (codes "nth-of-type") rest OfType p (omega arith) refl refl w
+  structure-again (nth_last_of_type p) rest w h =
+      numbered-again (codes "nth-last-of-type") rest OfLastType p (omega arith) refl refl w
+
+  language-again : (ranges : List (List ℕ)) (rest : List ℕ) → 0 < length ranges
+      → condition_by list (simple_text (language ranges) ++ rest)
+      ≡ item (simple (language ranges)) rest
+  language-again ranges rest some =
+      call-again (codes "lang") ((list_text string_text ranges ++ (close_parenthesis ∷ [])) ++ rest)
+      rest (simple (language ranges)) (omega arith) (λ opened.
+      ap (with_argument list opened None (Some Language))
+      (append_assoc (list_text string_text ranges) (close_parenthesis ∷ []) rest)
+      ∙ ap (λ r. follow r (λ s. give (simple s))) (language_argument opened rest ranges some))
+
+  -- a simple selector that is no type
+  pub further-again : (s : Simple) (rest : List ℕ) → IsFurther s → ends rest ≡ true
+      → condition_by list (simple_text s ++ rest) ≡ item (simple s) rest
+  unfolding next_simple
+  further-again universal rest w h = absurd w
+  further-again (type_name n) rest w h = absurd w
+  further-again (id n) rest w h =
+      ap (condition_here list) (no_comments (number_sign ∷ (identifier_text n ++ rest)) refl)
+      ∙ ap (λ r. simple_item (as_item id r)) (ident-again n rest w (ends_name rest h))
+  further-again (class n) rest w h =
+      ap (condition_here list) (no_comments (full_stop ∷ (identifier_text n ++ rest)) refl)
+      ∙ ap (λ l. simple_item (as_item class (name l))) (no_comments (identifier_text n ++ rest)
+      (no_comment_here (identifier_text n ++ rest)
+      (name_other slash (identifier_text n ++ rest) (named_text n rest w h) refl)))
+      ∙ ap (λ r. simple_item (as_item class r)) (name-again n rest w (ends_name rest h))
+  further-again (has_attribute n) rest w h =
+      ap (condition_here list) (no_comments (simple_text (has_attribute n) ++ rest) refl)
+      ∙ ap (λ l. simple_item (next_simple (open_bracket ∷ l)))
+      (append_assoc (identifier_text n) (close_bracket ∷ []) rest)
+      ∙ ap (λ r. simple_item (as_item (λ s. s) r)) (has_attribute-again n rest w)
+  further-again (attribute n c v ignores) rest w h =
+      ap (condition_here list)
+      (no_comments (simple_text (attribute n c v ignores) ++ rest) refl)
+      ∙ ap (λ l. simple_item (next_simple (open_bracket ∷ l)))
+      (attribute_assoc (identifier_text n) (comparison_text c) (string_text v) (flag_text ignores)
+      (close_bracket ∷ []) rest)
+      ∙ ap (λ r. simple_item (as_item (λ s. s) r)) (attribute-again n v rest c ignores w)
+  further-again (structure s) rest w h = structure-again s rest w h
+  further-again (language ranges) rest w h = language-again ranges rest w
+  further-again (state n) rest w h =
+      plain-again n rest (state n) w.0 w.2 h (ap (plain_pseudo n) w.1)

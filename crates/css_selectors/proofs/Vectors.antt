@@ -1,0 +1,58 @@
+-- Worked texts, computed with the definitions.
+-- Computes `name`, `ident_sequence`, `progression`, `attribute_selector` and `next_condition`.
+use Rattle.std.specs.Prelude.{◌≡◌, refl, zero, [], codes, true, false}
+use Rattle.css_text.specs.Comments.{blank, comment, gap as gap_before}
+use Rattle.css_text.specs.Reading.{each}
+use Rattle.css_syntax.specs.Tokens.{past_escape, past_comment, name_part, string_part}
+use Rattle.css_syntax.specs.Escapes.{decoded_part, decoded_in}
+use Rattle.css_selectors.specs.declared.refusal.Why.TheVariants.{NoName, NoProgression, NoValue, UnknownFunction}
+use Rattle.css_selectors.specs.Components.Comparison.{equals}
+use Rattle.css_selectors.specs.Components.Simple.{class, has_attribute, attribute, state}
+use Rattle.css_selectors.specs.Components.Condition.{simple}
+use Rattle.css_selectors.specs.Readings.{got, refused, item, stop}
+use Rattle.css_selectors.specs.Grammar.{gap, ident_sequence, name, string, value, comparison, flag, compared, attribute_selector, signed, stepping, offset_or_none, with_offset, subtracted, by_tail, n_word, progression, next_simple, next_condition}
+
+-- `-->` is no name, but in a hash its hyphens are one; a backslash before a newline is no escape
+pub names :
+    (name (codes "-->c") ≡ refused NoName (codes "-->c"))
+    × (ident_sequence (codes "-->c") ≡ got (codes "--") (codes ">c"))
+    × (name (codes "\\61 \\62/**/") ≡ got (codes "ab") (codes "/**/"))
+    × (name (codes "\\\na") ≡ refused NoName (codes "\\\na"))
+unfolding each past_escape name_part decoded_part decoded_in ident_sequence name lib.Utf8.encode
+names = (refl, refl, refl, refl)
+
+-- `An+B`, by its tokens
+pub progressions :
+    (progression (codes "2\\6e -1)") ≡ got (stepping (signed false 2) (signed true 1)) (codes ")"))
+    × (progression (codes "+/**/N") ≡ got (stepping (signed false 1) (signed false 0)) [])
+    × (progression (codes "-/**/n") ≡ refused NoName (codes "-/**/n"))
+    × (progression (codes "\\-n+2") ≡ got (stepping (signed true 1) (signed false 2)) [])
+    × (progression (codes "2n-/**/1") ≡ got (stepping (signed false 2) (signed true 1)) [])
+    × (progression (codes "e\\76 en)") ≡ got (stepping (signed false 2) (signed false 0)) (codes ")"))
+    × (progression (codes "2/**/n") ≡ got (stepping (signed false 0) (signed false 2)) (codes "/**/n"))
+    × (progression (codes "+odd") ≡ refused NoProgression (codes "+odd"))
+    × (progression (codes "2e1") ≡ refused NoProgression (codes "2e1"))
+unfolding each past_escape past_comment name_part decoded_part decoded_in blank comment gap_before gap
+    ident_sequence name offset_or_none with_offset subtracted by_tail n_word progression lib.Utf8.encode
+progressions = (refl, refl, refl, refl, refl, refl, refl, refl, refl)
+
+-- the end of the text closes what is open
+pub attributes :
+    (attribute_selector (codes "a=\"b") ≡ got (attribute (codes "a") equals (codes "b") false) [])
+    × (attribute_selector (codes "a=b/**/\\69") ≡ got (attribute (codes "a") equals (codes "b") true) [])
+    × (attribute_selector (codes "a/*") ≡ got (has_attribute (codes "a")) [])
+    × (attribute_selector (codes "a=") ≡ refused NoValue [])
+    × (attribute_selector (codes "*=b]") ≡ refused NoName (codes "*=b]"))
+unfolding each past_escape past_comment name_part string_part decoded_part decoded_in blank comment gap_before
+    gap ident_sequence name string value comparison flag compared attribute_selector lib.Utf8.encode
+attributes = (refl, refl, refl, refl, refl)
+
+-- comments are between any two tokens; a url is no function
+pub conditions :
+    (next_condition zero (codes "/**/./**/b") ≡ item (simple (class (codes "b"))) [])
+    × (next_condition zero (codes ":/**/hov\\65 r/") ≡ item (simple (state (codes "hover"))) (codes "/"))
+    × (next_condition zero (codes "#/**/a") ≡ stop NoName (codes "/**/a"))
+    × (next_condition zero (codes ":url(x)") ≡ stop UnknownFunction (codes ":url(x)"))
+unfolding each past_escape past_comment name_part decoded_part decoded_in ident_sequence name
+    next_simple next_condition lib.Utf8.encode
+conditions = (refl, refl, refl, refl)

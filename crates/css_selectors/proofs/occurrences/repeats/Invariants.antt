@@ -1,0 +1,7 @@
+use Rattle.std.proofs.Common.{◌≡◌, ℕ, ◌+◌, ◌<◌}
+use Rattle.css_selectors.specs.Occurrences.{folded_at}
+use Rattle.css_selectors.proofs.occurrences.repeats.Given as goal
+
+abbrev pub invariant-loop-k : goal.invariant-loop-k
+invariant-loop-k l = (j : ℕ) → j < l.k
+    → folded_at l.ignores_case l.text j ≡ folded_at l.ignores_case l.text (j + l.period)

@@ -1,0 +1,635 @@
+-- The grammar of selectors (Selectors 3, section 10).
+use Rattle.std.specs.Prelude.{ℕ, zero, suc, ◌+◌, ◌-◌, ◌*◌, Bool, true, false, not, ◌&&◌, ◌||◌, ◌==◌, min, if◌then◌else◌, List, [], ◌∷◌, codes, Option, Some, None, nat_le}
+use Rattle.std.specs.Option.{option_map}
+use Rattle.std.specs.Str.{str_eq_ignore_ascii_case}
+use Rattle.css_text.specs.AsciiBytes.{asterisk, backslash, close_bracket, close_parenthesis, colon, comma, equals_sign, full_stop, greater_than_sign, hyphen, number_sign, open_bracket, open_parenthesis, plus_sign, tilde, underscore, vertical_bar}
+use Rattle.css_text.specs.Bytes.{past_one, past_byte, starts, starts_by, is_digit}
+use Rattle.css_text.specs.Characters.{is_letter}
+use Rattle.css_text.specs.Comments.{gap as gap_before, opens_comment}
+use Rattle.css_text.specs.Reading.{each, before, Reading as TextReading, got as text_got, fails as text_fails}
+use Rattle.css_text.specs.Strings.{is_quote}
+use Rattle.css_syntax.specs.Tokens.{begins_escape, past_comment, past_word, past_string_parts}
+use Rattle.css_syntax.specs.Escapes.{decoded, decoded_string}
+use Rattle.css_syntax.specs.Statements.{begins_cdc}
+use Rattle.css_matching.specs.declared.Combinator.{Combinator}
+use Rattle.css_matching.specs.declared.Combinator.TheVariants.{Descendant, Child, Adjacent, Sibling}
+use Rattle.css_selectors.specs.declared.components.Numbering.{Numbering}
+use Rattle.css_selectors.specs.declared.components.Numbering.TheVariants.{Child as OfChild, LastChild as OfLastChild, OfType, LastOfType as OfLastType}
+use Rattle.css_selectors.specs.declared.components.Function.{Function}
+use Rattle.css_selectors.specs.declared.components.Function.TheVariants.{Numbered, Language}
+use Rattle.css_selectors.specs.declared.components.ListKind.{ListKind}
+use Rattle.css_selectors.specs.declared.components.ListKind.TheVariants.{Not, Is, Where}
+use Rattle.css_selectors.specs.declared.refusal.Why.TheVariants.{NoSelector, NoName, BrokenString, NoOperator, NoValue, UnknownFlag, NoProgression, UnknownFunction, TooDeep, Unexpected}
+use Rattle.css_selectors.specs.Components.{Comparison, Signed, Progression, Structure, Simple, Condition, Part, Selector, selectors_from}
+use Rattle.css_selectors.specs.Components.Comparison.{equals, has_word, has_subtag, starts as starts_with, ends as ends_with, contains}
+use Rattle.css_selectors.specs.Components.Structure.{root, empty, first_child, last_child, only_child, first_of_type, last_of_type, only_of_type, nth_child, nth_last_child, nth_of_type, nth_last_of_type}
+use Rattle.css_selectors.specs.Components.Simple.{universal, type_name, id, class, has_attribute, attribute, structure, language, state}
+use Rattle.css_selectors.specs.Components.Condition.{simple, negation, any_of, where_any}
+use Rattle.css_selectors.specs.Readings.{Reading, got, refused, Reader, follow, ◌>>=◌, ◌>>◌, give, Step, item, none, stop, step_after, as_item, with_first, items}
+
+-- ---- gaps, names, strings
+
+-- a gap, which a comment that the end of the text closes also is: nothing is left after that one
+abbrev pub closed_gap : TextReading Bool → Reading Bool
+closed_gap (text_got spaced rest) = got spaced rest
+closed_gap (text_fails fault rest) = got false []
+
+-- space bytes and comments: whether there is a space byte outside the comments
+unfoldable pub gap : Reader Bool
+gap text = closed_gap (gap_before text)
+
+-- a comment, which the end of the text may close
+abbrev pub comment_part : List ℕ → Option (Unit {0} × List ℕ)
+comment_part text = if opens_comment text then Some (tt, past_comment text) else None
+
+-- The rest after comments. No token is made of them (CSS Syntax 3, section 4.3.2), so they may be
+-- between any two tokens.
+abbrev pub past_comments : List ℕ → List ℕ
+past_comments text = (each comment_part text).1
+
+abbrev pub comments : Reader (Unit {0})
+comments text = got tt (past_comments text)
+
+-- an underscore, a letter, or a byte of a character past ASCII
+abbrev pub begins_word : ℕ → Bool
+begins_word b = is_letter b || b == underscore || nat_le 128 b
+
+-- such a byte or an escape
+abbrev pub begins_plain_name : List ℕ → Bool
+begins_plain_name text = starts_by begins_word text || begins_escape text
+
+-- a name begins here: such a byte or an escape, also after a hyphen, or two hyphens (CSS Syntax 3,
+-- section 4.3.9)
+abbrev pub begins_name : List ℕ → Bool
+begins_name text =
+    begins_plain_name text
+    || (starts hyphen text
+    && (begins_plain_name (past_one text) || starts hyphen (past_one text)))
+
+-- the word that begins here, with its escapes decoded
+abbrev pub word_here : Reader (List ℕ)
+word_here text = got (decoded (before text (past_word text))) (past_word text)
+
+-- an ident sequence, as in a hash and in the unit of a number (section 4.3.11)
+unfoldable pub ident_sequence : Reader (List ℕ)
+ident_sequence text = if begins_name text then word_here text else refused NoName text
+
+-- a name: an ident token, which `-->` is not (section 4.3.1)
+unfoldable pub name : Reader (List ℕ)
+name text = if begins_cdc text then refused NoName text else ident_sequence text
+
+-- the quote after what is in a string, which the end of the text closes, too; `opened` begins with it
+abbrev pub closed_string : List ℕ → ℕ → List ℕ → List ℕ → Reading (List ℕ)
+closed_string opened quote value [] = got value []
+closed_string opened quote value (b ∷ rest) =
+    if b == quote then got value rest else refused BrokenString opened
+
+-- a string, from after its quote; `opened` is the text from the quote on
+unfoldable pub string : List ℕ → ℕ → Reader (List ℕ)
+string opened quote text =
+    closed_string opened quote (decoded_string (before text (past_string_parts quote text)))
+    (past_string_parts quote text)
+
+-- the byte that closes a bracket, or the end of the text, which closes all (section 5.4.8)
+abbrev pub closing : ℕ → Reader (Unit {0})
+closing byte [] = got tt []
+closing byte (b ∷ text) = if b == byte then got tt text else refused Unexpected (b ∷ text)
+
+-- ---- attributes
+
+-- an operator of two bytes, by its first
+abbrev pub two_bytes : ℕ → Option Comparison
+two_bytes b =
+    if b == tilde then Some has_word
+    else (if b == vertical_bar then Some has_subtag
+    else (if b == 94 then Some starts_with
+    else (if b == 36 then Some ends_with
+    else (if b == asterisk then Some contains else None))))
+
+abbrev pub compared_by : List ℕ → Option Comparison → Reading (Option Comparison)
+compared_by text None = refused NoOperator text
+compared_by text (Some comparison) =
+    if starts equals_sign (past_one text) then got (Some comparison) (past_one (past_one text))
+    else refused NoOperator text
+
+-- a sign that no value begins with, as in `=>` and `==`
+abbrev pub is_sign_byte : ℕ → Bool
+is_sign_byte b = b == equals_sign || b == greater_than_sign || b == 60
+
+-- an operator, or the end of the attribute selector
+unfoldable pub comparison : Reader (Option Comparison)
+comparison [] = got None []
+comparison (b ∷ text) =
+    if b == close_bracket then got None (b ∷ text)
+    else (if b == equals_sign
+    then (if starts_by is_sign_byte text then refused NoOperator (b ∷ text)
+    else got (Some equals) text)
+    else compared_by (b ∷ text) (two_bytes b))
+
+-- a string or a name
+unfoldable pub value : Reader (List ℕ)
+value [] = refused NoValue []
+value (b ∷ text) = if is_quote b then string (b ∷ text) b text else name (b ∷ text)
+
+abbrev pub flag_named : List ℕ → List ℕ → Reader Bool
+flag_named start word rest =
+    if str_eq_ignore_ascii_case word (codes "i") then got true rest
+    else (if str_eq_ignore_ascii_case word (codes "s") then got false rest
+    else refused UnknownFlag start)
+
+-- whether there is the flag `i`
+unfoldable pub flag : Reader Bool
+flag [] = got false []
+flag (b ∷ text) =
+    if b == close_bracket then got false (b ∷ text)
+    else follow (name (b ∷ text)) (flag_named (b ∷ text))
+
+-- what follows the operator
+unfoldable pub compared : List ℕ → Comparison → Reader Simple
+compared n c = do
+  gap
+  v ← value
+  gap
+  ignores ← flag
+  gap
+  closing close_bracket
+  give (attribute n c v ignores)
+
+abbrev pub by_comparison : List ℕ → Option Comparison → Reader Simple
+by_comparison n None = closing close_bracket >> give (has_attribute n)
+by_comparison n (Some c) = compared n c
+
+-- an attribute selector, from after its bracket
+unfoldable pub attribute_selector : Reader Simple
+attribute_selector = do
+  gap
+  n ← name
+  gap
+  c ← comparison
+  by_comparison n c
+
+-- ---- An+B (CSS Syntax 3, section 6.2)
+
+-- a digit more, up to the greatest `u32`
+abbrev pub with_digit : ℕ → ℕ → ℕ
+with_digit so_far b = min (10 * so_far + (b - 48)) 4294967295
+
+-- the number of the digits at the start, after those that spell `so_far`, and the rest
+abbrev pub digits : ℕ → List ℕ → ℕ × List ℕ
+digits so_far [] = (so_far, [])
+digits so_far (b ∷ text) =
+    if is_digit b then digits (with_digit so_far b) text else (so_far, b ∷ text)
+
+-- whether a minus is next, and the rest after the sign that is next
+abbrev pub sign : List ℕ → Bool × List ℕ
+sign [] = (false, [])
+sign (b ∷ text) =
+    if b == hyphen then (true, text) else (if b == plus_sign then (false, text) else (false, b ∷ text))
+
+abbrev pub signed : Bool → ℕ → Signed
+signed is_negative size = record { is_negative = is_negative; size = size }
+
+abbrev pub stepping : Signed → Signed → Progression
+stepping step offset = record { step = step; offset = offset }
+
+-- the digits of the offset, after its sign
+abbrev pub offset_after : Signed → Bool → Reader Progression
+offset_after step is_negative text =
+    if starts_by is_digit text
+    then got (stepping step (signed is_negative (digits 0 text).0)) (digits 0 text).1
+    else refused NoProgression text
+
+abbrev pub is_sign : ℕ → Bool
+is_sign b = b == hyphen || b == plus_sign
+
+-- the offset, if there is a sign
+unfoldable pub offset_or_none : Signed → Reader Progression
+offset_or_none step text =
+    if starts_by is_sign text
+    then follow (gap (sign text).1) (λ spaced. offset_after step (sign text).0)
+    else got (stepping step (signed false 0)) text
+
+-- what follows the `n`
+unfoldable pub with_offset : Signed → Reader Progression
+with_offset step = do
+  gap
+  offset_or_none step
+
+-- `n`
+abbrev pub is_n : ℕ → Bool
+is_n b = b == 110 || b == 78
+
+-- nothing
+abbrev pub is_empty_text : List ℕ → Bool
+is_empty_text [] = true
+is_empty_text (b ∷ text) = false
+
+-- digits and nothing else
+abbrev pub is_number : List ℕ → Bool
+is_number text = starts_by is_digit text && is_empty_text (digits 0 text).1
+
+-- The offset that is subtracted, after the hyphen of a word: its digits are in the word, or else after
+-- it. `start` is the text from `An+B` on.
+unfoldable pub subtracted : List ℕ → Signed → List ℕ → Reader Progression
+subtracted start step [] rest = follow (gap rest) (λ spaced. offset_after step true)
+subtracted start step (b ∷ number) rest =
+    if is_number (b ∷ number)
+    then got (stepping step (signed true (digits 0 (b ∷ number)).0)) rest
+    else refused NoProgression start
+
+-- after the `n` of a word, which `tail` follows in it
+unfoldable pub by_tail : List ℕ → Signed → List ℕ → Reader Progression
+by_tail start step [] rest = with_offset step rest
+by_tail start step (b ∷ tail) rest =
+    if b == hyphen then subtracted start step tail rest else refused NoProgression start
+
+-- a word that begins with `n`, after its step
+unfoldable pub n_word : List ℕ → Signed → List ℕ → Reader Progression
+n_word start step word rest =
+    if starts_by is_n word then by_tail start step (past_one word) rest
+    else refused NoProgression start
+
+abbrev pub odd_or_even : List ℕ → List ℕ → Reader Progression
+odd_or_even start word rest =
+    if str_eq_ignore_ascii_case word (codes "odd")
+    then got (stepping (signed false 2) (signed false 1)) rest
+    else (if str_eq_ignore_ascii_case word (codes "even")
+    then got (stepping (signed false 2) (signed false 0)) rest
+    else refused NoProgression start)
+
+-- a word without digits before it: `n`, `-n`, `odd` or `even`
+abbrev pub word_progression : List ℕ → List ℕ → Reader Progression
+word_progression start word rest =
+    if starts hyphen word then n_word start (signed true 1) (past_one word) rest
+    else (if starts_by is_n word then n_word start (signed false 1) word rest
+    else odd_or_even start word rest)
+
+-- after the digits of a number: it is the step if a word follows, its unit, and else the offset
+abbrev pub numbered : List ℕ → Bool → ℕ → Reader Progression
+numbered start is_negative size text =
+    if begins_name text then follow (ident_sequence text) (n_word start (signed is_negative size))
+    else got (stepping (signed false 0) (signed is_negative size)) text
+
+-- a plus that no digit follows: a word that begins with `n` comes after it
+abbrev pub is_lone_plus : List ℕ → Bool
+is_lone_plus text = starts plus_sign text && not (starts_by is_digit (past_one text))
+
+-- after its sign
+abbrev pub unsigned : List ℕ → Bool → Reader Progression
+unsigned start is_negative text =
+    if starts_by is_digit text then numbered start is_negative (digits 0 text).0 (digits 0 text).1
+    else follow (name start) (word_progression start)
+
+-- `An+B`, `odd` or `even`, whatever escapes spell the words
+unfoldable pub progression : Reader Progression
+progression text =
+    if is_lone_plus text
+    then follow (name (past_comments (past_one text))) (n_word text (signed false 1))
+    else unsigned text (sign text).0 (sign text).1
+
+-- ---- pseudo-classes
+
+-- this value before those that are read
+abbrev pub one_more : {A : Type 0} → A → Reader (List A) → Reader (List A)
+one_more x next text = with_first x (next text)
+
+abbrev pub is_word : List ℕ → List ℕ → Bool
+is_word word n = str_eq_ignore_ascii_case n word
+
+-- a structural pseudo-class without an argument
+abbrev pub plain_structure : List ℕ → Option Structure
+plain_structure n =
+    if is_word (codes "root") n then Some root
+    else (if is_word (codes "empty") n then Some empty
+    else (if is_word (codes "first-child") n then Some first_child
+    else (if is_word (codes "last-child") n then Some last_child
+    else (if is_word (codes "only-child") n then Some only_child
+    else (if is_word (codes "first-of-type") n then Some first_of_type
+    else (if is_word (codes "last-of-type") n then Some last_of_type
+    else (if is_word (codes "only-of-type") n then Some only_of_type else None)))))))
+
+abbrev pub numbering : List ℕ → Option Numbering
+numbering n =
+    if is_word (codes "nth-child") n then Some OfChild
+    else (if is_word (codes "nth-last-child") n then Some OfLastChild
+    else (if is_word (codes "nth-of-type") n then Some OfType
+    else (if is_word (codes "nth-last-of-type") n then Some OfLastType else None)))
+
+abbrev pub numbered_by : Numbering → Progression → Structure
+numbered_by OfChild p = nth_child p
+numbered_by OfLastChild p = nth_last_child p
+numbered_by OfType p = nth_of_type p
+numbered_by OfLastType p = nth_last_of_type p
+
+abbrev pub list_kind : List ℕ → Option ListKind
+list_kind n =
+    if is_word (codes "not") n then Some Not
+    else (if is_word (codes "is") n then Some Is
+    else (if is_word (codes "where") n then Some Where else None))
+
+abbrev pub plain_pseudo : List ℕ → Option Structure → Simple
+plain_pseudo n None = state n
+plain_pseudo n (Some s) = structure s
+
+-- a pseudo-class that takes no list
+abbrev pub function_named : List ℕ → Option Function
+function_named n =
+    if is_word (codes "lang") n then Some Language else option_map Numbered (numbering n)
+
+abbrev pub range_after : Reading Bool → Step (List ℕ)
+range_after (refused why rest) = stop why rest
+range_after (got spaced rest) =
+    if starts comma rest then as_item (λ r. r) ((gap >> value) (past_one rest)) else none
+
+-- a comma and a further language range, if there is a comma
+unfoldable pub next_range : List ℕ → Step (List ℕ)
+next_range text = range_after (gap text)
+
+-- the ranges of `:lang()`, names or strings, from after its parenthesis
+unfoldable pub language_ranges : Reader (List (List ℕ))
+language_ranges = do
+  gap
+  first ← value
+  ranges ← one_more first (items next_range)
+  gap
+  closing close_parenthesis
+  give ranges
+
+abbrev pub functional : List ℕ → Option Function → Reader Simple
+functional opened None = λ text. refused UnknownFunction opened
+functional opened (Some Language) = language_ranges >>= λ ranges. give (language ranges)
+functional opened (Some (Numbered kind)) = do
+  gap
+  p ← progression
+  gap
+  closing close_parenthesis
+  give (structure (numbered_by kind p))
+
+-- one of the four pseudo-elements that may have one colon (section 7)
+abbrev pub is_old_element : List ℕ → Bool
+is_old_element n =
+    is_word (codes "before") n || is_word (codes "after") n
+    || is_word (codes "first-line") n || is_word (codes "first-letter") n
+
+-- a pseudo-class that is only a name; a pseudo-element is none
+abbrev pub named_pseudo : List ℕ → List ℕ → Step Simple
+named_pseudo n text =
+    if is_old_element n then none else item (plain_pseudo n (plain_structure n)) text
+
+-- ---- compound selectors
+
+-- `*` or a name
+unfoldable pub type_selector : List ℕ → Step Simple
+type_selector text =
+    if starts asterisk text then item universal (past_one text)
+    else (if begins_name text then as_item type_name (name text) else none)
+
+-- the next simple selector of a compound selector, if it is no pseudo-class
+unfoldable pub next_simple : List ℕ → Step Simple
+next_simple [] = none
+next_simple (b ∷ text) =
+    if b == full_stop then as_item class (name (past_comments text))
+    else (if b == number_sign then as_item id (ident_sequence text)
+    else (if b == open_bracket then as_item (λ s. s) (attribute_selector text) else none))
+
+-- there is one
+abbrev pub some_of : {A : Type 0} → List ℕ → Reading (List A) → Reading (List A)
+some_of text (got [] rest) = refused NoSelector text
+some_of text (got (x ∷ xs) rest) = got (x ∷ xs) rest
+some_of text (refused why rest) = refused why rest
+
+-- what finds the next condition of a compound selector
+abbrev pub Finder : Type 0
+Finder = List ℕ → Step Condition
+
+abbrev pub after_type : Finder → List ℕ → Step Simple → Reading (List Condition)
+after_type next text (item s rest) = with_first (simple s) (items next rest)
+after_type next text none = some_of text (items next text)
+after_type next text (stop why rest) = refused why rest
+
+-- a compound selector in a list, by what finds a condition
+unfoldable pub compound : Finder → Reader (List Condition)
+compound next text = after_type next text (type_selector text)
+
+-- a sign that joins compound selectors
+abbrev pub sign_combinator : ℕ → Option Combinator
+sign_combinator b =
+    if b == greater_than_sign then Some Child
+    else (if b == plus_sign then Some Adjacent
+    else (if b == tilde then Some Sibling else None))
+
+-- a compound selector may begin by this byte
+abbrev pub begins_compound : ℕ → Bool
+begins_compound b =
+    begins_word b || b == hyphen || b == asterisk || b == full_stop || b == number_sign
+    || b == open_bracket || b == colon || b == backslash
+
+abbrev pub joined_by : Combinator → List Condition → Part
+joined_by combinator conditions = record { combinator = combinator; conditions = conditions }
+
+-- what reads a compound selector
+abbrev pub CompoundReader : Type 0
+CompoundReader = Reader (List Condition)
+
+abbrev pub signed_part : CompoundReader → Reader (List Condition)
+signed_part one = gap >> one
+
+abbrev pub by_sign : CompoundReader → Bool → List ℕ → Option Combinator → Step Part
+by_sign one spaced text (Some combinator) =
+    as_item (joined_by combinator) (signed_part one (past_one text))
+by_sign one spaced text None =
+    if spaced && starts_by begins_compound text
+    then as_item (joined_by Descendant) (one text) else none
+
+abbrev pub first_sign : List ℕ → Option Combinator
+first_sign [] = None
+first_sign (b ∷ text) = sign_combinator b
+
+abbrev pub part_after : CompoundReader → Reading Bool → Step Part
+part_after one (refused why rest) = stop why rest
+part_after one (got spaced rest) = by_sign one spaced rest (first_sign rest)
+
+-- a compound selector after a combinator in a list, where combinators may stand or not
+unfoldable pub joined_compound : Bool → Finder → CompoundReader
+joined_compound true next text = compound next text
+joined_compound false next text = refused TooDeep text
+
+-- in a list, by what finds a condition
+unfoldable pub next_part_in : Bool → Finder → List ℕ → Step Part
+next_part_in joins next text = part_after (joined_compound joins next) (gap text)
+
+-- a complex selector in a list
+unfoldable pub complex : Bool → Finder → Reader (List Part)
+complex joins next = do
+  first ← compound next
+  one_more (joined_by Descendant first) (items (next_part_in joins next))
+
+-- a further one, after a comma
+abbrev pub comma_complex : Bool → Finder → Reader (List Part)
+comma_complex joins next = gap >> complex joins next
+
+abbrev pub after_gap : Bool → Finder → Reading Bool → Step (List Part)
+after_gap joins next (refused why rest) = stop why rest
+after_gap joins next (got spaced rest) =
+    if starts comma rest then as_item (λ c. c) (comma_complex joins next (past_one rest)) else none
+
+unfoldable pub next_complex : Bool → Finder → List ℕ → Step (List Part)
+next_complex joins next text = after_gap joins next (gap text)
+
+abbrev pub listed : ListKind → List (List Part) → Condition
+listed Not selectors = negation (selectors_from selectors)
+listed Is selectors = any_of (selectors_from selectors)
+listed Where selectors = where_any (selectors_from selectors)
+
+-- The list of a pseudo-class, from after its parenthesis, by whether combinators may stand in it and
+-- what finds a condition; `opened` is the text from the colon of the pseudo-class on.
+unfoldable pub complex_list : Bool → Finder → List ℕ → Reader (List (List Part))
+complex_list joins next opened = do
+  gap
+  c ← complex joins next
+  selectors ← one_more c (items (next_complex joins next))
+  gap
+  closing close_parenthesis
+  give selectors
+
+-- what reads the list of a pseudo-class, given the text from its colon on
+abbrev pub ListReader : Type 0
+ListReader = List ℕ → Reader (List (List Part))
+
+-- one colon
+abbrev pub begins_pseudo_class : List ℕ → Bool
+begins_pseudo_class text =
+    starts colon text && not (starts colon (past_comments (past_one text)))
+
+abbrev pub simple_item : Step Simple → Step Condition
+simple_item (item s rest) = item (simple s) rest
+simple_item none = none
+simple_item (stop why rest) = stop why rest
+
+-- the argument of a functional pseudo-class, from after its parenthesis, by what reads a list
+abbrev pub with_argument
+    : ListReader → List ℕ → Option ListKind → Option Function → Reader Condition
+with_argument list opened None kind = functional opened kind >>= λ s. give (simple s)
+with_argument list opened (Some kind) other =
+    list opened >>= λ selectors. give (listed kind selectors)
+
+-- after the name of a pseudo-class
+abbrev pub pseudo_condition : ListReader → List ℕ → List ℕ → List ℕ → Step Condition
+pseudo_condition list opened n text =
+    if starts open_parenthesis text
+    then as_item (λ c. c)
+    (with_argument list opened (list_kind n) (function_named n) (past_one text))
+    else simple_item (named_pseudo n text)
+
+-- the condition that begins here, by what reads a list
+abbrev pub condition_here : ListReader → Finder
+condition_here list text =
+    if begins_pseudo_class text
+    then step_after (name (past_comments (past_one text))) (pseudo_condition list text)
+    else simple_item (next_simple text)
+
+-- the next condition, by what reads a list
+abbrev pub condition_by : ListReader → Finder
+condition_by list text = condition_here list (past_comments text)
+
+-- How many lists may be open at once. (Selectors 4 has no limit.)
+abbrev pub deepest : ℕ
+deepest = 32
+
+-- How many lists may be open where a combinator stands. (Selectors 4 has no limit.)
+abbrev pub deepest_joined : ℕ
+deepest_joined = 1
+
+-- whether a combinator may stand where so many lists more may be opened
+abbrev pub may_join : ℕ → Bool
+may_join n = nat_le (deepest - deepest_joined) n
+
+-- a list more: its pseudo-class is refused
+abbrev pub too_deep : ListReader
+too_deep opened text = refused TooDeep opened
+
+-- the next condition of a compound selector, with lists nested at most `n` deep
+unfoldable pub next_condition : ℕ → Finder
+next_condition zero text = condition_by too_deep text
+next_condition (suc n) text = condition_by (complex_list (may_join n) (next_condition n)) text
+
+-- the list of a pseudo-class, with lists nested at most `n` deep, itself included
+abbrev pub list_within : ℕ → ListReader
+list_within zero = too_deep
+list_within (suc n) = complex_list (may_join n) (next_condition n)
+
+-- A compound selector may be empty before a pseudo-element, which a colon begins that begins no
+-- condition.
+abbrev pub some_or_element : List ℕ → Reading (List Condition) → Reading (List Condition)
+some_or_element text reading = if starts colon text then reading else some_of text reading
+
+abbrev pub after_type_name : List ℕ → Step Simple → Reading (List Condition)
+after_type_name text (item s rest) = with_first (simple s) (items (next_condition deepest) rest)
+after_type_name text none = some_or_element text (items (next_condition deepest) text)
+after_type_name text (stop why rest) = refused why rest
+
+-- a compound selector
+unfoldable pub conditions : Reader (List Condition)
+conditions text = after_type_name text (type_selector text)
+
+-- ---- selectors
+
+-- the next compound selector and what joins it to the one before
+unfoldable pub next_part : List ℕ → Step Part
+next_part text = part_after conditions (gap text)
+
+-- the rest after a second colon, if there is one, and comments
+abbrev pub past_colon : List ℕ → List ℕ
+past_colon text = past_comments (past_byte colon text)
+
+-- The pseudo-element after the compound selectors, if there is one: its name after two colons, or
+-- after the one of which no condition was read.
+unfoldable pub pseudo_element : Reader (Option (List ℕ))
+pseudo_element text =
+    if starts colon text
+    then follow (name (past_colon (past_comments (past_one text)))) (λ n. give (Some n))
+    else got None text
+
+abbrev pub at_end : Reader (Unit {0})
+at_end [] = got tt []
+at_end (b ∷ text) = refused Unexpected (b ∷ text)
+
+abbrev pub selector_with : List Part → Option (List ℕ) → Selector
+selector_with parts element = record { parts = parts; pseudo_element = element }
+
+-- the compound selectors of a selector
+unfoldable pub parts : Reader (List Part)
+parts = do
+  gap
+  first ← conditions
+  one_more (joined_by Descendant first) (items next_part)
+
+-- a selector and the gap after it
+unfoldable pub listed_selector : Reader Selector
+listed_selector = do
+  all ← parts
+  comments
+  element ← pseudo_element
+  gap
+  give (selector_with all element)
+
+-- a text that is a selector
+unfoldable pub selector : Reader Selector
+selector = do
+  s ← listed_selector
+  at_end
+  give s
+
+-- a comma and a further selector, if there is a comma
+unfoldable pub next_selector : List ℕ → Step Selector
+next_selector text =
+    if starts comma text then as_item (λ s. s) (listed_selector (past_one text)) else none
+
+-- a text that is a list of selectors with commas between them (section 5): if one of them is
+-- refused, the list is
+unfoldable pub selector_list : Reader (List Selector)
+selector_list = do
+  first ← listed_selector
+  all ← one_more first (items next_selector)
+  at_end
+  give all

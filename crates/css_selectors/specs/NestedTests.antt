@@ -1,0 +1,64 @@
+-- How many tests matching makes at most, by how combinators stand in lists within lists.
+use Rattle.std.specs.Prelude.{ℕ, zero, suc, ◌+◌, ◌*◌, ◌<◌}
+use Rattle.css_selectors.specs.Components.{Condition, Conditions, Parts, Selectors}
+use Rattle.css_selectors.specs.Components.Condition.{simple, negation, any_of, where_any}
+use Rattle.css_selectors.specs.Components.Conditions.{end_of_compound, with_condition}
+use Rattle.css_selectors.specs.Components.Parts.{end_of_selector, with_part}
+use Rattle.css_selectors.specs.Components.Selectors.{end_of_list, with_selector}
+use Rattle.css_selectors.specs.Costs.{IsPlainList}
+use Rattle.css_selectors.specs.Meanings.{part_count}
+
+-- how many compound selectors there are, those within lists, too
+abbrev mutual
+  pub condition_size : Condition → ℕ
+  condition_size (simple s) = 0
+  condition_size (negation selectors) = selectors_size selectors
+  condition_size (any_of selectors) = selectors_size selectors
+  condition_size (where_any selectors) = selectors_size selectors
+
+  pub compound_size : Conditions → ℕ
+  compound_size end_of_compound = 0
+  compound_size (with_condition c conditions) = condition_size c + compound_size conditions
+
+  pub parts_size : Parts → ℕ
+  parts_size end_of_selector = 0
+  parts_size (with_part k c parts) = compound_size c + parts_size parts + 1
+
+  pub selectors_size : Selectors → ℕ
+  selectors_size end_of_list = 0
+  selectors_size (with_selector parts selectors) = parts_size parts + selectors_size selectors
+
+-- combinators stand within at most `k` lists, one within another
+abbrev mutual
+  pub JoinsWithin : ℕ → Condition → Type 0
+  JoinsWithin k (simple s) = Unit {0}
+  JoinsWithin k (negation selectors) = ListJoinsWithin k selectors
+  JoinsWithin k (any_of selectors) = ListJoinsWithin k selectors
+  JoinsWithin k (where_any selectors) = ListJoinsWithin k selectors
+
+  pub CompoundJoinsWithin : ℕ → Conditions → Type 0
+  CompoundJoinsWithin k end_of_compound = Unit {0}
+  CompoundJoinsWithin k (with_condition c conditions) =
+      JoinsWithin k c × CompoundJoinsWithin k conditions
+
+  pub PartsJoinWithin : ℕ → Parts → Type 0
+  PartsJoinWithin k end_of_selector = Unit {0}
+  PartsJoinWithin k (with_part l c parts) = CompoundJoinsWithin k c × PartsJoinWithin k parts
+
+  -- each selector of a list has a compound selector
+  pub ListJoinsWithin : ℕ → Selectors → Type 0
+  ListJoinsWithin zero selectors = IsPlainList selectors
+  ListJoinsWithin (suc k) end_of_list = Unit {0}
+  ListJoinsWithin (suc k) (with_selector parts selectors) =
+      (0 < part_count parts) × PartsJoinWithin k parts × ListJoinsWithin (suc k) selectors
+
+-- the most tests of a search for so many compound selectors, by the number of the element's ancestors
+-- and itself, and that of their earlier siblings
+abbrev pub searches : ℕ → ℕ → ℕ → ℕ
+searches parts above before = parts * (above + parts * before)
+
+-- the most tests of searches in searches, so many one within another, of which each alone makes
+-- `one`: each test makes those of the next search besides itself
+abbrev pub nested_tests : ℕ → ℕ → ℕ
+nested_tests zero one = 0
+nested_tests (suc k) one = one * (nested_tests k one + 1)

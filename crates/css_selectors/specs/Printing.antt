@@ -1,0 +1,208 @@
+-- The text that a selector is printed as: it is serialized as in CSSOM (sections "Common
+-- Serializing Idioms" and "Serializing Selectors") and CSS Syntax 3 (section 9.1). What would not
+-- read back as the same components is written otherwise: the `*` before other simple selectors is
+-- kept, and so are U+0000, the sign of a negative zero, and the case of letters in names.
+use Rattle.std.specs.Prelude.{ℕ, Bool, false, not, ◌&&◌, ◌||◌, ◌==◌, if◌then◌else◌, List, [], ◌∷◌, ◌++◌, codes, Option, Some, None}
+use Rattle.std.specs.Fmt.{decimal, digits}
+use Rattle.std.specs.List.{flat_map}
+use Rattle.css_text.specs.AsciiBytes.{backslash, double_quote, hyphen}
+use Rattle.css_text.specs.Bytes.{is_digit, is_within, past_one, starts}
+use Rattle.css_syntax.specs.Tokens.{is_name_byte}
+use Rattle.css_matching.specs.declared.Combinator.{Combinator}
+use Rattle.css_matching.specs.declared.Combinator.TheVariants.{Descendant, Child, Adjacent, Sibling}
+use Rattle.css_selectors.specs.Components.{Comparison, Signed, Progression, Structure, Simple, Condition, Conditions, Parts, Selectors, Part, Selector}
+use Rattle.css_selectors.specs.Components.Comparison.{equals, has_word, has_subtag, starts as starts_with, ends as ends_with, contains}
+use Rattle.css_selectors.specs.Components.Structure.{root, empty, first_child, last_child, only_child, first_of_type, last_of_type, only_of_type, nth_child, nth_last_child, nth_of_type, nth_last_of_type}
+use Rattle.css_selectors.specs.Components.Simple.{universal, type_name, id, class, has_attribute, attribute, structure, language, state}
+use Rattle.css_selectors.specs.Components.Condition.{simple, negation, any_of, where_any}
+use Rattle.css_selectors.specs.Components.Conditions.{end_of_compound, with_condition}
+use Rattle.css_selectors.specs.Components.Parts.{end_of_selector, with_part}
+use Rattle.css_selectors.specs.Components.Selectors.{end_of_list, with_selector}
+
+-- ---- identifiers and strings
+
+-- U+0001 to U+001F, and U+007F
+abbrev pub is_control : ℕ → Bool
+is_control b = is_within 1 31 b || b == 127
+
+-- a byte that is written as it is: in an identifier a name byte, in a string with this quote any
+-- other than the quote, a backslash and the control characters
+abbrev pub is_kept : Option ℕ → ℕ → Bool
+is_kept None b = is_name_byte b
+is_kept (Some quote) b = not (b == quote || b == backslash || is_control b)
+
+-- "escape a character as code point": a backslash, the number in lower-case hexadecimal digits and
+-- a blank
+abbrev pub code_point_text : ℕ → List ℕ
+code_point_text b = codes "\\" ++ digits 16 false b ++ codes " "
+
+-- "escape a character": a backslash and the character; a control character as code point
+abbrev pub escape_text : ℕ → List ℕ
+escape_text b = if is_control b then code_point_text b else backslash ∷ b ∷ []
+
+-- a byte of an identifier, or of a string with this quote
+abbrev pub byte_text : Option ℕ → ℕ → List ℕ
+byte_text quote b = if is_kept quote b then b ∷ [] else escape_text b
+
+-- the start of an identifier: a digit is escaped as code point
+abbrev pub start_text : List ℕ → List ℕ
+start_text [] = []
+start_text (b ∷ name) =
+    (if is_digit b then code_point_text b else byte_text None b) ++ flat_map (byte_text None) name
+
+-- after a hyphen at the start; a hyphen alone is escaped
+abbrev pub after_hyphen : List ℕ → List ℕ
+after_hyphen [] = codes "\\-"
+after_hyphen (b ∷ name) = hyphen ∷ start_text (b ∷ name)
+
+-- "serialize an identifier"
+abbrev pub identifier_text : List ℕ → List ℕ
+identifier_text name =
+    if starts hyphen name then after_hyphen (past_one name) else start_text name
+
+-- "serialize a string"
+abbrev pub string_text : List ℕ → List ℕ
+string_text value = codes "\"" ++ flat_map (byte_text (Some double_quote)) value ++ codes "\""
+
+-- ---- An+B
+
+abbrev pub minus_text : Bool → List ℕ
+minus_text is_negative = if is_negative then codes "-" else []
+
+-- "serialize an integer"
+abbrev pub signed_text : Signed → List ℕ
+signed_text s = minus_text s.is_negative ++ decimal s.size
+
+-- 0 without a minus
+abbrev pub is_zero : Signed → Bool
+is_zero s = s.size == 0 && not s.is_negative
+
+-- the number of A, which is not written if it is 1
+abbrev pub size_text : ℕ → List ℕ
+size_text size = if size == 1 then [] else decimal size
+
+abbrev pub plus_text : Bool → List ℕ
+plus_text is_negative = if is_negative then [] else codes "+"
+
+-- B after `An`, with its sign; 0 is not written
+abbrev pub offset_text : Signed → List ℕ
+offset_text s = if is_zero s then [] else plus_text s.is_negative ++ signed_text s
+
+-- "serialize an <an+b> value"
+abbrev pub progression_text : Progression → List ℕ
+progression_text p =
+    if is_zero p.step then signed_text p.offset
+    else minus_text p.step.is_negative ++ size_text p.step.size ++ codes "n" ++ offset_text p.offset
+
+-- ---- simple selectors
+
+abbrev pub comparison_text : Comparison → List ℕ
+comparison_text equals = codes "="
+comparison_text has_word = codes "~="
+comparison_text has_subtag = codes "|="
+comparison_text starts_with = codes "^="
+comparison_text ends_with = codes "$="
+comparison_text contains = codes "*="
+
+abbrev pub flag_text : Bool → List ℕ
+flag_text ignores_case = if ignores_case then codes " i" else []
+
+-- the name of a pseudo-class, its parentheses and what is between them
+abbrev pub function_text : List ℕ → List ℕ → List ℕ
+function_text name argument = name ++ argument ++ codes ")"
+
+abbrev pub structure_text : Structure → List ℕ
+structure_text root = codes ":root"
+structure_text empty = codes ":empty"
+structure_text first_child = codes ":first-child"
+structure_text last_child = codes ":last-child"
+structure_text only_child = codes ":only-child"
+structure_text first_of_type = codes ":first-of-type"
+structure_text last_of_type = codes ":last-of-type"
+structure_text only_of_type = codes ":only-of-type"
+structure_text (nth_child p) = function_text (codes ":nth-child(") (progression_text p)
+structure_text (nth_last_child p) = function_text (codes ":nth-last-child(") (progression_text p)
+structure_text (nth_of_type p) = function_text (codes ":nth-of-type(") (progression_text p)
+structure_text (nth_last_of_type p) =
+    function_text (codes ":nth-last-of-type(") (progression_text p)
+
+-- what follows the first of a list: before each a comma and a blank
+abbrev pub further_text : {A : Type 0} → (A → List ℕ) → A → List ℕ
+further_text text_of x = codes ", " ++ text_of x
+
+-- "serialize a comma-separated list"
+abbrev pub list_text : {A : Type 0} → (A → List ℕ) → List A → List ℕ
+list_text text_of [] = []
+list_text text_of (x ∷ xs) = text_of x ++ flat_map (further_text text_of) xs
+
+-- "serialize a simple selector"
+abbrev pub simple_text : Simple → List ℕ
+simple_text universal = codes "*"
+simple_text (type_name name) = identifier_text name
+simple_text (id name) = codes "#" ++ identifier_text name
+simple_text (class name) = codes "." ++ identifier_text name
+simple_text (has_attribute name) = codes "[" ++ identifier_text name ++ codes "]"
+simple_text (attribute name comparison value ignores_case) =
+    codes "[" ++ identifier_text name ++ comparison_text comparison ++ string_text value
+    ++ flag_text ignores_case ++ codes "]"
+simple_text (structure s) = structure_text s
+simple_text (language ranges) = function_text (codes ":lang(") (list_text string_text ranges)
+simple_text (state name) = codes ":" ++ identifier_text name
+
+abbrev pub combinator_text : Combinator → List ℕ
+combinator_text Descendant = codes " "
+combinator_text Child = codes " > "
+combinator_text Adjacent = codes " + "
+combinator_text Sibling = codes " ~ "
+
+abbrev mutual
+  pub condition_text : Condition → List ℕ
+  condition_text (simple s) = simple_text s
+  condition_text (negation selectors) = function_text (codes ":not(") (selectors_text selectors)
+  condition_text (any_of selectors) = function_text (codes ":is(") (selectors_text selectors)
+  condition_text (where_any selectors) = function_text (codes ":where(") (selectors_text selectors)
+
+  -- a compound selector in a list
+  pub compound_text : Conditions → List ℕ
+  compound_text end_of_compound = []
+  compound_text (with_condition c conditions) = condition_text c ++ compound_text conditions
+
+  -- a complex selector in a list; what joins the first part to the one before is not written
+  pub complex_text : Parts → List ℕ
+  complex_text end_of_selector = []
+  complex_text (with_part k c parts) = compound_text c ++ further_parts_text parts
+
+  pub further_parts_text : Parts → List ℕ
+  further_parts_text end_of_selector = []
+  further_parts_text (with_part k c parts) =
+      combinator_text k ++ compound_text c ++ further_parts_text parts
+
+  -- "serialize a comma-separated list"
+  pub selectors_text : Selectors → List ℕ
+  selectors_text end_of_list = []
+  selectors_text (with_selector s selectors) = complex_text s ++ further_selectors_text selectors
+
+  -- what follows the first of a list
+  pub further_selectors_text : Selectors → List ℕ
+  further_selectors_text end_of_list = []
+  further_selectors_text (with_selector s selectors) =
+      codes ", " ++ complex_text s ++ further_selectors_text selectors
+
+-- ---- selectors
+
+-- a compound selector after another
+abbrev pub part_text : Part → List ℕ
+part_text part = combinator_text part.combinator ++ flat_map condition_text part.conditions
+
+-- the compound selectors; what joins the first to the one before is not written
+abbrev pub parts_text : List Part → List ℕ
+parts_text [] = []
+parts_text (part ∷ parts) = flat_map condition_text part.conditions ++ flat_map part_text parts
+
+abbrev pub pseudo_element_text : Option (List ℕ) → List ℕ
+pseudo_element_text None = []
+pseudo_element_text (Some name) = codes "::" ++ identifier_text name
+
+-- "serialize a selector"
+abbrev pub selector_text : Selector → List ℕ
+selector_text s = parts_text s.parts ++ pseudo_element_text s.pseudo_element

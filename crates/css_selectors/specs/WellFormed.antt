@@ -1,0 +1,123 @@
+-- Selectors that some text reads as.
+use Rattle.std.specs.Prelude.{◌≡◌, ◌<◌, ◌≤◌, ◌&&◌, ℕ, zero, suc, Bool, true, false, List, [], ◌∷◌, length, All, None}
+use Rattle.std.specs.Option.{ForSome, is_some}
+use Rattle.css_matching.specs.declared.Combinator.TheVariants.{Descendant}
+use Rattle.css_selectors.specs.Components.{Signed, Progression, Structure, Simple, Condition, Conditions, Parts, Selectors, Part, Selector}
+use Rattle.css_selectors.specs.Components.Structure.{nth_child, nth_last_child, nth_of_type, nth_last_of_type}
+use Rattle.css_selectors.specs.Components.Simple.{universal, type_name, id, class, has_attribute, attribute, structure, language, state}
+use Rattle.css_selectors.specs.Components.Condition.{simple, negation, any_of, where_any}
+use Rattle.css_selectors.specs.Components.Conditions.{end_of_compound, with_condition}
+use Rattle.css_selectors.specs.Components.Parts.{end_of_selector, with_part}
+use Rattle.css_selectors.specs.Components.Selectors.{end_of_list, with_selector}
+use Rattle.css_selectors.specs.Grammar.{plain_structure, is_old_element, deepest, may_join}
+
+-- a name is not empty
+abbrev pub IsName : List ℕ → Type 0
+IsName name = 0 < length name
+
+-- a number is at most the greatest `u32`
+abbrev pub IsSize : Signed → Type 0
+IsSize number = number.size ≤ 4294967295
+
+abbrev pub IsProgression : Progression → Type 0
+IsProgression p = IsSize p.step × IsSize p.offset
+
+abbrev pub IsStructure : Structure → Type 0
+IsStructure (nth_child p) = IsProgression p
+IsStructure (nth_last_child p) = IsProgression p
+IsStructure (nth_of_type p) = IsProgression p
+IsStructure (nth_last_of_type p) = IsProgression p
+IsStructure s = Unit {0}
+
+-- A simple selector that may follow others. `*` and a type may not. A pseudo-class that is a
+-- structural one by its name is no other, and none has the name of a pseudo-element that may have
+-- one colon.
+abbrev pub IsFurther : Simple → Type 0
+IsFurther universal = ⊥
+IsFurther (type_name name) = ⊥
+IsFurther (id name) = IsName name
+IsFurther (class name) = IsName name
+IsFurther (has_attribute name) = IsName name
+IsFurther (attribute name comparison value ignores_case) = IsName name
+IsFurther (structure s) = IsStructure s
+IsFurther (language ranges) = 0 < length ranges
+IsFurther (state name) =
+    IsName name × (plain_structure name ≡ None) × (is_old_element name ≡ false)
+
+-- a simple selector that may be the first
+abbrev pub IsFirst : Simple → Type 0
+IsFirst universal = Unit {0}
+IsFirst (type_name name) = IsName name
+IsFirst s = IsFurther s
+
+abbrev mutual
+  -- a condition that may follow others, with lists nested at most `n` deep
+  pub IsFurtherCondition : ℕ → Condition → Type 0
+  IsFurtherCondition n (simple s) = IsFurther s
+  IsFurtherCondition n (negation selectors) = IsList n selectors
+  IsFurtherCondition n (any_of selectors) = IsList n selectors
+  IsFurtherCondition n (where_any selectors) = IsList n selectors
+
+  -- a condition that may be the first
+  pub IsFirstCondition : ℕ → Condition → Type 0
+  IsFirstCondition n (simple s) = IsFirst s
+  IsFirstCondition n (negation selectors) = IsList n selectors
+  IsFirstCondition n (any_of selectors) = IsList n selectors
+  IsFirstCondition n (where_any selectors) = IsList n selectors
+
+  -- a list is not empty; it is one of those that are nested
+  pub IsList : ℕ → Selectors → Type 0
+  IsList zero selectors = ⊥
+  IsList (suc n) end_of_list = ⊥
+  IsList (suc n) (with_selector s selectors) = IsComplex n s × AreComplex n selectors
+
+  pub AreComplex : ℕ → Selectors → Type 0
+  AreComplex n end_of_list = Unit {0}
+  AreComplex n (with_selector s selectors) = IsComplex n s × AreComplex n selectors
+
+  -- a complex selector in a list has a first compound selector, which is joined to none
+  pub IsComplex : ℕ → Parts → Type 0
+  IsComplex n end_of_selector = ⊥
+  IsComplex n (with_part k c parts) = (k ≡ Descendant) × IsCompound n c × AreJoined n parts
+
+  -- it has others only where combinators may stand
+  pub AreJoined : ℕ → Parts → Type 0
+  AreJoined n end_of_selector = Unit {0}
+  AreJoined n (with_part k c parts) =
+      (may_join n ≡ true) × IsCompound n c × AreJoined n parts
+
+  -- a compound selector in a list has a condition at least
+  pub IsCompound : ℕ → Conditions → Type 0
+  IsCompound n end_of_compound = ⊥
+  IsCompound n (with_condition c conditions) = IsFirstCondition n c × AreFurther n conditions
+
+  pub AreFurther : ℕ → Conditions → Type 0
+  AreFurther n end_of_compound = Unit {0}
+  AreFurther n (with_condition c conditions) = IsFurtherCondition n c × AreFurther n conditions
+
+-- the conditions of a compound selector: only before a pseudo-element there may be none
+abbrev pub AreConditions : Bool → List Condition → Type 0
+AreConditions before_element [] = before_element ≡ true
+AreConditions before_element (c ∷ conditions) =
+    IsFirstCondition deepest c × All (IsFurtherCondition deepest) conditions
+
+abbrev pub is_last : List Part → Bool
+is_last [] = true
+is_last (part ∷ parts) = false
+
+-- compound selectors, with a pseudo-element after the last or without one
+abbrev pub AreParts : Bool → List Part → Type 0
+AreParts has_element [] = Unit {0}
+AreParts has_element (part ∷ parts) =
+    AreConditions (has_element && is_last parts) part.conditions × AreParts has_element parts
+
+-- there is a first compound selector, which is joined to none
+abbrev pub BeginsPlain : List Part → Type 0
+BeginsPlain [] = ⊥
+BeginsPlain (part ∷ parts) = part.combinator ≡ Descendant
+
+-- A selector that some text reads as.
+abbrev pub IsWellFormed : Selector → Type 0
+IsWellFormed s =
+    BeginsPlain s.parts × AreParts (is_some s.pseudo_element) s.parts
+    × ForSome s.pseudo_element IsName

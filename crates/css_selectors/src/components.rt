@@ -1,0 +1,168 @@
+//! The components of a selector. Names and values are without the escapes that spell them.
+use css_matching::Combinator;
+use std::borrow::CowStr;
+
+/// How an attribute's value is compared with the text of a selector.
+#[derive(Clone, Copy, Debug, PartialEq)]
+pub enum Comparison {
+    /// `=`: the value is the text.
+    Equals,
+    /// `~=`: the text is one of the words of the value.
+    HasWord,
+    /// `|=`: the value is the text, or the text and then a hyphen.
+    HasSubtag,
+    /// `^=`: the value starts with the text.
+    Starts,
+    /// `$=`: the value ends with the text.
+    Ends,
+    /// `*=`: the text occurs in the value.
+    Contains,
+}
+
+/// A number and its sign.
+#[derive(Clone, Copy, Debug, PartialEq)]
+pub struct Signed {
+    /// Whether the sign is a minus.
+    pub is_negative: bool,
+    /// How far the number is from 0.
+    pub size: u32,
+}
+
+/// `An+B`: every A-th sibling from the B-th on.
+#[derive(Clone, Copy, Debug, PartialEq)]
+pub struct Progression {
+    /// A.
+    pub step: Signed,
+    /// B.
+    pub offset: Signed,
+}
+
+/// A structural pseudo-class.
+#[derive(Clone, Copy, Debug, PartialEq)]
+pub enum Structure {
+    /// `:root`
+    Root,
+    /// `:empty`
+    Empty,
+    /// `:first-child`
+    FirstChild,
+    /// `:last-child`
+    LastChild,
+    /// `:only-child`
+    OnlyChild,
+    /// `:first-of-type`
+    FirstOfType,
+    /// `:last-of-type`
+    LastOfType,
+    /// `:only-of-type`
+    OnlyOfType,
+    /// `:nth-child(..)`
+    NthChild(Progression),
+    /// `:nth-last-child(..)`
+    NthLastChild(Progression),
+    /// `:nth-of-type(..)`
+    NthOfType(Progression),
+    /// `:nth-last-of-type(..)`
+    NthLastOfType(Progression),
+}
+
+/// What siblings a pseudo-class with `An+B` numbers.
+#[derive(Clone, Copy)]
+pub(crate) enum Numbering {
+    /// `:nth-child(..)`
+    Child,
+    /// `:nth-last-child(..)`
+    LastChild,
+    /// `:nth-of-type(..)`
+    OfType,
+    /// `:nth-last-of-type(..)`
+    LastOfType,
+}
+
+/// A functional pseudo-class without a list of selectors.
+#[derive(Clone, Copy)]
+pub(crate) enum Function {
+    /// One with `An+B`.
+    Numbered(Numbering),
+    /// `:lang(..)`
+    Language,
+}
+
+/// A pseudo-class with a list of complex selectors.
+#[derive(Clone, Copy)]
+pub(crate) enum ListKind {
+    /// `:not(..)`
+    Not,
+    /// `:is(..)`
+    Is,
+    /// `:where(..)`
+    Where,
+}
+
+/// A condition on an attribute.
+#[derive(Drop)]
+pub struct AttributeTest<'a> {
+    /// The name of the attribute.
+    pub name: CowStr<'a>,
+    /// How its value is compared.
+    pub comparison: Comparison,
+    /// What it is compared with.
+    pub text: CowStr<'a>,
+    /// Whether the case of ASCII letters is ignored.
+    pub ignores_case: bool,
+}
+
+/// A simple selector that has no other selectors in it.
+#[derive(Drop)]
+pub enum Simple<'a> {
+    /// `*`
+    Universal,
+    /// A name.
+    TypeName(CowStr<'a>),
+    /// `#id`
+    Id(CowStr<'a>),
+    /// `.class`
+    Class(CowStr<'a>),
+    /// `[name]`
+    HasAttribute(CowStr<'a>),
+    /// `[name=text]` and the like
+    Attribute(AttributeTest<'a>),
+    /// A structural pseudo-class.
+    Structure(Structure),
+    /// `:lang(..)`, with its language ranges.
+    Language(Vec<CowStr<'a>>),
+    /// Any other pseudo-class, by its name.
+    State(CowStr<'a>),
+}
+
+/// A simple selector, or a pseudo-class with a list of complex selectors.
+#[cycle(lists)]
+#[derive(Drop)]
+pub enum Condition<'a> {
+    /// A simple selector.
+    Simple(Simple<'a>),
+    /// `:not(..)`
+    Not(Vec<Complex<'a>>),
+    /// `:is(..)`
+    Is(Vec<Complex<'a>>),
+    /// `:where(..)`
+    Where(Vec<Complex<'a>>),
+}
+
+/// A compound selector, and how it is joined to the one before it.
+#[cycle(lists)]
+#[derive(Drop)]
+pub struct Part<'a> {
+    /// How it is joined to the one before it. Of the first one this says nothing.
+    pub combinator: Combinator,
+    /// What an element must satisfy.
+    pub conditions: Vec<Condition<'a>>,
+}
+
+/// A complex selector in a list: compound selectors joined by combinators.
+#[cycle(lists)]
+#[derive(Drop)]
+pub struct Complex<'a> {
+    /// The compound selectors, from left to right. A selector of none matches nothing.
+    pub parts: Vec<Part<'a>>,
+}

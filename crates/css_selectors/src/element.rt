@@ -1,0 +1,72 @@
+//! Elements, which selectors are matched against.
+
+/// An element of a document, with all that modern selectors ask. Each value denotes a node, and its
+/// answers depend only on that node and on the texts of the arguments.
+///
+/// Elements alone are siblings: texts and comments are not counted. The numbers of siblings are asked
+/// for `:nth-child()` and the like, so a document of many siblings keeps them.
+pub trait Element: Drop {
+    ghost use Rattle.std.specs.Prelude.{◌≡◌, Option, option_map};
+    ghost use Rattle.css_matching.specs.Trees.{Counts, SiblingsShareParent};
+    ghost use Rattle.css_selectors.specs.Documents.{Document, shape};
+
+    ghost Node: { Type 0 };
+
+    ghost document: { Document Node };
+
+    ghost node: { Self → Node };
+
+    /// Returns the parent, if there is one.
+    fn parent(&self) -> Option<Self>
+        ensures { option_map node result ≡ document.parent (node self.now) };
+
+    /// Returns the sibling directly before this element, if there is one.
+    fn previous_sibling(&self) -> Option<Self>
+        ensures { option_map node result ≡ document.previous_sibling (node self.now) };
+
+    /// Returns the number of siblings before this element.
+    fn earlier_siblings(&self) -> u32
+        ensures { result ≡ document.earlier (node self.now) };
+
+    /// Returns the number of siblings after this element.
+    fn later_siblings(&self) -> u32
+        ensures { result ≡ document.later (node self.now) };
+
+    /// Returns the number of siblings before this element that have its type.
+    fn earlier_of_type(&self) -> u32
+        ensures { result ≡ document.earlier_of_type (node self.now) };
+
+    /// Returns the number of siblings after this element that have its type.
+    fn later_of_type(&self) -> u32
+        ensures { result ≡ document.later_of_type (node self.now) };
+
+    /// Whether this is the element's name, apart from a namespace.
+    fn is_named(&self, name: &str) -> bool
+        ensures { result ≡ document.is_named (node self.now) name.now };
+
+    /// Returns the value of the attribute with this name, if there is one.
+    fn attribute(&self, name: &str) -> Option<&str>
+        ensures { option_map (λ value. value.now) result
+            ≡ document.attribute (node self.now) name.now };
+
+    /// Whether the element is in the state of this name, as `hover` or `checked`. The name is as the
+    /// selector has it; names of states are the same in any case. A name that the element does not know
+    /// is no state of it.
+    fn is_in_state(&self, name: &str) -> bool
+        ensures { result ≡ document.is_in_state (node self.now) name.now };
+
+    /// Whether the element's language is in the language range, as `en`, `*-CH` or an empty text.
+    fn is_in_language(&self, range: &str) -> bool
+        ensures { result ≡ document.is_in_language (node self.now) range.now };
+
+    /// Whether there is an element or a text that is not empty in this element. Comments are no content,
+    /// white space is.
+    fn has_content(&self) -> bool
+        ensures { result ≡ document.has_content (node self.now) };
+
+    ghost depth_law: { Counts document.parent document.depth };
+
+    ghost earlier_law: { Counts document.previous_sibling document.earlier };
+
+    ghost sibling_law: { SiblingsShareParent (shape document) };
+}

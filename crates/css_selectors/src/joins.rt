@@ -1,0 +1,45 @@
+//! What joins compound selectors.
+ghost use Rattle.std.specs.Prelude.{◌≡◌, IfNone, IfSome, None, Some};
+ghost use Rattle.css_selectors.specs.Grammar.{sign_combinator as sign_combinator_of};
+ghost use Rattle.css_selectors.specs.Grammar.{begins_compound as begins_compound_of, first_sign};
+ghost use Rattle.css_text.specs.Bytes.{starts_by, past_one};
+
+use crate::Combinator;
+use crate::texts::split_ascii;
+
+/// Returns the combinator of a sign.
+fn sign_combinator(byte: u8) -> Option<Combinator>
+    ensures { result ≡ sign_combinator_of byte }
+{
+    match byte {
+        b'>' => Some(Combinator::Child),
+        b'+' => Some(Combinator::Adjacent),
+        b'~' => Some(Combinator::Sibling),
+        _ => None,
+    }
+}
+
+/// Returns the combinator that is next, if it is a sign, and the rest after it.
+pub(crate) fn take_sign<'a>(text: &'a str) -> Option<(Combinator, &'a str)>
+    ensures none { IfNone result (first_sign text.now ≡ None) }
+    ensures some { IfSome result
+        (λ it. (first_sign text.now ≡ Some it.0) × (it.1.now ≡ past_one text.now)) }
+{
+    let (byte, rest) = split_ascii(text)?;
+    let combinator = sign_combinator(byte)?;
+    Some((combinator, rest))
+}
+
+/// Whether a compound selector may begin here.
+pub(crate) fn begins_compound(text: &str) -> bool
+    ensures { result ≡ starts_by begins_compound_of text.now }
+{
+    match text.as_bytes() {
+        [] => false,
+        [byte, ..] => {
+            byte.is_ascii_alphabetic()
+                || *byte >= 128
+                || matches!(byte, b'_' | b'-' | b'*' | b'.' | b'#' | b'[' | b':' | b'\\')
+        }
+    }
+}

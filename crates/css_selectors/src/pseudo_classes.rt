@@ -1,0 +1,142 @@
+//! Reads pseudo-classes.
+ghost use Rattle.std.specs.Prelude.{◌≡◌, option_map};
+ghost use Rattle.css_selectors.specs.Grammar.{plain_structure, numbering as numbering_of, numbered_by as numbered_by_of};
+ghost use Rattle.css_selectors.specs.Grammar.{list_kind as list_kind_of, functional};
+ghost use Rattle.css_selectors.specs.Grammar.{is_old_element as is_old_element_of};
+ghost use Rattle.css_selectors.specs.Reads.{Reads};
+ghost use Rattle.std.specs.Cow.{cow_str_bytes};
+ghost use Rattle.css_selectors.specs.Grammar.{function_named as function_named_of, plain_pseudo as plain_pseudo_of};
+ghost use Rattle.css_selectors.specs.Views.{structure_of, progression_of, simple_of};
+
+use crate::components::{Function, ListKind, Numbering, Progression, Simple, Structure};
+use crate::languages::read_ranges;
+use crate::numbers::read_progression;
+use crate::refusal::{Refusal, Why};
+use crate::words::{read_closing, read_gap};
+use std::alloc::Global;
+use std::borrow::CowStr;
+
+/// Returns the structural pseudo-class without an argument of this name, if there is one.
+fn structure_named(name: &str) -> Option<Structure>
+    ensures { option_map structure_of result ≡ plain_structure name.now }
+{
+    if name.eq_ignore_ascii_case("root") {
+        Some(Structure::Root)
+    } else if name.eq_ignore_ascii_case("empty") {
+        Some(Structure::Empty)
+    } else if name.eq_ignore_ascii_case("first-child") {
+        Some(Structure::FirstChild)
+    } else if name.eq_ignore_ascii_case("last-child") {
+        Some(Structure::LastChild)
+    } else if name.eq_ignore_ascii_case("only-child") {
+        Some(Structure::OnlyChild)
+    } else if name.eq_ignore_ascii_case("first-of-type") {
+        Some(Structure::FirstOfType)
+    } else if name.eq_ignore_ascii_case("last-of-type") {
+        Some(Structure::LastOfType)
+    } else if name.eq_ignore_ascii_case("only-of-type") {
+        Some(Structure::OnlyOfType)
+    } else {
+        None
+    }
+}
+
+/// Returns what siblings the pseudo-class of this name numbers.
+fn numbering(name: &str) -> Option<Numbering>
+    ensures { result ≡ numbering_of name.now }
+{
+    if name.eq_ignore_ascii_case("nth-child") {
+        Some(Numbering::Child)
+    } else if name.eq_ignore_ascii_case("nth-last-child") {
+        Some(Numbering::LastChild)
+    } else if name.eq_ignore_ascii_case("nth-of-type") {
+        Some(Numbering::OfType)
+    } else if name.eq_ignore_ascii_case("nth-last-of-type") {
+        Some(Numbering::LastOfType)
+    } else {
+        None
+    }
+}
+
+/// Returns which functional pseudo-class without a list has this name.
+pub(crate) fn function_named(name: &str) -> Option<Function>
+    ensures { result ≡ function_named_of name.now }
+{
+    if name.eq_ignore_ascii_case("lang") {
+        return Some(Function::Language);
+    }
+    Some(Function::Numbered(numbering(name)?))
+}
+
+/// Returns the structural pseudo-class that numbers these siblings.
+fn numbered_by(numbering: Numbering, progression: Progression) -> Structure
+    ensures { structure_of result ≡ numbered_by_of numbering (progression_of progression) }
+{
+    match numbering {
+        Numbering::Child => Structure::NthChild(progression),
+        Numbering::LastChild => Structure::NthLastChild(progression),
+        Numbering::OfType => Structure::NthOfType(progression),
+        Numbering::LastOfType => Structure::NthLastOfType(progression),
+    }
+}
+
+/// Returns which pseudo-class with a list has this name.
+pub(crate) fn list_kind(name: &str) -> Option<ListKind>
+    ensures { result ≡ list_kind_of name.now }
+{
+    if name.eq_ignore_ascii_case("not") {
+        Some(ListKind::Not)
+    } else if name.eq_ignore_ascii_case("is") {
+        Some(ListKind::Is)
+    } else if name.eq_ignore_ascii_case("where") {
+        Some(ListKind::Where)
+    } else {
+        None
+    }
+}
+
+/// Whether this is the name of one of the four pseudo-elements that may have one colon.
+pub(crate) fn is_old_element(name: &str) -> bool
+    ensures { result ≡ is_old_element_of name.now }
+{
+    name.eq_ignore_ascii_case("before")
+        || name.eq_ignore_ascii_case("after")
+        || name.eq_ignore_ascii_case("first-line")
+        || name.eq_ignore_ascii_case("first-letter")
+}
+
+/// Returns the pseudo-class without an argument of this name.
+pub(crate) fn plain_pseudo<'a>(name: CowStr<'a>) -> Simple<'a>
+    ensures { simple_of result
+        ≡ plain_pseudo_of (cow_str_bytes name.entry) (plain_structure (cow_str_bytes name.entry)) }
+{
+    match structure_named(name.as_str()) {
+        Some(structure) => Simple::Structure(structure),
+        None => Simple::State(name),
+    }
+}
+
+/// Reads the argument of a functional pseudo-class. `opened` is the text from its colon on.
+pub(crate) fn read_functional<'a>(
+    alloc: Global,
+    opened: &'a str,
+    function: Option<Function>,
+    text: &'a str,
+) -> Result<(Simple<'a>, &'a str), Refusal<'a>>
+    ensures { Reads simple_of result (functional opened.now function text.now) }
+{
+    let numbering = match function {
+        None => return Err(Refusal::new(Why::UnknownFunction, opened)),
+        Some(Function::Language) => {
+            let (ranges, rest) = read_ranges(alloc, text)?;
+            return Ok((Simple::Language(ranges), rest));
+        }
+        Some(Function::Numbered(numbering)) => numbering,
+    };
+    let (_, rest) = read_gap(text);
+    let (progression, rest) = read_progression(alloc, rest)?;
+    let (_, rest) = read_gap(rest);
+    let (_, rest) = read_closing(b')', rest)?;
+    let structure = numbered_by(numbering, progression);
+    Ok((Simple::Structure(structure), rest))
+}

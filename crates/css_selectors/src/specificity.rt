@@ -1,0 +1,155 @@
+//! Specificity.
+ghost use Rattle.std.specs.Prelude.{◌≡◌, map};
+ghost use Rattle.css_selectors.specs.Specificities.{Counts, nothing, one_id, one_class, one_name};
+ghost use Rattle.css_selectors.specs.Specificities.{plus as sum_of, greater as greater_of, is_less};
+ghost use Rattle.css_selectors.specs.Specificities.{of_simple as counts_of_simple};
+ghost use Rattle.css_selectors.specs.Specificities.{greatest as greatest_of};
+ghost use Rattle.css_selectors.specs.Specificities.{of_condition as counts_of_condition, of_compound, of_parts as counts_of_parts};
+ghost use Rattle.css_selectors.specs.Components.{conditions_from, parts_from, selectors_from};
+ghost use Rattle.css_selectors.specs.SpecificityViews.{counts_of};
+ghost use Rattle.css_selectors.specs.Views.{simple_of, complex_of, condition_of, part_of};
+
+use crate::{Complex, Condition, Part, Selector, Simple};
+
+/// How specific a selector is: ids count more than classes, and these more than names.
+#[derive(Clone, Copy, Debug, PartialEq, Eq, PartialOrd, Ord)]
+pub struct Specificity {
+    /// The number of ids.
+    pub ids: u32,
+    /// The number of classes, attributes and pseudo-classes.
+    pub classes: u32,
+    /// The number of type names and pseudo-elements.
+    pub names: u32,
+}
+
+/// Nothing is counted.
+const NOTHING: Specificity = Specificity {
+    ids: 0,
+    classes: 0,
+    names: 0,
+};
+
+/// Returns the sum, each count of which stops at the greatest number.
+fn plus(one: Specificity, other: Specificity) -> Specificity
+    ensures { counts_of result ≡ sum_of (counts_of one) (counts_of other) }
+{
+    Specificity {
+        ids: one.ids.saturating_add(other.ids),
+        classes: one.classes.saturating_add(other.classes),
+        names: one.names.saturating_add(other.names),
+    }
+}
+
+/// Whether the first is less specific.
+fn is_less_specific(one: Specificity, other: Specificity) -> bool
+    ensures { result ≡ is_less (counts_of one) (counts_of other) }
+{
+    one.ids < other.ids
+        || (one.ids == other.ids
+            && (one.classes < other.classes
+                || (one.classes == other.classes && one.names < other.names)))
+}
+
+/// Returns the more specific of the two.
+fn greater(one: Specificity, other: Specificity) -> Specificity
+    ensures { counts_of result ≡ greater_of (counts_of one) (counts_of other) }
+{
+    if is_less_specific(one, other) {
+        other
+    } else {
+        one
+    }
+}
+
+/// Returns what a simple selector counts.
+fn of_simple(simple: &Simple<'_>) -> Specificity
+    ensures { counts_of result ≡ counts_of_simple (simple_of simple.now) }
+{
+    match simple {
+        Simple::Universal => NOTHING,
+        Simple::TypeName(_) => Specificity {
+            names: 1,
+            ..NOTHING
+        },
+        Simple::Id(_) => Specificity { ids: 1, ..NOTHING },
+        Simple::Class(_)
+        | Simple::HasAttribute(_)
+        | Simple::Attribute(_)
+        | Simple::Structure(_)
+        | Simple::Language(_)
+        | Simple::State(_) => Specificity {
+            classes: 1,
+            ..NOTHING
+        },
+    }
+}
+
+/// Returns the greatest that one of the complex selectors counts.
+#[cycle(counting)]
+fn greatest(selectors: &[Complex<'_>]) -> Specificity
+    ensures { counts_of result
+        ≡ greatest_of nothing (selectors_from (map complex_of selectors.now)) }
+{
+    let mut most = NOTHING;
+    for selector in selectors {
+        most = greater(most, of_parts(selector.parts.as_slice()));
+    }
+    most
+}
+
+/// Returns what a condition counts.
+#[cycle(counting)]
+fn of_condition(condition: &Condition<'_>) -> Specificity
+    ensures { counts_of result ≡ counts_of_condition (condition_of condition.now) }
+{
+    match condition {
+        Condition::Simple(simple) => of_simple(simple),
+        Condition::Not(selectors) | Condition::Is(selectors) => greatest(selectors.as_slice()),
+        Condition::Where(_) => NOTHING,
+    }
+}
+
+/// Adds what conditions count.
+#[cycle(counting)]
+fn with_each(so_far: Specificity, conditions: &[Condition<'_>]) -> Specificity
+    ensures { counts_of result
+        ≡ of_compound (counts_of so_far) (conditions_from (map condition_of conditions.now)) }
+{
+    let mut counted = so_far;
+    for condition in conditions {
+        counted = plus(counted, of_condition(condition));
+    }
+    counted
+}
+
+/// Returns what the parts of a selector count.
+#[cycle(counting)]
+fn of_parts(parts: &[Part<'_>]) -> Specificity
+    ensures { counts_of result ≡ counts_of_parts nothing (parts_from (map part_of parts.now)) }
+{
+    let mut counted = NOTHING;
+    for part in parts {
+        counted = with_each(counted, part.conditions.as_slice());
+    }
+    counted
+}
+
+impl<'a> Selector<'a> {
+    ghost use Rattle.css_selectors.specs.Specificities.{specificity as specificity_of};
+    ghost use Rattle.css_selectors.specs.SpecificityViews.{counts_of};
+
+    /// Returns the specificity. `:is()` and `:not()` count as the most specific of their lists, and
+    /// `:where()` counts nothing.
+    pub fn specificity(&self) -> Specificity
+        ensures { counts_of result ≡ specificity_of self.now }
+    {
+        let pseudo_element = match &self.pseudo_element {
+            Some(_) => Specificity {
+                names: 1,
+                ..NOTHING
+            },
+            None => NOTHING,
+        };
+        plus(of_parts(self.parts.as_slice()), pseudo_element)
+    }
+}

@@ -1,0 +1,15 @@
+use Rattle.std.proofs.Common.{◌≡◌, false, length}
+use Rattle.css_text.specs.Reading.{each}
+use Rattle.css_text.specs.Bytes.{starts_by}
+use Rattle.css_text.specs.Characters.{is_space}
+use Rattle.css_syntax.specs.Tokens.{gap_part}
+use Rattle.css_syntax.proofs.tokens.past_gap.Given as goal
+
+abbrev pub invariant-parts : goal.invariant-parts
+invariant-parts l = record {
+  left : (each gap_part l.rest).1 ≡ (each gap_part l.bytes).1;
+  ran : starts_by is_space l.rest ≡ false;
+}
+
+abbrev pub decreases-parts : goal.decreases-parts
+decreases-parts l = length l.rest

@@ -1,0 +1,3 @@
+-- The order of rules.
+pub mod ListFacts
+pub mod RankLemmas

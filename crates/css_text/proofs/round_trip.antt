@@ -1,0 +1,2 @@
+-- What was read, printed and read again: selectors, declarations, rules and sheets.
+pub mod StyledWrites

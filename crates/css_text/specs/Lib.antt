@@ -1,0 +1,15 @@
+pub mod Reading
+pub mod Bytes
+pub mod Slices
+pub mod AsciiBytes
+pub mod Characters
+pub mod ThisEdition
+pub mod Positions
+pub mod Errors
+pub mod SheetMessages
+pub mod Comments
+pub mod Names
+pub mod Strings
+pub mod Ranks
+pub mod Cursor
+pub mod ByteTests

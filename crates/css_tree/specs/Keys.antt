@@ -1,0 +1,53 @@
+-- The numbers by which the elements of a tree are grouped.
+use Rattle.std.specs.Prelude.{◌≡◌, ℕ, ◌<◌, ◌&&◌, ◌==◌, Bool, List, length, Some, bytes_eq}
+use Rattle.std.specs.Borrow.{Bor}
+use Rattle.std.specs.BTreeMap.{BTreeMap, get}
+use Rattle.std.specs.Cmp.Lexicographic.{slice_cmp}
+use Rattle.std.specs.List.{slice_get}
+use Rattle.std.specs.Option.{unwrap_or}
+use Rattle.std.specs.Ordering.{nat_cmp, ordering_then}
+use Rattle.std.specs.declared.cmp.Ordering.{Ordering}
+use Rattle.simplecss_tree.specs.Rows.{Row}
+use Rattle.simplecss_tree.specs.TreeNodes.{name_at}
+use Rattle.css_tree.specs.Counts.{count_below, first_below}
+use Rattle.css_tree.specs.GroupViews.{is_in_group}
+use Rattle.css_tree.specs.Pages.{family, is_alike}
+use Rattle.css_tree.specs.declared.kinds.TheConstants.{COMPARED}
+
+-- the number of the family of each element
+pub record AreFamilies (rows : List Row) (families : List ℕ) : Type 0 where
+  pub all : length families ≡ length rows
+  pub each : (i : ℕ) → i < length rows → slice_get families i ≡ Some (family rows i)
+
+-- the number of a kind: the index of the first element that is like this one
+abbrev pub kind : List Row → ℕ → ℕ
+kind rows i = unwrap_or (first_below (is_alike rows i) i) i
+
+-- the numbers of the kinds of the elements below an index
+pub record HasKinds (rows : List Row) (kinds : List ℕ) (n : ℕ) : Type 0 where
+  pub all : length kinds ≡ n
+  pub each : (i : ℕ) → i < n → slice_get kinds i ≡ Some (kind rows i)
+
+-- the number of the kind of each element
+abbrev pub AreKinds : List Row → List ℕ → Type 0
+AreKinds rows kinds = HasKinds rows kinds (length rows)
+
+-- ---- how the numbers of kinds are found
+
+-- the order of numbers of families with names
+abbrev pub kind_cmp : ℕ × Bor (List ℕ) → ℕ × Bor (List ℕ) → Ordering
+kind_cmp a b = ordering_then (nat_cmp a.0 b.0) (slice_cmp nat_cmp a.1.now b.1.now)
+
+-- whether the element at an index is of a family and has a name
+abbrev pub has_kind : List Row → ℕ × Bor (List ℕ) → ℕ → Bool
+has_kind rows key j = key.0 == family rows j && bytes_eq key.1.now (name_at rows j)
+
+-- a family with more members than are compared one after another
+abbrev pub IsLarge : List ℕ → ℕ → Type 0
+IsLarge families number = COMPARED < count_below (is_in_group families number) (length families)
+
+-- for each large family and each name the first of the elements below an index
+abbrev pub AreNamed : List Row → List ℕ → BTreeMap (ℕ × Bor (List ℕ)) ℕ → ℕ → Type 0
+AreNamed rows families named n =
+    (key : ℕ × Bor (List ℕ)) → IsLarge families key.0
+    → get kind_cmp named key ≡ first_below (has_kind rows key) n

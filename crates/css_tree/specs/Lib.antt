@@ -1,0 +1,11 @@
+pub mod Counts
+pub mod GroupViews
+pub mod Html
+pub mod Keys
+pub mod Languages
+pub mod Laws
+pub mod Messages
+pub mod Pages
+pub mod Reports
+pub mod Walks
+pub mod internal

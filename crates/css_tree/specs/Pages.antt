@@ -1,0 +1,84 @@
+-- The elements of a tree as nodes of a document. Siblings are elements with the same parent, in the
+-- order of the list.
+use Rattle.std.specs.Prelude.{ℕ, suc, ◌+◌, ◌-◌, Bool, false, ◌&&◌, ◌||◌, ◌==◌, nat_lt, if◌then◌else◌, List, [], length, Option, None, Some, bytes_eq, codes, slice_index_or}
+use Rattle.std.specs.Option.{option_map, unwrap_or}
+use Rattle.std.specs.Str.{str_eq_ignore_ascii_case}
+use Rattle.css_selectors.specs.Documents.{Document}
+use Rattle.css_matching.specs.ListTrees.{parent_by, steps_from, spot}
+use Rattle.simplecss_tree.specs.Rows.{Row}
+use Rattle.simplecss_tree.specs.TreeNodes.{named_parent, name_at, attribute_at, states_at, language_at}
+use Rattle.simplecss_tree.specs.declared.tree.States.{States}
+use Rattle.css_tree.specs.Counts.{count_below, last_below}
+use Rattle.css_tree.specs.Languages.{is_in_range}
+
+-- the elements of a tree, and which of them have a text of their own that is not empty
+pub record Page : Type 0 where
+  pub rows : List Row
+  pub texts : List Bool
+
+-- the index of the parent
+abbrev pub parent_index : List Row → ℕ → Option ℕ
+parent_index rows i = parent_by (named_parent rows) i
+
+-- the number of a family: 0 for those without a parent, or one more than the index of the parent
+abbrev pub family_under : Option ℕ → ℕ
+family_under None = 0
+family_under (Some p) = suc p
+
+abbrev pub family : List Row → ℕ → ℕ
+family rows i = family_under (parent_index rows i)
+
+-- the second element has the parent of the first
+abbrev pub is_sibling : List Row → ℕ → ℕ → Bool
+is_sibling rows i j = family rows i == family rows j
+
+-- and the name of the first
+abbrev pub is_alike : List Row → ℕ → ℕ → Bool
+is_alike rows i j = is_sibling rows i j && bytes_eq (name_at rows i) (name_at rows j)
+
+-- the second element is a child of the first
+abbrev pub is_child : ℕ → List Row → ℕ → Bool
+is_child i rows j = suc i == family rows j
+
+-- of all that are like an element, those that are neither before it nor it
+abbrev pub count_after : (ℕ → Bool) → ℕ → List Row → ℕ
+count_after test i rows = count_below test (length rows) - (count_below test i + 1)
+
+-- the element has a text, or it is the parent of an element
+abbrev pub has_content : Page → ℕ → Bool
+has_content page i =
+    slice_index_or page.texts i false
+    || nat_lt 0 (count_below (is_child i page.rows) (length page.rows))
+
+-- Whether an element with these states is in the state of a name, whatever its case: one of the
+-- five of a tree, or a link, visited or not.
+abbrev pub is_in_state : States → List ℕ → Bool
+is_in_state states name =
+    if str_eq_ignore_ascii_case name (codes "link") then states.link
+    else (if str_eq_ignore_ascii_case name (codes "visited") then states.visited
+    else (if str_eq_ignore_ascii_case name (codes "hover") then states.hover
+    else (if str_eq_ignore_ascii_case name (codes "active") then states.active
+    else (if str_eq_ignore_ascii_case name (codes "focus") then states.focus
+    else str_eq_ignore_ascii_case name (codes "any-link") && (states.link || states.visited)))))
+
+-- The language of an element: the attribute `lang` of the nearest among it and its ancestors that
+-- has one. It is empty if none has one.
+abbrev pub language_of : List Row → ℕ → List ℕ
+language_of rows i = unwrap_or (language_at rows i) []
+
+-- All pages as one document: a node is a page and an index of an element.
+abbrev pub page_document : Document (Page × ℕ)
+page_document = record {
+  parent = λ n. option_map (spot n.0) (parent_index n.0.rows n.1);
+  previous_sibling = λ n. option_map (spot n.0) (last_below (is_sibling n.0.rows n.1) n.1);
+  depth = λ n. length (steps_from (parent_index n.0.rows) n.1);
+  earlier = λ n. count_below (is_sibling n.0.rows n.1) n.1;
+  later = λ n. count_after (is_sibling n.0.rows n.1) n.1 n.0.rows;
+  earlier_of_type = λ n. count_below (is_alike n.0.rows n.1) n.1;
+  later_of_type = λ n. count_after (is_alike n.0.rows n.1) n.1 n.0.rows;
+  is_named = λ n name. bytes_eq (name_at n.0.rows n.1) name;
+  attribute = λ n name. attribute_at n.0.rows n.1 name;
+  is_in_state = λ n name. is_in_state (states_at n.0.rows n.1) name;
+  is_in_language = λ n range. is_in_range range (language_of n.0.rows n.1);
+  has_content = λ n. has_content n.0 n.1;
+}

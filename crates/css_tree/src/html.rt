@@ -1,0 +1,281 @@
+//! Selectors as an HTML document reads them (HTML Standard, "Case-sensitivity of selectors").
+//!
+//! The tree that they are matched on has in lower case: the names of elements and of attributes, the
+//! values of the attributes in `CASELESS_ATTRIBUTES`, and in quirks mode those in `QUIRKS_ATTRIBUTES`. The flag `s`
+//! of an attribute selector changes nothing at these attributes.
+ghost use Rattle.std.specs.Prelude.{◌≡◌, ◌<◌, IfOk, length, map, option_map};
+ghost use Rattle.std.specs.List.{list_any};
+ghost use Rattle.std.specs.Char.{is_ascii_uppercase};
+ghost use Rattle.std.specs.Cow.{cow_str_bytes};
+ghost use Rattle.css_selectors.specs.Views.{simple_of, complex_of, condition_of, part_of};
+ghost use Rattle.css_selectors.specs.declared.components.Simple.TheVariants.{Attribute};
+ghost use Rattle.css_tree.specs.Html.{caseless_attributes, quirks_attributes, is_among};
+ghost use Rattle.css_tree.specs.Html.{is_caseless};
+ghost use Rattle.css_tree.specs.Html.{lower_case, word_in, simple_in};
+ghost use Rattle.css_tree.specs.Html.{condition_in, part_in, html_selector};
+
+use css_selectors::{AttributeTest, Complex, Condition, Part, Selector, Simple};
+use std::alloc::{AllocError, Global};
+use std::borrow::CowStr;
+
+/// The mode that an HTML document is in, as its DOCTYPE says.
+#[derive(Clone, Copy, Debug, PartialEq)]
+pub enum HtmlMode {
+    /// No-quirks mode, or limited-quirks mode.
+    NoQuirks,
+    /// Quirks mode.
+    Quirks,
+}
+
+/// The attributes whose values are compared without case.
+pub const CASELESS_ATTRIBUTES: [&str; 46] = [
+    "accept",
+    "accept-charset",
+    "align",
+    "alink",
+    "axis",
+    "bgcolor",
+    "charset",
+    "checked",
+    "clear",
+    "codetype",
+    "color",
+    "compact",
+    "declare",
+    "defer",
+    "dir",
+    "direction",
+    "disabled",
+    "enctype",
+    "face",
+    "frame",
+    "hreflang",
+    "http-equiv",
+    "lang",
+    "language",
+    "link",
+    "media",
+    "method",
+    "multiple",
+    "nohref",
+    "noresize",
+    "noshade",
+    "nowrap",
+    "readonly",
+    "rel",
+    "rev",
+    "rules",
+    "scope",
+    "scrolling",
+    "selected",
+    "shape",
+    "target",
+    "text",
+    "type",
+    "valign",
+    "valuetype",
+    "vlink",
+];
+
+/// The attributes whose values are compared without case in quirks mode, too.
+pub const QUIRKS_ATTRIBUTES: [&str; 2] = ["id", "class"];
+
+/// Whether the attribute is one of `CASELESS_ATTRIBUTES`.
+fn is_listed(name: &str) -> bool
+    ensures { result ≡ is_among caseless_attributes name.now }
+{
+    CASELESS_ATTRIBUTES.contains(&name)
+}
+
+/// Whether the attribute is one of `QUIRKS_ATTRIBUTES`.
+fn is_listed_in_quirks(name: &str) -> bool
+    ensures { result ≡ is_among quirks_attributes name.now }
+{
+    QUIRKS_ATTRIBUTES.contains(&name)
+}
+
+/// Whether the values of an attribute are compared without case.
+fn is_caseless(mode: HtmlMode, name: &str) -> bool
+    ensures { result ≡ is_caseless mode name.now }
+{
+    match mode {
+        HtmlMode::NoQuirks => is_listed(name),
+        HtmlMode::Quirks => is_listed(name) || is_listed_in_quirks(name),
+    }
+}
+
+/// Whether there is a capital in a name.
+fn has_capital(name: &str) -> bool
+    ensures { result ≡ list_any is_ascii_uppercase name.now }
+{
+    name.as_bytes().iter().any(|byte| byte.is_ascii_uppercase())
+}
+
+/// Returns a name in lower case, which is copied only if there is a capital in it.
+fn lower_case(alloc: Global, name: &str) -> Result<CowStr<'_>, AllocError>
+    ensures { IfOk result (λ lower. cow_str_bytes lower ≡ lower_case name.now) }
+{
+    if has_capital(name) {
+        Ok(CowStr::Owned(name.to_ascii_lowercase(alloc)?))
+    } else {
+        Ok(CowStr::Borrowed(name))
+    }
+}
+
+/// Returns an id or a class as a document reads it.
+fn word_in(alloc: Global, mode: HtmlMode, word: &str) -> Result<CowStr<'_>, AllocError>
+    ensures { IfOk result (λ read. cow_str_bytes read ≡ word_in mode word.now) }
+{
+    match mode {
+        HtmlMode::NoQuirks => Ok(CowStr::Borrowed(word)),
+        HtmlMode::Quirks => lower_case(alloc, word),
+    }
+}
+
+/// Returns a condition on an attribute as a document reads it.
+fn test_in<'s>(
+    alloc: Global,
+    mode: HtmlMode,
+    test: &'s AttributeTest<'_>,
+) -> Result<AttributeTest<'s>, AllocError>
+    ensures { IfOk result (λ read. simple_of (Attribute read)
+        ≡ simple_in mode (simple_of (Attribute test.now))) }
+{
+    let name = lower_case(alloc, test.name.as_str())?;
+    let ignores_case = test.ignores_case || is_caseless(mode, name.as_str());
+    Ok(AttributeTest {
+        name,
+        comparison: test.comparison,
+        text: CowStr::Borrowed(test.text.as_str()),
+        ignores_case,
+    })
+}
+
+/// Returns the same language ranges, which are not copied.
+fn ranges_in<'s>(alloc: Global, ranges: &'s [CowStr<'_>]) -> Result<Vec<CowStr<'s>>, AllocError>
+    ensures { IfOk result (λ same. map cow_str_bytes same.items ≡ map cow_str_bytes ranges.now) }
+{
+    let mut same = Vec::with_capacity(alloc, ranges.len())?;
+    for range in ranges {
+        same.push(CowStr::Borrowed(range.as_str()))?;
+    }
+    Ok(same)
+}
+
+/// Returns a simple selector as a document reads it.
+fn simple_in<'s>(
+    alloc: Global,
+    mode: HtmlMode,
+    simple: &'s Simple<'_>,
+) -> Result<Simple<'s>, AllocError>
+    ensures { IfOk result (λ read. simple_of read ≡ simple_in mode (simple_of simple.now)) }
+{
+    match simple {
+        Simple::Universal => Ok(Simple::Universal),
+        Simple::TypeName(name) => Ok(Simple::TypeName(lower_case(alloc, name.as_str())?)),
+        Simple::Id(text) => Ok(Simple::Id(word_in(alloc, mode, text.as_str())?)),
+        Simple::Class(word) => Ok(Simple::Class(word_in(alloc, mode, word.as_str())?)),
+        Simple::HasAttribute(name) => Ok(Simple::HasAttribute(lower_case(alloc, name.as_str())?)),
+        Simple::Attribute(test) => Ok(Simple::Attribute(test_in(alloc, mode, test)?)),
+        Simple::Structure(structure) => Ok(Simple::Structure(*structure)),
+        Simple::Language(ranges) => Ok(Simple::Language(ranges_in(alloc, ranges)?)),
+        Simple::State(name) => Ok(Simple::State(CowStr::Borrowed(name.as_str()))),
+    }
+}
+
+/// Returns a list of complex selectors as a document reads it.
+#[cycle(lists)]
+fn selectors_in<'s>(
+    alloc: Global,
+    mode: HtmlMode,
+    selectors: &'s [Complex<'_>],
+) -> Result<Vec<Complex<'s>>, AllocError>
+    ensures { IfOk result (λ read. map complex_of read.items
+        ≡ map (map (part_in mode)) (map complex_of selectors.now)) }
+{
+    let mut read = Vec::with_capacity(alloc, selectors.len())?;
+    for selector in selectors {
+        let parts = parts_in(alloc, mode, selector.parts.as_slice())?;
+        read.push(Complex { parts })?;
+    }
+    Ok(read)
+}
+
+/// Returns a condition as a document reads it.
+#[cycle(lists)]
+fn condition_in<'s>(
+    alloc: Global,
+    mode: HtmlMode,
+    condition: &'s Condition<'_>,
+) -> Result<Condition<'s>, AllocError>
+    ensures { IfOk result (λ read. condition_of read
+        ≡ condition_in mode (condition_of condition.now)) }
+{
+    match condition {
+        Condition::Simple(simple) => Ok(Condition::Simple(simple_in(alloc, mode, simple)?)),
+        Condition::Not(list) => Ok(Condition::Not(selectors_in(alloc, mode, list.as_slice())?)),
+        Condition::Is(list) => Ok(Condition::Is(selectors_in(alloc, mode, list.as_slice())?)),
+        Condition::Where(list) => Ok(Condition::Where(selectors_in(alloc, mode, list.as_slice())?)),
+    }
+}
+
+/// Returns the conditions of a compound selector as a document reads them.
+#[cycle(lists)]
+fn conditions_in<'s>(
+    alloc: Global,
+    mode: HtmlMode,
+    conditions: &'s [Condition<'_>],
+) -> Result<Vec<Condition<'s>>, AllocError>
+    ensures { IfOk result (λ read. map condition_of read.items
+        ≡ map (condition_in mode) (map condition_of conditions.now)) }
+{
+    let mut read = Vec::with_capacity(alloc, conditions.len())?;
+    for condition in conditions {
+        read.push(condition_in(alloc, mode, condition)?)?;
+    }
+    Ok(read)
+}
+
+/// Returns a part of a selector as a document reads it.
+#[cycle(lists)]
+fn part_in<'s>(alloc: Global, mode: HtmlMode, part: &'s Part<'_>) -> Result<Part<'s>, AllocError>
+    ensures { IfOk result (λ read. part_of read ≡ part_in mode (part_of part.now)) }
+{
+    Ok(Part {
+        combinator: part.combinator,
+        conditions: conditions_in(alloc, mode, part.conditions.as_slice())?,
+    })
+}
+
+/// Returns the parts of a selector as a document reads them.
+#[cycle(lists)]
+fn parts_in<'s>(
+    alloc: Global,
+    mode: HtmlMode,
+    parts: &'s [Part<'_>],
+) -> Result<Vec<Part<'s>>, AllocError>
+    ensures { IfOk result (λ read. map part_of read.items
+        ≡ map (part_in mode) (map part_of parts.now)) }
+{
+    let mut read = Vec::with_capacity(alloc, parts.len())?;
+    for part in parts {
+        read.push(part_in(alloc, mode, part)?)?;
+    }
+    Ok(read)
+}
+
+/// Returns a selector as an HTML document in this mode reads it.
+pub fn html_selector<'s>(
+    alloc: Global,
+    mode: HtmlMode,
+    selector: &'s Selector<'_>,
+) -> Result<Selector<'s>, AllocError>
+    ensures { IfOk result (λ read. read ≡ html_selector mode selector.now) }
+{
+    let parts = parts_in(alloc, mode, selector.parts())?;
+    let pseudo_element = match selector.pseudo_element() {
+        Some(name) => Some(CowStr::Borrowed(name)),
+        None => None,
+    };
+    Ok(Selector::new(parts, pseudo_element))
+}

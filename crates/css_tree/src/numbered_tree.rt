@@ -1,0 +1,241 @@
+//! Trees whose siblings are counted.
+ghost use Rattle.std.specs.Prelude.{◌≡◌, ◌<◌, ◌≤◌, ◌^◌, ℕ, length, slice_index_or};
+ghost use Rattle.std.specs.Prelude.{IfOk, IfErr, IfSome, MatchOption, slice_set, true, false};
+ghost use Rattle.css_matching.specs.ListTrees.{spot};
+ghost use Rattle.css_tree.specs.Counts.{count_below, last_below};
+ghost use Rattle.css_tree.specs.Pages.{parent_index, family, is_sibling, is_alike, count_after};
+ghost use Rattle.css_tree.specs.Pages.{has_content};
+ghost use Rattle.css_tree.specs.Keys.{AreFamilies};
+ghost use Rattle.css_tree.specs.declared.numbered_tree.NumberingError.TheVariants.{TooManyElements};
+ghost use Rattle.css_tree.specs.declared.numbered_tree.NumberingError.TheVariants.{Memory};
+
+use crate::NumberedNode;
+use crate::groups::{Groups, Seen};
+use crate::kinds::kinds_of;
+use simplecss::Element;
+use simplecss_tree::{Node, Tree};
+use std::alloc::{AllocError, AllocFailed, Global};
+use std::io;
+use std::io::ErrorKind;
+use std::marker::Model;
+
+/// Why the siblings of a tree are not counted.
+#[derive(Clone, Copy, Debug, PartialEq)]
+pub enum NumberingError {
+    /// The tree has 2^32 elements or more.
+    TooManyElements,
+    /// An allocation failed.
+    Memory,
+}
+
+/// Lets `?` convert `NumberingError` into `io::Error`.
+impl From<NumberingError> for io::Error {
+    ghost use Rattle.std.specs.IoError.{error_kind};
+    ghost use Rattle.css_tree.specs.Messages.{kind_of};
+
+    ghost from_gives = { λ error fault. error_kind fault ≡ kind_of error };
+
+    fn from(error: NumberingError) -> io::Error {
+        match error {
+            NumberingError::TooManyElements => {
+                io::Error::new(ErrorKind::InvalidInput, "too many elements")
+            }
+            NumberingError::Memory => io::Error::from(ErrorKind::OutOfMemory),
+        }
+    }
+}
+
+impl From<AllocError> for NumberingError {
+    ghost from_gives = { λ _ fault. fault ≡ Memory };
+
+    fn from(_error: AllocError) -> NumberingError {
+        NumberingError::Memory
+    }
+}
+
+impl<T: Drop> From<AllocFailed<T>> for NumberingError {
+    ghost from_gives = { λ _ fault. fault ≡ Memory };
+
+    fn from(_error: AllocFailed<T>) -> NumberingError {
+        NumberingError::Memory
+    }
+}
+
+/// A tree whose siblings are counted, and which of its elements have a text.
+///
+/// It borrows the tree: to change the tree, drop it and count again.
+#[derive(Drop)]
+pub struct NumberedTree<'p, 't> {
+    /// The tree.
+    pub(crate) tree: &'p Tree<'t>,
+    /// The elements by their parents: families.
+    families: Groups,
+    /// The elements by their parents and their names: kinds.
+    kinds: Groups,
+    /// Whether each element has a text of its own that is not empty.
+    texts: Vec<bool>,
+}
+
+impl<'p, 't> Model for NumberedTree<'p, 't> {
+    ghost use Rattle.std.specs.Prelude.{◌≡◌, length};
+    ghost use Rattle.css_tree.specs.Pages.{Page};
+    ghost use Rattle.css_tree.specs.Keys.{AreFamilies, AreKinds};
+
+    ghost Value = { Page };
+
+    ghost view = { λ t. record { rows = t.tree.now; texts = t.texts.items } };
+
+    ghost invariant = { λ t. AreFamilies t.tree.now t.families × AreKinds t.tree.now t.kinds
+        × (length t.texts.items ≡ length t.tree.now) };
+}
+
+/// Returns the number of the family of an element: 0 for those without a parent, or one more than
+/// the index of the parent.
+fn family_of(tree: &Tree<'_>, index: usize) -> usize
+    requires within { index < length tree.now }
+    requires few { length tree.now < 2 ^ 32 }
+    ensures { result ≡ family tree.now index }
+{
+    match tree.node(index).unwrap().parent_element() {
+        Some(parent) => parent.index() + 1,
+        None => 0,
+    }
+}
+
+/// Returns the number of the family of each element.
+fn families_of(alloc: Global, tree: &Tree<'_>) -> Result<Vec<usize>, AllocError>
+    requires { length tree.now < 2 ^ 32 }
+    ensures { IfOk result (λ families. AreFamilies tree.now families.items) }
+{
+    let mut families = Vec::with_capacity(alloc, tree.len())?;
+    for index in 0..tree.len() {
+        families.push(family_of(tree, index))?;
+    }
+    Ok(families)
+}
+
+/// Returns the marks of `count` elements without a text.
+fn no_texts(alloc: Global, count: usize) -> Result<Vec<bool>, AllocError>
+    ensures len { IfOk result (λ texts. length texts.items ≡ count) }
+    ensures none { IfOk result (λ texts. (i : ℕ) → slice_index_or texts.items i false ≡ false) }
+{
+    let mut texts = Vec::with_capacity(alloc, count)?;
+    for index in 0..count {
+        texts.push(false)?;
+    }
+    Ok(texts)
+}
+
+impl<'p, 't> NumberedTree<'p, 't> {
+    /// Counts the siblings of each element of a tree. No element has a text yet.
+    pub fn new(alloc: Global, tree: &'p Tree<'t>) -> Result<NumberedTree<'p, 't>, NumberingError>
+        ensures rows { IfOk result (λ page. page.rows ≡ tree.now) }
+        ensures texts { IfOk result (λ page. (i : ℕ) → slice_index_or page.texts i false ≡ false) }
+        ensures all { IfOk result (λ page. length page.texts ≡ length tree.now) }
+        ensures err { IfErr result (λ error. error ≡ TooManyElements → 2 ^ 32 ≤ length tree.now) }
+    {
+        if tree.len() > u32::MAX as usize {
+            return Err(NumberingError::TooManyElements);
+        }
+        let families = Groups::new(alloc, families_of(alloc, tree)?, tree.len())?;
+        let kinds = kinds_of(alloc, tree, &families)?;
+        Ok(NumberedTree {
+            tree,
+            families,
+            kinds: Groups::new(alloc, kinds, tree.len())?,
+            texts: no_texts(alloc, tree.len())?,
+        })
+    }
+
+    /// Returns the number of elements.
+    pub fn len(&self) -> usize
+        ensures { result ≡ length self.now.rows }
+    {
+        self.tree.len()
+    }
+
+    /// Marks the element at an index as one with a text of its own that is not empty. White space is a
+    /// text, a comment is none.
+    pub fn set_text(&mut self, index: usize)
+        requires { index < length self.old.rows }
+        ensures rows { self.new.rows ≡ self.old.rows }
+        ensures texts { self.new.texts ≡ slice_set self.old.texts index true }
+    {
+        self.texts[index] = true;
+    }
+
+    /// Returns the element at an index, if there is one.
+    pub fn node(&self, index: usize) -> Option<NumberedNode<'_, 'p, 't>>
+        ensures { MatchOption result (length self.now.rows ≤ index)
+            (λ node. (index < length self.now.rows) × (node ≡ spot self.now index)) }
+    {
+        if index < self.len() {
+            Some(NumberedNode { tree: self, index })
+        } else {
+            None
+        }
+    }
+}
+
+/// Answers about its elements.
+impl<'p, 't> NumberedTree<'p, 't> {
+    /// Returns the element of the tree itself.
+    pub(crate) fn plain(&self, index: usize) -> Node<'p, 't>
+        requires { index < length self.now.rows }
+        ensures { result ≡ spot self.now.rows index }
+    {
+        let tree = self.tree;
+        tree.node(index).unwrap()
+    }
+
+    /// Returns the index of the parent of an element, if it has one.
+    pub(crate) fn parent(&self, index: usize) -> Option<usize>
+        requires { index < length self.now.rows }
+        ensures value { result ≡ parent_index self.now.rows index }
+        ensures before { IfSome result (λ parent. parent < index) }
+    {
+        Some(self.plain(index).parent_element()?.index())
+    }
+
+    /// Returns the number of siblings before an element, and the last of them.
+    pub(crate) fn before(&self, index: usize) -> Seen
+        requires { index < length self.now.rows }
+        ensures count { result.count ≡ count_below (is_sibling self.now.rows index) index }
+        ensures last { result.last ≡ last_below (is_sibling self.now.rows index) index }
+        ensures earlier { IfSome result.last (λ last. last < index) }
+    {
+        self.families.before(index)
+    }
+
+    /// Returns the number of siblings after an element.
+    pub(crate) fn after(&self, index: usize) -> u32
+        requires { index < length self.now.rows }
+        ensures { result ≡ count_after (is_sibling self.now.rows index) index self.now.rows }
+    {
+        self.families.after(index)
+    }
+
+    /// Returns the number of siblings before an element that have its name.
+    pub(crate) fn alike_before(&self, index: usize) -> u32
+        requires { index < length self.now.rows }
+        ensures { result ≡ count_below (is_alike self.now.rows index) index }
+    {
+        self.kinds.before(index).count
+    }
+
+    /// Returns the number of siblings after an element that have its name.
+    pub(crate) fn alike_after(&self, index: usize) -> u32
+        requires { index < length self.now.rows }
+        ensures { result ≡ count_after (is_alike self.now.rows index) index self.now.rows }
+    {
+        self.kinds.after(index)
+    }
+
+    /// Whether the element has a text, or is the parent of an element.
+    pub(crate) fn has_content(&self, index: usize) -> bool
+        requires { index < length self.now.rows }
+        ensures { result ≡ has_content self.now index }
+    {
+        self.texts[index] || self.families.count(index + 1) > 0
+    }
+}

@@ -1,0 +1,52 @@
+//! An example: the declarations of a sheet that win on the elements of a tree, on a screen.
+#![tactic(auto)]
+
+use css_sheet::{SheetRule, read_sheet, winning};
+use css_tree::NumberedTree;
+use simplecss_tree::Tree;
+use std::io;
+
+/// The sheet.
+const SHEET: &str = "p { color: black; margin: 1em }
+    .note:not(:first-child) { color: green; margin: 0 !important }
+    @media screen { main > p { color: navy; margin: 2em } }
+    @media print { p { color: gray !important } }";
+
+/// The properties that are shown.
+const PROPERTIES: [&str; 2] = ["color", "margin"];
+
+/// How many declarations the rules of a sheet may have together.
+const MOST: usize = 10_000;
+
+/// Prints what wins on the element with this number.
+fn show(
+    rt: &impl io::Print,
+    rules: &[SheetRule<'_>],
+    page: &NumberedTree<'_, '_>,
+    number: usize,
+) -> io::Result<()> {
+    if let Some(element) = page.node(number) {
+        for property in PROPERTIES {
+            if let Some(declaration) = winning(rules, &element, property) {
+                println!(rt; "{number}: {declaration}")?;
+            }
+        }
+    }
+    Ok(())
+}
+
+fn main(rt: HostRuntime) -> io::Result<()> {
+    let is_on_screen = |name: &str, prelude: &str| name == "media" && prelude == "screen";
+    let rules = read_sheet(rt.alloc(), SHEET, MOST, is_on_screen)?;
+    let mut tree = Tree::new(rt.alloc());
+    let root = tree.push(None, "main")?;
+    for _ in 0..2 {
+        tree.push(Some(root), "p")?;
+        tree.set_attribute("class", "note")?;
+    }
+    let page = NumberedTree::new(rt.alloc(), &tree)?;
+    for number in 0..page.len() {
+        show(&rt, rules.as_slice(), &page, number)?;
+    }
+    Ok(())
+}

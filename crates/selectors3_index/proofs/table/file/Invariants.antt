@@ -1,7 +1,0 @@
-use Rattle.std.proofs.Common.{map, take}
-use Rattle.selectors3_index.specs.internal.Filed.{entry_of, AreFiled}
-use Rattle.selectors3_index.proofs.table.file.Given as goal
-
--- the entries so far are filed
-abbrev pub invariant-loop-entry : goal.invariant-loop-entry
-invariant-loop-entry l = AreFiled (map entry_of (take l.entry-index l.entries)) l.buckets.items

@@ -1,4 +1,0 @@
-pub mod Reported
-pub mod KeyBits
-pub mod Found
-pub mod internal

@@ -1,4 +1,0 @@
--- What contracts of private functions and proofs name, and no contract of a public call.
-pub mod Filed
-pub mod NeededBits
-pub mod Candidates

@@ -1,8 +1,0 @@
-mod Counting
-mod Grouping
-mod Numbering
-mod Reporting
-mod HtmlLemmas
-mod LanguageLemmas
-mod Ancestry
-mod KindLemmas

@@ -1,9 +1,0 @@
-use Rattle.selectors3_tree.proofs.KindLemmas.{IsCompared}
-use Rattle.selectors3_tree.proofs.kinds.kind_by_siblings.Given as goal
-
--- none of the siblings that were compared is alike
-abbrev pub invariant-siblings : goal.invariant-siblings
-invariant-siblings l = IsCompared l.tree l.index l.earlier
-
-abbrev pub decreases-siblings : goal.decreases-siblings
-decreases-siblings l = l.earlier

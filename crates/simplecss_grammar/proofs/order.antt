@@ -1,0 +1,2 @@
+-- The order of rules.
+pub mod OrderLemmas

@@ -1,0 +1,19 @@
+-- What was read, printed and read again: selectors, declarations, rules and sheets.
+pub mod PrintedHeads
+pub mod PrintedSelectors
+pub mod UncleanSelectors
+pub mod PrintingLaw
+pub mod TokenKinds
+pub mod ReadOperators
+pub mod ReadPieces
+pub mod ReadSequences
+pub mod ReadSelectors
+pub mod KeptRules
+pub mod KeptSelectors
+pub mod BlankTails
+pub mod TermEnds
+pub mod TrimBare
+pub mod ValuesAgain
+pub mod DeclarationsAgain
+pub mod RulesAgain
+pub mod SheetsAgain

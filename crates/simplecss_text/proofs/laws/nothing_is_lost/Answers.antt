@@ -1,5 +1,0 @@
-use Rattle.simplecss_text.proofs.skipped.AccountedFor.{loses_nothing}
-use Rattle.simplecss_text.proofs.laws.nothing_is_lost.Goals as goal
-
-pub returns : goal.returns
-returns c = loses_nothing

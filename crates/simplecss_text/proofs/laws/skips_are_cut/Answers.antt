@@ -1,5 +1,0 @@
-use Rattle.simplecss_text.proofs.skipped.SkipsAcross.{skips_across}
-use Rattle.simplecss_text.proofs.laws.skips_are_cut.Goals as goal
-
-pub returns : goal.returns
-returns c = skips_across

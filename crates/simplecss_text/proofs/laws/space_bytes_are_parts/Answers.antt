@@ -1,5 +1,0 @@
-use Rattle.simplecss_text.proofs.bytes.BlankLaws.{has_space-comments}
-use Rattle.simplecss_text.proofs.laws.space_bytes_are_parts.Goals as goal
-
-pub returns : goal.returns
-returns c = has_space-comments

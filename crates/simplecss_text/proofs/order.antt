@@ -1,4 +1,0 @@
--- The order of rules.
-pub mod ListFacts
-pub mod RankLemmas
-pub mod OrderLemmas

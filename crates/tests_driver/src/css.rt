@@ -1,0 +1,308 @@
+//! Style sheets, their rules, selectors and declarations.
+//!
+//! For each text, what it has is printed in fields, of which each ends with the byte 1; a NUL byte ends
+//! the text. The fields of a statement are its kind, its name, its prelude and its block; those of an
+//! item of a list are its kind, its name, its value and its flags. What is skipped has its fault in
+//! place of a name, and its text. With `block` the list is that of a block. With `names` the escapes in the names of declarations are decoded.
+//! The fields of a rule set, which may be in group rules, are the preludes of these with a comma after
+//! each, why it is dropped, its prelude and its block; those of its selectors are the text, the
+//! selector that is read of it, the name of the pseudo-element, and why the rule set is dropped. With
+//! `order` the rules are printed in the order of the cascade, but for those in `@media print`: the text
+//! of the selector, the name of the pseudo-element and the block. With `printed` and `list` the
+//! declarations are printed, not in fields: each with what closes its value and a blank, or as one
+//! list.
+
+use css_sheet::{RuleSelector, SheetError, SheetReader, read_selectors, read_sheet};
+use css_syntax::selectors::prelude_fault;
+use css_syntax::{
+    AtRule, Declaration, DeclarationList, Declarations, Item, RuleSet, Statement, Statements,
+    closed_value, decode,
+};
+use std::alloc::Global;
+use std::borrow::CowStr;
+use std::io;
+use std::io::Write;
+
+/// Writes a field and the byte that ends it.
+fn write_field<W: Write>(out: &mut W, text: &str) -> io::Result<()> {
+    out.write_all(text.as_bytes())?;
+    out.write_all(b"\x01")
+}
+
+/// Writes four fields: a kind, a name, a text and a last one.
+fn write_fields<W: Write>(
+    out: &mut W,
+    kind: &str,
+    name: &str,
+    text: &str,
+    last: &str,
+) -> io::Result<()> {
+    write_field(out, kind)?;
+    write_field(out, name)?;
+    write_field(out, text)?;
+    write_field(out, last)
+}
+
+/// Writes an at-rule.
+fn write_at_rule<W: Write>(out: &mut W, at_rule: &AtRule<'_>) -> io::Result<()> {
+    match at_rule.block {
+        Some(block) => {
+            write_fields(
+                out,
+                "at-rule with block",
+                at_rule.name,
+                at_rule.prelude.text,
+                block.text,
+            )
+        }
+        None => write_fields(out, "at-rule", at_rule.name, at_rule.prelude.text, ""),
+    }
+}
+
+/// Writes the statements of a text.
+fn write_statements<W: Write>(out: &mut W, text: &str) -> io::Result<()> {
+    for part in Statements::new(text) {
+        match part.statement {
+            Statement::RuleSet(rule) => {
+                write_fields(out, "rule set", "", rule.prelude.text, rule.block.text)?;
+            }
+            Statement::AtRule(at_rule) => write_at_rule(out, &at_rule)?,
+            Statement::Skipped(fault) => {
+                write_fields(out, "skipped", fault.words(), part.text, "")?;
+            }
+        }
+    }
+    Ok(())
+}
+
+/// The flags of a declaration: whether it is important, and whether it is open.
+fn flags(declaration: &Declaration<'_>) -> &'static str {
+    match (declaration.important, declaration.closed) {
+        (true, true) => "important",
+        (true, false) => "important, open",
+        (false, true) => "",
+        (false, false) => "open",
+    }
+}
+
+/// Writes the items of a list of declarations.
+fn write_declarations<W: Write>(out: &mut W, declarations: Declarations<'_>) -> io::Result<()> {
+    for part in declarations {
+        match part.item {
+            Item::Declaration(one) => {
+                write_fields(out, "declaration", one.name, one.value, flags(&one))?;
+            }
+            Item::AtRule(at_rule) => write_at_rule(out, &at_rule)?,
+            Item::Skipped(fault) => {
+                write_fields(out, "skipped", fault.words(), part.text, "")?;
+            }
+        }
+    }
+    Ok(())
+}
+
+/// Writes the declarations of a list, with the escapes of their names decoded.
+fn write_names<W: Write>(alloc: Global, out: &mut W, text: &str) -> io::Result<()> {
+    for part in Declarations::new(text) {
+        if let Item::Declaration(one) = part.item {
+            match decode(alloc, one.name)? {
+                CowStr::Borrowed(name) => {
+                    write_fields(out, "as written", name, one.value, flags(&one))?;
+                }
+                CowStr::Owned(name) => {
+                    write_fields(out, "decoded", name.as_str(), one.value, flags(&one))?;
+                }
+            }
+        }
+    }
+    Ok(())
+}
+
+/// Writes the field of the preludes of the group rules that are open.
+fn write_levels<W: Write>(out: &mut W, reader: &SheetReader<'_>) -> io::Result<()> {
+    for level in reader.levels() {
+        out.write_all(level.prelude.as_bytes())?;
+        out.write_all(b",")?;
+    }
+    out.write_all(b"\x01")
+}
+
+/// The word for why a rule set is dropped, if it is.
+fn drop_word(rule: &RuleSet<'_>) -> &'static str {
+    match prelude_fault(&rule.prelude) {
+        Some(fault) => fault.words(),
+        None => "",
+    }
+}
+
+/// Writes the rule sets of a text and of its group rules.
+fn write_rules<W: Write>(alloc: Global, out: &mut W, text: &str) -> io::Result<()> {
+    let mut reader = SheetReader::new(alloc, text);
+    // Each item has a byte or more.
+    for _ in 0..text.len() {
+        let Some(part) = reader.read_next()? else {
+            break;
+        };
+        if let Statement::RuleSet(rule) = part.statement {
+            write_levels(out, &reader)?;
+            write_field(out, drop_word(&rule))?;
+            write_field(out, rule.prelude.text)?;
+            write_field(out, rule.block.text)?;
+        }
+    }
+    Ok(())
+}
+
+/// Writes a selector of a rule set.
+fn write_selector<W: Write>(alloc: Global, out: &mut W, one: &RuleSelector<'_>) -> io::Result<()> {
+    let read = match &one.selector {
+        Some(selector) => format!(in alloc; "{selector}")?,
+        None => String::new(alloc),
+    };
+    let pseudo_element = one.pseudo_element.unwrap_or("");
+    write_fields(out, one.text, read.as_str(), pseudo_element, "")
+}
+
+/// Writes the selectors of a rule set, or why it is dropped.
+fn write_selectors_of<W: Write>(alloc: Global, out: &mut W, rule: &RuleSet<'_>) -> io::Result<()> {
+    match read_selectors(alloc, &rule.prelude) {
+        Ok(Ok(selectors)) => {
+            for one in &selectors {
+                write_selector(alloc, out, one)?;
+            }
+            Ok(())
+        }
+        Ok(Err(fault)) => write_fields(out, rule.prelude.text, "", "", fault.words()),
+        Err(error) => Err(error.into()),
+    }
+}
+
+/// Writes the selectors of a text and of its group rules.
+fn write_selectors<W: Write>(alloc: Global, out: &mut W, text: &str) -> io::Result<()> {
+    let mut reader = SheetReader::new(alloc, text);
+    // Each item has a byte or more.
+    for _ in 0..text.len() {
+        let Some(part) = reader.read_next()? else {
+            break;
+        };
+        if let Statement::RuleSet(rule) = part.statement {
+            write_selectors_of(alloc, out, &rule)?;
+        }
+    }
+    Ok(())
+}
+
+/// Whether a group rule holds: all do but `@media print`.
+fn holds(name: &str, prelude: &str) -> bool {
+    !(name.eq_ignore_ascii_case("media") && prelude.eq_ignore_ascii_case("print"))
+}
+
+/// Writes the rules of a text in the order of the cascade, or that they have more declarations than
+/// these.
+fn write_order<W: Write>(alloc: Global, out: &mut W, text: &str, most: usize) -> io::Result<()> {
+    let rules = match read_sheet(
+        alloc,
+        text,
+        most,
+        |name: &str, prelude: &str| holds(name, prelude),
+    ) {
+        Ok(rules) => rules,
+        Err(SheetError::TooManyDeclarations) => {
+            return write_fields(out, "too many declarations", "", "", "");
+        }
+        Err(error) => return Err(error.into()),
+    };
+    for rule in &rules {
+        let pseudo_element = rule.pseudo_element.unwrap_or("");
+        write_fields(out, rule.text, pseudo_element, rule.block, "")?;
+    }
+    Ok(())
+}
+
+/// Writes a declaration, with what closes its value where the end of the text did.
+fn write_closed<W: Write>(alloc: Global, out: &mut W, one: &Declaration<'_>) -> io::Result<()> {
+    let Some(value) = closed_value(alloc, one.value)? else {
+        return Ok(());
+    };
+    let whole = Declaration {
+        name: one.name,
+        value: value.as_str(),
+        important: one.important,
+        closed: true,
+    };
+    write!(out, "{whole} ")
+}
+
+/// Writes the declarations of a text as they are printed.
+fn write_printed<W: Write>(alloc: Global, out: &mut W, text: &str) -> io::Result<()> {
+    for part in Declarations::new(text) {
+        if let Item::Declaration(one) = &part.item {
+            write_closed(alloc, out, one)?;
+        }
+    }
+    Ok(())
+}
+
+/// Writes the declarations of a text as one list.
+fn write_list<W: Write>(alloc: Global, out: &mut W, text: &str) -> io::Result<()> {
+    let mut declarations = Vec::new(alloc);
+    for part in Declarations::new(text) {
+        if let Item::Declaration(one) = part.item {
+            declarations.push(one)?;
+        }
+    }
+    let list = DeclarationList {
+        declarations: declarations.as_slice(),
+    };
+    write!(out, "{list}")
+}
+
+/// What is read of a text.
+#[derive(Clone, Copy)]
+pub(crate) enum Part {
+    Statements,
+    Declarations,
+    /// The declarations of a block, in which rules may be.
+    Block,
+    Rules,
+    Names,
+    Selectors,
+    /// The rules, if they have at most so many declarations.
+    Order(usize),
+    Printed,
+    List,
+}
+
+impl Part {
+    /// Returns the part that the words of the command line name.
+    pub(crate) fn of(words: &[&str]) -> Option<Part> {
+        match words {
+            ["statements"] => Some(Part::Statements),
+            ["declarations"] => Some(Part::Declarations),
+            ["block"] => Some(Part::Block),
+            ["rules"] => Some(Part::Rules),
+            ["names"] => Some(Part::Names),
+            ["selectors"] => Some(Part::Selectors),
+            ["order", most] => most.parse().ok().map(Part::Order),
+            ["printed"] => Some(Part::Printed),
+            ["list"] => Some(Part::List),
+            _ => None,
+        }
+    }
+
+    /// Writes what a text has.
+    pub(crate) fn write<W: Write>(self, alloc: Global, out: &mut W, text: &str) -> io::Result<()> {
+        match self {
+            Part::Statements => write_statements(out, text)?,
+            Part::Declarations => write_declarations(out, Declarations::new(text))?,
+            Part::Block => write_declarations(out, Declarations::of_block(text))?,
+            Part::Rules => write_rules(alloc, out, text)?,
+            Part::Names => write_names(alloc, out, text)?,
+            Part::Selectors => write_selectors(alloc, out, text)?,
+            Part::Order(most) => write_order(alloc, out, text, most)?,
+            Part::Printed => write_printed(alloc, out, text)?,
+            Part::List => write_list(alloc, out, text)?,
+        }
+        out.write_all(b"\x00")
+    }
+}

@@ -1,0 +1,145 @@
+//! Lists of selectors on a tree.
+
+use crate::tree::{mark_texts, read_tree};
+use css_index::{HasSelector, SelectorIndex};
+use css_selectors::{Element, Selector};
+use css_tree::NumberedTree;
+use simplecss_tree::Tree;
+use std::alloc::Global;
+use std::io;
+use std::io::{ErrorKind, Write};
+
+/// Whether one of the selectors matches the element.
+fn is_matched<E: Element>(selectors: &[Selector<'_>], element: &E) -> bool {
+    selectors.iter().any(|selector| selector.matches(element))
+}
+
+/// Writes what the selectors match.
+fn write_found<W: Write>(
+    out: &mut W,
+    page: &NumberedTree<'_, '_>,
+    selectors: &[Selector<'_>],
+) -> io::Result<()> {
+    if let [first, ..] = selectors {
+        let counts = first.specificity();
+        write!(out, "{},{},{}:", counts.ids, counts.classes, counts.names)?;
+    }
+    for index in 0..page.len() {
+        if let Some(element) = page.node(index) {
+            if is_matched(selectors, &element) {
+                write!(out, " {index}")?;
+            }
+        }
+    }
+    Ok(())
+}
+
+/// Writes the list as it is serialized, with a comma and a blank between two selectors.
+fn write_printed<W: Write>(out: &mut W, selectors: &[Selector<'_>]) -> io::Result<()> {
+    let mut before = "\x01";
+    for selector in selectors {
+        write!(out, "{before}{selector}")?;
+        before = ", ";
+    }
+    Ok(())
+}
+
+/// Writes what the selectors of a list match, or why it is refused.
+fn write_list<W: Write>(
+    alloc: Global,
+    out: &mut W,
+    page: &NumberedTree<'_, '_>,
+    list: &str,
+) -> io::Result<()> {
+    match Selector::parse_list(alloc, list) {
+        Ok(selectors) => {
+            write_found(out, page, selectors.as_slice())?;
+            write_printed(out, selectors.as_slice())?;
+        }
+        Err(refusal) => write!(out, "refused: {}: {refusal}", refusal.position_in(list))?,
+    }
+    out.write_all(b"\x00")
+}
+
+/// Numbers the elements of a tree, and marks those that have a text.
+fn numbered<'p, 't>(
+    alloc: Global,
+    tree: &'p Tree<'t>,
+    lines: &str,
+) -> io::Result<NumberedTree<'p, 't>> {
+    let Ok(mut page) = NumberedTree::new(alloc, tree) else {
+        return Err(io::Error::from(ErrorKind::OutOfMemory));
+    };
+    mark_texts(&mut page, lines);
+    Ok(page)
+}
+
+/// Writes for each list its first selector's specificity, a colon, the numbers of the elements that one
+/// of its selectors matches, from 0 on, the byte 1, the list as it is serialized, and a NUL byte; or, if
+/// it is refused, where and why.
+pub(crate) fn write_matched<W: Write>(
+    alloc: Global,
+    out: &mut W,
+    lines: &str,
+    lists: &str,
+) -> io::Result<()> {
+    let tree = read_tree(alloc, lines)?;
+    let page = numbered(alloc, &tree, lines)?;
+    for list in lists.split('\0') {
+        write_list(alloc, out, &page, list)?;
+    }
+    Ok(())
+}
+
+/// A selector, and the number of its list.
+#[derive(Drop)]
+struct Listed<'a> {
+    selector: Selector<'a>,
+    list: usize,
+}
+
+impl<'a> HasSelector<'a> for Listed<'a> {
+    ghost selector_in = { λ listed. listed.selector };
+
+    fn selector(&self) -> &Selector<'a> {
+        &self.selector
+    }
+}
+
+/// Returns the selectors of the lists that are not refused.
+fn read_listed<'a>(alloc: Global, lists: &'a str) -> io::Result<Vec<Listed<'a>>> {
+    let mut all = Vec::new(alloc);
+    for (list, text) in lists.split('\0').enumerate() {
+        if let Ok(selectors) = Selector::parse_list(alloc, text) {
+            for selector in selectors {
+                all.push(Listed { selector, list })?;
+            }
+        }
+    }
+    Ok(all)
+}
+
+/// Writes for each element the numbers of the lists of which one index over all of them finds a
+/// selector, from 0 on, and a NUL byte.
+pub(crate) fn write_found_by_index<W: Write>(
+    alloc: Global,
+    out: &mut W,
+    lines: &str,
+    lists: &str,
+) -> io::Result<()> {
+    let tree = read_tree(alloc, lines)?;
+    let page = numbered(alloc, &tree, lines)?;
+    let all = read_listed(alloc, lists)?;
+    let index = SelectorIndex::new(alloc, all.as_slice())?;
+    let mut indices = Vec::new(alloc);
+    for number in 0..page.len() {
+        if let Some(element) = page.node(number) {
+            index.matching(&element, &mut indices)?;
+        }
+        for listed in indices.iter().filter_map(|index| all.get(*index)) {
+            write!(out, " {}", listed.list)?;
+        }
+        out.write_all(b"\x00")?;
+    }
+    Ok(())
+}
