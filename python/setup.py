@@ -1,31 +1,77 @@
-"""What pyproject.toml cannot say: the version is the C library's, and the wheel has the library that `./build library` made."""
+"""What pyproject.toml cannot say: the version is the C library's, and a wheel has that library.
+
+It is the one that `./build library` made with the toolchain, whose calls are proved. Without it, it
+is compiled by cargo from the same sources as Rust (`tools/erase.py --c`), which an sdist has in
+`erased`.
+"""
 
 import re
 import shutil
+import subprocess
+import sys
+import tempfile
 from pathlib import Path
 
 from setuptools import Distribution, setup
 from setuptools.command.build_py import build_py
+from setuptools.command.sdist import sdist
 
 try:
     from setuptools.command.bdist_wheel import bdist_wheel
 except ImportError:
     from wheel.bdist_wheel import bdist_wheel
 
-TOP = Path(__file__).resolve().parent.parent
-LIBRARY = TOP / "out" / "libsimplecss.so"
+HERE = Path(__file__).resolve().parent
+TOP = HERE.parent
+SOURCES = HERE / "src"
+ERASED = HERE / "erased"
+NAME = {"win32": "simplecss.dll", "darwin": "libsimplecss.dylib"}.get(
+    sys.platform, "libsimplecss.so"
+)
+PROVED = TOP / "out" / NAME
+WITHOUT = "install Rust, or run ./build library with the toolchain first (docs/INSTALL.md)"
+
+
+def write_erased(to: Path) -> None:
+    """Writes the C library's sources as a crate of Rust, with the header."""
+    subprocess.run([sys.executable, str(TOP / "tools" / "erase.py"), "--c", str(to)], check=True)
+
+
+def compiled(folder: Path) -> Path:
+    """Returns the library that cargo makes in this folder of the erased sources."""
+    cargo = shutil.which("cargo")
+    if not cargo:
+        raise SystemExit(f"{PROVED} is missing, and so is cargo: {WITHOUT}")
+    source = ERASED
+    if not source.is_dir():
+        source = folder / "erased"
+        write_erased(source)
+    words = [cargo, "build", "--release", "--offline", "--target-dir", str(folder / "target")]
+    if subprocess.run(words, cwd=source, check=False).returncode:
+        raise SystemExit(f"cargo did not build the library: {WITHOUT}")
+    return folder / "target" / "release" / NAME
 
 
 class WithLibrary(build_py):
     """Copies the library into the package."""
 
     def run(self) -> None:
-        """Refuses to build a package whose first call would fail."""
-        if not LIBRARY.is_file():
-            raise SystemExit(f"{LIBRARY} is missing: run ./build library first, or install a wheel (docs/INSTALL.md)")
+        """Takes the proved library where there is one, and else compiles one."""
         super().run()
-        if not self.editable_mode:
-            shutil.copy(LIBRARY, Path(self.build_lib) / "simplecss")
+        with tempfile.TemporaryDirectory() as folder:
+            library = PROVED if PROVED.is_file() else compiled(Path(folder))
+            to = (SOURCES if self.editable_mode else Path(self.build_lib)) / "simplecss"
+            if library != PROVED or not self.editable_mode:
+                shutil.copy(library, to)
+
+
+class WithSources(sdist):
+    """Adds the erased sources, so that neither the checkout nor the toolchain is needed."""
+
+    def make_release_tree(self, base_dir: str, files: "list[str]") -> None:
+        """Writes them beside the package."""
+        super().make_release_tree(base_dir, files)
+        write_erased(Path(base_dir) / "erased")
 
 
 class ForThisSystem(Distribution):
@@ -44,5 +90,13 @@ class AnyPython(bdist_wheel):
         return ("py3", "none", super().get_tag()[2])
 
 
-version = re.search(r'SIMPLECSS_VERSION "(.*)"', (TOP / "include" / "simplecss.h").read_text())[1]
-setup(version=version, distclass=ForThisSystem, cmdclass={"build_py": WithLibrary, "bdist_wheel": AnyPython})
+def version() -> str:
+    """Returns the version that the header states."""
+    header = ERASED / "simplecss.h" if ERASED.is_dir() else TOP / "include" / "simplecss.h"
+    found = re.search(r'SIMPLECSS_VERSION "(.*)"', header.read_text())
+    assert found
+    return found[1]
+
+
+COMMANDS = {"build_py": WithLibrary, "bdist_wheel": AnyPython, "sdist": WithSources}
+setup(version=version(), distclass=ForThisSystem, cmdclass=COMMANDS)

@@ -4,7 +4,7 @@ import os
 import sys
 import unittest
 
-sys.path.insert(0, os.path.join(os.path.dirname(__file__), ".."))
+sys.path.insert(0, os.path.join(os.path.dirname(__file__), "..", "src"))
 
 import simplecss  # noqa: E402
 
@@ -23,7 +23,7 @@ class Examples(unittest.TestCase):
     def test_inlined(self) -> None:
         """Each page has its inlined form beside it."""
         for name, inlined in (("mail.html", "mail.inlined.html"), ("drawing.svg", "drawing.inlined.svg")):
-            self.assertEqual(simplecss.inline(read(name)), read(inlined), name)
+            self.assertEqual(simplecss.inline(read(name), at=name), read(inlined), name)
 
 
 if __name__ == "__main__":

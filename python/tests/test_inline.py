@@ -5,14 +5,15 @@ import sys
 import tempfile
 import unittest
 
-sys.path.insert(0, os.path.join(os.path.dirname(__file__), ".."))
+sys.path.insert(0, os.path.join(os.path.dirname(__file__), "..", "src"))
 
+import simplecss  # noqa: E402
 from simplecss import inline  # noqa: E402
 
 
-def style_of(css, page="<p class='a b' id=x>"):
+def style_of(css, page="<p class='a b' id=x>", **options):
     """Returns what `inline` writes into the attribute `style` of a page's only tag."""
-    text = inline(page, css)
+    text = inline(page, css, **options)
     return text.partition(' style="')[2].partition('"')[0].replace("&quot;", "'")
 
 
@@ -158,22 +159,125 @@ class Documents(unittest.TestCase):
 
     def test_xml(self):
         self.assertEqual(
-            inline('<s:svg xmlns:s="x"><s:style><![CDATA[a > b, .c{n:1} B{m:2} a:hover{o:3}]]></s:style>'
-                   '<a><b/></a></s:svg>'.replace("<s:svg", "<?xml version='1.0'?><s:svg")),
-            "<?xml version='1.0'?><s:svg xmlns:s=\"x\"><s:style>\na:hover{o:3}\n</s:style>"
+            inline("<?xml version='1.0'?><s:svg xmlns:s='x'><s:style><![CDATA[a > b, .c{n:1} B{m:2} a:hover{o:3}]]>"
+                   "</s:style><a><b/></a></s:svg>", is_xml=True),
+            "<?xml version='1.0'?><s:svg xmlns:s='x'><s:style>\na:hover{o:3}\n</s:style>"
             '<a><b style="n: 1"/></a></s:svg>')
-        self.assertEqual(inline("<svg><RECT/></svg>", "rect { n: 1 }"), "<svg><RECT/></svg>")
-        self.assertEqual(inline("<svg><a/></svg>", "a:hover { n: 1 }"),
+        self.assertEqual(inline("<svg><RECT/></svg>", "rect { n: 1 }", is_xml=True), "<svg><RECT/></svg>")
+        self.assertEqual(inline("<svg><a/></svg>", "a:hover { n: 1 }", is_xml=True),
                          "<svg><style>\na:hover { n: 1 }\n</style><a/></svg>")
+        with self.assertRaises(simplecss.TreeError):
+            inline("<svg><a></svg>", is_xml=True)
+
+    def test_what_begins_as_xml_is_html(self):
+        for front in ("<?xml version='1.0'?>", "<?xml version='1.0'?>\n<!DOCTYPE html>"):
+            page = f"{front}<table><TR><td>x</table>"
+            self.assertEqual(inline(page, "TR{n:1} tbody td{n:2}"),
+                             f'{front}<table><TR style="n: 1"><td style="n: 2">x</table>')
+            self.assertEqual(inline(f"{front}<head></head>", "p:hover{n:'<b>'}"),
+                             f"{front}<head><style>\np:hover{{n:'\\3c b>'}}\n</style></head>")
+
+    def test_a_second_body(self):
+        """Its attributes are those of the first, as far as that one has none."""
+        for page, expected in (
+            ("<body><body style='m:2'>", '<body style="n: 1; m:2"><body style=\'m:2\'>'),
+            ("<body style=m:2><body style=m:3>", '<body style="n: 1; m:2"><body style=m:3>'),
+            ("<body><body style=' '>", '<body style="n: 1"><body style=\' \'>'),
+        ):
+            self.assertEqual(inline(page, "body{n:1}"), expected)
+        self.assertEqual(inline("<html><body><html style='m:2'>", "html{n:1}"),
+                         "<html style=\"n: 1; m:2\"><body><html style='m:2'>")
+
+
+class Important(unittest.TestCase):
+    """What stays in a sheet gets `!important` where it beats what is written, as it did in the sheet."""
+
+    def inlined(self, css, tag="a class=b"):
+        """Returns what stays, and the attribute."""
+        text = inline(f"<{tag}>", css)
+        sheet = text.partition("<style>\n")[2].partition("\n</style>")[0]
+        return sheet, text.partition(' style="')[2].partition('"')[0]
+
+    def test_what_stays_wins(self):
+        for css, expected in (
+            ("a{n:1} a:hover{n:2}", ("a:hover{n:2 !important}", "n: 1")),
+            ("a{n:1} a:hover{n:2;m:3; n:4 }", ("a:hover{n:2 !important;m:3; n:4 !important }", "n: 1")),
+            ("a{n:1} @media x{a{n:2}b{n:3}}", ("@media x{a{n:2 !important}b{n:3}}", "n: 1")),
+            ("a{n:1} @x{@media y{a{n:2}}}", ("@x{@media y{a{n:2 !important}}}", "n: 1")),
+            ("a{n:1} a:hover{n:2/* ; */ ;}", ("a:hover{n:2/* ; */ !important ;}", "n: 1")),
+            ("a:hover,a{n:1} a:hover{n:2}", ("a:hover {n:1}\na:hover{n:2 !important}", "n: 1")),
+            ("a{margin:0} a:hover{margin-top:1px}", ("a:hover{margin-top:1px !important}", "margin: 0")),
+            ("a{n:1} a:hover{n:2} #i{n:3}", ("a:hover{n:2 !important}", "n: 1")),
+            # It is not written where no mark is exact.
+            ("a{n:1} a:hover{n:2} @media x{a{n:3!important}}",
+             ("a { n: 1 }\na:hover{n:2}\n@media x{a{n:3!important}}", "")),
+            ("a{n:1} a:hover{n:2!important}", ("a:hover{n:2!important}", "n: 1")),
+            ("a{n:1!important} @media x{a.b{n:2!important}}", ("@media x{a.b{n:2!important}}", "n: 1")),
+            ("a{n:1} a:hover{n:revert}", ("a { n: 1 }\na:hover{n:revert}", "")),
+            ("a{n:1} @layer x{a:hover{n:2}}", ("@layer x{a:hover{n:2}}", "n: 1")),
+            ("a{n:1} a:hover{all:unset}", ("a { n: 1 }\na:hover{all:unset}", "")),
+            ("a{n:1} @keyframes k{50%{n:2}}", ("@keyframes k{50%{n:2}}", "n: 1")),
+            ("a{n:1} a:hover{n:2} @keyframes k{50%{n:3}} a{animation:k}",
+             ("a { n: 1 }\na:hover{n:2}\n@keyframes k{50%{n:3}}", "animation: k")),
+            ("a{n:1} a:hover{n:2} @keyframes k{50%{m:3}} a{animation:k}",
+             ("a:hover{n:2 !important}\n@keyframes k{50%{m:3}}", "n: 1; animation: k")),
+            ("a{min-width:1px} a:hover{width:2px}", ("a:hover{width:2px}", "min-width: 1px")),
+        ):
+            self.assertEqual(self.inlined(css), expected, css)
+
+    def test_what_is_above_a_mark_is_important(self):
+        # Both match `b`: the second is above what stays, on the first element only the first is written.
+        text = inline("<a>1</a><a id=i>2</a>", "a{n:1} a:hover{n:2} #i{n:3}")
+        self.assertEqual(text, '<style>\na:hover{n:2 !important}\n</style><a style="n: 1">1</a>'
+                               '<a id=i style="n: 3 !important">2</a>')
+
+    def test_own_styles(self):
+        text = inline("<a>1</a><a style='n:3; m:4'>2</a>", "a{n:1} a:hover{n:2}")
+        self.assertEqual(text, '<style>\na:hover{n:2 !important}\n</style><a style="n: 1">1</a>'
+                               "<a style='n: 1; m: 4; n: 3 !important'>2</a>")
+        # What is no declaration would be lost.
+        page = "<a>1</a><a style='{{x}} n:3'>2</a>"
+        self.assertEqual(inline(page, "a{n:1} a:hover{n:2}"),
+                         "<style>\na { n: 1 }\na:hover{n:2}\n</style>" + page)
+        self.assertIn("n: 3 !important", inline("<html><body><body style='n:3'><a>", "a{n:1} *:hover{n:2} body{m:1}"))
+
+    def test_other_sheets(self):
+        text = inline("<style media=print>a:hover{n:2}</style><style>a{n:1}</style><a>")
+        self.assertEqual(text, '<style media=print>\na:hover{n:2 !important}\n</style><a style="n: 1">')
+        page = "<style id=x>a:hover{n:2}</style><style>a{n:1}</style><a>"
+        self.assertEqual(inline(page, preserve="#x"), page.replace("a{n:1}", "\na { n: 1 }\n"))
+        self.assertEqual(inline(page, keep_style=True), page)
+
+    def test_links(self):
+        for css, expected in (
+            ("a:link{n:1}", ("", "n: 1")), ("a:any-link{color:red}", ("", "color: red")),
+            ("a:link{color:red}", ("a:link{color:red}", "")),
+            ("a:link{color:red} a:visited{color:blue}", ("a:visited{color:blue !important}", "color: red")),
+            ("a:link{color:red} a:visited{top:0}", ("a:link{color:red}\na:visited{top:0}", "")),
+        ):
+            self.assertEqual(self.inlined(css, "a href=x"), expected, css)
+        self.assertEqual(inline("<a>", "a:any-link{n:1}"), "<a>")
+
+    def test_report(self):
+        report = []
+        inline("<a>", "a{n:1} a:hover{n:2}", report=report)
+        self.assertEqual([tuple(each) for each in report], [("a:hover", "it depends on a state of the page")])
+
+    def test_it_may_be_left_out(self):
+        css = "a{n:1} a:hover{n:2}"
+        self.assertEqual(inline("<a>", css, important=False), "<style>\na { n: 1 }\na:hover{n:2}\n</style><a>")
+        # Of two values of a block a browser takes one, of which the other beats it.
+        css = "p{color:red;color:green} @media x{p.a{color:red}}"
+        self.assertEqual(style_of(css, important=False), "")
 
 
 class KeptRules(unittest.TestCase):
-    """What stays in a sheet keeps what it has in a browser."""
+    """What stays in a sheet keeps what it has in a browser, without marks."""
 
     def test_what_could_be_overridden_stays(self):
         css = "a { color: blue; top: 1px } .x { color: green } a:hover { color: red } b { color: blue }"
         self.assertEqual(
-            inline("<a class=x>1</a><b>2</b>", css),
+            inline("<a class=x>1</a><b>2</b>", css, important=False),
             "<style>\na { color: blue }\n.x { color: green }\na:hover { color: red }\n</style>"
             '<a class=x style="top: 1px">1</a><b style="color: blue">2</b>')
 
@@ -204,7 +308,7 @@ class KeptRules(unittest.TestCase):
             ("a { n: 1 } :nth-child(2):hover { n: 2 }", "n: 1"),
             ("a { n: 1 } :nth-child(1):hover { n: 2 }", ""),
         ):
-            self.assertEqual(style_of(css, "<a>"), style, css)
+            self.assertEqual(style_of(css, "<a>", important=False), style, css)
 
     def test_a_value_that_a_browser_may_not_know(self):
         self.assertEqual(style_of(".a { n: red } .b { n: 1px } p.a.b { n: bogus(1) }"), "n: 1px; n: bogus(1)")
@@ -237,7 +341,7 @@ class KeptRules(unittest.TestCase):
         with self.assertRaises(ValueError):
             inline("<a>", "%s{%s}" % many)
         inline("<a>" * 100, "a{b:c}" + "%s{%s}" % (many[0].replace(",", ":hover,"), many[1]))
-        self.assertEqual(style_of("a { n: 1 }" + "@media x{" * 99 + "a { n: 2 }", "<a>"), "")
+        self.assertEqual(style_of("a { n: 1 }" + "@media x{" * 99 + "a { n: 2 }", "<a>", important=False), "")
         for selector in (":has(:is(:not(:nth-child(2))%s))" % ("x" * 5000), ":not(.x)" * 5000,
                          ":is(%s)" % ("b," * 5000 + "b"),
                          "".join(f":not({mark}x" for mark in ".#" * 30) + ")" * 60):
@@ -294,7 +398,8 @@ class Options(unittest.TestCase):
 
     def test_report(self):
         report = []
-        inline("<a>", "@media x{} a:hover, a { n: 1 } a::before { m: 2 } a, a:q { o: 3 } a { n: 2 }", report=report)
+        inline("<a>", "@media x{} a:hover, a { n: 1 } a::before { m: 2 } a, a:q { o: 3 } a { n: 2 }",
+               report=report, important=False)
         self.assertEqual([tuple(each) for each in report], [
             ("@media x", "an at-rule"), ("a:hover", "it depends on a state of the page"),
             ("a", "a rule that stays could override it"), ("a::before", "it has a pseudo-element"),
@@ -303,6 +408,54 @@ class Options(unittest.TestCase):
 
 class Injection(unittest.TestCase):
     """What a sheet or a page says stays in the style element or attribute that it is written in."""
+
+    def test_browsers_that_end_drawings_elsewhere(self):
+        """What a browser may take for SVG, though it is HTML here, gets no markup, or is refused."""
+        css = 'p:hover{content:"<img src=x>";--a:"\\<b"}@media (1px<width){b{c:"<d"}}'
+        kept = inline("<svg></svg><style></style>", css)
+        self.assertIn('content:"\\3c img src=x>"', kept)
+        self.assertIn('--a:"\\3c b"', kept)
+        self.assertIn('(1px< width){b{c:"\\3c d"}', kept)
+        self.assertIn('content:"<img src=x>"', inline("<style></style>", css))
+        with self.assertRaises(ValueError):
+            inline("<p><svg></svg>", "a:hover{--b:c</d>}")
+        for page in (
+            "<foreignObject><svg></foreignObject><style>g{a:b}</style>",
+            "<svg><desc><x-y><search></x-y></desc><style>g{a:b}</style>",
+            "<svg><foreignObject><p><b></p>\0</foreignObject><style>g{a:b}</style>",
+        ):
+            with self.assertRaises(ValueError, msg=page):
+                inline(page, "p{a:b}")
+
+    def test_drawings_in_annotations_of_drawings(self):
+        """`annotation-xml` of SVG is no place for HTML, and U+FFFD no text before a frameset."""
+        page = (
+            "<svg><foreignObject><p><b></p></foreignObject><annotation-xml><svg></svg>"
+            "<style>p{a:b}</style>"
+        )
+        names = [each.name for each in simplecss.Tree.from_html(page)]
+        self.assertEqual(names.count("b"), 1)
+        for text in ("&#0;", "\ufffd", "<svg>&#0;</svg>"):
+            names = [each.name for each in simplecss.Tree.from_html(f"{text}<frameset>")]
+            self.assertIn("frameset", names, text)
+
+    def test_pages_that_name_two_encodings(self):
+        """An escape of ISO-2022-JP is refused where browsers may disagree on the encoding."""
+        tail = b"<p>\x1b$B4A\x1b(B"
+        for front in (
+            b"<!-- --!><meta charset=iso-2022-jp><!-- --><meta charset=utf-8>",
+            b"<meta charset='iso-2022&#45;jp'><meta charset=utf-8>",
+            b"<title><meta charset=utf-8></title><meta charset=iso-2022-jp>",
+        ):
+            with self.assertRaises(ValueError, msg=front):
+                inline(front + tail, "p{a:b}")
+        self.assertIn(b"style=", inline(b"<meta charset=iso-2022-jp>" + tail, "p{a:b}"))
+
+    def test_characters_that_an_encoding_has_as_others(self):
+        """The yen sign of EUC-JP would be a backslash."""
+        page = b"<meta charset=euc-jp><p>"
+        self.assertIn(b"\\a5 ", inline(page, "p:hover{content:'\xa5'}"))
+        self.assertNotIn(b"\\;", inline(page, "p{n:red\xa5}p{m:0}"))
 
     def test_no_text_of_a_sheet_ends_the_style_element(self):
         for css, written in (
@@ -316,6 +469,162 @@ class Injection(unittest.TestCase):
             self.assertEqual(inline("<html><head></head><body><p>x", css),
                              f"<html><head><style>\n{written}\n</style></head><body><p>x", css)
 
+    def test_text_in_a_drawing(self):
+        css = 'p:hover{content:"</style><img src=x>&"}'
+        text = 'p:hover{content:"&lt;/style>&lt;img src=x>&amp;"}'
+        for first, last in (("<p><svg>", "</svg>"), ("<p><svg><defs>", "</defs></svg>")):
+            page = f"{first}<style>{text}</style><g/>{last}"
+            self.assertEqual(inline(page), page)
+            self.assertEqual(inline(page.replace("<style>", "<style>g{n:1}")),
+                             f'{first}<style>\n{text}\n</style><g style="n: 1"/>{last}')
+            self.assertEqual(inline(page.replace("<style>", "<style><![CDATA[").replace("</style>", "g{n:1}]]></style>")
+                                    .replace(text, css)),
+                             f'{first}<style>\n{text}\n</style><g style="n: 1"/>{last}')
+        page = "<svg><style>g{n:1}<!-- x --> a:hover{m:2}</style><g/></svg>"
+        self.assertEqual(inline(f"<p>{page}"), '<p><svg><style>\na:hover{m:2}\n</style><g style="n: 1"/></svg>')
+        page = "<svg><desc><style>p:hover{content:'&lt;'}p{n:1}</style><p></svg>"
+        self.assertEqual(inline(page), "<svg><desc><style>\np:hover{content:'&lt;'}\n</style><p style=\"n: 1\"></svg>")
+
+    def test_a_new_style_element_is_in_the_head(self):
+        css = 'p:hover{content:"<img src=x>"}'
+        style = f"<style>\n{css}\n</style>"
+        for first, last in (
+            ("", "<p><svg><style>@x;</style><g></svg>"), ("", "<p><svg><defs><style></style></defs></svg>"),
+            ("", "<math><style>a{b:c}</style></math>"), ("<!-- c -->", "x"), ("<!doctype html><!-- c --> ", "<p>"),
+            ("<head id=x>", ""), ("<head id=x> ", "x"), ("<head id=x>", "</head>"), ("<html><!-- c -->", "<b>"),
+            ("<title>x</title>", "<style media=print></style><p>"), ("<!-- c -->", ""), ("<title>x</title>", "</br>"),
+            ("<title>x</title>", "<noscript><link></noscript><style>@x;</style>"),
+            # What the end of the document closes would take the element in.
+            ("<head>", "<title>x"), ("<head>", "<template><svg>"), ("", "<!-- c"), ("<title></title>", "<p title='"),
+            ("", "<!x"), ("", "<noscript>"), ("", "<script><!--<script></script>"),
+        ):
+            kept = style.replace("<img", "\\3c img") if "svg" in last or "math" in last else style
+            kept = style.replace("<img", "\\3c img") if "svg" in first else kept
+            self.assertEqual(inline(first + last, css), f"{first}{kept}{last}", first + last)
+        page = "<?xml version='1.0'?><h><head></head><svg><style>@x;</style></svg></h>"
+        self.assertEqual(inline(page, css, is_xml=True),
+                         f"<?xml version='1.0'?><h><head>{style.replace('<img', '&lt;img')}</head>"
+                         "<svg><style>@x;</style></svg></h>")
+        page = "<?xml version='1.0'?><s:svg xmlns:s='x'><s:style/></s:svg>"
+        self.assertEqual(inline(page, "a:hover{n:1}", is_xml=True),
+                         "<?xml version='1.0'?><s:svg xmlns:s='x'><s:style>\na:hover{n:1}\n</s:style><s:style/></s:svg>")
+
+    def test_links_in_drawings_are_none(self):
+        with tempfile.TemporaryDirectory() as folder:
+            with open(os.path.join(folder, "a.css"), "w", encoding="utf-8") as file:
+                file.write('p:hover{content:"</noscript><img src=x>"}')
+            link = "<link rel=stylesheet href=a.css>"
+            for page in (f"<svg>{link}</svg>", f"<math>{link}</math>", "<link rel='x\xa0stylesheet' href=a.css>"):
+                self.assertEqual(inline(page, folder=folder), page)
+            for first, last in (("<svg><desc>", "</svg>"), ("<math><mi>", "</math>")):
+                self.assertEqual(inline(first + link + last, folder=folder),
+                                 first + '<style>\np:hover{content:"\\3c /noscript>\\3c img src=x>"}\n</style>'
+                                 + last)
+            for first in ("<noscript>", "<p><noscript><div>"):
+                self.assertEqual(inline(first + link, folder=folder),
+                                 first + '<style>\np:hover{content:"<\\/noscript><img src=x>"}\n</style>')
+            with open(os.path.join(folder, "a.css"), "w", encoding="utf-8") as file:
+                file.write("p, </noscript> {n:1}")
+            with self.assertRaises(ValueError):
+                inline(f"<noscript>{link}", folder=folder)
+
+    def test_where_scripts_change_what_is_read(self):
+        # A browser whose scripts run ends the `noscript` in an attribute, a style or a drawing.
+        for page in (
+            "<noscript><p title=\"</noscript><img alt='\"><b class=a></b></noscript>",
+            "<noscript><style>b:hover{a:'</noscript>'}b{n:1}</style></noscript>",
+            "<noscript><svg><desc></noscript></desc><style>a:hover{n:'&lt;'}q{n:1}</style><q>",
+        ):
+            self.assertEqual(inline(page, remove_classes=True), page)
+        page = "<noscript><p title=\"</noscript><img alt='\"></noscript>%s"
+        self.assertEqual(inline(page % "<b class=a>", "b{n:\"' x='\"}"),
+                         "<style>\nb { n: \"' x='\" }\n</style>" + page % "<b class=a>")
+
+    def test_where_a_drawing_is_another_page(self):
+        # As a page, the first ends the image's title in the style that `b` would get.
+        for page in ("<svg><foreignObject><p><![CDATA[><img title=\"]]></p><b/></foreignObject></svg>",
+                     "<svg><foreignObject><style>b{n:1}</style></foreignObject><b/></svg>"):
+            self.assertEqual(inline(page, "q{n:\"' x='\"}", is_xml=True).count("style="), 0)
+        page = "<svg><foreignObject><title/></foreignObject><b/></svg>"
+        self.assertEqual(inline(page, "b{n:1}").count("style="), 0)
+        self.assertEqual(inline(f"<?xml version='1.0'?>{page}", "b{n:1}", is_xml=True).count("style="), 1)
+
+    def test_styles_in_a_select_stay(self):
+        page = "<select><style>p{n:1} p:hover{m:'</select><img>'}</style></select><p>"
+        self.assertEqual(inline(page), page)
+
+    def test_elements_in_a_style_element_stay(self):
+        page = "<svg><style>g{n:1}<g onload=x></g></style><g></svg>"
+        self.assertEqual(inline(page), page)
+
+    def test_texts_are_not_joined(self):
+        self.assertEqual(inline("<svg><<style>b{n:1}</style>img src=x></svg><b>"),
+                         '<svg><<style></style>img src=x></svg><b style="n: 1">')
+
+    def test_names_of_tags_end_at_the_spaces_of_html(self):
+        for space in "\x0b\x1c\x1d\x1e\x1f\x85\xa0\u1680\u2000\u2028\u2029\u202f\u205f\u3000":
+            self.assertEqual(inline(f"<p><script{space}>x</script>", "*{n:1}").partition("</style>")[2],
+                             f'<p style="n: 1"><script{space} style="n: 1">x</script>')
+            self.assertEqual(inline(f"<p class='a{space}b c'>", "b{n:1} @x .a.c", remove_classes=True)
+                             .partition("<p")[2], ' class="c">')
+        for space in "\t\n\f\r /":
+            self.assertEqual(inline(f"<p{space}x>", "p{n:1}"), f'<p{space}x style="n: 1">')
+
+    def test_letters_of_html_are_those_of_ascii(self):
+        for page in ("<script></\u017fcript><p>", "<style></\u017ftyle><p>", "<title></t\u0131tle><p>",
+                     "<script><!--<\u017fcript></script>"):
+            self.assertEqual(inline(page, "p{n:1}"), page)
+        self.assertEqual(inline("<p>", "p:hover{a:'</\u017ftyle>'}"), "<style>\np:hover{a:'</\u017ftyle>'}\n</style><p>")
+
+    def test_control_characters_are_escapes(self):
+        marks = "\x1b$B\x0e\x7f\x80\0"
+        escapes = "\\1b $B\\e \\7f \\80 \\0 "
+        self.assertEqual(inline("<p>", f"p{{n:'{marks}'}} p:hover{{m:'{marks}'}}"),
+                         f"<style>\np:hover{{m:'{escapes}'}}\n</style><p style=\"n: '{escapes}'\">")
+        self.assertEqual(style_of("p{n:'\\\x1b'; m:\\\\\x1b}"), "n: '\\1b '; m: \\\\\\1b ")
+        self.assertEqual(inline("<?xml version='1.0'?><p/>", "p{n:a\fb'\uffff\x1b'}", is_xml=True),
+                         "<?xml version='1.0'?><p style=\"n: a\nb'\\ffff \\1b '\"/>")
+        self.assertEqual(inline("<a href='x&#27;$B'>", base_url="http://x/"), '<a href="http://x/x&#27;$B">')
+
+    def test_iso_2022_jp(self):
+        page = b"<meta charset=iso-2022-jp><p>\x1b$B4A\x1b(B"
+        css = "p{n:'\x1b$B'} a:hover{content:'\x1b(B\"><img>\u6f22'}"
+        self.assertEqual(inline(page, css),
+                         b"<meta charset=iso-2022-jp><style>\na:hover{content:'\\1b (B\"><img>\x1b$B4A\x1b(B'}\n</style>"
+                         b"<p style=\"n: '\\1b $B'\">\x1b$B4A\x1b(B")
+        self.assertEqual(inline(page, "@import 'a\\\x1b$B\xe9';"),
+                         b"<meta charset=iso-2022-jp><style>\n@import 'a\\1b $B\\e9 ';\n</style>" + page[page.index(b"<p"):])
+        self.assertEqual(inline(page), page)
+        # What a browser reads otherwise, or may take for ISO-2022-JP.
+        for other in (page.replace(b"<p", b"<\x1b$B\x1b(Bp"), page.replace(b"(B", b"(J"), page + b"\x1b$B",
+                      page.replace(b"iso-2022-jp", b"iso2022jp"), b"<p>\x1b$B"):
+            with self.assertRaises(ValueError, msg=other):
+                inline(other)
+
+    def test_what_an_encoding_lacks_is_an_escape_in_a_style_element(self):
+        self.assertEqual(inline(b"<meta charset=latin1><p>", "p:hover{n:\\\u6c34\\\\\u6c34}"),
+                         b"<meta charset=latin1><style>\np:hover{n:\\6c34 \\\\\\6c34 }\n</style><p>")
+        self.assertEqual(inline(b"<meta charset=latin1><p>", "p:hover{n:'\xe9\u6c34'}"),
+                         b"<meta charset=latin1><style>\np:hover{n:'\xe9\\6c34 '}\n</style><p>")
+
+    def test_a_value_is_closed_before_its_own(self):
+        page = "<p style='margin:0;padding:0'>"
+        for value, closed in (("red\\", "red\\\ufffd"), ("'x\\", "&#39;x\\\n&#39;"), ("f('\\", "f(&#39;\\\n&#39;)"),
+                              ("red\\\n}", "red\\\n"), ("f(\\", "f(\\\ufffd)"), ("red\\\n;}", "red\\\n")):
+            self.assertEqual(inline(page, "p{top:0;color:" + value),
+                             f"<p style='top: 0; color: {closed}; margin:0;padding:0'>", value)
+        css = "p:hover, p{top:0;color:red\\"
+        self.assertEqual(inline(page, css), f"<style>\n{css}\n</style>{page}")
+
+    def test_attributes_of_xml_have_case(self):
+        self.assertEqual(inline("<?xml version='1.0'?><a STYLE='x' style='y'/>", "a{n:1}", is_xml=True),
+                         "<?xml version='1.0'?><a STYLE='x' style='n: 1; y'/>")
+
+    def test_classes_with_other_characters(self):
+        page = "<p class='a\U0001f600 --b'>"
+        self.assertIn(page, inline(page, "@x .a\U0001f600.--b;", remove_classes=True)
+                      .replace('"', "'"))
+
     def test_what_no_escape_holds_is_refused(self):
         for css in ("p:hover{--a:</style>}", "@x </style>;", "p:hover, </STYLE x> {n:1}",
                     "@media x{</style>}"):
@@ -326,7 +635,7 @@ class Injection(unittest.TestCase):
         page = '<?xml version="1.0"?><html><head/><body><p/></body></html>'
         css = "p{quotes:'<&]]>'} p:hover{content:'</style>&amp;'} @media x{p>b{n:1}}"
         self.assertEqual(
-            inline(page.replace("<head/>", "<head></head>"), css),
+            inline(page.replace("<head/>", "<head></head>"), css, is_xml=True),
             '<?xml version="1.0"?><html><head><style>\np:hover{content:\'&lt;/style>&amp;amp;\'}\n'
             "@media x{p>b{n:1}}\n</style></head><body>"
             "<p style=\"quotes: '&lt;&amp;]]>'\"/></body></html>")
@@ -334,8 +643,11 @@ class Injection(unittest.TestCase):
     def test_content_of_style_elements_in_xml(self):
         for text in ("r:hover{a:'&lt;&amp;'} r{n:1}", "<![CDATA[r:hover{a:'<&'} r{n:1}]]>"):
             self.assertEqual(
-                inline(f"<svg><style>{text}</style><r/></svg>"),
+                inline(f"<svg><style>{text}</style><r/></svg>", is_xml=True),
                 "<svg><style>\nr:hover{a:'&lt;&amp;'}\n</style><r style=\"n: 1\"/></svg>")
+
+    def test_a_slash_after_a_class_is_of_no_value(self):
+        self.assertEqual(inline('<p title=x class="a"/>', remove_classes=True), "<p title=x />")
 
     def test_an_unquoted_attribute_stays_one(self):
         self.assertEqual(inline('<p style=a:b"onclick=x>', "p { n: 1 }"),

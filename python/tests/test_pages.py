@@ -14,12 +14,13 @@ import sys
 import tempfile
 import unittest
 from contextlib import redirect_stderr, redirect_stdout
+from unittest import mock
 
-sys.path.insert(0, os.path.join(os.path.dirname(os.path.abspath(__file__)), ".."))
+sys.path.insert(0, os.path.join(os.path.dirname(os.path.abspath(__file__)), "..", "src"))
 
 import simplecss  # noqa: E402
-from simplecss import __main__ as command  # noqa: E402
-from simplecss._encoding import decode_page  # noqa: E402
+from simplecss import __main__ as command, _library as library  # noqa: E402
+from simplecss.html import decode_page  # noqa: E402
 
 FOLDER = os.path.dirname(os.path.dirname(os.path.abspath(simplecss.__file__)))
 
@@ -38,7 +39,11 @@ ENCODINGS = [
     ("gb2312", b"\x81\x40", "丂"),
     ("euc-kr", b"\x81\x41", "갂"),
     ("big5", b"\xa4\xa4", "中"),
+    ("csISO2022JP", b"\x1b$B4A\x1b(B", "漢"),
+    ("x-user-defined", b"\x80", "€"),
     # These are no encodings of pages.
+    ("iso2022jp", b"\xc3\xa9", "é"),
+    ("shift-jis_2004", b"\xc3\xa9", "é"),
     ("utf-7", b"+AGE-", "+AGE-"),
     ("hex", b"61", "61"),
     ("none", b"\xc3\xa9", "é"),
@@ -52,11 +57,37 @@ class Encodings(unittest.TestCase):
             decoded, encode = decode_page(page)
             self.assertEqual((decoded.partition("'>")[2], encode(decoded)), (text, page), name)
 
+    def test_where_a_page_names_its_encoding(self):
+        far = b"<style>" + b" " * 2000 + b"</style>"
+        for page, text in (
+            (b"<meta name=description content='how to set charset=koi8-r'>\xc3\xa9", "é"),
+            (b"<meta content='text/html; charset = koi8-r' http-equiv=Content-Type>\xc1", "а"),
+            (b"<meta http-equiv=refresh content='charset=koi8-r'>\xc3\xa9", "é"),
+            (b"<meta charset=none><meta/charset='koi8-r'>\xc1", "а"),
+            (b"<metax charset=koi8-r>\xc3\xa9", "é"),
+            (b"<meta\x0bcharset=koi8-r>\xc3\xa9", "é"),
+            (b"<p title='<meta charset=koi8-r>'>\xc3\xa9", "é"),
+            (b"<!--><meta charset=koi8-r>\xc1", "а"),
+            (b"<!x <meta charset=koi8-r>\xc3\xa9", "é"),
+            (far + b"<meta charset=koi8-r>\xc1", "а"),
+            (far + b"<title><meta charset=koi8-r></title>\xc3\xa9", "é"),
+            (far + b"<p><meta charset=koi8-r>\xc3\xa9", "é"),
+            (b"<?xml version='1.0' encoding='koi8-r'?><p>\xc1", "а"),
+        ):
+            decoded, encode = decode_page(page)
+            self.assertEqual((decoded[-1:], encode(decoded)), (text, page), page[-60:])
+
     def test_marks(self):
         for name, mark in (("utf-8", b"\xef\xbb\xbf"), ("utf-16-le", b"\xff\xfe"), ("utf-16-be", b"\xfe\xff")):
             page = mark + "<meta charset=koi8-r>é".encode(name)
             decoded, encode = decode_page(page)
             self.assertEqual((decoded, encode(decoded)), ("\ufeff<meta charset=koi8-r>é", page))
+
+    def test_trees_of_bytes(self):
+        tree = simplecss.Tree.from_html(b"<meta charset=koi8-r><p>\xc1", is_part=True)
+        self.assertEqual(tree[1].text, "а")
+        with self.assertRaises(ValueError):
+            simplecss.Tree.from_html(b"<p>\xff")
 
 
 # Doctypes, and whether browsers show such a page as old ones did (HTML Standard, "The initial insertion mode").
@@ -257,6 +288,37 @@ class CommandLine(unittest.TestCase):
         words = [sys.executable, "-c", code]
         made = subprocess.run(words, env=environment, capture_output=True, text=True, check=False)
         self.assertIn(f"has version {simplecss.__version__}, and this package 9", made.stderr)
+
+    def test_an_end_tag_of_a_drawing_in_which_a_paragraph_ended(self):
+        # HTML Standard, "The rules for parsing tokens in foreign content": any other end tag.
+        tree = simplecss.Tree.from_html("x<svg><desc><p><hr></svg>t<b>")
+        self.assertEqual(tree.select_one("svg").text, "")
+        self.assertEqual(tree.select_one("b").parent.name, "body")
+
+    def test_many_pages_read_a_sheet_once(self):
+        css = "p { color: red } p:hover { margin: 0 }"
+        pages = [f"<p id=a{each}>" for each in range(4)]
+        wanted = [simplecss.inline(page, css) for page in pages]
+        sheet = simplecss.StyleSheet(css)
+        with mock.patch.object(library, "call", wraps=library.call) as call:
+            self.assertEqual([simplecss.inline(page, sheet) for page in pages], wanted)
+        self.assertEqual([each.args[0] for each in call.mock_calls].count("simplecss_read"), 1)
+        self.assertIn('style="color: red"', wanted[0])
+        for other in (simplecss.StyleSheet(), simplecss.StyleSheet(css, css), simplecss.StyleSheet(css, grammar="simplecss")):
+            with self.assertRaisesRegex(ValueError, "one text"):
+                simplecss.inline("<p>", other)
+        with self.assertRaises(TypeError):
+            simplecss.inline("<p>", b"p{}")
+
+    def test_modules_are_imported_when_their_names_are_used(self):
+        code = "import sys, simplecss; print(*(each for each in sys.modules if 'simplecss' in each))"
+        environment = {**os.environ, "PYTHONPATH": FOLDER}
+        words = [sys.executable, "-S", "-c", code]
+        made = subprocess.run(words, env=environment, capture_output=True, text=True, check=True)
+        self.assertEqual(made.stdout, "simplecss\n")
+        self.assertLessEqual(set(simplecss.__all__), set(dir(simplecss)))
+        self.assertTrue(all(hasattr(simplecss, each) for each in simplecss.__all__))
+        self.assertEqual(simplecss.Tree.__module__, "simplecss._tree")
 
 
 if __name__ == "__main__":

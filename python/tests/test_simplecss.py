@@ -14,7 +14,7 @@ import unittest
 import xml.etree.ElementTree
 from contextlib import redirect_stderr, redirect_stdout
 
-sys.path.insert(0, os.path.join(os.path.dirname(__file__), ".."))
+sys.path.insert(0, os.path.join(os.path.dirname(__file__), "..", "src"))
 
 import simplecss  # noqa: E402
 from simplecss import __main__ as command  # noqa: E402
@@ -38,9 +38,9 @@ PRINTED = (
     ("p::before", "p::before", (0, 0, 2)),
 )
 # Selectors that CSS 2.1 does not have, and the elements of the page that they match, by the standard.
-LEVEL3_PAGE = """<!DOCTYPE html><ul class="a b"><li id=1 title="x-y z">one<li id=2 class=c>two<li id=3 lang=de-AT>three
+MODERN_PAGE = """<!DOCTYPE html><ul class="a b"><li id=1 title="x-y z">one<li id=2 class=c>two<li id=3 lang=de-AT>three
 </ul><p id=4></p><p id=5> <p id=6><!-- --></p><p id=7 class=c>x<input id=8 type=TEXT disabled>"""
-LEVEL3 = (
+MODERN = (
     ("li:nth-child(2n+1)", "1 3"), ("li:nth-last-child(-n+2)", "2 3"), ("li:last-child, p:only-child", "3"),
     ("p:first-of-type", "4"), ("p:nth-of-type(2)", "5"), ("p:last-of-type", "7"), ("p:nth-last-of-type(2)", "6"),
     ("input:only-of-type", "8"), ("li:empty, p:empty", "4 6"), ("ul ~ p.c", "7"), ("li:not(#\\31 , .c)", "3"),
@@ -83,7 +83,7 @@ class Selectors(unittest.TestCase):
             ("a, b", "1:1: more than one selector"),
             ("é:has(b)", "1:2: `:has` is no function that is read here"),
             ("a:nth-child(x)", "1:13: `x` is no An+B"),
-            ("b,\n c[d='e]", "2:6: `'e]` is not closed"),
+            ("b,\n c[d='e\n]", "2:6: `'e` is not closed on its line"),
             ("a {", "1:3: `{` is not expected here"),
         ))
 
@@ -102,6 +102,8 @@ class Selectors(unittest.TestCase):
         for value, name in ((b"a", "bytes"), (["a"], "list"), (None, "NoneType"), (7, "int")):
             for call in (simplecss.Selector, simplecss.StyleSheet, simplecss.Tree.from_html,
                          simplecss.Tree.from_xml, simplecss.Tree().select):
+                if (call, name) == (simplecss.Tree.from_html, "bytes"):
+                    continue
                 with self.assertRaisesRegex(TypeError, f"str.* expected, not {name}"):
                     call(value)
         with self.assertRaisesRegex(TypeError, "read the file first"):
@@ -113,9 +115,9 @@ class Selectors(unittest.TestCase):
         self.assertFalse(simplecss.Selector("li.b").matches(tree.select_one("li")))
         self.assertTrue(simplecss.Selector("LI.a", grammar="simplecss").matches(tree.select_one("li")))
 
-    def test_level_3(self):
-        tree = simplecss.Tree.from_html(LEVEL3_PAGE)
-        for text, expected in LEVEL3:
+    def test_modern_selectors(self):
+        tree = simplecss.Tree.from_html(MODERN_PAGE)
+        for text, expected in MODERN:
             found = [element.attributes["id"] for element in tree.select(text)]
             self.assertEqual(found, expected.split(), text)
             sheet = simplecss.StyleSheet(f"{text} {{ a: b }}")
@@ -181,7 +183,7 @@ class Port(unittest.TestCase):
         sheet = simplecss.StyleSheet("a { b: c; *d: e } f:g, h { i: J !IMPORTANT }", grammar="simplecss")
         self.assertEqual(str(sheet), "a { b:c;d:e; }\nh { i:J; }")
         self.assertEqual([rule.selector for rule in sheet.rules], ["a", "h"])
-        self.assertEqual((sheet.unmatched, sheet.at_rules), ((), ()))
+        self.assertEqual((sheet.unsupported, sheet.at_rules), ((), ()))
         tree = simplecss.Tree.from_html("<a><h>", is_part=True)
         self.assertEqual(sheet.match(tree), [[0], [1]])
         self.assertEqual(sheet.style(tree, "i"), [None, ("i", "J", False)])
@@ -201,7 +203,7 @@ class Port(unittest.TestCase):
             simplecss.StyleSheet(grammar="css")
 
 
-class Today(unittest.TestCase):
+class Modern(unittest.TestCase):
     """Sheets by the grammar of browsers."""
 
     def styles(self, css, page="<p class=a><b>", **options):
@@ -248,10 +250,10 @@ class Today(unittest.TestCase):
                           (".a", (0, 1, 1), "After")])
         self.assertEqual(self.styles("p { n: 1 } p::before { n: 2 }"), ["n: 1", ""])
 
-    def test_what_is_not_matched_is_no_mistake(self):
-        sheet = simplecss.StyleSheet("@media x { a:has(b), c:not(d > e) { d: e } } f, g < h { i: j }")
-        self.assertEqual([each.selector for each in sheet.unmatched], ["a:has(b)", "c:not(d > e)"])
-        self.assertEqual(sheet.unmatched[0].conditions, (("media", "x"),))
+    def test_unsupported_is_no_mistake(self):
+        sheet = simplecss.StyleSheet("@media x { a:has(b), c:nth-child(2 of d) { d: e } } f, g < h { i: j }")
+        self.assertEqual([each.selector for each in sheet.unsupported], ["a:has(b)", "c:nth-child(2 of d)"])
+        self.assertEqual(sheet.unsupported[0].conditions, (("media", "x"),))
         self.assertEqual((sheet.rules, [each.reason for each in sheet.skipped]), ((), ["invalid selector"]))
 
     def test_the_cascade(self):
@@ -364,7 +366,7 @@ class Trees(unittest.TestCase):
 
     def test_class_words(self):
         tree = simplecss.Tree.from_html('<a class="x\n\ty">')
-        for grammar in ("today", "simplecss"):
+        for grammar in ("modern", "simplecss"):
             self.assertEqual(tree.select(".x.y", grammar=grammar), [tree[3]])
             self.assertEqual(tree.select("[class='x  y'], [class='x y']", grammar=grammar), [])
 
@@ -376,7 +378,7 @@ class Trees(unittest.TestCase):
     def test_html_compares_without_case(self):
         tree = simplecss.Tree.from_html("<!DOCTYPE html><A HREF=x><INPUT TYPE=Text TITLE=Ab CLASS=C>")
         old = simplecss.Tree.from_html("<p class=A id=B>")
-        for grammar in ("today", "simplecss"):
+        for grammar in ("modern", "simplecss"):
             for selectors in ("A[Href]", "input[type=TEXT]", "INPUT", "A:link"):
                 self.assertEqual(len(tree.select(selectors, grammar=grammar)), 1, selectors)
             for selectors in ("[title=ab]", ".c", "a[HREF=X]"):
@@ -524,8 +526,8 @@ class Matching(unittest.TestCase):
         self.assertEqual(self.found("li"), [1, 2])
         self.assertEqual(self.found("p, .a, #x"), [1, 2, 3])
         self.assertEqual(self.found("li + li"), [2])
-        for text, grammar in (("", "today"), ("li,", "today"), (",li", "today"), ("li p {", "today"),
-                              ("a:none()", "today"), ("li ~ li", "simplecss"), ("a:none", "simplecss")):
+        for text, grammar in (("", "modern"), ("li,", "modern"), (",li", "modern"), ("li p {", "modern"),
+                              ("a:none()", "modern"), ("li ~ li", "simplecss"), ("a:none", "simplecss")):
             with self.assertRaises(simplecss.SelectorError, msg=text):
                 self.tree.select(text, grammar=grammar)
 
@@ -577,7 +579,7 @@ class Matching(unittest.TestCase):
 class LongTexts(unittest.TestCase):
     def test_long_texts(self):
         rule = "a{b:c}"
-        for grammar, length in (("simplecss", 10_000_000), ("today", 600_000)):
+        for grammar, length in (("simplecss", 10_000_000), ("modern", 600_000)):
             sheet = simplecss.StyleSheet(rule * (length // len(rule)), limit=None, grammar=grammar)
             self.assertEqual(len(str(sheet).split("\n")), length // len(rule))
 
@@ -741,13 +743,17 @@ class CommandLine(unittest.TestCase):
             "invalid-selector", "stray-bracket", "stray-bracket", "broken-declaration", "bad-url",
             "block-not-closed"])
 
-    def test_what_is_not_evaluated(self):
+    def test_unsupported(self):
         text = ("@import 'a'; b:has(c), d ~ d { e: f } @supports (g: h) { i { j: k } }"
                 "@media print { l:hover { m: n } } o:checked::after, [p=':q'] { r: s }")
         self.assertEqual(self.kinds(text), [])
         self.assertEqual(self.kinds(text, "--all"), [
-            ("at-rule-not-evaluated", "@import 'a';"), ("selector-not-evaluated", "b:has(c)"),
-            ("condition-not-evaluated", "@supports (g: h)"), ("pseudo-class-not-evaluated", "o:checked::after")])
+            ("unsupported-at-rule", "@import 'a';"), ("unsupported-selector", "b:has(c)"),
+            ("unsupported-condition", "@supports (g: h)"), ("unsupported-pseudo-class", "o:checked::after")])
+        text = "a { b: c; d:hover { e: f } g: h } i { j }"
+        self.assertEqual(self.kinds(text), [("broken-declaration", "j")])
+        self.assertEqual(self.kinds(text, "--all"), [
+            ("unsupported-nested-rule", "d:hover { e: f }"), ("broken-declaration", "j")])
         text = "@import 'a'; b ~ c, d { e: f } @supports (g: h) { i { j: k } } @media print { l { m: n } }"
         self.assertEqual([kind for kind, _ in self.kinds(text, "--grammar", "simplecss")],
                          ["at-rule-not-supported", "invalid-ident", "at-rule-not-supported", "at-rule-not-supported"])
@@ -777,6 +783,11 @@ class CommandLine(unittest.TestCase):
         _, out, _ = self.run_command("lint", "--format", "checkstyle", self.sheet)
         error = xml.etree.ElementTree.fromstring(out.encode())[0][0]
         self.assertEqual((error.get("line"), error.get("message")), ("1", "'a < 50% {}': invalid selector"))
+
+    def test_old_grammar(self):
+        new, old = (self.run_command("select", "--grammar", word, "li", self.page) for word in ("modern", "today"))
+        self.assertEqual(old, (*new[:2], "simplecss: --grammar today is now --grammar modern\n"))
+        self.assertEqual(self.run_command("select", "--grammar", "css", "li", self.page)[0], 2)
 
     def test_statuses(self):
         self.assertEqual(self.run_command("select", "li,", self.page)[0], 1)
@@ -817,14 +828,76 @@ class Versions(unittest.TestCase):
             self.assertIn(f'#define SIMPLECSS_VERSION "{simplecss.__version__}"\n', file.read())
 
 
+class OldNames(unittest.TestCase):
+    """Names of an earlier version still work, and warn."""
+
+    def warned(self, call):
+        """Returns what a call returns, which warns at the line of this module that made it."""
+        with self.assertWarns(DeprecationWarning) as caught:
+            found = call()
+        self.assertEqual(caught.filename, __file__)
+        return found
+
+    def test_grammar(self):
+        tree = simplecss.Tree.from_html("<p><b>")
+        bold = tree.select_one("b")
+        for call in (tree.select, tree.select_one, lambda text, grammar: list(tree.iselect(text, grammar=grammar)),
+                     bold.matches, bold.closest, bold.parent.select,
+                     lambda text, grammar: simplecss.Selector(text, grammar=grammar),
+                     lambda text, grammar: simplecss.StyleSheet(text + "{}", grammar=grammar).match(tree)):
+            self.assertEqual(self.warned(lambda: call("p > b", grammar="today")), call("p > b", grammar="modern"))
+
+    def test_unmatched(self):
+        sheet = simplecss.StyleSheet("a:has(b) { c: d }")
+        self.assertEqual(self.warned(lambda: sheet.unmatched), sheet.unsupported)
+        self.assertIs(self.warned(lambda: simplecss.Unmatched), simplecss.Unsupported)
+        with self.assertRaises(AttributeError):
+            simplecss.Unknown
+
+
 class Syntax(unittest.TestCase):
-    def test_python_3_9(self):
+    def modules(self):
+        """Returns the modules of the package by name, as trees."""
         folder = os.path.dirname(simplecss.__file__)
-        names = [name for name in os.listdir(folder) if name.endswith(".py")]
-        self.assertIn("_sheet.py", names)
-        for name in names:
-            with open(os.path.join(folder, name), encoding="utf-8") as file:
-                ast.parse(file.read(), name, feature_version=(3, 9))
+        found = {}
+        for path in pathlib.Path(folder).rglob("*.py"):
+            name = str(path.relative_to(folder))
+            found[name] = ast.parse(path.read_text("utf-8"), name, feature_version=(3, 9))
+        self.assertLessEqual({"_sheet.py", os.path.join("html", "_builder.py")}, found.keys())
+        return found
+
+    def test_python_3_9(self):
+        self.modules()
+
+    def test_private_names(self):
+        """No module uses a name with an underscore that another one defines, but for modules."""
+        modules = self.modules()
+        defined = {name: set(_private(_defined(tree))) for name, tree in modules.items()}
+        for name, tree in modules.items():
+            others = set().union(*(names for other, names in defined.items() if other != name))
+            self.assertEqual(sorted(set(_private(_used(tree))) & others - defined[name]), [], name)
+
+
+def _private(names):
+    return (name for name in names if name.startswith("_") and not name.startswith("__"))
+
+
+def _defined(tree):
+    """Yields the names of functions and classes, and of what is assigned, also as attributes."""
+    for node in ast.walk(tree):
+        if isinstance(node, (ast.FunctionDef, ast.ClassDef)):
+            yield node.name
+        elif isinstance(node, (ast.Name, ast.Attribute)) and isinstance(node.ctx, ast.Store):
+            yield node.id if isinstance(node, ast.Name) else node.attr
+
+
+def _used(tree):
+    """Yields the names of attributes, and those that are imported of modules."""
+    for node in ast.walk(tree):
+        if isinstance(node, ast.Attribute):
+            yield node.attr
+        elif isinstance(node, ast.ImportFrom) and node.module:
+            yield from (each.name for each in node.names)
 
 
 if __name__ == "__main__":

@@ -5,13 +5,14 @@ Reading takes time that is linear in the text, whatever it is.
 
 from __future__ import annotations
 
+import functools
 import re
 import sys
-from html.entities import html5
 from typing import Dict, Iterator, List, Match, NamedTuple, Optional, Pattern, Tuple
 
+from .._words import BLANKS, lower
+
 TEXT, START, END, DOCTYPE, EOF = range(5)
-BLANKS = "\t\n\f\r "
 
 _ATTRIBUTE = re.compile(
     r"""[\t\n\f\r /]*([^\t\n\f\r />][^\t\n\f\r />=]*)"""
@@ -21,19 +22,24 @@ _EQUALS = re.compile(r"[\t\n\f\r ]*=")
 _TAG_NAME = re.compile(r"[A-Za-z][^\t\n\f\r />]*")
 _SHORT_TAG = re.compile(r"<(/?)([a-z][a-z0-9]*)>")
 _TAG_END = re.compile(r"[\t\n\f\r /]*>")
-_COMMENT_END = re.compile(r"--!?>")
-_SCRIPT = re.compile(r"<!--|-->|<(/?)script(?=[\t\n\f\r />])", re.IGNORECASE)
-_REFERENCE = re.compile(r"&(?:#([0-9]+);?|#[xX]([0-9A-Fa-f]+);?|([A-Za-z][A-Za-z0-9]*;?))")
-_LOWER = {upper: upper + 32 for upper in range(65, 91)}
-# The longest name of a character reference.
-_LONGEST = max(map(len, html5))
-# What the numbers from 128 to 159 denote.
-_WINDOWS = dict(
-    zip(
-        range(128, 160),
-        "€\x81‚ƒ„…†‡ˆ‰Š‹Œ\x8dŽ\x8f\x90‘’“”•–—˜™š›œ\x9džŸ",
-    )
+# A tag as most are written, with names in lower case and no blanks beside `=`, and its attributes;
+# or the `<` of another.
+PLAIN_TAG = re.compile(
+    r"""<(?:(/?)([a-z][a-z0-9]*)((?:[\t\n\f\r ]+[a-z][-a-z0-9_:]*"""
+    r"""(?:=(?:"[^"]*"|'[^']*'|[^\t\n\f\r "'<=>`]+))?)*)[\t\n\f\r ]*(/?)>)?"""
 )
+_PLAIN_ATTRIBUTE = re.compile(
+    r"""([a-z][-a-z0-9_:]*)(?:=(?:"([^"]*)"|'([^']*)'|([^\t\n\f\r "'<=>`]+)))?"""
+)
+_COMMENT_END = re.compile(r"--!?>")
+# Letters of HTML are those of ASCII: without the flag, the long s would be one of `</script`.
+_ANY_CASE = re.IGNORECASE | re.ASCII
+_SCRIPT = re.compile(r"<!--|-->|<(/?)script(?=[\t\n\f\r />])", _ANY_CASE)
+_REFERENCE = re.compile(r"&(?:#([0-9]+);?|#[xX]([0-9A-Fa-f]+);?|([A-Za-z][A-Za-z0-9]*;?))")
+# The longest name of a character reference.
+_LONGEST = 32
+# What the numbers from 128 to 159 denote.
+_WINDOWS = dict(zip(range(128, 160), "€\x81‚ƒ„…†‡ˆ‰Š‹Œ\x8dŽ\x8f\x90‘’“”•–—˜™š›œ\x9džŸ"))
 
 
 class Token:
@@ -67,9 +73,12 @@ class Attribute(NamedTuple):
     end: int
 
 
-def lower(name: str) -> str:
-    """Returns the name with the letters A to Z in lower case."""
-    return name.lower() if name.isascii() else name.translate(_LOWER)
+@functools.lru_cache(maxsize=None)
+def _references() -> Dict[str, str]:
+    """Returns what the names of character references denote, once it is needed."""
+    from html.entities import html5
+
+    return html5
 
 
 def _numbered(number: int) -> str:
@@ -88,7 +97,7 @@ def _number(digits: str, base: int) -> int:
 def _named(name: str) -> Tuple[str, str]:
     """Returns what the longest front of the name denotes, and the rest of the name."""
     for end in range(min(len(name), _LONGEST), 1, -1):
-        value = html5.get(name[:end])
+        value = _references().get(name[:end])
         if value is not None:
             return value, name[end:]
     return "", ""
@@ -108,22 +117,24 @@ def _in_attribute(found: Match[str]) -> str:
         return _in_text(found)
     if not name.endswith(";") and found.string.startswith("=", found.end()):
         return found.group()
-    return html5.get(name, found.group())
+    return _references().get(name, found.group())
 
 
-def _lines(text: str) -> str:
+def with_line_feeds(text: str) -> str:
     """Returns the text with LF for each end of a line."""
     return text.replace("\r\n", "\n").replace("\r", "\n") if "\r" in text else text
 
 
 def decode(text: str) -> str:
     """Returns the characters that a text between tags stands for."""
-    return _REFERENCE.sub(_in_text, _lines(text)) if "&" in text else _lines(text)
+    text = with_line_feeds(text)
+    return _REFERENCE.sub(_in_text, text) if "&" in text else text
 
 
 def decode_value(text: str) -> str:
     """Returns the value that the text of an attribute's value, without quotes, stands for."""
-    return _REFERENCE.sub(_in_attribute, _lines(text)) if "&" in text else _lines(text)
+    text = with_line_feeds(text)
+    return _REFERENCE.sub(_in_attribute, text) if "&" in text else text
 
 
 def is_blank(text: str) -> bool:
@@ -139,6 +150,17 @@ def _matches(text: str, offset: int) -> Iterator[Match[str]]:
         found = _ATTRIBUTE.match(text, found.end())
 
 
+def attributes_from(text: str, offset: int) -> Tuple[Dict[str, str], int]:
+    """Returns the attributes of a tag from this offset on, and where they end."""
+    found: Dict[str, str] = {}
+    for each in _matches(text, offset):
+        value = each.group(2) or ""
+        is_quoted = value[:1] in ("'", '"')
+        found.setdefault(lower(each.group(1)), value[1:-1] if is_quoted else value)
+        offset = each.end()
+    return found, offset
+
+
 def attributes_of(tag: str) -> List[Attribute]:
     """Returns the attributes in the text of a start tag, in order."""
     name = _TAG_NAME.match(tag, 1)
@@ -149,7 +171,8 @@ def attributes_of(tag: str) -> List[Attribute]:
 
 
 class Tokenizer:
-    """Reads the tokens of a document. `raw_name` and `has_cdata` are set by whoever builds a tree."""
+    """Reads the tokens of a document. `raw_name` and `has_cdata` are set by whoever builds a
+    tree."""
 
     def __init__(self, text: str) -> None:
         self.text = text
@@ -158,7 +181,10 @@ class Tokenizer:
         self.raw_name: Optional[str] = None
         # Whether `<![CDATA[` begins a section.
         self.has_cdata = False
+        # Where what the end of the document closes begins: a tag, a comment or another declaration.
+        self.unclosed = len(text)
         self._ends: Dict[str, Pattern[str]] = {}
+        self._attributes: Dict[str, Dict[str, str]] = {}
         self._has_nul = "\0" in text
 
     def next(self) -> Token:
@@ -174,6 +200,22 @@ class Tokenizer:
             if token is not None:
                 return token
         return Token(EOF, len(text), len(text))
+
+    def reads_otherwise(self) -> bool:
+        """Whether a text or a tag is not as it is in most places."""
+        return self.raw_name is not None or self.has_cdata or self._has_nul
+
+    def attributes_in(self, inner: str) -> Dict[str, str]:
+        """Returns the attributes of a plain tag, which those of an equal tag are, too."""
+        found = self._attributes.get(inner)
+        if found is None:
+            has_references = "&" in inner or "\r" in inner
+            found = self._attributes[inner] = {}
+            for key, *values in _PLAIN_ATTRIBUTE.findall(inner):
+                value = values[0] or values[1] or values[2]
+                if key not in found:
+                    found[sys.intern(key)] = decode_value(value) if has_references else value
+        return found
 
     def _text_until(self, end: int) -> Token:
         start = self.offset
@@ -192,7 +234,7 @@ class Tokenizer:
         if name == "plaintext":
             return len(self.text)
         if name not in self._ends:
-            self._ends[name] = re.compile(rf"</{name}(?=[\t\n\f\r />])", re.IGNORECASE)
+            self._ends[name] = re.compile(rf"</{name}(?=[\t\n\f\r />])", _ANY_CASE)
         found = self._ends[name].search(self.text, start)
         return found.start() if found else len(self.text)
 
@@ -218,7 +260,15 @@ class Tokenizer:
 
     def _skip_to(self, end: int, length: int) -> None:
         """Skips to the end of a mark of this length, or of the document if it is missing."""
-        self.offset = len(self.text) if end < 0 else end + length
+        if end < 0:
+            self._skip_rest()
+        else:
+            self.offset = end + length
+
+    def _skip_rest(self) -> None:
+        """Skips to the end of the document, which closes what begins here."""
+        self.unclosed = self.offset
+        self.offset = len(self.text)
 
     def _markup(self) -> Optional[Token]:
         """Reads what begins with `<`. Returns `None` for a comment."""
@@ -259,7 +309,7 @@ class Tokenizer:
             end = text.find("]]>", start)
             self._skip_to(end, 3)
             return Token(TEXT, start + 9, self.offset - 3 if end >= 0 else self.offset, "cdata")
-        is_doctype = text[start + 2 : start + 9].lower() == "doctype"
+        is_doctype = lower(text[start + 2 : start + 9]) == "doctype"
         self._skip_to(text.find(">", start), 1)
         return Token(DOCTYPE, start, self.offset) if is_doctype else None
 
@@ -269,7 +319,7 @@ class Tokenizer:
                 self.offset = offset + len(mark)
                 return
         found = _COMMENT_END.search(self.text, offset)
-        self.offset = found.end() if found else len(self.text)
+        self._skip_to(found.start() if found else -1, len(found.group()) if found else 0)
 
     def _named(self, text: str) -> str:
         """Returns the name that a text of a tag is."""
@@ -288,7 +338,7 @@ class Tokenizer:
             offset = item.end()
             key, value = item.groups()
             if value is None and _EQUALS.match(text, offset):
-                self.offset = len(text)
+                self._skip_rest()
                 return None
             if value and value[0] in "\"'":
                 value = value[1:-1]
@@ -301,7 +351,7 @@ class Tokenizer:
             item = _ATTRIBUTE.match(text, offset)
         end = _TAG_END.match(text, offset)
         if not end:
-            self.offset = len(text)
+            self._skip_rest()
             return None
         self.offset = end.end()
         return Token(kind, start, end.end(), name, attributes, end.group().endswith("/>"))

@@ -3,15 +3,31 @@
 from __future__ import annotations
 
 import json
+import os
+import re
 import urllib.parse
-from typing import Callable, Dict, Iterable, Iterator, List, NamedTuple, Sequence, Set, Tuple
+from typing import (
+    Callable,
+    Dict,
+    Iterable,
+    Iterator,
+    List,
+    NamedTuple,
+    Optional,
+    Sequence,
+    Set,
+    Tuple,
+)
 from xml.sax.saxutils import escape, quoteattr
 
+from ._elements import STATES
 from ._library import __version__
+from ._linked import Shelf, sheets_of
+from ._output import json_line, printable
 from ._page import Page
 from ._reading import (
+    BlockItem,
     Fault,
-    Item,
     ReadDeclaration,
     RuleSet,
     Source,
@@ -20,22 +36,29 @@ from ._reading import (
     read_block,
     read_sheet,
 )
-from ._selectors import PORT, TODAY, states_in
+from ._selectors import MODERN, PORT, states_in
 from ._sheet import StyleSheet, holds
-from ._tokens import attributes_of, decode_value
-from ._tree import STATES
+from ._words import lower, words_of
+from ._xml import is_xml
+from .html import attributes_of, decode_value
 
-_PAGES = (".html", ".htm", ".xhtml", ".svg", ".xml")
+_PAGES = (".html", ".htm")
+# Why the library skips a rule within a block, which is no mistake.
+_NESTED = "nested rule"
 # The at-rules whose blocks have declarations.
-_DECLARING = frozenset("counter-style font-face font-palette-values page property view-transition viewport".split())
+_DECLARING = frozenset(
+    "counter-style font-face font-palette-values page property view-transition viewport".split()
+)
 # The states that elements of trees may have.
 _KNOWN_STATES = frozenset((*STATES, "any-link"))
+_NOT_OF_XML = re.compile("[\ud800-\udfff\ufffe\uffff]")
 # How many characters of a text a message has.
 _SHOWN = 60
 
 
 class Finding(NamedTuple):
-    """A part of a sheet: its file, where it begins, why it is reported, its text, and where it ends."""
+    """A part of a sheet: its file, where it begins, why it is reported, its text, and where it
+    ends."""
 
     file: str
     row: int
@@ -52,11 +75,11 @@ class Finding(NamedTuple):
 
     @property
     def message(self) -> str:
-        text = " ".join(self.text.split())
+        text = printable(" ".join(words_of(self.text)))
         return f"'{text if len(text) <= _SHOWN else text[:_SHOWN] + '..'}': {self.reason}"
 
 
-class _Part(NamedTuple):
+class _SheetText(NamedTuple):
     """A sheet or a style attribute in a file, and where it begins."""
 
     css: str
@@ -70,14 +93,15 @@ _Problem = Tuple[str, Span]
 
 
 def _problems_of_sheet(statements: Iterable[Statement], shows_all: bool) -> Iterator[_Problem]:
-    """Yields the mistakes of statements, and with `shows_all` also what is not evaluated."""
+    """Yields the mistakes of statements, and with `shows_all` also what is unsupported."""
     groups: Set[Span] = set()
     for statement in statements:
         for level in statement.levels if shows_all else ():
-            is_known = any(holds(level.condition, media) for media in ("screen", "print"))
-            if level.span not in groups and not is_known:
-                yield "condition not evaluated", level.head
+            if level.span in groups:
+                continue
             groups.add(level.span)
+            if not any(holds(level.condition, media) for media in ("screen", "print")):
+                yield "unsupported condition", level.head
         if isinstance(statement, RuleSet):
             yield from _problems_of_rule(statement, shows_all)
         else:
@@ -89,16 +113,23 @@ def _problems_of_rule(rule: RuleSet, shows_all: bool) -> Iterator[_Problem]:
         yield "block not closed", rule.head
     for each in rule.selectors if shows_all else ():
         if each.specificity is None:
-            yield "selector not evaluated", each.span
+            yield "unsupported selector", each.span
         elif not _KNOWN_STATES.issuperset(states_in(each.front)):
-            yield "pseudo-class not evaluated", each.span
+            yield "unsupported pseudo-class", each.span
     for item in rule.items:
         yield from _problems_of_item(item, shows_all)
 
 
-def _problems_of_item(item: Item, shows_all: bool) -> Iterator[_Problem]:
+def _problems_of_item(
+    item: BlockItem, shows_all: bool, is_within: bool = False
+) -> Iterator[_Problem]:
+    """Yields the mistakes of an item. One within an at-rule that has declarations has no block of
+    its own that is read: none is valid there."""
     if isinstance(item, Fault):
-        yield item.reason, item.span
+        if item.reason != _NESTED:
+            yield item.reason, item.span
+        elif shows_all:
+            yield "unsupported nested rule", item.span
     elif isinstance(item, ReadDeclaration):
         if not item.is_closed:
             yield "value not closed", item.span
@@ -106,10 +137,10 @@ def _problems_of_item(item: Item, shows_all: bool) -> Iterator[_Problem]:
         if not item.is_closed:
             yield "block not closed", item.span
         if shows_all:
-            yield "at-rule not evaluated", item.span
-        if item.rule.block is not None and item.rule.name in _DECLARING:
+            yield "unsupported at-rule", item.span
+        if not is_within and item.rule.block is not None and item.rule.name in _DECLARING:
             for each in read_block(item.rule.block)[1]:
-                for reason, (start, end) in _problems_of_item(each, shows_all):
+                for reason, (start, end) in _problems_of_item(each, shows_all, True):
                     yield reason, (item.inner[0] + start, item.inner[0] + end)
 
 
@@ -140,8 +171,9 @@ def _open_comment(text: str, start: int) -> Iterator[Tuple[str, int, int]]:
         start = text.find("/*", end + 2)
 
 
-def _reported(part: _Part, shows_all: bool) -> Iterator[Tuple[str, int, int]]:
-    """Yields why something is reported, and the offsets of the characters where it begins and ends."""
+def _reported(part: _SheetText, shows_all: bool) -> Iterator[Tuple[str, int, int]]:
+    """Yields why something is reported, and the offsets of the characters where it begins and
+    ends."""
     if part.is_attribute:
         source, items = read_block(part.css)
         problems = [each for item in items for each in _problems_of_item(item, shows_all)]
@@ -155,8 +187,9 @@ def _reported(part: _Part, shows_all: bool) -> Iterator[Tuple[str, int, int]]:
     yield from _open_comment(source.text, source.offset(end))
 
 
-def _reported_by_port(part: _Part) -> Iterator[Tuple[str, int, int]]:
-    """Yields what the grammar "simplecss" skips, as a whole text in braces for a style attribute."""
+def _reported_by_port(part: _SheetText) -> Iterator[Tuple[str, int, int]]:
+    """Yields what the grammar "simplecss" skips, as a whole text in braces for a style
+    attribute."""
     added = 2 * part.is_attribute
     css = "x{" + part.css + "}" if part.is_attribute else part.css
     for each in StyleSheet(css, grammar=PORT).skipped:
@@ -165,31 +198,29 @@ def _reported_by_port(part: _Part) -> Iterator[Tuple[str, int, int]]:
 
 def is_page(name: str) -> bool:
     """Whether a file is a page, by its name."""
-    return name.lower().endswith(_PAGES)
+    return lower(name).endswith(_PAGES) or is_xml(name)
 
 
-def _parts_of(text: str) -> Iterator[_Part]:
+def _parts_of(page: Page) -> Iterator[_SheetText]:
     """Yields the sheets of a page: of its elements and attributes `style`."""
-    page = Page(text)
-
-    def position(offset: int) -> Tuple[int, int]:
-        return text.count("\n", 0, offset) + 1, offset - text.rfind("\n", 0, offset)
-
+    text = page.text
+    position = Source(text).position
     for content in page.styles():
         if page.is_style_sheet(content):
-            yield _Part(page.sheet_of(content), *position(content.inner[0]))
+            yield _SheetText(page.sheet_of(content), *position(content.inner[0]))
     for tag in page.tags:
         if tag is None:
             continue
         for each in attributes_of(text[tag[0] : tag[1]]):
-            if each.name == "style" and each.value:
+            name = text[tag[0] + each.start :][: len(each.name)] if page.is_xml else each.name
+            if name == "style" and each.value:
                 is_quoted = each.value[0] in "\"'"
                 value = each.value[1:-1] if is_quoted else each.value
                 start = tag[0] + each.end - len(each.value) + is_quoted
-                yield _Part(decode_value(value), *position(start), True)
+                yield _SheetText(decode_value(value), *position(start), True)
 
 
-def _findings_of(name: str, part: _Part, shows_all: bool, grammar: str) -> Iterator[Finding]:
+def _findings_of(name: str, part: _SheetText, shows_all: bool, grammar: str) -> Iterator[Finding]:
     source = Source(part.css)
 
     def position(offset: int) -> Tuple[int, int]:
@@ -202,31 +233,56 @@ def _findings_of(name: str, part: _Part, shows_all: bool, grammar: str) -> Itera
 
 
 def findings(
-    name: str, text: str, shows_all: bool = False, grammar: str = TODAY
+    name: str,
+    text: str,
+    shows_all: bool = False,
+    grammar: str = MODERN,
+    *,
+    shelf: Optional[Shelf] = None,
+    has_xml: bool = False,
 ) -> List[Finding]:
     """Returns the mistakes of a style sheet, or of those of a page, in order; with `shows_all` also
-    what the library does not evaluate."""
-    parts = list(_parts_of(text)) if is_page(name) else [_Part(text, 1, 1)]
-    found = [each for part in parts for each in _findings_of(name, part, shows_all, grammar)]
-    return sorted(found, key=lambda each: (each.row, each.column))
+    what is unsupported. After them are those of the files that a page links to, of a shelf."""
+
+    def found_in(file: str, parts: Iterable[_SheetText]) -> List[Finding]:
+        found = [each for part in parts for each in _findings_of(file, part, shows_all, grammar)]
+        return sorted(found, key=lambda each: (each.row, each.column))
+
+    if not is_page(name):
+        return found_in(name, [_SheetText(text, 1, 1)])
+    page = Page(text, is_xml=has_xml or is_xml(name))
+    found = found_in(name, _parts_of(page))
+    for file, css in _linked(page, shelf, os.path.isabs(name)) if shelf else ():
+        found += found_in(file, [_SheetText(css, 1, 1)])
+    return found
+
+
+def _linked(page: Page, shelf: Shelf, is_whole: bool) -> Iterator[Tuple[str, str]]:
+    """Yields the files of the sheets that a page names, each once, and what they have. Their paths
+    are whole or from the folder that the program is in."""
+    seen: Set[str] = set()
+    for sheet in sheets_of(page.elements, shelf):
+        file = shelf.files.get(sheet.url or "")
+        if file is not None and str(file) not in seen:
+            seen.add(str(file))
+            yield str(file) if is_whole else os.path.relpath(file), sheet.source.text
 
 
 def as_text(found: Sequence[Finding], mark: Callable[[str], str]) -> str:
     """Returns a line for each, with its position marked."""
     return "".join(
-        f"{mark(f'{each.file}:{each.row}:{each.column}')}: {each.message}\n" for each in found
+        f"{mark(f'{printable(each.file)}:{each.row}:{each.column}')}: {each.message}\n"
+        for each in found
     )
 
 
 def as_json(found: Sequence[Finding]) -> str:
     """Returns a line of JSON for each."""
-    return "".join(
-        json.dumps({**each._asdict(), "kind": each.kind}, ensure_ascii=False) + "\n"
-        for each in found
-    )
+    return "".join(json_line({**each._asdict(), "kind": each.kind}) for each in found)
 
 
 def _github(text: str, more: str = "") -> str:
+    text = printable(text)
     for character in "%\r\n" + more:
         text = text.replace(character, f"%{ord(character):02X}")
     return text
@@ -255,8 +311,10 @@ def as_sarif(found: Sequence[Finding]) -> str:
                     "physicalLocation": {
                         "artifactLocation": {"uri": urllib.parse.quote(each.file)},
                         "region": {
-                            "startLine": each.row, "startColumn": each.column,
-                            "endLine": each.end_row, "endColumn": each.end_column,
+                            "startLine": each.row,
+                            "startColumn": each.column,
+                            "endLine": each.end_row,
+                            "endColumn": each.end_column,
                         },
                     }
                 }
@@ -264,9 +322,7 @@ def as_sarif(found: Sequence[Finding]) -> str:
         }
         for each in found
     ]
-    rules = [
-        {"id": kind, "shortDescription": {"text": reason}} for kind, reason in reasons.items()
-    ]
+    rules = [{"id": kind, "shortDescription": {"text": reason}} for kind, reason in reasons.items()]
     driver = {"name": "simplecss", "version": __version__, "rules": rules}
     run = {"tool": {"driver": driver}, "columnKind": "unicodeCodePoints", "results": results}
     log = {
@@ -274,7 +330,7 @@ def as_sarif(found: Sequence[Finding]) -> str:
         "version": "2.1.0",
         "runs": [run],
     }
-    return json.dumps(log, indent=2) + "\n"
+    return json.dumps(log, indent=2).replace("\x7f", "\\u007f") + "\n"
 
 
 def as_checkstyle(found: Sequence[Finding]) -> str:
@@ -284,19 +340,20 @@ def as_checkstyle(found: Sequence[Finding]) -> str:
         files.setdefault(each.file, []).append(each)
     lines = ['<?xml version="1.0" encoding="UTF-8"?>', '<checkstyle version="4.3">']
     for name, those in files.items():
-        lines.append(f"<file name={quoteattr(name)}>")
+        lines.append(f"<file name={quoteattr(_of_xml(name))}>")
         for each in those:
+            message, source = quoteattr(_of_xml(each.message)), quoteattr(escape(each.kind))
             lines.append(
                 f'<error line="{each.row}" column="{each.column}" severity="warning"'
-                f" message={quoteattr(_printable(each.message))} source={quoteattr(escape(each.kind))}/>"
+                f" message={message} source={source}/>"
             )
         lines.append("</file>")
     return "\n".join([*lines, "</checkstyle>"]) + "\n"
 
 
-def _printable(text: str) -> str:
-    """Returns the text with a question mark for each character that XML does not have."""
-    return "".join(c if c >= " " or c in "\t\n\r" else "?" for c in text)
+def _of_xml(text: str) -> str:
+    """Returns the text with U+FFFD for each character that XML does not have, and for controls."""
+    return _NOT_OF_XML.sub("\ufffd", printable(text))
 
 
 FORMATS: Dict[str, Callable[[Sequence[Finding]], str]] = {

@@ -1,15 +1,29 @@
 """The tree that a browser makes of an HTML document (HTML Standard, "Tree construction").
 
-Scripts are taken not to run, so that `noscript` has elements.
+Scripts are taken not to run, so that `noscript` has elements, unless a `Builder` is told that they
+do.
 """
 
 from __future__ import annotations
 
-import functools
 import re
-from typing import Callable, Dict, FrozenSet, List, Optional, Tuple, Union
+from collections import Counter
+from sys import intern
+from typing import Callable, Collection, Dict, FrozenSet, List, Optional, Tuple, Union
 
-from ._tokens import BLANKS, DOCTYPE, END, EOF, START, TEXT, Token, Tokenizer, is_blank
+from .._words import BLANKS, lower
+from ._tokens import (
+    DOCTYPE,
+    END,
+    EOF,
+    PLAIN_TAG,
+    START,
+    TEXT,
+    Token,
+    Tokenizer,
+    decode,
+    is_blank,
+)
 
 HTML, SVG, MATH = range(3)
 
@@ -45,6 +59,14 @@ _SPECIAL = (
         " textarea tfoot th thead title tr xmp"
     )
 ) - _words("dialog")
+# The start tags that leave the mode as it is, and no text to be read otherwise; and the end tags
+# that do more than to end an element.
+_PLAINLY_STARTED = (
+    _BLOCKS | _HEADINGS | _FORMATTING | _words("area br dd dt embed hr img li wbr")
+) - {"nobr"}
+_ENDED_OTHERWISE = _OBJECTS | _words(
+    "body br caption col colgroup form frameset head html table tbody td template tfoot th thead tr"
+)
 _IMPLIED = _words("dd dt li optgroup option p rb rp rt rtc")
 _THOROUGHLY = _IMPLIED | _words("caption colgroup tbody td tfoot th thead tr")
 _HEAD_PARTS = _words("base basefont bgsound link meta noframes script style template title")
@@ -52,7 +74,11 @@ _TABLE_PARTS = _words("caption col colgroup tbody td tfoot th thead tr")
 _BODIES = _words("tbody tfoot thead")
 _CELLS = _words("td th")
 _ROWS = _BODIES | {"tr"}
-_RAW = _words("title textarea style xmp iframe noembed noframes script plaintext")
+# As many formatting elements are compared with another one by one.
+_FEW = 16
+# The elements whose content is text, of which those of the first have no references.
+RAW = _words("style xmp iframe noembed noframes script plaintext")
+_TEXTS = RAW | {"title", "textarea"}
 _FOSTERING = _ROWS | {"table"}
 
 # The elements that a search of the open ones does not look past.
@@ -96,27 +122,43 @@ _SVG_ATTRIBUTES = {
 }
 # The public identifiers of doctypes by which browsers show a page as old ones did.
 _QUIRKS = (
-    "+//silmaril//dtd html pro v0r11 19970101//", "-//as//dtd html 3.0 aswedit + extensions//",
-    "-//advasoft ltd//dtd html 3.0 aswedit + extensions//", "-//ietf//dtd html",
-    "-//metrius//dtd metrius presentational//", "-//microsoft//dtd internet explorer",
-    "-//netscape comm. corp.//dtd", "-//o'reilly and associates//dtd html",
-    "-//softquad", "-//spyglass//dtd html 2.0 extended//", "-//sq//dtd html 2.0 hotmetal",
-    "-//sun microsystems corp.//dtd hotjava", "-//w3c//dtd html 3", "-//w3c//dtd html 4.0 frameset",
-    "-//w3c//dtd html 4.0 transitional//", "-//w3c//dtd html experimental", "-//w3c//dtd w3 html",
-    "-//w3o//dtd w3 html", "-//webtechs//dtd mozilla html",
+    "+//silmaril//dtd html pro v0r11 19970101//",
+    "-//as//dtd html 3.0 aswedit + extensions//",
+    "-//advasoft ltd//dtd html 3.0 aswedit + extensions//",
+    "-//ietf//dtd html",
+    "-//metrius//dtd metrius presentational//",
+    "-//microsoft//dtd internet explorer",
+    "-//netscape comm. corp.//dtd",
+    "-//o'reilly and associates//dtd html",
+    "-//softquad",
+    "-//spyglass//dtd html 2.0 extended//",
+    "-//sq//dtd html 2.0 hotmetal",
+    "-//sun microsystems corp.//dtd hotjava",
+    "-//w3c//dtd html 3",
+    "-//w3c//dtd html 4.0 frameset",
+    "-//w3c//dtd html 4.0 transitional//",
+    "-//w3c//dtd html experimental",
+    "-//w3c//dtd w3 html",
+    "-//w3o//dtd w3 html",
+    "-//webtechs//dtd mozilla html",
 )
 _DOCTYPE = re.compile(
-    r"""<!doctype\s*(\w*)\s*(?:(public|system)\s*("[^">]*"|'[^'>]*')\s*("[^">]*"|'[^'>]*')?)?\s*(>?)""",
-    re.IGNORECASE,
+    r"""<!doctype[\t\n\f\r ]*([^\t\n\f\r >]*)[\t\n\f\r ]*(?:(public|system)[\t\n\f\r ]*"""
+    r"""("[^">]*"|'[^'>]*')[\t\n\f\r ]*("[^">]*"|'[^'>]*')?)?[\t\n\f\r ]*(>?)""",
+    re.IGNORECASE | re.ASCII,
 )
+# A newline, or what stands for one.
+_NEWLINE = re.compile(r"\r\n?|\n|&NewLine;|&#0*10(?:;|(?![0-9]))|&#[xX]0*[aA](?:;|(?![0-9A-Fa-f]))")
 
 
 def is_quirky(doctype: str) -> bool:
     """Whether a doctype is one by which browsers show a page as old ones did."""
     found = _DOCTYPE.match(doctype)
-    if not found or found.group(1).lower() != "html" or not doctype.endswith(">"):
+    if not found or lower(found.group(1)) != "html" or not doctype.endswith(">"):
         return True
-    kind, first, second = (group.lower().strip("\"'") if group else "" for group in found.groups()[1:4])
+    kind, first, second = (
+        lower(group).strip("\"'") if group else "" for group in found.groups()[1:4]
+    )
     if kind == "system":
         return first == "http://www.ibm.com/data/dtd/v11/ibmxhtml1-transitional.dtd"
     # Something else follows the name or the identifier.
@@ -124,7 +166,9 @@ def is_quirky(doctype: str) -> bool:
         return True
     if first.startswith(_QUIRKS) or first in ("-/w3c/dtd html 4.0 transitional/en", "html"):
         return True
-    is_old = first.startswith(("-//w3c//dtd html 4.01 frameset//", "-//w3c//dtd html 4.01 transitional//"))
+    is_old = first.startswith(
+        ("-//w3c//dtd html 4.01 frameset//", "-//w3c//dtd html 4.01 transitional//")
+    )
     return is_old and not second
 
 
@@ -132,17 +176,29 @@ Text = Tuple[int, int]
 
 
 class Node:
-    """An element. `tag` is where its start tag is, `None` if the document has none for it; `end` is
-    where its end tag is, or where it ends without one."""
+    """An element: where its start tag begins and ends, each -1 if the document has none for it; and
+    where its end tag begins and ends, or twice where the element ends without one."""
 
-    __slots__ = ("name", "attributes", "space", "parent", "children", "tag", "end", "is_open")
+    __slots__ = (
+        "name",
+        "attributes",
+        "space",
+        "parent",
+        "children",
+        "start",
+        "inner",
+        "inner_end",
+        "outer_end",
+        "is_open",
+    )
 
     def __init__(
         self,
         name: str,
         attributes: Dict[str, str],
         space: int = HTML,
-        tag: Optional[Tuple[int, int]] = None,
+        start: int = -1,
+        inner: int = -1,
     ) -> None:
         self.name = name
         self.attributes = attributes
@@ -150,47 +206,66 @@ class Node:
         self.parent: Optional[Node] = None
         # Elements, and of each text where it begins and ends.
         self.children: List[Union[Node, Text]] = []
-        self.tag = tag
-        self.end = (0, 0)
+        self.start = start
+        self.inner = inner
+        self.inner_end = self.outer_end = 0
         self.is_open = False
+
+    @property
+    def tag(self) -> Optional[Text]:
+        """Where the start tag is, if the document has one."""
+        return None if self.start < 0 else (self.start, self.inner)
+
+    @property
+    def end(self) -> Text:
+        """Where the end tag is, or where the element ends without one."""
+        return self.inner_end, self.outer_end
 
 
 class Builder:
     """Builds the elements of a document."""
 
-    def __init__(self, text: str, is_part: bool = False) -> None:
-        """Takes a document, or a part of one, as the content of a `body`."""
+    def __init__(self, text: str, is_part: bool = False, has_scripts: bool = False) -> None:
+        """Takes a document, or a part of one, as the content of a `body`. Where scripts run, what
+        is in a `noscript` is text."""
         self.text = text
+        self.has_scripts = has_scripts
         self.tokens = Tokenizer(text)
         self.root = Node("html", {})
         self.has_root = False
         self.is_quirky = not is_part
         self.open: List[Node] = []
         # How many elements of each name are open.
-        self.counts: Dict[str, int] = {}
-        # The formatting elements that are not ended yet; `None` is a marker.
+        self.counts: Counter[str] = Counter()
+        # The formatting elements that are not ended yet; `None` is a marker. If they are many, at
+        # least how many are equal.
         self.formatting: List[Optional[Node]] = []
+        self.alike: Counter[Tuple[str, FrozenSet[Tuple[str, str]]]] = Counter()
         self.head: Optional[Node] = None
         self.form: Optional[Node] = None
         self.may_be_frames = True
         self.is_fostering = False
         self.skips_newline = False
         self.steps = 100 * (len(text) // 8 + 1000)
-        self.mode: Callable[[Token], None] = self._initial
-        self.table_mode: Callable[[Token], None] = self._in_body
-        self.templates: List[Callable[[Token], None]] = []
+        self.mode: Handler = Builder._initial
+        self.templates: List[Handler] = []
         self.token = Token(TEXT, 0, 0)
-        # Where the doctype ends, or a mark of the byte order.
-        self.doctype_end = 1 if text.startswith("\ufeff") else 0
-        self.tokens.offset = self.doctype_end
+        # Whether browsers differ in where an element ends, or in what a NUL is.
+        self.is_doubtful = "\0" in text
+        # Where the head ends: a tag that is put there is of the head.
+        self.head_end: Optional[int] = None
+        if text.startswith("\ufeff"):
+            self.tokens.offset = 1
         if is_part:
             self._push(self.root)
-            self.mode = self._in_body
+            self.mode = Builder._in_body
 
     def build(self) -> Node:
         """Reads the document. Returns its root element."""
         tokens = self.tokens
         while True:
+            if self.open and not (tokens.reads_otherwise() or self.skips_newline):
+                self._read_plainly()
             token = tokens.next()
             self._process(token)
             if token.kind == EOF:
@@ -198,6 +273,67 @@ class Builder:
                     self._pop()
                 return self.root
             tokens.has_cdata = bool(self.open) and self.open[-1].space != HTML
+
+    # ---- what most of a page is
+
+    def _read_plainly(self) -> None:
+        """Takes texts and tags as most are written, up to what is not, as `_process` would."""
+        tokens, opened = self.tokens, self.open
+        is_body, last = self._is_body(), tokens.offset
+        for found in PLAIN_TAG.finditer(self.text, last):
+            offset, end = found.span()
+            slash, name, inner, closing = found.groups()
+            if last < offset and is_body:
+                if self.formatting:
+                    self._reconstruct()
+                opened[-1].children.append((last, offset))
+            elif last < offset:
+                self.token = Token(TEXT, last, offset)
+                self.mode(self, self.token)
+            tokens.offset = last = offset if name is None else end
+            if name is None:
+                break
+            handler = None
+            if slash:
+                if is_body and self._end_plainly(name, offset, end):
+                    if opened[-1].space != HTML:
+                        break
+                    continue
+            elif is_body:
+                handler = _PLAIN_STARTS.get(name, Builder._start_other)
+            attributes = tokens.attributes_in(inner) if inner else {}
+            kind = END if slash else START
+            token = self.token = Token(kind, offset, end, intern(name), attributes, bool(closing))
+            if handler:
+                handler(self, token)
+            else:
+                self.mode(self, token)
+                is_body = self._is_body()
+                # Something is read otherwise, or was read on.
+                if tokens.raw_name or self.skips_newline or tokens.offset != end:
+                    break
+            if opened[-1].space != HTML:
+                break
+        tokens.has_cdata = opened[-1].space != HTML
+
+    def _is_body(self) -> bool:
+        """Whether a text, and a tag as it is most often, are taken by the rules for a body."""
+        return self.mode in _BODY_MODES and not self.may_be_frames
+
+    def _end_plainly(self, name: str, offset: int, end: int) -> bool:
+        """Ends the innermost element, if an end tag of the name does only this."""
+        node, formatting = self.open[-1], self.formatting
+        if node.name != name or name in _ENDED_OTHERWISE:
+            return False
+        if name in _FORMATTING:
+            if not formatting or formatting[-1] is not node:
+                return False
+            formatting.pop()
+        self.open.pop()
+        self.counts[name] -= 1
+        node.is_open = False
+        node.inner_end, node.outer_end = offset, end
+        return True
 
     # ---- the open elements
 
@@ -210,7 +346,7 @@ class Builder:
     def _push(self, node: Node) -> None:
         node.is_open = True
         self.open.append(node)
-        self.counts[node.name] = self.counts.get(node.name, 0) + 1
+        self.counts[node.name] += 1
 
     def _pop(self) -> Node:
         node = self.open.pop()
@@ -222,11 +358,11 @@ class Builder:
         node.is_open = False
         self.counts[node.name] -= 1
         token = self.token
-        is_own = token.kind == END and token.name == node.name.lower()
-        if node.tag == (token.start, token.end):
-            node.end = (token.end, token.end)
+        is_own = token.kind == END and token.name == lower(node.name)
+        if node.start == token.start and node.inner == token.end:
+            node.inner_end = node.outer_end = token.end
         else:
-            node.end = (token.start, token.end if is_own else token.start)
+            node.inner_end, node.outer_end = token.start, token.end if is_own else token.start
 
     def _remove(self, node: Node) -> None:
         """Removes an element from the open ones, if it is one."""
@@ -254,7 +390,7 @@ class Builder:
             if node.space == HTML and node.name in names:
                 return
 
-    def _in_scope(self, names: FrozenSet[str], scope: FrozenSet[str] = _SCOPE) -> bool:
+    def _in_scope(self, names: Collection[str], scope: FrozenSet[str] = _SCOPE) -> bool:
         """Whether an open element has one of the names, and is not beyond one of the scope."""
         for name in names:
             if self.counts.get(name):
@@ -279,7 +415,7 @@ class Builder:
         return False
 
     def _has(self, name: str, scope: FrozenSet[str] = _SCOPE) -> bool:
-        return self._in_scope(frozenset((name,)), scope)
+        return self._in_scope((name,), scope)
 
     def _end_implied(self, but: str = "", names: FrozenSet[str] = _IMPLIED) -> None:
         """Ends the innermost elements whose end tags may be left out."""
@@ -336,11 +472,18 @@ class Builder:
 
     def _insert(self, token: Token, space: int = HTML) -> Node:
         """Adds the element of a start tag, and opens it."""
-        node = Node(token.name, token.attributes, space, (token.start, token.end))
-        self._append(node)
-        self._push(node)
-        if space == HTML and token.name in _RAW:
-            self.tokens.raw_name = token.name
+        name = token.name
+        node = Node(name, token.attributes, space, token.start, token.end)
+        if self.is_fostering:
+            self._append(node)
+        else:
+            node.parent = self.open[-1]
+            node.parent.children.append(node)
+        node.is_open = True
+        self.open.append(node)
+        self.counts[name] += 1
+        if space == HTML and name in _TEXTS:
+            self.tokens.raw_name = name
         return node
 
     def _insert_implied(self, name: str) -> Node:
@@ -376,17 +519,36 @@ class Builder:
 
     def _push_formatting(self, node: Node) -> None:
         """Remembers a formatting element; of equal ones no more than three."""
+        if len(self.formatting) <= _FEW:
+            self.alike.clear()
+            if len(self.formatting) > 2:
+                self._drop_alike(node)
+        elif self._count_alike(node) > 3:
+            self._drop_alike(node)
+        self.formatting.append(node)
+
+    def _count_alike(self, node: Node) -> int:
+        """Counts an element. Returns at least how many equal it among those remembered and it."""
+        if not self.alike:
+            self.alike.update(map(_key_of, filter(None, self.formatting)))
+        key = _key_of(node)
+        self.alike[key] += 1
+        return self.alike[key]
+
+    def _drop_alike(self, node: Node) -> None:
+        """Forgets the first of three elements, since the last marker, that equal another."""
         equal = []
         for index in range(len(self.formatting) - 1, -1, -1):
             other = self.formatting[index]
             if other is None:
                 break
             self._spend(1)
-            if other.name == node.name and other.attributes == node.attributes:
-                equal.append(index)
+            if other.name == node.name and len(other.attributes) == len(node.attributes):
+                self._spend(len(node.attributes))
+                if other.attributes == node.attributes:
+                    equal.append(index)
         if len(equal) >= 3:
             del self.formatting[equal[-1]]
-        self.formatting.append(node)
 
     def _clear_formatting(self) -> None:
         """Forgets the formatting elements up to the last marker."""
@@ -401,14 +563,28 @@ class Builder:
             if node is None or node.is_open:
                 break
             index -= 1
+        if index == len(self.formatting):
+            return
         for index in range(index, len(self.formatting)):
             node = self.formatting[index]
             if node is not None:
-                self._spend(20)
-                clone = Node(node.name, node.attributes, HTML, node.tag)
+                clone = self._clone(node)
                 self._append(clone)
                 self._push(clone)
                 self.formatting[index] = clone
+
+    def _clone(self, node: Node) -> Node:
+        """Returns another element of the same tag. Each has its attributes, however long."""
+        self._spend(20 + sum(len(key) + len(value) for key, value in node.attributes.items()))
+        return Node(node.name, node.attributes, HTML, node.start, node.inner)
+
+    def _formatting_index(self, node: Node) -> int:
+        """Returns where an element is among the formatting ones, or -1."""
+        index = len(self.formatting) - 1
+        while index >= 0 and self.formatting[index] is not node:
+            index -= 1
+        self._spend(len(self.formatting) - index)
+        return index
 
     def _formatting_of(self, name: str) -> Optional[Node]:
         """Returns the last formatting element of the name since the last marker."""
@@ -421,15 +597,14 @@ class Builder:
         return None
 
     def _forget(self, node: Node) -> None:
-        for index in range(len(self.formatting) - 1, -1, -1):
-            if self.formatting[index] is node:
-                del self.formatting[index]
-                return
+        index = self._formatting_index(node)
+        if index >= 0:
+            del self.formatting[index]
 
     def _adopt(self, token: Token) -> None:
         """Ends a formatting element, which may be ended in another order than it was opened."""
         name = token.name
-        if self._top(name) and not any(node is self.open[-1] for node in self.formatting):
+        if self._top(name) and self._formatting_index(self.open[-1]) < 0:
             self._pop()
             return
         for _ in range(8):
@@ -452,7 +627,12 @@ class Builder:
             if each is node:
                 self._spend(count)
                 return True
-            if each.space == HTML and each.name in _SCOPE or each.space == SVG and each.name in _SVG_SCOPE:
+            if (
+                each.space == HTML
+                and each.name in _SCOPE
+                or each.space == SVG
+                and each.name in _SVG_SCOPE
+            ):
                 break
         self._spend(count)
         return False
@@ -475,11 +655,11 @@ class Builder:
             self._forget(formatted)
             return False
         ancestor = self.open[at - 1]
-        mark = self.formatting.index(formatted)
+        mark = self._formatting_index(formatted)
         last, mark = self._adopt_between(formatted, block, mark)
         self._detach(last)
         self._append(last, ancestor)
-        clone = Node(formatted.name, formatted.attributes, HTML, formatted.tag)
+        clone = self._clone(formatted)
         clone.children = block.children
         for child in clone.children:
             self._spend(1)
@@ -487,13 +667,13 @@ class Builder:
                 child.parent = clone
         block.children = [clone]
         clone.parent = block
-        place = self.formatting.index(formatted)
+        place = self._formatting_index(formatted)
         del self.formatting[place]
         self.formatting.insert(mark - 1 if place < mark else mark, clone)
         self._remove(formatted)
         self.open.insert(self._position(block) + 1, clone)
         clone.is_open = True
-        self.counts[clone.name] = self.counts.get(clone.name, 0) + 1
+        self.counts[clone.name] += 1
         return True
 
     def _adopt_between(self, formatted: Node, block: Node, mark: int) -> Tuple[Node, int]:
@@ -510,17 +690,16 @@ class Builder:
             if node is formatted:
                 return last, mark
             count += 1
-            self._spend(20)
-            known = next((i for i, each in enumerate(self.formatting) if each is node), None)
-            if count > 3 and known is not None:
+            known = self._formatting_index(node)
+            if count > 3 and known >= 0:
                 del self.formatting[known]
                 mark -= 1 if known < mark else 0
-                known = None
-            if known is None:
+                known = -1
+            if known < 0:
                 del self.open[index]
                 self._set_ended(node)
                 continue
-            clone = Node(node.name, node.attributes, HTML, node.tag)
+            clone = self._clone(node)
             self.formatting[known] = clone
             self.open[index] = clone
             self._set_ended(node)
@@ -545,12 +724,12 @@ class Builder:
         if self.open and self.open[-1].space != HTML and self._is_foreign(token):
             self._in_foreign(token)
         else:
-            self.mode(token)
+            self.mode(self, token)
 
     def _skip_newline(self, token: Token) -> bool:
         """Skips a newline at the start of a text. Returns whether something of the text is left."""
-        newlines = (each for each in ("\r\n", "\n", "\r") if self.text.startswith(each, token.start))
-        token.start += len(next(newlines, ""))
+        found = _NEWLINE.match(self.text, token.start)
+        token.start = found.end() if found else token.start
         return token.start < token.end
 
     def _is_foreign(self, token: Token) -> bool:
@@ -558,13 +737,20 @@ class Builder:
             return False
         top = self.open[-1]
         if top.space == MATH and top.name in _MATH_TEXTS:
-            if token.kind == TEXT or token.kind == START and token.name not in ("mglyph", "malignmark"):
+            if (
+                token.kind == TEXT
+                or token.kind == START
+                and token.name not in ("mglyph", "malignmark")
+            ):
                 return False
-        if top.name == "annotation-xml" and token.kind == START and token.name == "svg":
+        if (top.space, top.name) == (MATH, "annotation-xml") and (token.kind, token.name) == (
+            START,
+            "svg",
+        ):
             return False
         return not (_is_html_point(top) and token.kind in (START, TEXT))
 
-    def _go(self, mode: Callable[[Token], None], token: Token) -> None:
+    def _go(self, mode: Handler, token: Token) -> None:
         """Takes a token in another mode, which stays."""
         self.mode = mode
         self._process(token)
@@ -593,10 +779,9 @@ class Builder:
             return
         if token.kind == DOCTYPE:
             self.is_quirky = is_quirky(self.text[token.start : token.end])
-            self.doctype_end = token.end
-            self.mode = self._before_html
+            self.mode = Builder._before_html
         else:
-            self._go(self._before_html, token)
+            self._go(Builder._before_html, token)
 
     def _before_html(self, token: Token) -> None:
         if self._skip_blanks(token) or token.kind == DOCTYPE:
@@ -605,10 +790,10 @@ class Builder:
             return
         self.has_root = True
         self._push(self.root)
-        self.mode = self._before_head
+        self.mode = Builder._before_head
         if token.kind == START and token.name == "html":
             self.root.attributes = token.attributes
-            self.root.tag = (token.start, token.end)
+            self.root.start, self.root.inner = token.start, token.end
         else:
             self._process(token)
 
@@ -619,10 +804,10 @@ class Builder:
             self._in_body(token)
         elif token.kind == START and token.name == "head":
             self.head = self._insert(token)
-            self.mode = self._in_head
+            self.mode = Builder._in_head
         elif token.kind != END or token.name in ("head", "body", "html", "br"):
             self.head = self._insert_implied("head")
-            self._go(self._in_head, token)
+            self._go(Builder._in_head, token)
 
     def _in_head(self, token: Token) -> None:
         if token.kind == TEXT and self._keep_blanks(token) or token.kind == DOCTYPE:
@@ -646,9 +831,11 @@ class Builder:
         name = token.name
         if name == "html":
             self._in_body(token)
+        elif name == "noscript" and self.has_scripts:
+            self._start_raw(token)
         elif name == "noscript":
             self._insert(token)
-            self.mode = self._in_noscript
+            self.mode = Builder._in_noscript
         elif name == "template":
             self._start_template(token)
         elif name in ("base", "basefont", "bgsound", "link", "meta"):
@@ -659,6 +846,12 @@ class Builder:
         elif name != "head":
             return False
         return True
+
+    def _start_raw(self, token: Token) -> None:
+        """Adds an element whose content is text, whatever it is."""
+        self._insert(token)
+        self.tokens.raw_name = token.name
+        self._read_raw()
 
     def _read_raw(self) -> None:
         """Reads the text and the end tag of the element that was opened last."""
@@ -672,8 +865,10 @@ class Builder:
         self._pop()
 
     def _end_head(self) -> None:
+        if self.head_end is None:
+            self.head_end = min(self.token.start, self.tokens.unclosed)
         self._pop()
-        self.mode = self._after_head
+        self.mode = Builder._after_head
 
     def _in_noscript(self, token: Token) -> None:
         names = ("basefont", "bgsound", "link", "meta", "noframes", "style")
@@ -683,12 +878,12 @@ class Builder:
             self._in_head(token)
         elif token.kind == END and token.name == "noscript":
             self._pop()
-            self.mode = self._in_head
+            self.mode = Builder._in_head
         elif token.kind == START and token.name in ("head", "noscript"):
             return
         elif token.kind != END or token.name == "br":
             self._pop()
-            self._go(self._in_head, token)
+            self._go(Builder._in_head, token)
 
     def _after_head(self, token: Token) -> None:
         if token.kind == TEXT and self._keep_blanks(token) or token.kind == DOCTYPE:
@@ -700,7 +895,7 @@ class Builder:
             if token.name in ("body", "frameset"):
                 self._insert(token)
                 self.may_be_frames = self.may_be_frames and token.name != "body"
-                self.mode = self._in_body if token.name == "body" else self._in_frameset
+                self.mode = Builder._in_body if token.name == "body" else Builder._in_frameset
                 return
             if token.name in _HEAD_PARTS and self.head is not None:
                 self._push(self.head)
@@ -716,7 +911,7 @@ class Builder:
             if token.name not in ("body", "html", "br"):
                 return
         self._insert_implied("body")
-        self._go(self._in_body, token)
+        self._go(Builder._in_body, token)
 
     def _in_body(self, token: Token) -> None:
         if token.kind == TEXT:
@@ -740,8 +935,14 @@ class Builder:
         if self.formatting:
             self._reconstruct()
         self._add_text(token)
-        if self.may_be_frames and not is_blank(self.text[token.start : token.end]):
-            self.may_be_frames = False
+        self._note_shown(token)
+
+    def _note_shown(self, token: Token) -> None:
+        """Notes that a text keeps a `frameset` from being one. Some browsers do not count U+FFFD,
+        nor the NUL that it stands for."""
+        if self.may_be_frames:
+            text = decode(self.text[token.start : token.end])
+            self.may_be_frames = not text.strip(BLANKS + "\0\ufffd")
 
     # ---- start tags in a body
 
@@ -769,7 +970,7 @@ class Builder:
         while len(self.open) > 1:
             self._pop()
         self._insert(token)
-        self.mode = self._in_frameset
+        self.mode = Builder._in_frameset
 
     def _start_in_head(self, token: Token) -> None:
         self._starts_in_head(token)
@@ -803,7 +1004,7 @@ class Builder:
         """Takes an item of a list, which ends the item before it."""
         self.may_be_frames = False
         names = ("li",) if token.name == "li" else ("dd", "dt")
-        if any(self.counts.get(name) for name in names):
+        if self.counts.get(names[0]) or self.counts.get(names[-1]):
             for node in reversed(self.open):
                 self._spend(1)
                 if node.space == HTML and node.name in names:
@@ -857,7 +1058,7 @@ class Builder:
             self._close_p()
         self._insert(token)
         self.may_be_frames = False
-        self.mode = self._in_table
+        self.mode = Builder._in_table
 
     def _start_void(self, token: Token) -> None:
         self._reconstruct()
@@ -869,7 +1070,7 @@ class Builder:
             self._pop_until("select")
         self._reconstruct()
         self._insert_void(token)
-        if token.attributes.get("type", "").lower() != "hidden":
+        if lower(token.attributes.get("type", "")) != "hidden":
             self.may_be_frames = False
 
     def _start_param(self, token: Token) -> None:
@@ -890,6 +1091,12 @@ class Builder:
         self._insert(token)
         self.may_be_frames = False
         self._read_raw()
+
+    def _start_noscript(self, token: Token) -> None:
+        if self.has_scripts:
+            self._start_raw(token)
+        else:
+            self._start_other(token)
 
     def _start_xmp(self, token: Token) -> None:
         self._close_p()
@@ -937,15 +1144,17 @@ class Builder:
                     pass
                 return
             if _is_special(node):
+                # Not all browsers know this one.
+                self.is_doubtful |= node.name == "search"
                 return
 
     def _end_body(self, token: Token) -> None:
         if self._has("body"):
-            self.mode = self._after_body
+            self.mode = Builder._after_body
 
     def _end_html(self, token: Token) -> None:
         if self._has("body"):
-            self._go(self._after_body, token)
+            self._go(Builder._after_body, token)
 
     def _end_block(self, token: Token) -> None:
         if self._has(token.name):
@@ -994,8 +1203,8 @@ class Builder:
         self._insert(token)
         self.formatting.append(None)
         self.may_be_frames = False
-        self.templates.append(self._in_template)
-        self.mode = self._in_template
+        self.templates.append(Builder._in_template)
+        self.mode = Builder._in_template
 
     def _end_template(self, token: Token) -> None:
         if not self.templates:
@@ -1023,14 +1232,14 @@ class Builder:
                 self._end_template(token)
             self._process(token)
 
-    def _mode_in_template(self, name: str) -> Callable[[Token], None]:
+    def _mode_in_template(self, name: str) -> Handler:
         if name in ("caption", "colgroup", "tbody", "tfoot", "thead"):
-            return self._in_table
+            return Builder._in_table
         if name == "col":
-            return self._in_columns
+            return Builder._in_columns
         if name == "tr":
-            return self._in_table_body
-        return self._in_row if name in _CELLS else self._in_body
+            return Builder._in_table_body
+        return Builder._in_row if name in _CELLS else Builder._in_body
 
     def _reset_mode(self) -> None:
         """Finds the mode by the open elements."""
@@ -1040,19 +1249,20 @@ class Builder:
             if mode is not None:
                 self.mode = mode
                 return
-        self.mode = self._in_body
+        self.mode = Builder._in_body
 
-    def _mode_of(self, node: Node) -> Optional[Callable[[Token], None]]:
+    def _mode_of(self, node: Node) -> Optional[Handler]:
         if node.space != HTML:
             return None
         if node.name == "template":
-            return self.templates[-1] if self.templates else self._in_body
+            return self.templates[-1] if self.templates else Builder._in_body
         if node.name == "html":
-            return self._before_head if self.head is None and self.has_root else (
-                self._after_head if self.has_root else self._in_body
+            return (
+                Builder._before_head
+                if self.head is None and self.has_root
+                else (Builder._after_head if self.has_root else Builder._in_body)
             )
-        handler = _MODES.get(node.name)
-        return None if handler is None else functools.partial(handler, self)
+        return _MODES.get(node.name)
 
     # ---- tables
 
@@ -1103,7 +1313,7 @@ class Builder:
                 self._process(token)
         elif name in ("style", "script", "template"):
             self._in_head(token)
-        elif name == "input" and token.attributes.get("type", "").lower() == "hidden":
+        elif name == "input" and lower(token.attributes.get("type", "")) == "hidden":
             self._insert_void(token)
         elif name == "form":
             if self.form is None and not self.templates:
@@ -1117,19 +1327,19 @@ class Builder:
         if name == "caption":
             self.formatting.append(None)
             self._insert(token)
-            self.mode = self._in_caption
+            self.mode = Builder._in_caption
         elif name == "colgroup":
             self._insert(token)
-            self.mode = self._in_columns
+            self.mode = Builder._in_columns
         elif name == "col":
             self._insert_implied("colgroup")
-            self._go(self._in_columns, token)
+            self._go(Builder._in_columns, token)
         elif name in _BODIES:
             self._insert(token)
-            self.mode = self._in_table_body
+            self.mode = Builder._in_table_body
         else:
             self._insert_implied("tbody")
-            self._go(self._in_table_body, token)
+            self._go(Builder._in_table_body, token)
 
     def _in_caption(self, token: Token) -> None:
         ends = token.kind == END and token.name in ("caption", "table")
@@ -1138,7 +1348,7 @@ class Builder:
                 self._end_implied()
                 self._pop_until("caption")
                 self._clear_formatting()
-                self.mode = self._in_table
+                self.mode = Builder._in_table
                 if token.kind == START or token.name == "table":
                     self._process(token)
         elif token.kind != END or token.name not in _TABLE_PARTS | {"body", "html"}:
@@ -1159,7 +1369,7 @@ class Builder:
             self._in_body(token)
         elif self._top("colgroup"):
             self._pop()
-            self.mode = self._in_table
+            self.mode = Builder._in_table
             if token.kind != END or token.name != "colgroup":
                 self._process(token)
 
@@ -1168,35 +1378,40 @@ class Builder:
         if token.kind == START and name == "tr":
             self._clear_to(*_BODIES)
             self._insert(token)
-            self.mode = self._in_row
+            self.mode = Builder._in_row
         elif token.kind == START and name in _CELLS:
             self._clear_to(*_BODIES)
             self._insert_implied("tr")
-            self._go(self._in_row, token)
+            self._go(Builder._in_row, token)
         elif token.kind == END and name in _BODIES:
             if self._has(name, _TABLE_SCOPE):
                 self._clear_to(*_BODIES)
                 self._pop()
-                self.mode = self._in_table
+                self.mode = Builder._in_table
         elif self._ends_part(token, _TABLE_PARTS - {"td", "th", "tr"}):
             if self._in_scope(_BODIES, _TABLE_SCOPE):
                 self._clear_to(*_BODIES)
                 self._pop()
-                self._go(self._in_table, token)
+                self._go(Builder._in_table, token)
         elif token.kind != END or name not in _TABLE_PARTS | {"body", "html"}:
             self._in_table(token)
 
     @staticmethod
     def _ends_part(token: Token, names: FrozenSet[str]) -> bool:
         """Whether a token is the end of a table, or begins one of these parts."""
-        return token.kind == END and token.name == "table" or token.kind == START and token.name in names
+        return (
+            token.kind == END
+            and token.name == "table"
+            or token.kind == START
+            and token.name in names
+        )
 
     def _in_row(self, token: Token) -> None:
         name = token.name
         if token.kind == START and name in _CELLS:
             self._clear_to("tr")
             self._insert(token)
-            self.mode = self._in_cell
+            self.mode = Builder._in_cell
             self.formatting.append(None)
         elif token.kind == END and name == "tr" or self._ends_part(token, _TABLE_PARTS - _CELLS):
             self._end_row(token)
@@ -1211,7 +1426,7 @@ class Builder:
             return
         self._clear_to("tr")
         self._pop()
-        self.mode = self._in_table_body
+        self.mode = Builder._in_table_body
         if token.kind != END or token.name != "tr":
             self._process(token)
 
@@ -1235,7 +1450,7 @@ class Builder:
         self._end_implied()
         self._pop_until("td", "th")
         self._clear_formatting()
-        self.mode = self._in_row
+        self.mode = Builder._in_row
 
     # ---- after the body, and framesets
 
@@ -1243,7 +1458,7 @@ class Builder:
         if token.kind == TEXT and is_blank(self.text[token.start : token.end]):
             self._in_body(token)
         elif token.kind not in (EOF, DOCTYPE) and (token.kind, token.name) != (END, "html"):
-            self._go(self._in_body, token)
+            self._go(Builder._in_body, token)
 
     def _in_frameset(self, token: Token) -> None:
         if token.kind == START and token.name == "html":
@@ -1257,7 +1472,7 @@ class Builder:
         elif token.kind == END and token.name == "frameset" and len(self.open) > 1:
             self._pop()
             if not self._top("frameset"):
-                self.mode = self._after_frameset
+                self.mode = Builder._after_frameset
 
     def _after_frameset(self, token: Token) -> None:
         if token.kind == START and token.name == "html":
@@ -1274,6 +1489,7 @@ class Builder:
                 _SVG_ATTRIBUTES.get(key, key): value for key, value in token.attributes.items()
             }
         elif "definitionurl" in token.attributes:
+            token.attributes = dict(token.attributes)
             token.attributes["definitionURL"] = token.attributes.pop("definitionurl")
         self._insert(token, space)
         if token.is_closed:
@@ -1282,8 +1498,7 @@ class Builder:
     def _in_foreign(self, token: Token) -> None:
         if token.kind == TEXT:
             self._add_text(token)
-            if self.may_be_frames and not is_blank(self.text[token.start : token.end]):
-                self.may_be_frames = False
+            self._note_shown(token)
         elif token.kind == START:
             is_font = token.name == "font" and not token.attributes.keys().isdisjoint(
                 ("color", "face", "size")
@@ -1302,22 +1517,30 @@ class Builder:
         while not (
             self.open[-1].space == HTML
             or _is_html_point(self.open[-1])
-            or self.open[-1].space == MATH and self.open[-1].name in _MATH_TEXTS
+            or self.open[-1].space == MATH
+            and self.open[-1].name in _MATH_TEXTS
         ):
             self._pop()
-        self.mode(token)
+        self.mode(self, token)
 
     def _end_foreign(self, token: Token) -> None:
         for index in range(len(self.open) - 1, 0, -1):
             node = self.open[index]
             self._spend(1)
             if node.space == HTML:
-                self.mode(token)
+                # Some browsers give the name its capitals first, and find no such element.
+                self.is_doubtful |= token.name in _SVG_NAMES and token.name in self.counts
+                self.mode(self, token)
                 return
-            if node.name.lower() == token.name:
+            if lower(node.name) == token.name:
                 while len(self.open) > index:
                     self._pop()
                 return
+
+
+def _key_of(node: Node) -> Tuple[str, FrozenSet[Tuple[str, str]]]:
+    """Returns what equal elements have in common."""
+    return node.name, frozenset(node.attributes.items())
 
 
 def _is_special(node: Node) -> bool:
@@ -1330,7 +1553,7 @@ def _is_html_point(node: Node) -> bool:
     """Whether an element of SVG or MathML has HTML as its content."""
     if node.space == SVG:
         return node.name in _SVG_SCOPE
-    encoding = node.attributes.get("encoding", "").lower()
+    encoding = lower(node.attributes.get("encoding", ""))
     return node.name == "annotation-xml" and encoding in ("text/html", "application/xhtml+xml")
 
 
@@ -1350,8 +1573,12 @@ _MODES: Dict[str, Handler] = {
     "body": Builder._in_body,
     "frameset": Builder._in_frameset,
 }
+# Those in which most tags are taken by the rules for a body.
+_BODY_MODES = (Builder._in_body, Builder._in_cell)
 _STARTS: Dict[str, Handler] = {}
 _ENDS: Dict[str, Handler] = {}
+# Of the first, those that leave the mode as it is, and `None`.
+_PLAIN_STARTS: Dict[str, Optional[Handler]] = {}
 
 
 def _set(table: Dict[str, Handler], handler: Handler, names: "FrozenSet[str]") -> None:
@@ -1385,6 +1612,7 @@ _STARTS.update(
     input=Builder._start_input,
     hr=Builder._start_rule,
     image=Builder._start_image,
+    noscript=Builder._start_noscript,
     xmp=Builder._start_xmp,
     select=Builder._start_select,
 )
@@ -1400,4 +1628,7 @@ _ENDS.update(
     p=Builder._end_p,
     br=Builder._end_br,
     template=Builder._end_template,
+)
+_PLAIN_STARTS.update(
+    (name, handler if name in _PLAINLY_STARTED else None) for name, handler in _STARTS.items()
 )

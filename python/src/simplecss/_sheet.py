@@ -20,6 +20,8 @@ from typing import (
 
 from . import _library as library
 from ._declaration import Declaration, cascaded
+from ._deprecated import warn_of_old
+from ._linked import Load, Name, Shelf, Unread, sheets_of
 from ._reading import (
     AtRule,
     Condition,
@@ -32,9 +34,10 @@ from ._reading import (
     read_sheet,
 )
 from ._port import PortReading
-from ._selectors import PORT, TODAY, Numbers, Specificity, expect_grammar, lines_of, specificity_of
+from ._selectors import MODERN, PORT, Numbers, Specificity, grammar_of, lines_of, specificity_of
 from ._specified import Inherit, inherited, specified_by
-from ._tree import Element, Tree
+from ._words import lower, words_of
+from ._tree import Element, Tree, elements_of
 
 T = TypeVar("T")
 
@@ -43,9 +46,9 @@ Media = Union[str, Callable[[str], bool]]
 
 
 class Rule(NamedTuple):
-    """A rule: the text of its `selector`, its `specificity`, and its `declarations`; the group rules
-    that it is in, the outermost first; and the name of its pseudo-element, which makes it a rule of
-    another box than the element that the selector matches.
+    """A rule: the text of its `selector`, its `specificity`, and its `declarations`; the group
+    rules that it is in, the outermost first; and the name of its pseudo-element, which makes it a
+    rule of another box than the element that the selector matches.
 
     A rule set with three selectors is three rules.
     """
@@ -57,8 +60,8 @@ class Rule(NamedTuple):
     pseudo_element: Optional[str] = None
 
 
-class Unmatched(NamedTuple):
-    """A rule whose selector is valid, and which the library does not match."""
+class Unsupported(NamedTuple):
+    """A rule whose selector is valid and unsupported: it matches no element."""
 
     selector: str
     declarations: Tuple[Declaration, ...]
@@ -85,10 +88,12 @@ class ByElement(List[T]):
     """A list with a value for each element of a tree, by the element or its index."""
 
     @overload  # type: ignore[override]
-    def __getitem__(self, key: Union[int, Element]) -> T: ...
+    def __getitem__(self, key: Union[int, Element]) -> T:
+        ...
 
     @overload
-    def __getitem__(self, key: slice) -> List[T]: ...
+    def __getitem__(self, key: slice) -> List[T]:
+        ...
 
     def __getitem__(self, key: Union[int, slice, Element]) -> Union[T, List[T]]:
         return super().__getitem__(key.index if isinstance(key, Element) else key)
@@ -98,7 +103,7 @@ class _Contents(NamedTuple):
     """What the texts of a sheet have."""
 
     rules: Tuple[Rule, ...]
-    unmatched: Tuple[Unmatched, ...]
+    unsupported: Tuple[Unsupported, ...]
     at_rules: Tuple[AtRule, ...]
 
 
@@ -107,20 +112,29 @@ def holds(condition: Condition, media: Media) -> bool:
     is_media = condition.name == "media"
     if callable(media):
         return media(condition.prelude if is_media else str(condition))
-    return is_media and _has_type(condition.prelude, media.lower())
+    return is_media and _has_type(condition.prelude, lower(media))
 
 
 def _has_type(prelude: str, media: str) -> bool:
     """Whether a list of media queries has one of the media type, or of all, without features."""
-    for query in prelude.lower().split(","):
-        words = query.split()
+    for query in lower(prelude).split(","):
+        words = words_of(query)
         if words[:1] == ["only"]:
             words.pop(0)
         if words in ([], ["all"], [media]):
             return True
-        if len(words) == 2 and words[0] == "not" and words[1] not in ("all", media) and words[1].isalpha():
+        if (
+            len(words) == 2
+            and words[0] == "not"
+            and words[1] not in ("all", media)
+            and _is_word(words[1])
+        ):
             return True
     return False
+
+
+def _is_word(text: str) -> bool:
+    return text.isascii() and text.isalpha()
 
 
 class StyleSheet:
@@ -129,26 +143,78 @@ class StyleSheet:
     Its rules are in the order of their specificity, and rules of equal specificity in the order in
     which they appear. `str` is the printed sheet.
 
-    The grammar "today" reads as browsers do (CSS Syntax 3), and "simplecss" as the Rust crate does.
+    The grammar "modern" reads as browsers do (CSS Syntax 3), and "simplecss" as the Rust crate
+    does.
 
     A rule set counts its declarations once for each of its selectors. Rules with more declarations
-    than `limit` raise `LimitError`; `None` is no limit.
+    than `limit` raise `LimitError`; `None` is no limit. So do answers of `match`, `styles` and
+    `style` with more rules or declarations than `answer_limit`, each counted once for each element.
     """
 
     def __init__(
-        self, *texts: str, grammar: str = TODAY, limit: Optional[int] = library.USUAL_LIMIT
+        self,
+        *texts: str,
+        grammar: str = MODERN,
+        limit: Optional[int] = library.USUAL_LIMIT,
+        answer_limit: Optional[int] = library.USUAL_ANSWER_LIMIT,
     ) -> None:
-        expect_grammar(grammar)
         self._texts = tuple(library.encode(text) for text in texts)
-        self._grammar = grammar
-        self._limit = library.NO_LIMIT if limit is None else min(max(limit, 0), library.NO_LIMIT)
+        # The conditions of all of each text.
+        self._outer: Tuple[Tuple[Condition, ...], ...] = ((),) * len(texts)
+        # What the page names and was not read.
+        self.unread: Tuple[Unread, ...] = ()
+        self._grammar = grammar_of(grammar)
+        self._limit = library.limit_of(limit)
+        self._answer_limit = library.limit_of(answer_limit)
         self._read: Optional[List[Tuple[Source, List[Statement]]]] = None
         self._contents: Optional[_Contents] = None
         self._selectors: Dict[Tuple[Optional[PortReading], str], _Selectors] = {}
 
+    @classmethod
+    def of_page(
+        cls,
+        tree: Tree,
+        *,
+        at: Optional[Name] = None,
+        folder: Optional[Name] = None,
+        load: Optional[Load] = None,
+        grammar: str = MODERN,
+        limit: Optional[int] = library.USUAL_LIMIT,
+        answer_limit: Optional[int] = library.USUAL_ANSWER_LIMIT,
+    ) -> "StyleSheet":
+        """Returns the sheet of a page: of its `style` elements, of the sheets that it links to and
+        of those that these import, as far as they are in use (their title, `disabled`).
+
+        Linked sheets are files in `folder`, whose names end in `.css`, or what `load` returns for
+        their urls; `None` is for one that it has not. Without these only urls of data are read, and
+        nothing is ever fetched. `at` is where the page is, as a path or a url, which relative urls
+        are taken from; it is the folder if it is not said. `unread` of the sheet has the urls that
+        were not read, and why.
+        """
+        if not isinstance(tree, Tree):
+            raise TypeError(f"a Tree is expected, not {type(tree).__name__}")
+        shelf = Shelf(at, folder, load, library.limit_of(answer_limit))
+        found = list(sheets_of(elements_of(tree), shelf))
+        if grammar_of(grammar) == PORT:
+            found = [each for each in found if not each.conditions]
+        texts = (each.source.text for each in found)
+        sheet = cls(*texts, grammar=grammar, limit=limit, answer_limit=answer_limit)
+        sheet._read = [(each.source, each.statements) for each in found]
+        return sheet._of_page(tuple(each.conditions for each in found), tuple(shelf.unread))
+
+    def _of_page(
+        self, outer: Tuple[Tuple[Condition, ...], ...], unread: Tuple[Unread, ...]
+    ) -> "StyleSheet":
+        """Returns the sheet, as that of a page: with conditions for each text, and what was not
+        read."""
+        self._outer = outer
+        self.unread = unread
+        return self
+
     def __reduce__(self) -> Tuple[Any, ...]:
         texts = tuple(text.decode("utf-8") for text in self._texts)
-        return (_sheet_of, (texts, self._grammar, self._limit))
+        limits = (self._limit, self._answer_limit)
+        return (_sheet_of, (texts, self._outer, self.unread, self._grammar, *limits))
 
     def _call(self, name: str, room: int) -> bytes:
         """Calls what reads the sheet by the grammar "simplecss"."""
@@ -157,30 +223,44 @@ class StyleSheet:
         return library.output_of(name, answer)
 
     def _statements(self) -> List[Tuple[Source, List[Statement]]]:
-        """Returns what the texts have by the grammar "today"."""
+        """Returns what the texts have by the grammar "modern"."""
         if self._read is None:
             self._read = [read_sheet(text.decode("utf-8")) for text in self._texts]
         return self._read
 
+    def _text(self) -> str:
+        """Returns the text of a sheet of one, which is read if it is not."""
+        if len(self._texts) != 1 or self._grammar == PORT:
+            raise ValueError("a sheet of one text by the modern grammar is expected")
+        return self._statements()[0][0].text
+
     def _all(self) -> _Contents:
         if self._contents is None:
             is_port = self._grammar == PORT
-            self._contents = self._contents_of_port() if is_port else self._contents_of_today()
+            self._contents = self._contents_of_port() if is_port else self._contents_of_modern()
         return self._contents
 
     def _contents_of_port(self) -> _Contents:
         output = self._call("simplecss_rules", 1024 + 8 * sum(map(len, self._texts)))
         return _Contents(tuple(map(_rule_of_port, lines_of(output))), (), ())
 
-    def _contents_of_today(self) -> _Contents:
-        statements = [each for _, found in self._statements() for each in found]
-        sets = [each for each in statements if isinstance(each, RuleSet)]
-        count = sum(len(each.selectors) * len(each.declarations) for each in sets)
+    def _contents_of_modern(self) -> _Contents:
+        statements = [
+            (each, outer)
+            for (_, found), outer in zip(self._statements(), self._outer)
+            for each in found
+        ]
+        sets = [(each, outer) for each, outer in statements if isinstance(each, RuleSet)]
+        count = sum(len(each.selectors) * len(each.declarations) for each, _ in sets)
         if count > self._limit:
             raise library.LimitError("the rules would hold more declarations than the limit")
-        rules, unmatched = _rules_of(sets)
-        at_rules = (each.rule for found in statements for each in _at_rules_of(found))
-        return _Contents(tuple(rules), tuple(unmatched), tuple(at_rules))
+        rules, unsupported = _rules_of(sets)
+        at_rules = (
+            each.rule._replace(conditions=outer + each.rule.conditions) if outer else each.rule
+            for found, outer in statements
+            for each in _at_rules_of(found)
+        )
+        return _Contents(tuple(rules), tuple(unsupported), tuple(at_rules))
 
     @property
     def rules(self) -> Tuple[Rule, ...]:
@@ -188,9 +268,15 @@ class StyleSheet:
         return self._all().rules
 
     @property
-    def unmatched(self) -> Tuple[Unmatched, ...]:
-        """The rules whose selectors are valid and not matched, in order."""
-        return self._all().unmatched
+    def unsupported(self) -> Tuple[Unsupported, ...]:
+        """The rules whose selectors are valid and unsupported, in order."""
+        return self._all().unsupported
+
+    @property
+    def unmatched(self) -> Tuple[Unsupported, ...]:
+        """The old name of `unsupported`."""
+        warn_of_old("StyleSheet.unmatched", "StyleSheet.unsupported")
+        return self.unsupported
 
     @property
     def at_rules(self) -> Tuple[AtRule, ...]:
@@ -200,10 +286,10 @@ class StyleSheet:
     @property
     def skipped(self) -> List[Skipped]:
         """What is skipped of the texts, in order."""
-        each = self._skipped_of_port() if self._grammar == PORT else self._skipped_of_today()
+        each = self._skipped_of_port() if self._grammar == PORT else self._skipped_of_modern()
         return list(each)
 
-    def _skipped_of_today(self) -> Iterator[Skipped]:
+    def _skipped_of_modern(self) -> Iterator[Skipped]:
         for number, (source, statements) in enumerate(self._statements()):
             for fault in faults_of(statements):
                 start, end = map(source.offset, fault.span)
@@ -226,7 +312,11 @@ class StyleSheet:
             return self._call("simplecss_sheet", room).decode("utf-8")[:-1]
         # Printing obeys the limit, too.
         self._all()
-        return "\n".join(line for _, found in self._statements() for line in _lines_of(found))
+        return "\n".join(
+            line
+            for (_, found), outer in zip(self._statements(), self._outer)
+            for line in _within(outer, _lines_of(found))
+        )
 
     def __repr__(self) -> str:
         return f"<StyleSheet of {len(self._texts)} texts>"
@@ -236,7 +326,7 @@ class StyleSheet:
         match it."""
         if not isinstance(tree, Tree):
             raise TypeError(f"a Tree is expected, not {type(tree).__name__}")
-        reading = tree._port_reading if self._grammar == PORT else None
+        reading = elements_of(tree).port_reading if self._grammar == PORT else None
         if callable(media):
             found = _Selectors(self.rules, reading, media)
         else:
@@ -245,7 +335,7 @@ class StyleSheet:
             if key not in self._selectors:
                 self._selectors[key] = _Selectors(self.rules, reading, media)
             found = self._selectors[key]
-        return found, tree._matched(found.texts, self._grammar)
+        return found, elements_of(tree).matched(found.texts, self._answer_limit, self._grammar)
 
     def match(self, tree: Tree, *, media: Media = "screen") -> "ByElement[List[int]]":
         """Returns for each element the indices of the rules that match it, in order.
@@ -274,18 +364,43 @@ class StyleSheet:
         without a declaration has from its parent; `True` is those of CSS 2.1 and of SVG. `media` is
         that of `match`.
         """
-        selectors, lines = self._match(tree, media)
-        winners: Dict[bytes, List[Declaration]] = {}
-        for line in lines:
-            if line not in winners:
-                rules = (self.rules[each] for each in selectors.rules[line])
-                winners[line] = cascaded(each for rule in rules for each in rule.declarations)
-        found = [winners[line].copy() for line in lines]
+        return ByElement(self._styles(tree, media, specified, inherit))
+
+    def _styles(
+        self,
+        tree: Tree,
+        media: Media,
+        specified: bool,
+        inherit: Inherit,
+        name: Optional[str] = None,
+    ) -> List[List[Declaration]]:
+        """Returns what `styles` does, or of it what has the name."""
+        found = self._winners(*self._match(tree, media), name)
         if specified:
             found = [specified_by(element, each) for element, each in zip(tree, found)]
+            if name is not None:
+                found = [[each for each in those if each.name == name] for those in found]
         if inherit:
-            found = inherited(tree, found, inherit)
-        return ByElement(found)
+            found = inherited(tree, found, inherit, self._answer_limit)
+        return found
+
+    def _winners(
+        self, selectors: "_Selectors", lines: List[bytes], name: Optional[str]
+    ) -> List[List[Declaration]]:
+        """Returns for each line what wins of the rules of its numbers, or of it what has the
+        name."""
+        winners: Dict[bytes, List[Declaration]] = {}
+        compared, answered = library.Room(self._answer_limit), library.Room(self._answer_limit)
+        found: List[List[Declaration]] = []
+        for line in lines:
+            if line not in winners:
+                rules = [self.rules[each] for each in selectors.rules[line]]
+                compared.take(sum(len(rule.declarations) for rule in rules))
+                every = (each for rule in rules for each in rule.declarations)
+                winners[line] = cascaded(each for each in every if name in (None, each.name))
+            answered.take(len(winners[line]))
+            found.append(winners[line].copy())
+        return found
 
     def style(
         self,
@@ -301,15 +416,20 @@ class StyleSheet:
         The name compares byte by byte. `media`, `specified` and `inherit` are those of `styles`.
         """
         library.expect_text(name)
-        every = self.styles(tree, media=media, specified=specified, inherit=inherit)
+        every = self._styles(tree, media, specified, inherit, name)
         return ByElement(
             next((each for each in found if each.name == name), None) for found in every
         )
 
 
+def text_of(sheet: StyleSheet) -> str:
+    """Returns the text of a sheet, of which `read_sheet` returns what the sheet has read."""
+    return sheet._text()
+
+
 class _Selectors:
-    """The selectors of the rules that apply; those of the Rust crate's grammar as they are read for a
-    tree."""
+    """The selectors of the rules that apply; those of the Rust crate's grammar as they are read for
+    a tree."""
 
     def __init__(
         self, rules: Tuple[Rule, ...], reading: Optional[PortReading], media: Media
@@ -329,27 +449,31 @@ class _Selectors:
 
 def _rule_of_port(value: Dict[str, Any]) -> Rule:
     declared = (
-        Declaration(each["name"], each["value"], each["important"]) for each in value["declarations"]
+        Declaration(each["name"], each["value"], each["important"])
+        for each in value["declarations"]
     )
     return Rule(value["selector"], specificity_of(value["specificity"]), tuple(declared))
 
 
-def _rules_of(sets: List[RuleSet]) -> Tuple[List[Rule], List[Unmatched]]:
-    """Returns the rules of rule sets in the order of the cascade, and those that are not matched."""
+def _rules_of(
+    sets: List[Tuple[RuleSet, Tuple[Condition, ...]]]
+) -> Tuple[List[Rule], List[Unsupported]]:
+    """Returns the rules of rule sets in the order of the cascade, and those that are unsupported.
+    Each rule set is with the conditions of its whole text."""
     rules: List[Rule] = []
-    unmatched: List[Unmatched] = []
-    for found in sets:
-        declarations, conditions = found.declarations, found.conditions
+    unsupported: List[Unsupported] = []
+    for found, outer in sets:
+        declarations, conditions = found.declarations, outer + found.conditions
         for each in found.selectors:
             if each.specificity is None:
-                unmatched.append(Unmatched(each.text, declarations, conditions))
+                unsupported.append(Unsupported(each.text, declarations, conditions))
                 continue
             selector = each.front or "*"
             rules.append(
                 Rule(selector, each.specificity, declarations, conditions, each.pseudo_element)
             )
     rules.sort(key=lambda rule: rule.specificity)
-    return rules, unmatched
+    return rules, unsupported
 
 
 def _at_rules_of(statement: Statement) -> Iterator[ReadAtRule]:
@@ -394,7 +518,9 @@ def _lines_of(statements: Iterable[Statement]) -> Iterator[str]:
         if text:
             pairs = zip(before, statement.levels)
             # Where two group rules begin, they are two.
-            shared = sum(1 for _ in itertools.takewhile(lambda pair: pair[0].span == pair[1].span, pairs))
+            shared = sum(
+                1 for _ in itertools.takewhile(lambda pair: pair[0].span == pair[1].span, pairs)
+            )
             yield from _closed(len(before), shared)
             for depth, level in enumerate(statement.levels[shared:], shared):
                 yield f"{'  ' * depth}{level.condition} {{"
@@ -403,10 +529,31 @@ def _lines_of(statements: Iterable[Statement]) -> Iterator[str]:
     yield from _closed(len(before), 0)
 
 
+def _within(outer: Tuple[Condition, ...], lines: Iterable[str]) -> Iterator[str]:
+    """Yields the lines of a text within the conditions of all of it. One that an `@import` has
+    beside media is no group rule, and the text is left out."""
+    if any(each.name == "import" for each in outer):
+        return
+    for depth, each in enumerate(outer):
+        yield f"{'  ' * depth}{each} {{"
+    for line in lines:
+        yield "  " * len(outer) + line
+    yield from _closed(len(outer), 0)
+
+
 def _closed(depth: int, kept: int) -> Iterator[str]:
     """Yields the braces that close group rules down to a depth."""
     return ("  " * level + "}" for level in range(depth - 1, kept - 1, -1))
 
 
-def _sheet_of(texts: Tuple[str, ...], grammar: str, limit: int) -> StyleSheet:
-    return StyleSheet(*texts, grammar=grammar, limit=limit)
+def _sheet_of(
+    texts: Tuple[str, ...],
+    outer: Tuple[Tuple[Condition, ...], ...],
+    unread: Tuple[Unread, ...],
+    grammar: str,
+    limit: int,
+    answer_limit: int,
+) -> StyleSheet:
+    return StyleSheet(*texts, grammar=grammar, limit=limit, answer_limit=answer_limit)._of_page(
+        outer, unread
+    )

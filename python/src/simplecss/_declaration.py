@@ -20,18 +20,20 @@ class Declared(Protocol):
     """What has the name of a property and an importance."""
 
     @property
-    def name(self) -> str: ...
+    def name(self) -> str:
+        ...
 
     @property
-    def important(self) -> bool: ...
+    def important(self) -> bool:
+        ...
 
 
 D = TypeVar("D", bound=Declared)
 
 
 def cascaded(declarations: Iterable[D]) -> List[D]:
-    """Returns the declaration of each name that wins: the last one of the greatest importance (CSS 2.1
-    section 6.4.1). They are in the order in which they appear."""
+    """Returns the declaration of each name that wins: the last one of the greatest importance (CSS
+    2.1 section 6.4.1). They are in the order in which they appear."""
     found: Dict[str, D] = {}
     for declaration in declarations:
         before = found.get(declaration.name)

@@ -13,8 +13,7 @@ from ._selectors import PORT, Reading, SelectorError, listed
 
 # The parts of a printed selector: what an attribute must be, and the rest.
 _PART = re.compile(
-    r"\[([^\]=~|']+)(?:([~|]?=)'(.*?)')?\](?=[\[: ]|\Z)"
-    r"|[^\[]+|\[",
+    r"\[([^\[\]=~|']+)(?:([~|]?=)'(.*?)')?\](?=[\[: ]|\Z)" r"|[^\[]+|\[",
     re.DOTALL,
 )
 _WHITE_SPACE = re.compile("[\t\n\f\r]")

@@ -19,14 +19,17 @@ from typing import (
 )
 
 from . import _library as library
-from ._tokens import lower
+from ._deprecated import warn_of_old
+from ._words import lower
 
 if TYPE_CHECKING:
     from ._tree import Element
 
 # The names of the grammars: that of browsers, and that of the Rust crate.
-TODAY = "today"
+MODERN = "modern"
 PORT = "simplecss"
+# What the first of them is named in an earlier version.
+TODAY = "today"
 
 # The attributes whose values HTML compares without case (HTML Standard, "Case-sensitivity of
 # selectors").
@@ -36,9 +39,17 @@ _WITHOUT_CASE = frozenset(
     " link media method multiple nohref noresize noshade nowrap readonly rel rev rules scope"
     " scrolling selected shape target text type valign valuetype vlink".split()
 )
-# An escape, a string or a comment of a selector, in which nothing else begins.
-OPAQUE = r"""\\.|"(?:[^"\\]|\\.)*"|'(?:[^'\\]|\\.)*'|/\*.*?\*/"""
-_PSEUDO_NAME = re.compile(rf"{OPAQUE}|:([-\w]*)", re.DOTALL)
+# A comment, one that is not closed to the end of the text. What patterns read of CSS has one way to
+# match only, so that they take a time that is linear in the text.
+COMMENT = r"/\*[^*]*(?:\*(?!/)[^*]*)*(?:\*/|\Z)"
+# An escape, a comment or a string of a selector, in which nothing else begins.
+OPAQUE = (
+    rf"""\\.|{COMMENT}"""
+    r"""|"[^"\\]*(?:\\.[^"\\]*)*(?:"|\\?\Z)|'[^'\\]*(?:\\.[^'\\]*)*(?:'|\\?\Z)"""
+)
+# A character of a name: any but these of ASCII.
+NAMING = r"[^\0-,./:-@\[-^`{-\x7f]"
+_PSEUDO_NAME = re.compile(rf"{OPAQUE}|:({NAMING}*)", re.DOTALL | re.ASCII)
 # The pseudo-classes that depend only on the tree.
 _OF_TREE = frozenset(
     "root empty first-child last-child only-child first-of-type last-of-type only-of-type nth-child"
@@ -75,7 +86,8 @@ class Reading(enum.IntEnum):
         return name if self == Reading.AS_WRITTEN else lower(name)
 
     def compared_value(self, key: str, value: str) -> str:
-        """Returns the value of an attribute, which has this name in a selector, as it is compared."""
+        """Returns the value of an attribute, which has this name in a selector, as it is
+        compared."""
         return lower(value) if key in _CASELESS[self] else value
 
     def attributes(self, attributes: Dict[str, str]) -> Dict[str, str]:
@@ -100,10 +112,14 @@ _CASELESS: Dict[Reading, FrozenSet[str]] = {
 }
 
 
-def expect_grammar(grammar: str) -> None:
-    """Raises `ValueError` for what is no name of a grammar."""
-    if grammar not in (TODAY, PORT):
+def grammar_of(grammar: str) -> str:
+    """Returns the name of a grammar. What is none raises `ValueError`."""
+    if grammar == TODAY:
+        warn_of_old(f"grammar={TODAY!r}", f"grammar={MODERN!r}")
+        return MODERN
+    if grammar not in (MODERN, PORT):
         raise ValueError(f"no grammar: {grammar!r}")
+    return grammar
 
 
 def lines_of(output: bytes) -> List[Any]:
@@ -130,9 +146,9 @@ def specificity_of(numbers: Sequence[int]) -> Specificity:
     return ids, others, types
 
 
-def listed(text: str, grammar: str = TODAY) -> List[Listed]:
+def listed(text: str, grammar: str = MODERN) -> List[Listed]:
     """Returns the selectors of a list. A text that is no list raises `SelectorError`."""
-    expect_grammar(grammar)
+    grammar = grammar_of(grammar)
     data = library.encode(text)
     name = "simplecss_list" if grammar == PORT else "simplecss_list_level3"
     answer = library.call(name, data, room=256 + 8 * len(data))
@@ -145,16 +161,27 @@ def listed(text: str, grammar: str = TODAY) -> List[Listed]:
 
 
 def matched(
-    tree: library.TreeArrays, selectors: Sequence[str], reading: Optional[Reading]
+    tree: library.TreeArrays, selectors: Sequence[str], reading: Optional[Reading], limit: int
 ) -> List[bytes]:
     """Returns for each element the numbers of the selectors that match it, which begin at 1, with
-    spaces between them. Without a reading, the selectors are of the grammar of the Rust crate."""
+    spaces between them. Without a reading, the selectors are of the grammar of the Rust crate. More
+    numbers than `limit` raise `LimitError`."""
     texts = [library.encode(each) for each in selectors]
     ends = library.ends_of(map(len, texts))
     name = "simplecss_match_selectors" if reading is None else "simplecss_match_level3"
     words = [b"".join(texts), ends, *([] if reading is None else [reading]), tree]
-    answer = library.call(name, *words, room=1024 + 32 * tree.count, with_fault=True)
-    return [line.partition(b":")[2] for line in library.output_of(name, answer).split(b"\n")[:-1]]
+    # A line is the number of an element, a colon, the numbers with a space before each, and its
+    # end.
+    numbers = limit * (1 + len(str(len(texts))))
+    most = min(tree.count * (2 + len(str(tree.count))) + numbers, library.NO_LIMIT)
+    room = library.Room(limit)
+    try:
+        answer = library.call(name, *words, room=1024 + 32 * tree.count, with_fault=True, most=most)
+    except library.LimitError:
+        raise room.passed() from None
+    output = library.output_of(name, answer)
+    room.take(output.count(b" "))
+    return [line.partition(b":")[2] for line in output.split(b"\n")[:-1]]
 
 
 class Numbers(Dict[bytes, List[int]]):
@@ -184,23 +211,23 @@ def states_in(selector: str) -> List[str]:
     """Returns the names of the pseudo-classes of a selector that depend on more than the tree, in
     lower case. One with an escape is cut, and so is none of the tree."""
     names = (found[1] for found in _PSEUDO_NAME.finditer(selector))
-    return [name.lower() for name in names if name is not None and name.lower() not in _OF_TREE]
+    return [lower(name) for name in names if name is not None and lower(name) not in _OF_TREE]
 
 
 class Selector:
     """A selector. `str` is its text as the library prints it.
 
-    The grammar "today" reads selectors of level 3 and some of level 4, and "simplecss" those of CSS
-    2.1, as the Rust crate does. A text that is no selector, or a list of several, raises
-    `SelectorError`.
+    The grammar "modern" is that of browsers: Selectors Level 3, and of Level 4 `:is()`, `:where()`,
+    lists in `:not()` and `[a=b i]`. "simplecss" is that of the Rust crate: CSS 2.1. A text that is
+    no selector, or a list of several, raises `SelectorError`.
     """
 
-    def __init__(self, text: str, *, grammar: str = TODAY) -> None:
-        found = listed(text, grammar)
+    def __init__(self, text: str, *, grammar: str = MODERN) -> None:
+        self._grammar = grammar_of(grammar)
+        found = listed(text, self._grammar)
         if len(found) != 1:
             raise SelectorError("more than one selector", 1, 1)
         self._source = text
-        self._grammar = grammar
         self._listed = found[0]
 
     @property

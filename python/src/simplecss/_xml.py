@@ -3,8 +3,16 @@
 from __future__ import annotations
 
 import re
-from typing import Dict, List, NamedTuple, Tuple
+from typing import Dict, List, NamedTuple, Optional, Tuple
 from xml.parsers import expat
+
+from ._words import lower
+
+# How many characters entities may add to a document, and attributes of their own beside those that
+# it has; and how long the name of a namespace may be. Each stands for its text wherever it is
+# named.
+_MOST_ADDED = 1_000_000
+_LONGEST_SPACE = 1_000
 
 _LINK_SPACES = ("", "http://www.w3.org/1999/xhtml", "http://www.w3.org/2000/svg")
 
@@ -23,8 +31,20 @@ class XmlTag:
     """An element: its local name, its attributes by local names, its parent's index or -1, where
     its start tag begins and ends, and where the element ends, as offsets in the text."""
 
-    __slots__ = ("name", "prefix", "attributes", "parent", "row", "column", "start", "inner", "end",
-                 "inner_end", "is_link", "space")
+    __slots__ = (
+        "name",
+        "prefix",
+        "attributes",
+        "parent",
+        "row",
+        "column",
+        "start",
+        "inner",
+        "end",
+        "inner_end",
+        "is_link",
+        "space",
+    )
 
     def __init__(self, name: str, prefix: str, space: str, parent: int) -> None:
         self.name = name
@@ -46,7 +66,8 @@ class XmlDocument(NamedTuple):
 
 
 class _Offsets:
-    """Finds the offset of a character by that of its byte in UTF-8, for offsets that do not fall."""
+    """Finds the offset of a character by that of its byte in UTF-8, for offsets that do not
+    fall."""
 
     def __init__(self, text: str) -> None:
         self.is_same = text.isascii()
@@ -64,7 +85,10 @@ class _Offsets:
         return self.character
 
 
-_TAG = re.compile(r"""<[^\s/>]+(?:[^"'>]|"[^"]*"|'[^']*')*>""")
+_TAG = re.compile(r"""<(?:[^"'>]|"[^"]*"|'[^']*')*>""")
+# The entities of every document, each of one character.
+_OF_XML = frozenset(("amp", "lt", "gt", "apos", "quot"))
+_REFERENCE = re.compile("&([^#&;< ][^&;< ]*);")
 
 
 class _Reader:
@@ -76,10 +100,18 @@ class _Reader:
         self.tags: List[XmlTag] = []
         self.texts: List[Tuple[int, int, str]] = []
         self.open: List[int] = []
-        self.parser = expat.ParserCreate("utf-8", "}")
+        # The lengths of the document's own entities, and how long attributes may yet be.
+        self.entities: Dict[str, int] = {}
+        self.room = len(text) + _MOST_ADDED
+        self.spaces: Dict[str, str] = {}
+        # Names are not kept by the parser, which would repeat the namespace in each.
+        self.parser = expat.ParserCreate("utf-8", "}", None)
         self.parser.namespace_prefixes = True
         self.parser.ordered_attributes = True
         self.parser.buffer_text = True
+        self.parser.EntityDeclHandler = self._declare
+        self.parser.EndDoctypeDeclHandler = self._count
+        self.parser.StartNamespaceDeclHandler = self._name_space
         self.parser.StartElementHandler = self._start
         self.parser.EndElementHandler = self._end
         self.parser.CharacterDataHandler = self._text
@@ -93,22 +125,47 @@ class _Reader:
             raise XmlError(reason, error.lineno, error.offset + 1) from None
         return XmlDocument(self.tags, self.texts)
 
+    def _refused(self, reason: str) -> XmlError:
+        """Returns an error at the place that is read."""
+        parser = self.parser
+        return XmlError(reason, parser.CurrentLineNumber, parser.CurrentColumnNumber + 1)
+
+    def _declare(self, name: str, is_parameter: bool, value: Optional[str], *_: object) -> None:
+        """Notes an entity. One with markup or with other entities is refused."""
+        if value is None or is_parameter:
+            return
+        names = {found[1] for found in _REFERENCE.finditer(value)}
+        if "<" in value or names - _OF_XML:
+            raise self._refused(f"the entity {name!r} is not only text")
+        self.entities.setdefault(name, len(value))
+
+    def _count(self) -> None:
+        """Counts the characters that entities add, before any is read."""
+        if self.entities:
+            names = (found[1] for found in _REFERENCE.finditer(self.text))
+            if sum(self.entities.get(name, 0) for name in names) > _MOST_ADDED:
+                raise self._refused(f"entities add more than {_MOST_ADDED} characters")
+
+    def _name_space(self, _: Optional[str], space: Optional[str]) -> None:
+        if space is not None and len(space) > _LONGEST_SPACE:
+            raise self._refused(f"a namespace has more than {_LONGEST_SPACE} characters")
+
     def _start(self, name: str, attributes: List[str]) -> None:
         space, local, prefix = _cut(name)
+        space = self.spaces.setdefault(space, space)
         tag = XmlTag(local, prefix, space, self.open[-1] if self.open else -1)
         tag.start = self.offsets.of(self.parser.CurrentByteIndex)
         found = _TAG.match(self.text, tag.start)
-        if found:
-            tag.inner = tag.inner_end = tag.end = found.end()
-        else:
-            # The element comes of an entity.
-            tag.start = -1
+        tag.inner = tag.inner_end = tag.end = found.end() if found else tag.start
         tag.row = self.parser.CurrentLineNumber
         tag.column = self.parser.CurrentColumnNumber + 1
         spaced: Dict[str, str] = {}
         for key, value in zip(attributes[::2], attributes[1::2]):
             key_space, key_name, _ = _cut(key)
+            self.room -= 1 + len(value)
             (spaced if key_space else tag.attributes)[key_name] = value
+        if self.room < 0:
+            raise self._refused(f"attributes without a text add more than {_MOST_ADDED} characters")
         for key, value in spaced.items():
             tag.attributes.setdefault(key, value)
         tag.is_link = local in ("a", "area") and "href" in tag.attributes and space in _LINK_SPACES
@@ -118,7 +175,7 @@ class _Reader:
     def _end(self, _: str) -> None:
         tag = self.tags[self.open.pop()]
         offset = self.offsets.of(self.parser.CurrentByteIndex)
-        if tag.start >= 0 and not self.text.endswith("/>", 0, tag.inner):
+        if not self.text.endswith("/>", 0, tag.inner):
             tag.inner_end = offset
             tag.end = self.text.find(">", offset) + 1
 
@@ -139,13 +196,10 @@ def read_xml(text: str) -> XmlDocument:
     return _Reader(text).read()
 
 
-_XML_START = re.compile(
-    r"\ufeff?\s*(?:<\?xml\s|(?:<!--(?:(?!-->).)*-->\s*"
-    r"|<!DOCTYPE\s+svg[^\[>]*(?:\[[^\]]*\]\s*)?>\s*)*<svg[\s>])",
-    re.DOTALL,
-)
+# The ends of the names of documents in XML.
+_XML_NAMES = (".svg", ".xhtml", ".xml")
 
 
-def is_xml(text: str) -> bool:
-    """Whether a text begins as XML or SVG."""
-    return _XML_START.match(text) is not None
+def is_xml(name: str) -> bool:
+    """Whether a document is XML, by its name."""
+    return lower(name).endswith(_XML_NAMES)

@@ -4,12 +4,10 @@ from __future__ import annotations
 
 import array
 import ctypes
-import ctypes.util
 import functools
 import itertools
 import os
 import sys
-from pathlib import Path
 from typing import Any, Iterable, List, NamedTuple, Optional, Sequence, Tuple
 
 # That of the library, which `include/simplecss.h` states.
@@ -23,12 +21,19 @@ TOO_MANY_DECLARATIONS = 4
 NOT_UTF8 = 5
 TOO_SMALL = 6
 
-# A limit that allows any number of declarations, and the one that holds where none is named.
-NO_LIMIT = 2 ** (8 * ctypes.sizeof(ctypes.c_size_t)) - 1
+# A limit that allows any number, and those that hold where none is named: of the declarations of
+# rules, and of what an answer has.
+NO_LIMIT: int = 2 ** (8 * ctypes.sizeof(ctypes.c_size_t)) - 1
 USUAL_LIMIT = 1_000_000
+USUAL_ANSWER_LIMIT = 10_000_000
+# What may be written of a text: so many bytes, or so many for each byte of a longer text.
+_MOST_WRITTEN = 2**26
+_MOST_FOR_BYTE = 32
 
 # The name of the library on this system.
-_NAME = {"win32": "simplecss.dll", "darwin": "libsimplecss.dylib"}.get(sys.platform, "libsimplecss.so")
+_NAME = {"win32": "simplecss.dll", "darwin": "libsimplecss.dylib"}.get(
+    sys.platform, "libsimplecss.so"
+)
 # The type code of arrays whose items are as wide as a `size_t`.
 SIZE = next(c for c in "QLI" if array.array(c).itemsize == ctypes.sizeof(ctypes.c_size_t))
 
@@ -38,7 +43,37 @@ class LibraryError(OSError):
 
 
 class LimitError(ValueError):
-    """The rules of a style sheet would hold more declarations than its limit."""
+    """The rules of a style sheet would hold more declarations than its limit, or an answer would
+    have more than its own."""
+
+
+def limit_of(limit: Optional[int]) -> int:
+    """Returns a limit as a number. `None` is no limit."""
+    return NO_LIMIT if limit is None else int(min(max(limit, 0), NO_LIMIT))
+
+
+class Room:
+    """How much an answer may yet have: rules and declarations of elements, or characters."""
+
+    def __init__(self, limit: int, unit: str = "rules and declarations") -> None:
+        self.limit = limit
+        self.left = limit
+        self.unit = unit
+
+    def take(self, count: int) -> None:
+        """Takes a part of the room. More than is left raises `LimitError`."""
+        self.left -= count
+        if self.left < 0:
+            raise self.passed()
+
+    def passed(self) -> LimitError:
+        """Returns the error that says that there is no room."""
+        return LimitError(f"the answer would have more than {self.limit} {self.unit}")
+
+
+def most_written(length: int) -> int:
+    """Returns how much may be written of a text of this length."""
+    return max(_MOST_WRITTEN, _MOST_FOR_BYTE * length)
 
 
 class TreeFault(NamedTuple):
@@ -107,16 +142,20 @@ def library_path() -> str:
     named = os.environ.get("SIMPLECSS_LIBRARY")
     if named:
         return named
-    here = Path(__file__).resolve().parent
-    for folder in (here, here.parent.parent / "out"):
-        if (folder / _NAME).is_file():
-            return str(folder / _NAME)
-    found = ctypes.util.find_library("simplecss")
+    here = os.path.dirname(os.path.realpath(__file__))
+    top = os.path.dirname(os.path.dirname(os.path.dirname(here)))
+    for folder in (here, os.path.join(top, "out")):
+        if os.path.isfile(os.path.join(folder, _NAME)):
+            return os.path.join(folder, _NAME)
+    # A module that takes long to import.
+    from ctypes.util import find_library
+
+    found = find_library("simplecss")
     if found:
         return found
     raise LibraryError(
-        f"{_NAME} not found: install the wheel for this system, run `./build library` in a checkout, or set"
-        " SIMPLECSS_LIBRARY to its path"
+        f"{_NAME} not found: install the package (`pip install ./python` in a checkout), run"
+        " `./build library`, or set SIMPLECSS_LIBRARY to its path"
     )
 
 
@@ -131,6 +170,16 @@ def _library() -> ctypes.CDLL:
     if version != __version__:
         raise LibraryError(f"{path} has version {version}, and this package {__version__}")
     return loaded
+
+
+def is_proved() -> bool:
+    """Whether the library that is used was made by the toolchain that proves it.
+
+    One that cargo compiled from the same sources gives the same answers. It is trusted beyond that:
+    the eraser, the names of Rattle's library over Rust's, and rustc. It may abort the process where
+    memory is refused.
+    """
+    return not hasattr(_library(), "simplecss_is_erased")
 
 
 def _version_of(loaded: ctypes.CDLL) -> str:
@@ -174,16 +223,20 @@ def encode(text: str) -> bytes:
 
 
 def ends_of(lengths: Iterable[int]) -> "ctypes.Array[ctypes.c_size_t]":
-    """Returns where each text ends in the buffer that has texts of these lengths one after another."""
+    """Returns where each text ends in the buffer that has texts of these lengths one after
+    another."""
     ends = _sizes(itertools.accumulate(lengths))
     return (ctypes.c_size_t * len(ends)).from_buffer_copy(ends)
 
 
-def call(name: str, *arguments: Any, room: int, with_fault: bool = False) -> Answer:
+def call(
+    name: str, *arguments: Any, room: int, with_fault: bool = False, most: Optional[int] = None
+) -> Answer:
     """Calls a function of the library.
 
-    An argument is a text, an array of ends, the arrays of a tree, or a number. `room` is the length of the
-    first buffer; a call that needs a longer one is made again.
+    An argument is a text, an array of ends, the arrays of a tree, or a number. `room` is the length
+    of the first buffer; a call that needs a longer one is made again. `most` is passed last to a
+    function that takes it: an answer of more bytes raises `LimitError`.
     """
     function = _function(name)
     words: List[Any] = []
@@ -195,6 +248,8 @@ def call(name: str, *arguments: Any, room: int, with_fault: bool = False) -> Ans
         for part in parts:
             words.append(part)
             words.append(ctypes.c_size_t(len(part)))
+    if most is not None:
+        words.append(ctypes.c_size_t(most))
     found = _TreeFault()
     length = ctypes.c_size_t(0)
     tail: Tuple[Any, ...] = (ctypes.byref(found),) if with_fault else ()
@@ -207,7 +262,8 @@ def call(name: str, *arguments: Any, room: int, with_fault: bool = False) -> Ans
     if status == OUT_OF_MEMORY:
         raise MemoryError(name)
     if status == TOO_MANY_DECLARATIONS:
-        raise LimitError("the rules would hold more declarations than the limit")
+        what = "the rules would hold more declarations than the limit"
+        raise LimitError(what if most is None else f"the answer would have more than {most} bytes")
     fault = TreeFault(found.fault, found.element) if status == TREE_FAULT else None
     output = ctypes.string_at(buffer, length.value) if status == DONE else b""
     return Answer(status, output, fault)

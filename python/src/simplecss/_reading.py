@@ -1,4 +1,4 @@
-"""What the library reads of style sheets and style attributes, by the grammar of today's CSS."""
+"""What the library reads of style sheets and style attributes, by the modern grammar."""
 
 from __future__ import annotations
 
@@ -7,19 +7,19 @@ import functools
 import itertools
 import json
 import re
+import weakref
 from typing import Any, Dict, Iterable, Iterator, List, NamedTuple, Optional, Sequence, Tuple, Union
 
 from . import _library as library
 from ._declaration import Declaration
 from ._selectors import Specificity, specificity_of
+from ._words import lower
 
 Span = Tuple[int, int]
 
 # The bytes of UTF-8 that begin no character, and how many bytes are counted at once.
 _CONTINUING = bytes(range(0x80, 0xC0))
 _BLOCK = 4096
-# How many brackets may be open at once.
-_DEEPEST = 64
 
 
 class Condition(NamedTuple):
@@ -33,8 +33,8 @@ class Condition(NamedTuple):
 
 
 class AtRule(NamedTuple):
-    """An at-rule that has no rules, or none that are read: its `name`, what is before its block, its
-    `block`, if it has one, and the group rules that it is in."""
+    """An at-rule that has no rules, or none that are read: its `name`, what is before its block,
+    its `block`, if it has one, and the group rules that it is in."""
 
     name: str
     prelude: str
@@ -90,8 +90,8 @@ class Source:
 
 
 class ReadSelector(NamedTuple):
-    """A selector of a list: its `text`, what of it is before a pseudo-element at its end, the name of
-    that one, and the specificity of the whole, if the library matches what is before it."""
+    """A selector of a list: its `text`, what of it is before a pseudo-element at its end, the name
+    of that one, and the specificity of the whole, if what is before it is supported."""
 
     text: str
     front: str
@@ -117,7 +117,8 @@ class Level(NamedTuple):
 
 
 class ReadAtRule(NamedTuple):
-    """An at-rule, the group rules that it is in, whether its block is closed, and where its block is."""
+    """An at-rule, the group rules that it is in, whether its block is closed, and where its block
+    is."""
 
     rule: AtRule
     levels: Tuple[Level, ...]
@@ -134,7 +135,7 @@ class Fault(NamedTuple):
     span: Span
 
 
-Item = Union[ReadDeclaration, ReadAtRule, Fault]
+BlockItem = Union[ReadDeclaration, ReadAtRule, Fault]
 
 
 class RuleSet(NamedTuple):
@@ -143,7 +144,7 @@ class RuleSet(NamedTuple):
     `head` ends where its block begins."""
 
     selectors: Tuple[ReadSelector, ...]
-    items: Tuple[Item, ...]
+    items: Tuple[BlockItem, ...]
     levels: Tuple[Level, ...]
     head: Span
     is_closed: bool
@@ -166,7 +167,7 @@ def conditions_of(levels: Iterable[Level]) -> Tuple[Condition, ...]:
     return tuple(level.condition for level in levels)
 
 
-def declarations_in(items: Iterable[Item]) -> Tuple[Declaration, ...]:
+def declarations_in(items: Iterable[BlockItem]) -> Tuple[Declaration, ...]:
     """Returns the declarations of a block."""
     return tuple(item.declaration for item in items if isinstance(item, ReadDeclaration))
 
@@ -178,17 +179,18 @@ class _Reader:
         self.source = Source(text)
         self._levels: Dict[Tuple[int, ...], Tuple[Level, ...]] = {}
 
-    def lines(self, name: str) -> Iterator[Any]:
+    def lines(self, name: str, most: Optional[int] = None) -> Iterator[Any]:
         """Yields what a call writes of the text."""
         data = self.source.data
-        answer = library.call(name, data, room=1024 + 16 * len(data))
+        answer = library.call(name, data, room=1024 + 16 * len(data), most=most)
         return map(json.loads, library.output_of(name, answer).splitlines())
 
     def statements(self) -> Iterator[Statement]:
-        """Yields the statements of the text, and the group rules that have none, which the library does
-        not write."""
+        """Yields the statements of the text, and the group rules that have none, which the library
+        does not write."""
         at = 0
-        for value in self.lines("simplecss_read"):
+        most = library.most_written(len(self.source.data))
+        for value in self.lines("simplecss_read", most):
             found = self._statement(value)
             start, end = found.levels[0].span if found.levels else found.span
             yield from self._groups_between(at, start)
@@ -201,20 +203,30 @@ class _Reader:
         if start < end and b"@" in self.source.data[start:end]:
             for item in read_block(self.source.at((start, end)))[1]:
                 if isinstance(item, ReadAtRule):
-                    yield item._replace(span=_moved(item.span, start), inner=_moved(item.inner, start))
+                    yield item._replace(
+                        span=_moved(item.span, start), inner=_moved(item.inner, start)
+                    )
 
     def _statement(self, value: Dict[str, Any]) -> Statement:
         """Makes a statement of a line."""
         levels = self._levels_of(value["levels"])
         if value["kind"] == "rule":
             return self._rule(value, levels)
-        return self._at_rule(value, levels) if value["kind"] == "at-rule" else self._fault(value, levels)
+        return (
+            self._at_rule(value, levels)
+            if value["kind"] == "at-rule"
+            else self._fault(value, levels)
+        )
 
-    def item(self, value: Dict[str, Any], levels: Tuple[Level, ...] = ()) -> Item:
+    def item(self, value: Dict[str, Any], levels: Tuple[Level, ...] = ()) -> BlockItem:
         """Makes an item of a line, or of what a rule set has."""
         if value["kind"] == "declaration":
             return self._declaration(value)
-        return self._at_rule(value, levels) if value["kind"] == "at-rule" else self._fault(value, levels)
+        return (
+            self._at_rule(value, levels)
+            if value["kind"] == "at-rule"
+            else self._fault(value, levels)
+        )
 
     def _levels_of(self, values: List[Dict[str, Any]]) -> Tuple[Level, ...]:
         """Makes the group rules of a statement, which most have in common."""
@@ -223,7 +235,7 @@ class _Reader:
             at = self.source.at
             self._levels[key] = tuple(
                 Level(
-                    Condition(at(value["name"]).lower(), at(value["prelude"])),
+                    Condition(lower(at(value["name"])), at(value["prelude"])),
                     (value["start"], value["end"]),
                     (value["start"], value["prelude"][1]),
                 )
@@ -256,9 +268,9 @@ class _Reader:
 
     def _declaration(self, value: Dict[str, Any]) -> ReadDeclaration:
         name = self.source.at(value["name"])
-        name = name if name.startswith("--") else name.lower()
+        name = name if name.startswith("--") else lower(name)
         text = self.source.at(value["value"])
-        text = text if value["closed"] else _closed(name, text)
+        text = text if value["closed"] else _closed(text)
         declaration = Declaration(name, text, value["important"])
         return ReadDeclaration(declaration, value["closed"], (value["start"], value["end"]))
 
@@ -270,43 +282,44 @@ class _Reader:
     def _at_rule(self, value: Dict[str, Any], levels: Tuple[Level, ...]) -> ReadAtRule:
         at = self.source.at
         block = None if value["block"] is None else at(value["block"])
-        rule = AtRule(at(value["name"]).lower(), at(value["prelude"]), block, conditions_of(levels))
+        rule = AtRule(lower(at(value["name"])), at(value["prelude"]), block, conditions_of(levels))
         start, end = value["block"] or (value["end"], value["end"])
-        return ReadAtRule(rule, levels, value["closed"], (value["start"], value["end"]), (start, end))
+        return ReadAtRule(
+            rule, levels, value["closed"], (value["start"], value["end"]), (start, end)
+        )
 
 
-def _closed(name: str, value: str) -> str:
+def _closed(value: str) -> str:
     """Returns a value with what the end of the text closes: a string or a comment, and brackets."""
-    for mark in ("", '"', "'", "*/"):
-        text: Optional[str] = value + mark
-        for _ in range(_DEEPEST + 1):
-            if text is not None and not _is_open(name, text):
-                return text
-            more = (f"{text}{bracket}" for bracket in ")]}")
-            text = next((each for each in more if _is_open(name, each) is not None), None)
-            if text is None:
-                break
-    return value
-
-
-def _is_open(name: str, value: str) -> Optional[bool]:
-    """Whether the end of the text closes a declaration, or `None` for what is none."""
-    found = list(_Reader(f"{name}:{value}").lines("simplecss_declarations"))
-    is_one = len(found) == 1 and found[0]["kind"] == "declaration"
-    return not found[0]["closed"] if is_one else None
+    data = library.encode(value)
+    answer = library.call("simplecss_close", data, room=256 + len(data))
+    return answer.output.decode("utf-8") if answer.status == library.DONE else value
 
 
 def _moved(span: Span, by: int) -> Span:
     return span[0] + by, span[1] + by
 
 
+class _Statements(List[Statement]):
+    """The statements of a sheet."""
+
+
+# Those that are in use, by the texts of their sheets.
+_in_use: "weakref.WeakValueDictionary[str, _Statements]" = weakref.WeakValueDictionary()
+
+
 def read_sheet(text: str) -> Tuple[Source, List[Statement]]:
-    """Returns the statements of a style sheet, also those in its group rules."""
+    """Returns the statements of a style sheet, also those in its group rules. What a `StyleSheet`
+    has read is not read again."""
+    found = _in_use.get(text)
+    if found is not None:
+        return Source(text), found
     reader = _Reader(text)
-    return reader.source, list(reader.statements())
+    found = _in_use[text] = _Statements(reader.statements())
+    return reader.source, found
 
 
-def read_block(text: str) -> Tuple[Source, List[Item]]:
+def read_block(text: str) -> Tuple[Source, List[BlockItem]]:
     """Returns what a style attribute or the block of a rule has."""
     reader = _Reader(text)
     return reader.source, list(map(reader.item, reader.lines("simplecss_declarations")))

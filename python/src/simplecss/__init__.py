@@ -1,0 +1,80 @@
+"""CSS: selectors, style sheets, and which rules match the elements of a page.
+
+    >>> import simplecss
+    >>> tree = simplecss.Tree.from_html("<ul><li class=a>one<li>two</ul>")
+    >>> tree.select("ul > .a")
+    [<li class="a">]
+
+The work is done by the C library `libsimplecss`; `docs/PYTHON.md` says where it is looked for.
+Every call may be made from any thread.
+"""
+
+TYPE_CHECKING = False
+if TYPE_CHECKING:
+    from ._declaration import Declaration
+    from ._elements import TreeError
+    from ._inline import NotWritten, inline
+    from ._library import LibraryError, LimitError, __version__, is_proved, library_path
+    from ._linked import Unread
+    from ._reading import AtRule, Condition, declarations
+    from ._selectors import Selector, SelectorError
+    from ._sheet import Rule, Skipped, StyleSheet, Unsupported
+    from ._tree import Element, Item, Tree
+
+    Unmatched = Unsupported
+
+__all__ = [
+    "AtRule",
+    "Condition",
+    "Declaration",
+    "Element",
+    "Item",
+    "LibraryError",
+    "LimitError",
+    "NotWritten",
+    "Rule",
+    "Selector",
+    "SelectorError",
+    "Skipped",
+    "StyleSheet",
+    "Tree",
+    "TreeError",
+    "Unread",
+    "Unsupported",
+    "__version__",
+    "declarations",
+    "inline",
+    "is_proved",
+    "library_path",
+]
+
+if not TYPE_CHECKING:
+    # The names of each module, which is imported when one of them is first used.
+    _NAMES = {
+        "_declaration": "Declaration",
+        "_elements": "TreeError",
+        "_inline": "NotWritten inline",
+        "_library": "LibraryError LimitError __version__ is_proved library_path",
+        "_linked": "Unread",
+        "_reading": "AtRule Condition declarations",
+        "_selectors": "Selector SelectorError",
+        "_sheet": "Rule Skipped StyleSheet Unsupported",
+        "_tree": "Element Item Tree",
+    }
+    _MODULES = {name: module for module in _NAMES for name in _NAMES[module].split()}
+
+    def __getattr__(name: str) -> object:
+        """Returns what a name denotes, also an old one."""
+        from importlib import import_module
+
+        if name == "Unmatched":
+            old = import_module("._deprecated", __name__)
+            old.warn_of_old("simplecss.Unmatched", "simplecss.Unsupported")
+            return __getattr__("Unsupported")
+        if name not in _MODULES:
+            raise AttributeError(f"module {__name__!r} has no attribute {name!r}")
+        globals()[name] = found = getattr(import_module("." + _MODULES[name], __name__), name)
+        return found
+
+    def __dir__() -> "list[str]":
+        return sorted({*globals(), *__all__})

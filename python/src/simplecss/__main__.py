@@ -1,0 +1,469 @@
+"""The command line: `python3 -m simplecss match|select|style|inline|lint`."""
+
+from __future__ import annotations
+
+import argparse
+import concurrent.futures
+import glob
+import multiprocessing
+import os
+import sys
+import threading
+import time
+from pathlib import Path
+from typing import Any, Callable, Iterator, List, NamedTuple, Optional, Sequence, Tuple, Type
+
+from . import _jobs, _lint
+from ._elements import TreeError
+from ._jobs import DONE, INPUT, OUT_OF_MEMORY, REFUSED, UNREADABLE, USAGE, Failure, Job, Outcome
+from ._library import LibraryError, LimitError, __version__
+from ._output import printable, printable_lines
+from ._selectors import MODERN, PORT, TODAY, SelectorError
+from ._tree import Tree
+
+INTERRUPTED = 130
+
+# After how many seconds a bar of progress is shown.
+_PATIENCE = 2.0
+# From how many pages on they are shared out among processes, which take a while to begin.
+_MANY = 8
+
+
+class _Progress:
+    """How many of the files are done, shown on a terminal."""
+
+    def __init__(self) -> None:
+        self.done = 0
+        self.count = 0
+        self._start = time.monotonic()
+        self._is_shown = False
+
+    def show(self) -> None:
+        """Writes the bar, if the work takes long."""
+        seconds = time.monotonic() - self._start
+        if seconds < _PATIENCE or sys.stderr is None or not sys.stderr.isatty():
+            return
+        filled = 20 * self.done // max(self.count, 1)
+        bar = "#" * filled + "." * (20 - filled)
+        files = f"{self.done} of {self.count} files, " if self.count > 1 else ""
+        sys.stderr.write(f"\r\033[Ksimplecss: [{bar}] {files}{seconds:.0f} s")
+        sys.stderr.flush()
+        self._is_shown = True
+
+    def clear(self) -> None:
+        """Removes the bar."""
+        if self._is_shown and sys.stderr is not None:
+            sys.stderr.write("\r\033[K")
+            sys.stderr.flush()
+
+
+_progress = _Progress()
+
+
+class _File(NamedTuple):
+    """A file that is named, and its path from the folder that it was found in."""
+
+    name: str
+    inner: str
+
+
+def _is_wanted(name: str, has_sheets: bool) -> bool:
+    """Whether a file of a folder is a page, or a sheet where these are asked for."""
+    return _lint.is_page(name) or has_sheets and name.lower().endswith(".css")
+
+
+def _files_of(name: str, has_sheets: bool = False) -> List[_File]:
+    """Returns the files that a word names: one, those of a pattern, or the pages in a folder, and
+    the sheets where these are asked for."""
+    if name == INPUT or os.path.isfile(name):
+        return [_File(name, os.path.basename(name))]
+    if os.path.isdir(name):
+        every = sorted(str(each) for each in Path(name).rglob("*") if each.is_file())
+        return [
+            _File(each, os.path.relpath(each, name))
+            for each in every
+            if _is_wanted(each, has_sheets)
+        ]
+    found = sorted(glob.glob(name, recursive=True)) if glob.has_magic(name) else []
+    files = [_File(each, os.path.basename(each)) for each in found if os.path.isfile(each)]
+    return files or [_File(name, os.path.basename(name))]
+
+
+def _is_pages(name: str) -> bool:
+    """Whether a word names pages: by its extension, or as a folder or a pattern."""
+    is_pattern = glob.has_magic(name) and not name.lower().endswith(".css")
+    return _lint.is_page(name) or os.path.isdir(name) or is_pattern and not os.path.isfile(name)
+
+
+def _parted(words: Sequence[str], page: int) -> Tuple[List[_File], List[str]]:
+    """Returns the pages and the sheets that words name, of which one is a page in any case."""
+    pages: List[_File] = []
+    sheets: List[str] = []
+    page %= len(words)
+    for at, name in enumerate(words):
+        if at == page or _is_pages(name):
+            pages += _files_of(name)
+        else:
+            sheets.append(name)
+    return pages, sheets
+
+
+def _free_processors() -> int:
+    """Returns how many processors have no work, at least one."""
+    has_affinity = hasattr(os, "sched_getaffinity")
+    count = len(os.sched_getaffinity(0)) if has_affinity else os.cpu_count() or 1
+    try:
+        return max(1, count - int(os.getloadavg()[0]))
+    except (OSError, AttributeError):
+        return count
+
+
+def _each(job: Job, names: Sequence[str]) -> Iterator[Outcome]:
+    """Yields what a job does with each of the files, in order."""
+    _progress.count = len(names)
+    workers = min(len(names), _free_processors())
+    if len(names) < _MANY or workers < 2 or INPUT in names:
+        for name in names:
+            yield job(name)
+            _progress.done += 1
+        return
+    context = multiprocessing.get_context("spawn")
+    with concurrent.futures.ProcessPoolExecutor(workers, mp_context=context) as pool:
+        for outcome in pool.map(job, names, chunksize=4):
+            yield outcome
+            _progress.done += 1
+
+
+def _write(data: bytes) -> None:
+    """Writes to standard output."""
+    if hasattr(sys.stdout, "buffer"):
+        sys.stdout.flush()
+        sys.stdout.buffer.write(data)
+    else:
+        sys.stdout.write(data.decode("utf-8", "replace"))
+
+
+def _say_all(outcome: Outcome) -> None:
+    for message in outcome.messages:
+        _say(message)
+
+
+def _show_each(words: argparse.Namespace, pages: Sequence[_File]) -> Tuple[int, int]:
+    """Writes what comes of each page. Returns the status, and how many elements were found."""
+    status, found = DONE, 0
+    job = words.job(words, sys.stdout.isatty())
+    for outcome in _each(job, [each.name for each in pages]):
+        _say_all(outcome)
+        _write(outcome.output)
+        status = max(status, outcome.status)
+        found += outcome.found
+    return status, found
+
+
+def _read_pages(words: argparse.Namespace) -> int:
+    pages, words.sheets = _parted(words.files, -1)
+    return _show_each(words, pages)[0]
+
+
+def _select(words: argparse.Namespace) -> int:
+    pages = [each for name in words.pages for each in _files_of(name)]
+    words.is_of_many = len(pages) > 1
+    try:
+        Tree().select(words.selectors, grammar=words.grammar)
+    except SelectorError as error:
+        raise Failure(f"selector refused: {error}", REFUSED) from None
+    status, found = _show_each(words, pages)
+    return status or (REFUSED if words.quiet and not found else DONE)
+
+
+def _inline(words: argparse.Namespace) -> int:
+    pages, words.sheets = _parted(words.files, 0)
+    if words.output is None:
+        if len(pages) > 1 and not words.json:
+            raise Failure("several pages need -o FOLDER", USAGE)
+        return _show_each(words, pages)[0]
+    return _write_each(words, pages, Path(words.output))
+
+
+def _write_each(words: argparse.Namespace, pages: Sequence[_File], output: Path) -> int:
+    """Writes each page into a file: the output, or one in it if that is a folder."""
+    is_folder = len(pages) != 1 or output.is_dir() or words.output.endswith(("/", os.sep))
+    paths = [output / each.inner if is_folder else output for each in pages]
+    if len(set(paths)) < len(paths):
+        raise Failure("two of the pages have one name", USAGE)
+    status = DONE
+    job = words.job(words, False)
+    for outcome, path in zip(_each(job, [each.name for each in pages]), paths):
+        _say_all(outcome)
+        status = max(status, outcome.status)
+        if outcome.status == DONE:
+            try:
+                path.parent.mkdir(parents=True, exist_ok=True)
+                path.write_bytes(outcome.output)
+            except OSError as error:
+                raise Failure(f"cannot write {path}: {error.strerror}", UNREADABLE) from None
+    return status
+
+
+def _is_selected(kind: str, words: argparse.Namespace) -> bool:
+    """Whether findings of a kind are asked for, by the beginnings of kinds."""
+    selected = not words.select or kind.startswith(tuple(words.select))
+    return selected and not (words.ignore and kind.startswith(tuple(words.ignore)))
+
+
+def _bold(text: str) -> str:
+    """Returns the text in bold on a terminal."""
+    return f"\033[1m{text}\033[0m" if sys.stdout.isatty() else text
+
+
+def _lint_files(words: argparse.Namespace) -> int:
+    names = [each.name for name in words.sheets for each in _files_of(name, True)]
+    found: List[_lint.Finding] = []
+    status = DONE
+    # A sheet that several pages link to is reported once.
+    seen = {os.path.realpath(name) for name in names}
+    for outcome in _each(words.job(words, False), names):
+        _say_all(outcome)
+        status = outcome.status or status
+        linked = {each.file for each in outcome.mistakes} - {outcome.name}
+        old = {file for file in linked if os.path.realpath(file) in seen}
+        seen.update(os.path.realpath(file) for file in linked)
+        those = (each for each in outcome.mistakes if each.file not in old)
+        found += [each for each in those if _is_selected(each.kind, words)]
+    form = "json" if words.json else words.format
+    write = _lint.FORMATS.get(form)
+    sys.stdout.write(write(found) if write else _lint.as_text(found, _bold))
+    if not write and sys.stdout.isatty():
+        files = len({each.file for each in found})
+        print(f"{len(found)} findings in {files} of {len(names)} files")
+    return status or (REFUSED if found else DONE)
+
+
+_Run = Callable[[argparse.Namespace], int]
+
+
+class _ArgumentParser(argparse.ArgumentParser):
+    """A parser of words that raises an `OSError` where its help cannot be written, as that of the
+    standard library does in some versions alone."""
+
+    def _print_message(self, message: str, file: Any = None) -> None:
+        stream = sys.stderr if file is None else file
+        if message and stream is not None:
+            # It may have the name of a file.
+            stream.write(printable_lines(message))
+
+
+def _parser() -> argparse.ArgumentParser:
+    parser = _ArgumentParser(prog="simplecss", description="CSS on real files.")
+    parser.add_argument("--version", action="version", version=f"simplecss {__version__}")
+    commands = parser.add_subparsers(dest="command", required=True)
+
+    def add(name: str, run: _Run, job: Type[Job], text: str) -> Any:
+        command = commands.add_parser(name, help=text, description=text)
+        command.add_argument("--json", action="store_true", help="write lines of JSON")
+        text = "read pages as XML, whatever their names"
+        command.add_argument("--xml", action="store_true", help=text)
+        command.set_defaults(run=run, job=job)
+        return command
+
+    text = "Show which rules match each element."
+    _add_reading(add("match", _read_pages, _jobs.Match, text))
+    text = "Show which declaration of a name wins on each element."
+    command = add("style", _read_pages, _jobs.Style, text)
+    command.add_argument("name", metavar="NAME")
+    _add_reading(command)
+    text = "Show the elements that a list of selectors matches."
+    _add_select(add("select", _select, _jobs.Select, text))
+    text = "Write style sheets into the style attributes of pages."
+    _add_inline(add("inline", _inline, _jobs.Inline, text))
+    text = "Show the mistakes in style sheets, and in those of pages."
+    _add_lint(add("lint", _lint_files, _jobs.Lint, text))
+    return parser
+
+
+def _grammar(word: str) -> str:
+    """Returns a grammar's word. That of an earlier version is taken, too."""
+    if word != TODAY:
+        return word
+    _say(f"--grammar {TODAY} is now --grammar {MODERN}")
+    return MODERN
+
+
+def _add_grammar(command: Any) -> None:
+    text = "the grammar: that of browsers, or that of the Rust crate"
+    choices = [MODERN, PORT]
+    command.add_argument("--grammar", type=_grammar, choices=choices, default=MODERN, help=text)
+
+
+def _add_folder(command: Any) -> None:
+    text = "where the files of linked sheets are (the folder of each page, if not said)"
+    command.add_argument("--folder", metavar="PATH", help=text)
+
+
+def _add_reading(command: Any) -> None:
+    _add_grammar(command)
+    _add_folder(command)
+    command.add_argument("--media", default="screen", metavar="TYPE", help="the type of media")
+    text = "style sheets (those of each page without any), and pages, folders or patterns of them"
+    command.add_argument("files", nargs="+", metavar="FILE", help=text)
+
+
+def _add_select(command: Any) -> None:
+    shown = command.add_mutually_exclusive_group()
+    shown.add_argument("--text", action="store_true", help="write the text of each element")
+    shown.add_argument("--attr", metavar="NAME", help="write the value of an attribute")
+    shown.add_argument("--html", action="store_true", help="write the source of each element")
+    shown.add_argument("--count", action="store_true", help="write how many there are")
+    shown.add_argument(
+        "--quiet", action="store_true", help="write nothing; status 1 if there are none"
+    )
+    _add_grammar(command)
+    command.add_argument("selectors", metavar="SELECTORS")
+    command.add_argument("pages", nargs="+", metavar="PAGE")
+
+
+def _add_inline(command: Any) -> None:
+    _add_folder(command)
+    text = "the file of the page, or a folder for those of several"
+    command.add_argument("-o", dest="output", metavar="PATH", help=text)
+    command.add_argument("--base-url", metavar="URL", help="what relative urls are taken from")
+    command.add_argument("--preserve", metavar="SELECTORS", help="style elements that stay")
+    for name, text in (
+        ("keep-style", "leave all style elements"),
+        ("remove-classes", "remove the classes that no rule needs any more"),
+        ("attributes", "write `width`, `bgcolor` and the like beside styles"),
+        ("no-important", "leave what a rule that stays could override, in place of `!important`"),
+        ("report", "say on standard error what could not be written"),
+    ):
+        command.add_argument(f"--{name}", action="store_true", help=text)
+    text = "a page, and more pages, folders or patterns of them, and style sheets"
+    command.add_argument("files", nargs="+", metavar="FILE", help=text)
+
+
+def _add_lint(command: Any) -> None:
+    formats = ["text", *_lint.FORMATS]
+    command.add_argument("--format", choices=formats, default="text", help="the form of the report")
+    command.add_argument(
+        "--select",
+        action="append",
+        metavar="KIND",
+        help="report these kinds only, as `unsupported`",
+    )
+    command.add_argument("--ignore", action="append", metavar="KIND", help="leave these kinds out")
+    command.add_argument("--all", action="store_true", help="report what is unsupported, too")
+    _add_grammar(command)
+    _add_folder(command)
+    command.add_argument("sheets", nargs="+", metavar="FILE")
+
+
+def _say(message: str) -> None:
+    """Writes a line to standard error."""
+    if sys.stderr is not None:
+        _progress.clear()
+        text = printable(f"simplecss: {message}")
+        print(text.encode("utf-8", "replace").decode(), file=sys.stderr)
+
+
+def _run(words: argparse.Namespace) -> Tuple[int, str]:
+    """Returns the exit status, and what to say on standard error."""
+    try:
+        if sys.stdout is None:
+            return UNREADABLE, "standard output is closed"
+        status = words.run(words)
+        sys.stdout.flush()
+        return status, ""
+    except Failure as failure:
+        return failure.status, str(failure)
+    except TreeError as error:
+        return REFUSED, str(error)
+    except UnicodeEncodeError:
+        return USAGE, "a word or a name of a file is not UTF-8"
+    except LimitError as error:
+        return REFUSED, str(error)
+    except MemoryError:
+        return OUT_OF_MEMORY, "out of memory"
+    except LibraryError as error:
+        return UNREADABLE, str(error)
+    except OSError as error:
+        return _unwritten(error)
+
+
+def _unwritten(error: OSError) -> Tuple[int, str]:
+    """Returns the exit status where output cannot be written, and what to say on standard error."""
+    _drop_output()
+    return (
+        UNREADABLE,
+        "" if isinstance(error, BrokenPipeError) else f"cannot write: {error.strerror}",
+    )
+
+
+def _drop_output() -> None:
+    """Keeps the interpreter from writing what is left when it ends."""
+    try:
+        os.dup2(os.open(os.devnull, os.O_WRONLY), sys.stdout.fileno())
+    except (OSError, AttributeError):
+        pass
+
+
+def _run_aside(words: argparse.Namespace) -> Tuple[int, str]:
+    """Runs in a thread, so that Ctrl-C need not wait for a call of the library."""
+    answers: List[Tuple[int, str]] = []
+    errors: List[BaseException] = []
+
+    def work() -> None:
+        try:
+            answers.append(_run(words))
+        except BaseException as error:  # what is no failure of ours is shown by the main thread
+            errors.append(error)
+
+    thread = threading.Thread(target=work, daemon=True)
+    try:
+        thread.start()
+        while thread.is_alive():
+            thread.join(0.2)
+            _progress.show()
+    except KeyboardInterrupt:
+        _progress.clear()
+        for each in multiprocessing.active_children():
+            each.kill()
+        os._exit(INTERRUPTED)
+    _progress.clear()
+    if errors:
+        raise errors[0]
+    return answers[0]
+
+
+def _parse(arguments: Optional[List[str]]) -> argparse.Namespace:
+    """Returns the words. Exits after the help, the version or an error of words, and raises an
+    `OSError` where one of these cannot be written."""
+    try:
+        return _parser().parse_args(arguments)
+    except SystemExit:
+        if sys.stdout is not None:
+            sys.stdout.flush()
+        raise
+
+
+def main(arguments: Optional[List[str]] = None) -> int:
+    """Runs the command line. Returns the exit status: 0 done, 1 refused or found, 2 wrong words, 3
+    out of memory, 4 a file that cannot be read or written."""
+    global _progress
+    _progress = _Progress()
+    try:
+        words = _parse(arguments)
+    except OSError as error:
+        status, message = _unwritten(error)
+        if message:
+            _say(message)
+        return status
+    reconfigure = getattr(sys.stdout, "reconfigure", None)
+    if reconfigure is not None:
+        reconfigure(encoding="utf-8", newline="\n")
+    status, message = _run_aside(words)
+    if message:
+        _say(message)
+    return status
+
+
+if __name__ == "__main__":
+    sys.exit(main())

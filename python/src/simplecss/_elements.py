@@ -1,0 +1,395 @@
+"""The elements of a tree in columns, and what selectors match of them.
+
+`Tree` and `Element` show them to users of the package; its other modules use the names here.
+"""
+
+from __future__ import annotations
+
+import array
+import bisect
+import itertools
+import re
+from typing import (
+    Any,
+    Dict,
+    FrozenSet,
+    Iterable,
+    Iterator,
+    List,
+    Mapping,
+    Optional,
+    Sequence,
+    Set,
+    Tuple,
+    Union,
+)
+
+from . import _library as library
+from ._port import PortReading, has_lines, prepared
+from ._selectors import MODERN, PORT, Reading, grammar_of, matched, selector_error
+from ._xml import XmlDocument
+from .html import HTML, RAW, SVG, Node, Text, decode, with_line_feeds
+
+# The states of an element that selectors test, as numbers of the library.
+STATES = {"link": 1, "visited": 2, "hover": 4, "active": 8, "focus": 16}
+NO_STATES: FrozenSet[str] = frozenset()
+LINK = frozenset(("link",))
+SVG_SPACE = "http://www.w3.org/2000/svg"
+# The number of the library for an element that has a text of its own.
+_HAS_TEXT = 32
+# How many lists of selectors have their answers kept.
+_MOST_ANSWERS = 32
+_LINK_NAMES = ("a", "area")
+# What begins a text in which no references are read.
+_CDATA = "<![CDATA["
+
+# Selectors, and the states of the elements that each matches.
+States = Mapping[str, Iterable[str]]
+
+
+class TreeError(ValueError):
+    """A document is no tree that selectors can match.
+
+    `row` and `column` begin at 1, and are `None` where the position is not known.
+    """
+
+    def __init__(self, reason: str, row: Optional[int], column: Optional[int]) -> None:
+        super().__init__(reason, row, column)
+        self.reason = reason
+        self.row = row
+        self.column = column
+
+    def __str__(self) -> str:
+        return self.reason if self.row is None else f"{self.row}:{self.column}: {self.reason}"
+
+
+class _Texts:
+    """The texts of a document that are not empty, in order: for each how many elements begin before
+    it, in which element it is, and the text, or where it begins and ends in the source."""
+
+    def __init__(self) -> None:
+        self.begun = array.array("l")
+        self.owners = array.array("l")
+        self.values: List[Any] = []
+
+    def add(self, begun: int, owner: int, value: Any) -> None:
+        """Adds a text."""
+        self.begun.append(begun)
+        self.owners.append(owner)
+        self.values.append(value)
+
+    def within(self, start: int, end: int) -> Iterator[Tuple[int, Any]]:
+        """Yields the texts of the elements from one index up to another, each after its element."""
+        for at in range(bisect.bisect_left(self.begun, start + 1), len(self.values)):
+            # Those of an element and of the elements in it are one after another.
+            if self.begun[at] > end or not start <= self.owners[at] < end:
+                break
+            yield self.owners[at], self.values[at]
+
+
+def states_of(names: Iterable[str]) -> FrozenSet[str]:
+    """Returns names of states as a set. Another name raises `ValueError`."""
+    states = frozenset(names)
+    if not states <= STATES.keys():
+        raise ValueError(f"no state of an element: {sorted(states - STATES.keys())[0]!r}")
+    return states
+
+
+class _Computed:
+    """What is computed of elements when it is needed."""
+
+    def __init__(self) -> None:
+        self.arrays: Dict[str, library.TreeArrays] = {}
+        self.answers: Dict[Tuple[str, str], List[int]] = {}
+        self.sets: Dict[Tuple[str, str], FrozenSet[int]] = {}
+        self.lines: Optional[List[int]] = None
+        self.ends: Optional[List[int]] = None
+        self.children: Optional[List[List[int]]] = None
+        self.port_reading: Optional[PortReading] = None
+
+
+class Elements:
+    """The elements of a tree, in document order: an item of each list is what one of them has."""
+
+    def __init__(self) -> None:
+        self.names: List[str] = []
+        self.attributes: List[Dict[str, str]] = []
+        # The indices of the parents, and -1 of an element without one.
+        self.parents: List[int] = []
+        self.depths: List[int] = []
+        self.states: Dict[int, FrozenSet[str]] = {}
+        # The elements of SVG, and of MathML in HTML.
+        self.drawn: Set[int] = set()
+        self.formulas: Set[int] = set()
+        # Where each element begins: its row and column; or in `source`, where its start tag begins
+        # and ends, and where the element ends.
+        self.places: List[Tuple[Optional[int], Optional[int]]] = []
+        self.spans: Optional[List[Tuple[int, int, int]]] = None
+        self.source: Optional[str] = None
+        self.texts = _Texts()
+        # The elements of the tree that these were made from.
+        self.nodes: Optional[List[Any]] = None
+        # How selectors are read for the elements.
+        self.reading = Reading.AS_WRITTEN
+        self._computed = _Computed()
+
+    def __len__(self) -> int:
+        return len(self.names)
+
+    def __getstate__(self) -> Dict[str, Any]:
+        state = {**self.__dict__, "nodes": None}
+        del state["_computed"]
+        return state
+
+    def __setstate__(self, state: Dict[str, Any]) -> None:
+        self.__dict__.update(state)
+        self._computed = _Computed()
+
+    def add(self, name: str, attributes: Dict[str, str], parent: int) -> int:
+        """Adds an element. Returns its index."""
+        if not name:
+            raise TreeError("the name is empty", None, None)
+        self.names.append(name)
+        self.attributes.append(attributes)
+        self.parents.append(parent)
+        self.depths.append(0 if parent < 0 else self.depths[parent] + 1)
+        return len(self.names) - 1
+
+    def take_nodes(
+        self, root: Node, text: str, *, is_quirky: bool, is_part: bool = False
+    ) -> List[Node]:
+        """Takes the elements of a document in HTML, and returns them in order."""
+        self.reading = Reading.QUIRKS if is_quirky else Reading.HTML
+        self.source = text
+        taken = self._walk(root.children if is_part else [root])
+        self.names = [node.name for node in taken]
+        self.attributes = [node.attributes for node in taken]
+        self.spans = [(node.start, node.inner, node.outer_end) for node in taken]
+        for index, node in enumerate(taken):
+            if node.name in _LINK_NAMES and _is_link(node):
+                self.states[index] = LINK
+            if node.space != HTML:
+                (self.drawn if node.space == SVG else self.formulas).add(index)
+        return taken
+
+    def _walk(self, top: Sequence[Union[Node, Text]]) -> List[Node]:
+        """Takes the texts, and where each element is. Returns the elements in order."""
+        taken: List[Node] = []
+        parents, depths, texts = self.parents, self.depths, self.texts
+        begun, owners, values = texts.begun.append, texts.owners.append, texts.values.append
+        # The children that are to come of each open element, and its index.
+        waiting = [iter(top)]
+        open_ones = [-1]
+        while waiting:
+            parent, depth = open_ones[-1], len(waiting) - 1
+            for child in waiting[-1]:
+                if isinstance(child, tuple):
+                    if child[0] < child[1]:
+                        begun(len(taken))
+                        owners(parent)
+                        values(child)
+                    continue
+                # Without its parent it goes as soon as it is no longer used.
+                child.parent = None
+                parents.append(parent)
+                depths.append(depth)
+                taken.append(child)
+                if child.children and (child.name != "template" or child.space != HTML):
+                    waiting.append(iter(child.children))
+                    open_ones.append(len(taken) - 1)
+                    break
+            else:
+                waiting.pop()
+                open_ones.pop()
+        return taken
+
+    def take_tags(self, document: XmlDocument, text: str) -> None:
+        """Takes the elements of a document in XML."""
+        self.source = text
+        self.spans = [(tag.start, tag.inner, tag.end) for tag in document.tags]
+        for index, tag in enumerate(document.tags):
+            self.add(tag.name, tag.attributes, tag.parent)
+            self.places.append((tag.row, tag.column))
+            if tag.is_link:
+                self.states[index] = LINK
+            if tag.space == SVG_SPACE or not tag.space and document.tags[0].name == "svg":
+                self.drawn.add(index)
+        for begun, owner, value in document.texts:
+            self.texts.add(begun, owner, value)
+
+    def set_states(self, states: Optional[States]) -> None:
+        """Adds states to the elements that selectors match."""
+        if states is None:
+            return
+        if not isinstance(states, Mapping):
+            raise TypeError("states are a mapping of selectors to names of states")
+        more: Dict[int, FrozenSet[str]] = {}
+        for selectors, names in states.items():
+            if isinstance(names, bytes):
+                raise TypeError("names of states are texts (str), not bytes")
+            named = states_of((names,) if isinstance(names, str) else names)
+            for index in self.found(selectors, MODERN):
+                more[index] = more.get(index, self.states.get(index, NO_STATES)) | named
+        for index, named in more.items():
+            # A link is visited or not.
+            self.states[index] = named - LINK if "visited" in named else named
+        self._computed = _Computed()
+
+    def end_of(self, index: int) -> int:
+        """Returns the index after the last element within an element."""
+        ends = self._computed.ends
+        if ends is None:
+            ends = self._computed.ends = list(range(1, len(self.parents) + 1))
+            for at in range(len(ends) - 1, -1, -1):
+                parent = self.parents[at]
+                if parent >= 0:
+                    ends[parent] = max(ends[parent], ends[at])
+        return ends[index]
+
+    def children_of(self, index: int) -> List[int]:
+        """Returns the indices of the children of an element."""
+        children = self._computed.children
+        if children is None:
+            children = self._computed.children = [[] for _ in self.names]
+            for child, parent in enumerate(self.parents):
+                if parent >= 0:
+                    children[parent].append(child)
+        return children[index]
+
+    def text_of(self, index: int) -> str:
+        """Returns the text of an element and of all elements in it."""
+        found = self.texts.within(index, self.end_of(index))
+        return "".join(itertools.starmap(self._text, found))
+
+    def own_text_of(self, index: int) -> str:
+        """Returns the text of an element without those of the elements in it."""
+        found = self.texts.within(index, self.end_of(index))
+        return "".join(self._text(owner, value) for owner, value in found if owner == index)
+
+    def text_at(self, at: int) -> str:
+        """Returns a text by its number."""
+        return self._text(self.texts.owners[at], self.texts.values[at])
+
+    def _text(self, owner: int, value: Any) -> str:
+        """Returns a text of an element, which in HTML is where it begins and ends."""
+        if isinstance(value, str):
+            return value
+        source, (start, end) = self.source or "", value
+        is_raw = self.names[owner] in RAW and owner not in self.drawn and owner not in self.formulas
+        if is_raw or source.endswith(_CDATA, 0, start):
+            return with_line_feeds(source[start:end])
+        return decode(source[start:end])
+
+    def source_of(self, index: int) -> Optional[str]:
+        """Returns the text of the document from the start tag of an element to its end."""
+        if self.spans is None or self.source is None:
+            return None
+        start, _, end = self.spans[index]
+        return None if start < 0 else self.source[start:end]
+
+    def position(self, index: int) -> Tuple[Optional[int], Optional[int]]:
+        """Returns the row and column where an element begins, as far as they are known."""
+        if self.places:
+            return self.places[index]
+        if self.spans is None or self.spans[index][0] < 0:
+            return None, None
+        lines = self._computed.lines
+        if lines is None:
+            ends = re.finditer("\n", self.source or "")
+            lines = self._computed.lines = [0, *(found.end() for found in ends)]
+        offset = self.spans[index][0]
+        row = bisect.bisect_right(lines, offset)
+        return row, offset - lines[row - 1] + 1
+
+    # ---- selectors
+
+    def found_set(self, selectors: str, grammar: str = MODERN) -> FrozenSet[int]:
+        """Returns the indices of the elements that one of the selectors matches."""
+        grammar = grammar_of(grammar)
+        sets = self._computed.sets
+        found = sets.get((grammar, selectors))
+        if found is None:
+            if len(sets) >= _MOST_ANSWERS:
+                sets.clear()
+            found = sets[grammar, selectors] = frozenset(self.found(selectors, grammar))
+        return found
+
+    def found(self, selectors: str, grammar: str) -> List[int]:
+        """Returns the indices of the elements that one of the selectors matches, in order."""
+        library.expect_text(selectors)
+        grammar = grammar_of(grammar)
+        answers = self._computed.answers
+        found = answers.get((grammar, selectors))
+        if found is None:
+            if len(answers) >= _MOST_ANSWERS:
+                answers.clear()
+            found = answers[grammar, selectors] = self._find(selectors, grammar)
+        return found
+
+    def _find(self, selectors: str, grammar: str) -> List[int]:
+        arrays = self._arrays(grammar)
+        if grammar == PORT:
+            name = "simplecss_select"
+            words = [library.encode(prepared(selectors, self.port_reading)), arrays]
+        else:
+            name = "simplecss_select_level3"
+            words = [library.encode(selectors), self.reading, arrays]
+        # Each element is written once at most.
+        most = library.NO_LIMIT
+        answer = library.call(name, *words, room=1024 + 8 * len(self), with_fault=True, most=most)
+        if answer.status == library.REFUSED:
+            raise selector_error(selectors, grammar)
+        return [int(line) - 1 for line in library.output_of(name, answer).split()]
+
+    def matched(self, selectors: Sequence[str], limit: int, grammar: str = MODERN) -> List[bytes]:
+        """Returns for each element the numbers of the selectors that match it, which begin at 1,
+        with spaces between them. Those of the grammar of the Rust crate are as they are read for
+        the tree. More numbers than `limit` raise `LimitError`."""
+        reading = None if grammar == PORT else self.reading
+        return matched(self._arrays(grammar), selectors, reading, limit)
+
+    @property
+    def port_reading(self) -> PortReading:
+        """How selectors of the grammar of the Rust crate are read for the elements."""
+        found = self._computed.port_reading
+        if found is None:
+            values = (attributes.get("class", "") for attributes in self.attributes)
+            found = PortReading(self.reading, any(map(has_lines, values)))
+            self._computed.port_reading = found
+        return found
+
+    def _arrays(self, grammar: str) -> library.TreeArrays:
+        """Returns the arrays of the tree, as calls of the library for a grammar take them."""
+        arrays = self._computed.arrays
+        if grammar not in arrays:
+            try:
+                arrays[grammar] = self._make_arrays(grammar)
+            except UnicodeEncodeError as error:
+                raise TreeError(f"a text is not Unicode: {error.reason}", None, None) from None
+        return arrays[grammar]
+
+    def _make_arrays(self, grammar: str) -> library.TreeArrays:
+        shapes = array.array(library.SIZE)
+        strings: List[str] = []
+        reading = self.reading
+        port = self.port_reading if grammar == PORT else None
+        texts = set(self.texts.owners)
+        names = {name: reading.compared_name(name) for name in set(self.names)}
+        changing = reading.may_change(set(itertools.chain.from_iterable(self.attributes)))
+        for index, attributes in enumerate(self.attributes):
+            if not changing.isdisjoint(attributes):
+                attributes = reading.attributes(attributes)
+            if port is not None:
+                attributes = port.attributes(attributes)
+            states = sum(map(STATES.__getitem__, self.states.get(index, NO_STATES)))
+            states += _HAS_TEXT * (index in texts)
+            shapes.extend((self.depths[index], len(attributes), states))
+            strings.append(names[self.names[index]])
+            strings.extend(itertools.chain.from_iterable(attributes.items()))
+        return library.TreeArrays(shapes, strings)
+
+
+def _is_link(node: Node) -> bool:
+    if node.name == "a":
+        return "href" in node.attributes or node.space == SVG and "xlink:href" in node.attributes
+    return node.name == "area" and node.space == HTML and "href" in node.attributes

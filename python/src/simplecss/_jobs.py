@@ -1,0 +1,372 @@
+"""What the commands do with one page or sheet, each apart from the others."""
+
+from __future__ import annotations
+
+import argparse
+import os
+import sys
+from pathlib import Path
+from typing import Any, Iterator, List, NamedTuple, Optional
+
+from . import _lint
+from ._elements import TreeError
+from ._imports import LOSES
+from ._inline import NotWritten, inline
+from ._library import LibraryError, LimitError, Room, most_written
+from ._linked import Name, Shelf, Unread
+from ._output import json_line, printable, printable_lines
+from ._selectors import SelectorError
+from ._sheet import StyleSheet
+from ._tree import Element, Tree, elements_of
+from ._words import words_of
+from ._xml import is_xml
+from .html import decode_page
+
+DONE = 0
+REFUSED = 1
+USAGE = 2
+OUT_OF_MEMORY = 3
+UNREADABLE = 4
+
+_CHILD = " > "
+# How many characters the path of an element may have.
+_LONGEST_PATH = 2_000
+# The name of standard input.
+INPUT = "-"
+
+
+class Failure(Exception):
+    """What to say on standard error, and the exit status."""
+
+    def __init__(self, message: str, status: int) -> None:
+        super().__init__(message)
+        self.status = status
+
+
+class Outcome(NamedTuple):
+    """What comes of a page: its name, what is written, what to say on standard error, the status,
+    how many elements were found, and the mistakes that were."""
+
+    name: str
+    output: bytes = b""
+    messages: List[str] = []
+    status: int = DONE
+    found: int = 0
+    mistakes: List[_lint.Finding] = []
+
+
+class Job:
+    """What a command does with a page, which may be in another process."""
+
+    def __init__(self, words: argparse.Namespace, is_terminal: bool) -> None:
+        # Another process has no use for the functions.
+        kept = {key: value for key, value in vars(words).items() if not callable(value)}
+        self.words = argparse.Namespace(**kept)
+        self._is_terminal = is_terminal
+        self._parts: List[str] = []
+        self._messages: List[str] = []
+
+    def __call__(self, name: str) -> Outcome:
+        """Does it with the page of a name."""
+        self._parts, self._messages = [], []
+        try:
+            return self._do(name)
+        except Failure as failure:
+            message, status = str(failure), failure.status
+        except (LimitError, TreeError) as error:
+            message, status = str(error), REFUSED
+        except UnicodeEncodeError:
+            message, status = "a word or a name of a file is not UTF-8", USAGE
+        except MemoryError:
+            message, status = "out of memory", OUT_OF_MEMORY
+        except LibraryError as error:
+            message, status = str(error), UNREADABLE
+        return Outcome(name, b"", [*self._messages, message], status)
+
+    def _do(self, name: str) -> Outcome:
+        raise NotImplementedError
+
+    def _outcome(self, name: str, **more: Any) -> Outcome:
+        """Returns what was written and said."""
+        output = "".join(self._parts).encode("utf-8")
+        return Outcome(name, output, self._messages, **more)
+
+    # ---- what is read
+
+    def _is_xml(self, name: str) -> bool:
+        return self.words.xml or is_xml(name)
+
+    def _place(self, name: str) -> Optional[str]:
+        """Returns where a page is, if it is a file."""
+        return None if name == INPUT else name
+
+    def _folder(self, name: str) -> Optional[Name]:
+        """Returns the folder of the sheets that a page names: that of the words, or its own."""
+        folder: Optional[str] = self.words.folder
+        is_named = folder is not None or name == INPUT
+        return folder if is_named else os.path.dirname(name) or "."
+
+    def _tree(self, name: str, text: str) -> Tree:
+        """Returns the tree of a page."""
+        try:
+            return Tree.from_xml(text) if self._is_xml(name) else Tree.from_html(text)
+        except TreeError as error:
+            raise Failure(f"{name}:{error}", REFUSED) from None
+
+    def _sheet(self, name: str, tree: Tree) -> StyleSheet:
+        """Returns the sheet of files, or of a page if there are none."""
+        grammar = self.words.grammar
+        if self.words.sheets:
+            return StyleSheet(*map(read, self.words.sheets), grammar=grammar)
+        place, folder = self._place(name), self._folder(name)
+        sheet = StyleSheet.of_page(tree, at=place, folder=folder, grammar=grammar)
+        self._say_unread(name, sheet.unread)
+        return sheet
+
+    def _say_unread(self, name: str, unread: "tuple[Unread, ...]") -> None:
+        """Says which sheets were not read."""
+        for each in unread:
+            self._messages.append(f"{name}: '{each.url}' is not read: {each.reason}")
+
+    # ---- what is written
+
+    def _write(self, text: str) -> None:
+        self._parts.append(text)
+
+    def _bold(self, text: str) -> str:
+        """Returns the text in bold on a terminal."""
+        return f"\033[1m{text}\033[0m" if self._is_terminal else text
+
+    def _position(self, name: str, element: Element) -> str:
+        """Returns `file:row:column`, as far as it is known."""
+        row = element.row
+        name = printable(name)
+        return self._bold(name if row is None else f"{name}:{row}:{element.column}")
+
+    def _shown(self, text: str) -> str:
+        """Returns data of a page as it is, or on a terminal without what could be a command to
+        it."""
+        return printable_lines(text) if self._is_terminal else text
+
+
+class Match(Job):
+    """Writes which rules match each element."""
+
+    def _do(self, name: str) -> Outcome:
+        text = read_page(name)
+        tree = self._tree(name, text)
+        sheet = self._sheet(name, tree)
+        room = Room(most_written(len(text)), "characters")
+        for element, found in zip(tree, sheet.match(tree, media=self.words.media)):
+            if self.words.json:
+                value = {"element": element.index, "name": element.name, "rules": found}
+                self._write(json_line(value))
+                continue
+            selectors = ", ".join(_taken(room, sheet.rules[rule].selector) for rule in found)
+            # A selector may be on several lines of its sheet.
+            line = printable(f"{element} {' '.join(words_of(selectors))}")
+            self._write(f"{self._position(name, element)}: {line}\n")
+        return self._outcome(name)
+
+
+class Style(Job):
+    """Writes which declaration of a name wins on each element."""
+
+    def _do(self, name: str) -> Outcome:
+        text = read_page(name)
+        tree = self._tree(name, text)
+        sheet = self._sheet(name, tree)
+        room = Room(most_written(len(text)), "characters")
+        found = sheet.style(tree, self.words.name, media=self.words.media)
+        for element, winner in zip(tree, found):
+            room.take(0 if winner is None else len(winner.value))
+            if self.words.json:
+                value = None if winner is None else winner._asdict()
+                line = {"element": element.index, "name": element.name, "winner": value}
+                self._write(json_line(line))
+            elif winner is not None:
+                shown = printable(f"{element} {winner}")
+                self._write(f"{self._position(name, element)}: {shown}\n")
+        return self._outcome(name)
+
+
+class Select(Job):
+    """Writes what is asked for of the elements that selectors match."""
+
+    def _do(self, name: str) -> Outcome:
+        tree = self._tree(name, read_page(name))
+        try:
+            found = tree.select(self.words.selectors, grammar=self.words.grammar)
+        except SelectorError as error:
+            raise Failure(f"selector refused: {error}", REFUSED) from None
+        if self.words.count:
+            count = str(len(found))
+            self._write(f"{printable(name)}:{count}\n" if self.words.is_of_many else f"{count}\n")
+        elif not self.words.quiet:
+            self._show(name, found)
+        return self._outcome(name, found=len(found))
+
+    def _show(self, name: str, found: List[Element]) -> None:
+        """Writes what is asked for of the elements that were found in a page."""
+        words = self.words
+        places = _places(found[0].tree) if words.json and found else []
+        # An element is written with those within it, which may be written, too.
+        length = len(elements_of(found[0].tree).source or "") if found else 0
+        room = Room(most_written(length), "characters")
+        for element in found:
+            if words.json:
+                self._write(json_line(_described(name, element, places)))
+            elif words.text:
+                self._write(self._shown(" ".join(words_of(_taken(room, element.text)))) + "\n")
+            elif words.html:
+                self._write(self._shown(_taken(room, element.source or "")) + "\n")
+            elif words.attr is None:
+                self._write(f"{self._position(name, element)}: {printable(str(element))}\n")
+            elif words.attr in element.attributes:
+                self._write(self._shown(element.attributes[words.attr]) + "\n")
+
+
+class Inline(Job):
+    """Writes style sheets into the style attributes of a page."""
+
+    def _do(self, name: str) -> Outcome:
+        left: List[NotWritten] = []
+        result = self._inlined(name, left)
+        for each in left:
+            if self.words.report:
+                self._messages.append(f"{name}: '{each.text}': {each.reason}")
+            elif each.reason.endswith(LOSES):
+                self._messages.append(f"{name}: '{each.text}' is not read: {each.reason}")
+        if self.words.json:
+            html, rest = decode_page(result)[0], [each._asdict() for each in left]
+            self._write(json_line({"html": html, "left": rest}))
+            return self._outcome(name)
+        return Outcome(name, result, self._messages)
+
+    def _inlined(self, name: str, left: List[NotWritten]) -> bytes:
+        """Returns a page with its sheets written, and notes what is not."""
+        words = self.words
+        try:
+            return inline(
+                read_bytes(name),
+                "\n".join(map(read, words.sheets)),
+                at=self._place(name),
+                folder=self._folder(name),
+                base_url=words.base_url,
+                preserve=words.preserve,
+                keep_style=words.keep_style,
+                remove_classes=words.remove_classes,
+                attributes=words.attributes,
+                important=not words.no_important,
+                is_xml=self._is_xml(name),
+                report=left,
+            )
+        except UnicodeDecodeError as error:
+            raise Failure(f"cannot read {name}: not {error.encoding}", UNREADABLE) from None
+        except (LimitError, UnicodeEncodeError):
+            raise
+        except TreeError as error:
+            raise Failure(f"{name}: {error}", REFUSED) from None
+        except ValueError as error:
+            raise Failure(str(error), REFUSED) from None
+
+
+class Lint(Job):
+    """Finds the mistakes in a sheet, or in those of a page."""
+
+    def _do(self, name: str) -> Outcome:
+        words = self.words
+        if not _lint.is_page(name):
+            return Outcome(
+                name, mistakes=_lint.findings(name, read(name), words.all, words.grammar)
+            )
+        shelf = Shelf(self._place(name), self._folder(name))
+        try:
+            text = read_page(name)
+            found = _lint.findings(
+                name, text, words.all, words.grammar, shelf=shelf, has_xml=self._is_xml(name)
+            )
+        except TreeError as error:
+            raise Failure(f"{name}:{error}", UNREADABLE) from None
+        self._say_unread(name, tuple(shelf.unread))
+        return self._outcome(name, mistakes=found)
+
+
+def read_bytes(name: str) -> bytes:
+    """Returns the bytes of a file, or of standard input for `-`."""
+    try:
+        if name != INPUT:
+            return Path(name).read_bytes()
+        if sys.stdin is None:
+            raise Failure("cannot read -: standard input is closed", UNREADABLE)
+        return sys.stdin.buffer.read()
+    except OSError as error:
+        raise Failure(f"cannot read {name}: {error.strerror}", UNREADABLE) from None
+
+
+def read(name: str) -> str:
+    """Returns the text of a file in UTF-8."""
+    try:
+        return read_bytes(name).decode("utf-8-sig")
+    except UnicodeDecodeError:
+        raise Failure(f"cannot read {name}: not UTF-8", UNREADABLE) from None
+
+
+def read_page(name: str) -> str:
+    """Returns the text of a page, in the encoding that it names."""
+    try:
+        return decode_page(read_bytes(name))[0]
+    except UnicodeDecodeError as error:
+        raise Failure(f"cannot read {name}: not {error.encoding}", UNREADABLE) from None
+
+
+def _taken(room: Room, text: str) -> str:
+    """Returns a text that is written, if there is room for it."""
+    room.take(len(text))
+    return text
+
+
+def _described(name: str, element: Element, places: List[int]) -> "dict[str, Any]":
+    """Returns what JSON has of an element."""
+    return {
+        "file": name,
+        "element": element.index,
+        "name": element.name,
+        "row": element.row,
+        "column": element.column,
+        "path": _path(element, places),
+        "attributes": element.attributes,
+    }
+
+
+def _places(tree: Tree) -> List[int]:
+    """Returns of each element which child of its parent it is, from 1."""
+    # The last counts the roots.
+    counts = [0] * (len(tree) + 1)
+    found: List[int] = []
+    for parent in elements_of(tree).parents:
+        counts[parent] += 1
+        found.append(counts[parent])
+    return found
+
+
+def _path(element: Element, places: List[int]) -> Optional[str]:
+    """Returns a selector that matches the element only, or `None` for one that would be long: it is
+    as long as the element is deep."""
+    steps: List[str] = []
+    room = _LONGEST_PATH
+    for node in _with_ancestors(element):
+        is_root = node.parent is None
+        steps.append(node.name if is_root else f"{node.name}:nth-child({places[node.index]})")
+        room -= len(steps[-1]) + len(_CHILD)
+        if room < 0:
+            return None
+    return _CHILD.join(reversed(steps))
+
+
+def _with_ancestors(element: Element) -> Iterator[Element]:
+    """Yields an element and its ancestors."""
+    node: Optional[Element] = element
+    while node is not None:
+        yield node
+        node = node.parent

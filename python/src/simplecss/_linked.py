@@ -1,0 +1,324 @@
+"""The sheets of a page: those in it, those that it links to, and those that these import."""
+
+from __future__ import annotations
+
+import base64
+import os
+import re
+import urllib.parse
+from pathlib import Path, PurePosixPath
+from typing import Callable, Dict, Iterable, Iterator, List, NamedTuple, Optional, Tuple, Union
+
+from . import _library as library
+from ._elements import Elements
+from ._reading import Condition, Fault, ReadAtRule, Source, Statement, read_sheet
+from ._urls import SCHEME, import_of, joined
+from ._words import BLANKS, lower, words_of
+
+# How deep sheets import one another.
+_DEEPEST = 16
+_OPENING = re.compile(r"\A([\t\n\f\r ]*)<!--")
+_CLOSING = re.compile(r"-->([\t\n\f\r ]*)\Z")
+_DATA = "data:"
+
+Name = Union[str, "os.PathLike[str]"]
+Load = Callable[[str], Optional[str]]
+
+
+class Unread(NamedTuple):
+    """A sheet that is named and was not read: its url as it is written, and why."""
+
+    url: str
+    reason: str
+
+
+class _Refused(Exception):
+    """Why a sheet is not read."""
+
+
+def _url_of(name: Name) -> str:
+    """Returns the url of a page or a folder, of which a path or the url itself is given."""
+    text = os.fspath(name)
+    # A letter and a colon begin a path on Windows.
+    has_scheme = SCHEME.match(text) and not text[1:2] == ":"
+    return text if has_scheme else Path(os.path.abspath(text)).as_uri()
+
+
+def _of_data(url: str) -> str:
+    """Returns the sheet that a url of data has."""
+    kind, comma, text = url[len(_DATA) :].partition("#")[0].partition(",")
+    data = urllib.parse.unquote_to_bytes(text)
+    words = [each.strip(BLANKS) for each in lower(kind).split(";")]
+    if not comma or words[0] != "text/css":
+        raise _Refused("its type is not text/css")
+    return (base64.b64decode(data) if words[-1] == "base64" else data).decode("utf-8-sig")
+
+
+class Shelf:
+    """Where the sheets that a page names are: in a folder, or what a callable returns for their
+    urls. Without these, only those of data are read."""
+
+    def __init__(
+        self,
+        at: Optional[Name] = None,
+        folder: Optional[Name] = None,
+        load: Optional[Load] = None,
+        limit: int = library.USUAL_ANSWER_LIMIT,
+    ) -> None:
+        """Takes where the page is, which is the folder itself if it is not said."""
+        self._folder = None if folder is None else Path(folder).resolve()
+        self._load = load
+        top = "" if folder is None else _url_of(folder).rstrip("/") + "/"
+        self._base = top if at is None else _url_of(at)
+        # What all together may have.
+        self.room = library.Room(limit, "characters of linked sheets")
+        self.unread: List[Unread] = []
+        # The files that were read, by their urls.
+        self.files: Dict[str, Path] = {}
+
+    def take_base(self, elements: Elements) -> None:
+        """Takes what the first `base` of a page says."""
+        for name, attributes in zip(elements.names, elements.attributes):
+            if name == "base" and "href" in attributes:
+                href = attributes["href"].strip(BLANKS)
+                self._base = joined(self._base, href) if href else self._base
+                return
+
+    def place_of(self, url: str) -> str:
+        """Returns the whole url of a sheet."""
+        return joined(self._base, url)
+
+    def read(self, url: str) -> Optional[str]:
+        """Returns the sheet at a url, or `None`, and notes why it is not read."""
+        try:
+            if lower(url[: len(_DATA)]) == _DATA:
+                self.room.take(len(url))
+                return _of_data(url)
+            return self._loaded(url) if self._load is not None else self._of_file(url)
+        except library.LimitError:
+            raise
+        except _Refused as error:
+            reason = str(error)
+        except UnicodeDecodeError:
+            reason = "its file is not UTF-8"
+        except (OSError, RuntimeError, ValueError):
+            reason = "its file cannot be read"
+        self.refuse(url, reason)
+        return None
+
+    def refuse(self, url: str, reason: str) -> None:
+        """Notes why a sheet is not read."""
+        self.unread.append(Unread(url, reason))
+
+    def _loaded(self, url: str) -> str:
+        assert self._load is not None
+        css = self._load(self.place_of(url))
+        if css is None:
+            raise _Refused("`load` has no sheet for it")
+        library.expect_text(css)
+        self.room.take(len(css))
+        return css
+
+    def _of_file(self, url: str) -> str:
+        file = self._file_of(url)
+        self.room.take(file.stat().st_size)
+        css = file.read_bytes().decode("utf-8-sig")
+        self.files[url] = file
+        return css
+
+    def _file_of(self, url: str) -> Path:
+        """Returns the file in the folder that a url leads to, if there is one whose name is that of
+        a style sheet. One that the system refuses raises an error."""
+        if self._folder is None:
+            raise _Refused("no folder is named that it could be in")
+        is_of_top = url.startswith("/") and not url.startswith("//")
+        found = urllib.parse.urlsplit(url if is_of_top else self.place_of(url))
+        base = urllib.parse.urlsplit(self._base)
+        path = urllib.parse.unquote(found.path)
+        if not is_of_top and (found.scheme, found.netloc) != (base.scheme, base.netloc):
+            raise _Refused("it is elsewhere, and nothing is fetched")
+        if lower(PurePosixPath(path).suffix) != ".css":
+            raise _Refused("its name does not end in .css")
+        # On Windows a backslash begins the name of another machine, which would be asked.
+        if "\\" in path or path.startswith("//"):
+            raise _Refused("it is not in the folder")
+        is_path = base.scheme == "file" and not is_of_top
+        # On Windows the path of a file's url is `/C:/..`.
+        name = path if is_path and path[2:3] != ":" else path.lstrip("/")
+        file = (self._folder / name).resolve()
+        if self._folder not in file.parents:
+            raise _Refused("it is not in the folder")
+        if not file.is_file():
+            raise _Refused("there is no such file")
+        return file
+
+
+class PageSheet(NamedTuple):
+    """A sheet of a page: what it has, the conditions of all of it, and its url, if it has one."""
+
+    source: Source
+    statements: List[Statement]
+    conditions: Tuple[Condition, ...]
+    url: Optional[str]
+
+
+def without_marks(css: str) -> str:
+    """Returns the sheet of a `style` element, in which the marks of a comment around it, which hide
+    it from the oldest browsers, are blanks."""
+    return _CLOSING.sub(r"   \1", _OPENING.sub(r"\1    ", css))
+
+
+def imports_of(statements: Iterable[Statement]) -> Iterator[ReadAtRule]:
+    """Yields the `@import`s of a sheet that browsers follow: before its other rules."""
+    for each in statements:
+        if isinstance(each, Fault) and not each.levels:
+            continue
+        if not isinstance(each, ReadAtRule) or each.rule.block is not None or each.levels:
+            return
+        if each.rule.name not in ("charset", "layer", "import"):
+            return
+        if each.rule.name == "import":
+            yield each
+
+
+def is_sheet_link(attributes: Dict[str, str]) -> bool:
+    """Whether a `link` with these attributes is one to a style sheet."""
+    words = words_of(lower(attributes.get("rel", "")))
+    kind = lower(attributes.get("type", "")).partition(";")[0].strip(BLANKS)
+    return "stylesheet" in words and "disabled" not in attributes and kind in ("", "text/css")
+
+
+def is_alternate(attributes: Dict[str, str]) -> bool:
+    """Whether a sheet is used only where its title is chosen."""
+    return "alternate" in words_of(lower(attributes.get("rel", "")))
+
+
+def condition_of(media: str) -> Tuple[Condition, ...]:
+    """Returns the condition that the attribute `media` is."""
+    media = media.strip(BLANKS)
+    return () if lower(media) in ("", "all") else (Condition("media", media),)
+
+
+def _is_style(attributes: Dict[str, str]) -> bool:
+    """Whether a `style` element is a style sheet."""
+    return lower(attributes.get("type", "")) in ("", "text/css")
+
+
+def _is_sheet(elements: Elements, index: int) -> bool:
+    """Whether an element is a style sheet or a link to one."""
+    name, attributes = elements.names[index], elements.attributes[index]
+    if name == "link":
+        return is_sheet_link(attributes) and index not in elements.drawn
+    return name == "style" and _is_style(attributes)
+
+
+def _in_use(elements: Elements) -> List[int]:
+    """Returns the elements `style` and `link` whose sheets are in use (CSSOM, "add a CSS style
+    sheet"): those without a title, and those of the first title of one that is no alternate."""
+    found = [
+        (index, elements.attributes[index].get("title", ""))
+        for index, name in enumerate(elements.names)
+        if name in ("style", "link") and index not in elements.formulas
+        if _is_sheet(elements, index)
+    ]
+    others = {
+        index
+        for index, _ in found
+        if elements.names[index] == "link" and is_alternate(elements.attributes[index])
+    }
+    titles = (title for index, title in found if index not in others)
+    preferred = next(filter(None, titles), "")
+    return [
+        index for index, title in found if (title == preferred if title else index not in others)
+    ]
+
+
+def sheets_of(elements: Elements, shelf: Shelf) -> Iterator[PageSheet]:
+    """Yields the sheets of a page in the order of the cascade."""
+    shelf.take_base(elements)
+    for index in _in_use(elements):
+        attributes = elements.attributes[index]
+        url = attributes.get("href", "").strip(BLANKS) if elements.names[index] == "link" else None
+        css = without_marks(elements.own_text_of(index)) if url is None else None
+        if url:
+            css = shelf.read(url)
+        if css is not None:
+            yield from _with_imports(css, url, condition_of(attributes.get("media", "")), shelf, ())
+
+
+def _with_imports(
+    css: str,
+    url: Optional[str],
+    conditions: Tuple[Condition, ...],
+    shelf: Shelf,
+    above: Tuple[str, ...],
+) -> Iterator[PageSheet]:
+    """Yields a sheet after those that it imports. One that is being imported is not imported
+    again."""
+    source, statements = read_sheet(css)
+    above = (*above, shelf.place_of(url or ""))
+    for each in imports_of(statements):
+        found = imported(each, url, shelf, above)
+        if found is not None:
+            inner = conditions + found.conditions
+            yield from _with_imports(found.css, found.url, inner, shelf, above)
+    yield PageSheet(source, statements, conditions, url)
+
+
+class Imported(NamedTuple):
+    """A sheet that another one imports: its text, its url, and its condition."""
+
+    css: str
+    url: str
+    conditions: Tuple[Condition, ...]
+
+    @property
+    def has_layer(self) -> bool:
+        """Whether it is in a layer."""
+        return any(
+            each.name == "import" and lower(each.prelude).startswith("layer")
+            for each in self.conditions
+        )
+
+
+def in_force(statements: Iterable[Statement]) -> Iterator[Statement]:
+    """Yields statements without each `@import` and `@namespace` that is too late to say anything:
+    it would say it if what is before it were not there."""
+    front = ["charset", "layer", "import", "namespace"]
+    for each in statements:
+        name = each.rule.name if isinstance(each, ReadAtRule) and not each.levels else ""
+        if name in ("import", "namespace") and name not in front:
+            continue
+        if name == "namespace":
+            front = ["charset", "namespace"]
+        elif name not in front and not (isinstance(each, Fault) and not each.levels):
+            front = []
+        yield each
+
+
+def has_imports(css: str) -> bool:
+    """Whether a sheet may import others."""
+    return "@import" in lower(css)
+
+
+def imported(
+    rule: ReadAtRule, url: Optional[str], shelf: Shelf, above: Tuple[str, ...]
+) -> Optional[Imported]:
+    """Returns the sheet that a rule imports into that of a url, within those above, or `None`. One
+    of those above is imported as an empty one."""
+    found = import_of(rule.rule.prelude)
+    if found is None:
+        shelf.refuse(rule.rule.prelude, "its url has an escape, or is none")
+        return None
+    place = joined(url or "", found.url)
+    if shelf.place_of(place) in above:
+        return Imported("", place, ())
+    if len(above) >= _DEEPEST:
+        shelf.refuse(found.url, f"it is imported through {_DEEPEST} others")
+        return None
+    css = shelf.read(place)
+    if css is None:
+        return None
+    is_layer = lower(found.rest).startswith(("layer", "supports("))
+    conditions = (Condition("import", found.rest),) if is_layer else condition_of(found.rest)
+    return Imported(css, place, conditions)

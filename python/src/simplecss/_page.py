@@ -1,0 +1,525 @@
+"""A document whose text is edited: its elements, where their tags are, and its style elements."""
+
+from __future__ import annotations
+
+import bisect
+import re
+from typing import Callable, Dict, FrozenSet, List, Match, NamedTuple, Optional, Set, Tuple
+
+from ._elements import Elements, TreeError
+from ._linked import is_alternate, is_sheet_link, without_marks
+from ._words import BLANKS, lower
+from ._xml import XmlError, read_xml
+from .html import HTML, MATH, SVG, VOID, Attribute, Builder, Node, TooDeep, attributes_of, decode
+
+_HEAD_PARTS = frozenset("head title meta link base style script noscript template".split())
+# The elements of HTML whose content is text up to an end tag of theirs, for some browsers at least.
+_RAW = frozenset("iframe noembed noframes noscript script style textarea title xmp".split())
+# The element of which older browsers take the tags of a `style` away.
+_SELECT = "select"
+# The parts of a sheet in which a backslash escapes: strings, comments and the contents of `url()`.
+_ESCAPABLE = re.compile(
+    r"""/\*.*?(?:\*/|\Z)|"[^"\\]*(?:\\.[^"\\]*)*"?|'[^'\\]*(?:\\.[^'\\]*)*'?|url\([^)"']*""",
+    re.DOTALL | re.IGNORECASE | re.ASCII,
+)
+# What is written as an escape of CSS: control characters, which XML may not have, and which some
+# encodings read as marks.
+_CONTROLS = r"\0-\x08\x0b\x0e-\x1f\x7f-\x9f\ufffe\uffff"
+_CONTROL_IN_VALUE = re.compile(r"[\x01-\x08\x0b\x0e-\x1f\x7f]")
+_DECLARED = re.compile(r"\ufeff?[\t\n\r ]*<\?xml[\t\n\r ]")
+# What begins a tag, a comment or another declaration.
+_MARKUP = re.compile("<(?=[A-Za-z/!?])")
+_MARKUP_OF_NAME = re.compile("<(?=[A-Za-z])")
+# The same in a string, after a backslash that makes it an escape, and what is another escape.
+_MARKUP_IN_STRING = re.compile(rf"(\\[^<])|\\?{_MARKUP.pattern}", re.DOTALL)
+# What a page has if not all browsers may take the tag of a `style` for one of HTML.
+_DRAWN = re.compile("<(?:svg|math|frameset|select)", re.IGNORECASE | re.ASCII)
+_NOSCRIPT = re.compile("<noscript", re.IGNORECASE | re.ASCII)
+_CDATA = "<![CDATA["
+_SECTION = re.compile(r"<!\[CDATA\[(.*?)(?:\]\]>|\Z)", re.DOTALL)
+_TAG_NAME = re.compile(r"<[^\t\n\f\r />]+")
+
+Span = Tuple[int, int]
+_NONE: FrozenSet[str] = frozenset()
+# The namespace that is noted of every element of XML, whatever its own is.
+_XML = MATH + 1
+# The head of a page in HTML, which has one, comes after its root.
+_HEAD = 1
+
+
+class Content(NamedTuple):
+    """A `style` element: its index, where it is, and where its content is. Of a `link` to a sheet
+    also its `href`."""
+
+    element: int
+    span: Span
+    inner: Span
+    href: Optional[str] = None
+
+
+# A control character, or one that is not ASCII. With a backslash before it, it is an escape.
+_CONTROL = re.compile(rf"(\\[^{_CONTROLS}])|\\?([{_CONTROLS}])", re.DOTALL)
+_FOREIGN = re.compile(r"(\\[\t\n\f\r -~])|\\?([^\t\n\f\r -~])", re.DOTALL)
+
+
+def _escaped(found: Match[str]) -> str:
+    return found.group(1) or f"\\{ord(found.group(2)):x} "
+
+
+def written(css: str, lacking: FrozenSet[str] = _NONE) -> str:
+    """Returns css with escapes for its control characters and for those that are lacking, which are
+    not ASCII, and with a newline for each form feed."""
+
+    def escaped(found: Match[str]) -> str:
+        character = found.group(2)
+        is_kept = character is None or character not in lacking and not _CONTROL.match(character)
+        return found.group() if is_kept else _escaped(found)
+
+    # What is printable has no control character.
+    if css.isprintable() and not lacking:
+        return css
+    css = _FOREIGN.sub(escaped, css) if lacking else _CONTROL.sub(_escaped, css)
+    return css.replace("\f", "\n")
+
+
+def style_text(css: str, names: FrozenSet[str], is_drawn: bool = False) -> str:
+    """Returns css as the content of a `style` element, which nothing in it may end.
+
+    Of HTML in which no references are read, `names` are the elements that an end tag could end: in
+    a string, a comment or a `url()` it gets a backslash; anywhere else it raises `ValueError`. So
+    does what could begin any markup, with an escape for its `<`, if the page has SVG or the like
+    (`is_drawn`): some browsers end these elsewhere, and the style is one of theirs. Before a name a
+    blank is enough. Without names, references are read.
+    """
+    if not names:
+        return css.replace("&", "&amp;").replace("<", "&lt;").replace("]]>", "]]&gt;")
+    if is_drawn:
+        text = _ESCAPABLE.sub(lambda part: _MARKUP_IN_STRING.sub(_marked, part.group()), css)
+        # As in `(400px<width)`.
+        text = _MARKUP_OF_NAME.sub("< ", text)
+        found = _MARKUP.search(text)
+        if found:
+            raise ValueError(f"`<{text[found.end()]}` outside of a string could begin markup")
+        return text
+    end = re.compile(f"<(?=(/(?:{'|'.join(sorted(names))})))", re.IGNORECASE | re.ASCII)
+    text = _ESCAPABLE.sub(lambda part: end.sub(r"<\\", part.group()), css)
+    found = end.search(text)
+    if found:
+        raise ValueError(f"`<{found[1]}` outside of a string would end the element that it is in")
+    return text
+
+
+def _marked(found: Match[str]) -> str:
+    return found.group(1) or "\\3c "
+
+
+def _content(text: str) -> str:
+    """Returns the sheet that the text of a `style` element is where references are read."""
+    return "".join(
+        part if index % 2 else decode(part) for index, part in enumerate(_SECTION.split(text))
+    )
+
+
+def _escape(text: str, quote: str) -> str:
+    text = text.replace("&", "&amp;").replace("<", "&lt;")
+    text = _CONTROL_IN_VALUE.sub(lambda found: f"&#{ord(found.group())};", text)
+    return text.replace('"', "&quot;") if quote == '"' else text.replace("'", "&#39;")
+
+
+class _Other:
+    """What another reader than that of a page reads of its text as HTML: a browser whose scripts
+    run, for which a `noscript` has no elements but text, or one that takes a drawing in XML for a
+    page."""
+
+    def __init__(self, text: str, has_scripts: bool) -> None:
+        self._text = text
+        self._nodes: Dict[Span, Node] = {}
+        self._texts: List[Span] = []
+        waiting = [Builder(text, has_scripts=has_scripts).build()]
+        while waiting:
+            node = waiting.pop()
+            if node.tag is not None:
+                self._nodes.setdefault(node.tag, node)
+                if has_scripts and node.name == "noscript" and node.space == HTML:
+                    self._texts.append((node.tag[1], node.end[0]))
+            waiting.extend(each for each in node.children if isinstance(each, Node))
+        self._texts.sort()
+
+    def is_text(self, tag: Span, end: int) -> bool:
+        """Whether a tag, and what is up to an end, are in the text of a `noscript`."""
+        at = bisect.bisect_right(self._texts, (tag[0], len(self._text)))
+        return at > 0 and max(tag[1], end) <= self._texts[at - 1][1]
+
+    def is_alike(self, tag: Span, name: str, space: int, end: Span) -> bool:
+        """Whether it reads the tag of an element alike, and where a `style` ends."""
+        node = self._nodes.get(tag)
+        if node is None or name != "style":
+            return node is not None and (space == _XML or (node.name, node.space) == (name, space))
+        return (node.name, node.space, node.end) == (name, SVG if space == _XML else space, end)
+
+
+class Page:
+    """A document in HTML or XML."""
+
+    def __init__(
+        self,
+        text: str,
+        lacks: Callable[[str], bool] = lambda character: False,
+        *,
+        is_xml: bool = False,
+    ) -> None:
+        """Takes a text, which characters its encoding lacks, and whether it is XML."""
+        self.text = text
+        self.is_xml = is_xml
+        # Whether browsers may read the document in different ways.
+        self.is_doubtful = False
+        # Where each element's start tag is, if the document has it for this element only or first,
+        # and others read it alike: browsers with and without scripts, and those that show a drawing
+        # in a page.
+        self.tags: List[Optional[Span]] = []
+        self.ends: List[Span] = []
+        self._lacks = lacks
+        # Some programs take what begins as XML for XML.
+        self._is_drawn = bool(_DRAWN.search(text) or _DECLARED.match(text))
+        # The namespace of each element, and which elements of raw text it is or is in.
+        self._spaces = bytearray()
+        self._raw: List[FrozenSet[str]] = []
+        self.elements = Elements()
+        # The sheets of `style` elements of SVG.
+        self._drawn: Dict[int, str] = {}
+        self._edits: Dict[Span, List[str]] = {}
+        self._declared: Dict[int, List[str]] = {}
+        # The elements whose own declarations are among those.
+        self._with_own: Set[int] = set()
+        self._changes: Dict[int, Dict[str, Optional[str]]] = {}
+        self._head_end = 0
+        line_end = text.find("\n")
+        self.newline = "\r\n" if line_end > 0 and text[line_end - 1] == "\r" else "\n"
+        if is_xml:
+            self._read_xml()
+        else:
+            self._read_html()
+        self._having_elements = frozenset(self.elements.parents)
+
+    def _read_html(self) -> None:
+        builder = Builder(self.text)
+        try:
+            root = builder.build()
+            other = _Other(self.text, True) if _NOSCRIPT.search(self.text) else None
+        except TooDeep as error:
+            raise TreeError(str(error), None, None) from None
+        self.is_doubtful = builder.is_doubtful
+        nodes = self.elements.take_nodes(root, self.text, is_quirky=builder.is_quirky)
+        self._head_end = len(self.text) if builder.head_end is None else builder.head_end
+        seen = set()
+        for index, node in enumerate(nodes):
+            tag = node.tag if node.tag not in seen else None
+            seen.add(tag)
+            self._note(index, node)
+            if other is not None and tag is not None:
+                if other.is_text(tag, node.end[1] if node.name == "style" else tag[1]):
+                    self._raw[index] |= {"noscript"}
+                elif not other.is_alike(tag, node.name, node.space, node.end):
+                    tag = None
+            self.tags.append(tag)
+            self.ends.append(node.end)
+
+    def _note(self, index: int, node: Node) -> None:
+        """Notes what is written differently into an element."""
+        parent = self.elements.parents[index]
+        above = self._raw[parent] if parent >= 0 else _NONE
+        is_noted = node.space == HTML and (node.name in _RAW or node.name == _SELECT)
+        self._raw.append(above | {node.name} if is_noted else above)
+        self._spaces.append(node.space)
+        if node.space == SVG and node.name == "style":
+            texts = (self._foreign_text(*each) for each in node.children if isinstance(each, tuple))
+            self._drawn[index] = "".join(texts)
+
+    def _foreign_text(self, start: int, end: int) -> str:
+        text = self.text[start:end]
+        return text if self.text.endswith(_CDATA, 0, start) else decode(text)
+
+    def _read_xml(self) -> None:
+        try:
+            found = read_xml(self.text)
+            other = None if _DECLARED.match(self.text) else _Other(self.text, False)
+        except XmlError as error:
+            raise TreeError(error.reason, error.row, error.column) from None
+        except TooDeep as error:
+            raise TreeError(str(error), None, None) from None
+        self.elements.take_tags(found, self.text)
+        for each in found.tags:
+            tag, end = (each.start, each.inner), (each.inner_end, each.end)
+            is_alike = other is None or other.is_alike(tag, each.name, _XML, end)
+            self._raw.append(_NONE)
+            self._spaces.append(_XML)
+            self.tags.append(tag if is_alike else None)
+            self.ends.append(end)
+
+    # ---- style elements
+
+    def styles(self) -> List[Content]:
+        """Returns the `style` elements that the document has tags for."""
+        return [
+            Content(index, (tag[0], self.ends[index][1]), (tag[1], self.ends[index][0]))
+            for index, tag in enumerate(self.tags)
+            if tag is not None
+            and self.elements.names[index] == "style"
+            and self._spaces[index] != MATH
+        ]
+
+    def sources(self) -> List[Content]:
+        """Returns the `style` elements and the links to style sheets that may be written anew, in
+        order."""
+        links = [
+            Content(index, tag, tag, self.elements.attributes[index].get("href", "").strip(BLANKS))
+            for index, tag in enumerate(self.tags)
+            if tag is not None
+            and self.elements.names[index] == "link"
+            and self._is_sheet_link(index)
+        ]
+        found = (
+            each for each in (*self.styles(), *links) if _SELECT not in self._raw[each.element]
+        )
+        return sorted(found, key=lambda each: each.element)
+
+    def _is_sheet_link(self, index: int) -> bool:
+        attributes = self.elements.attributes[index]
+        is_link = self._spaces[index] in (HTML, _XML) and is_sheet_link(attributes)
+        return is_link and not is_alternate(attributes)
+
+    def sheet_of(self, content: Content) -> str:
+        """Returns the sheet of a `style` element."""
+        css = self._drawn.get(content.element)
+        if css is None:
+            css = self.text[content.inner[0] : content.inner[1]]
+            css = _content(css) if self.is_xml else css
+        return without_marks(css)
+
+    def set_sheet(self, content: Content, css: str) -> None:
+        """Replaces the sheet of a `style` element; without one the element goes, if it is in the
+        head, where no selector can notice."""
+        if content.href is not None:
+            self._replace_link(content, css)
+        elif css:
+            text = self._style_text(css, content.element)
+            self._edit(content.inner, f"{self.newline}{text}{self.newline}")
+        else:
+            self._edit(content.span if self._may_go(content) else content.inner, "")
+
+    def _replace_link(self, content: Content, css: str) -> None:
+        prefix = self._prefix(content.span[0]) if self.is_xml else ""
+        is_needed = css or not self._may_go(content)
+        text = self._style_element(css, content.element, prefix) if is_needed else ""
+        self._edit(content.span, text)
+
+    def _style_text(self, css: str, index: int) -> str:
+        """Returns css as the content of the `style` element of this index, or that takes its
+        place."""
+        lacking = (each for each in set(css) if not each.isascii() and self._lacks(each))
+        css = written(css, frozenset(lacking))
+        if self._spaces[index] != HTML:
+            return style_text(css, _NONE)
+        return style_text(css, self._raw[index] | {"style"}, self._is_drawn)
+
+    def _style_element(self, css: str, index: int, prefix: str = "") -> str:
+        """Returns the text of a new `style` element beside the element of this index."""
+        name = f"{prefix}:style" if prefix else "style"
+        text = self._style_text(css, index).replace("\r\n", "\n")
+        return (
+            f"<{name}>\n{text}\n</{name}>".replace("\n", self.newline)
+            if css
+            else f"<{name}></{name}>"
+        )
+
+    def _is_in_head(self, index: int) -> bool:
+        """Whether an element is where a new `style` element may be: in the head, or in a drawing
+        that is the document."""
+        parent = self.elements.parents[index]
+        if parent < 0 or self._spaces[parent] not in (HTML, _XML):
+            return False
+        is_drawing = self._spaces[0] == _XML and self.elements.names[0] == "svg"
+        return self.elements.names[parent] in (("svg", "defs") if is_drawing else ("head",))
+
+    def _may_go(self, content: Content) -> bool:
+        """Whether no selector notices that an element is missing, and no text joins another
+        then."""
+        start = content.span[0]
+        parent = self.elements.parents[content.element]
+        is_drawn = parent >= 0 and self.elements.names[parent] in ("svg", "defs")
+        is_apart = self.text[start - 1 : start] in ("", "\ufeff", ">", *BLANKS)
+        return is_apart and (is_drawn or self._is_in_head(content.element))
+
+    def add_sheet(self, css: str) -> None:
+        """Adds a `style` element before the others, else at the end of the head."""
+        if self.is_xml:
+            offset, prefix = self._place_in_xml()
+            text = self._style_element(css, 0, prefix)
+        else:
+            offset = self._place_in_head()
+            text = self._style_element(css, _HEAD)
+        self._edit((offset, offset), text)
+
+    def _place_in_head(self) -> int:
+        """Returns where a new `style` element goes: before the other sheets of the head, and before
+        what would take it in, as an element that the end of the document closes."""
+        names = self.elements.names
+        sheets = {each.element for each in self.sources()}
+        for index in range(_HEAD + 1, len(names)):
+            tag, parent = self.tags[index], self.elements.parents[index]
+            if parent < _HEAD:
+                break
+            if parent != _HEAD or tag is None:
+                continue
+            is_closed = names[index] in VOID or self.ends[index][0] < self.ends[index][1]
+            if index in sheets or names[index] in ("noscript", "template") or not is_closed:
+                return min(tag[0], self._head_end)
+        return self._head_end
+
+    def _place_in_xml(self) -> Tuple[int, str]:
+        """Returns where a new `style` element goes in XML, and its prefix."""
+        for content in self.sources():
+            if self._is_in_head(content.element):
+                return content.span[0], self._prefix(content.span[0])
+        is_drawing = self.elements.names[0] == "svg"
+        for index, name in enumerate(() if is_drawing else self.elements.names):
+            tag = self.tags[index]
+            if name == "head" and tag is not None and self.ends[index][0] < self.ends[index][1]:
+                return self.ends[index][0], self._prefix(tag[0])
+        root = self.tags[0]
+        if root is None or self.text.endswith("/>", 0, root[1]):
+            raise ValueError("the document has no content that a style element could be in")
+        return root[1], self._prefix(root[0])
+
+    def _prefix(self, start: int) -> str:
+        """Returns the prefix of the name of a tag."""
+        name = _TAG_NAME.match(self.text, start)
+        return name.group()[1:].rpartition(":")[0] if name else ""
+
+    def is_plain(self, content: Content) -> bool:
+        """Whether a `style` element is a style sheet for all media that no title names, and has no
+        elements."""
+        attributes = self.elements.attributes[content.element]
+        if "title" in attributes or "disabled" in attributes:
+            return False
+        if content.element in self._having_elements:
+            return False
+        return self.is_style_sheet(content) and self._media(content) in ("", "all")
+
+    def is_style_sheet(self, content: Content) -> bool:
+        """Whether an element is a style sheet, for some media at least."""
+        if content.href is not None:
+            return True
+        kind = self.elements.attributes[content.element].get("type", "")
+        return lower(kind) in ("", "text/css")
+
+    def _media(self, content: Content) -> str:
+        return lower(self.elements.attributes[content.element].get("media", "").strip(BLANKS))
+
+    # ---- attributes
+
+    def shown(self) -> List[bool]:
+        """Returns of each element whether it may be shown: is not in the head, and no style."""
+        found: List[bool] = []
+        for name, parent in zip(self.elements.names, self.elements.parents):
+            found.append((parent < 0 or found[parent]) and name not in _HEAD_PARTS)
+        return found
+
+    def add_declarations(self, index: int, declarations: List[str], *, has_own: bool) -> None:
+        """Writes declarations into the `style` attribute of an element, before its own, or in place
+        of them if they are among these."""
+        self._declared[index] = list(map(written, declarations))
+        if has_own:
+            self._with_own.add(index)
+
+    def set_attribute(self, index: int, name: str, value: Optional[str]) -> None:
+        """Sets an attribute of an element that has a tag, or removes it for `None`."""
+        self._changes.setdefault(index, {})[name] = value
+
+    def _edit(self, span: Span, text: str) -> None:
+        self._edits.setdefault(span, []).append(text)
+
+    def edited(self) -> str:
+        """Returns the text with all edits."""
+        # Many elements have the same tag, and get the same.
+        made: Dict[Tuple[object, ...], str] = {}
+        for index in sorted({*self._declared, *self._changes}):
+            tag = self.tags[index]
+            if tag is not None:
+                changes = self._changes.get(index, {})
+                text = self.text[tag[0] : tag[1]]
+                declared = self._declared.get(index, [])
+                # That of a second tag of the element, if its own tag has none.
+                own = self.elements.attributes[index].get("style", "")
+                own_or_none = None if index in self._with_own else own
+                key = (text, own_or_none, tuple(declared), tuple(changes.items()))
+                if key not in made:
+                    made[key] = _new_tag(text, declared, changes, own_or_none, self.is_xml)
+                self._edit(tag, made[key])
+        parts = []
+        last = 0
+        for (start, end), texts in sorted(self._edits.items()):
+            if start >= last:
+                parts.append(self.text[last:start])
+                parts.extend(texts)
+                last = end
+        parts.append(self.text[last:])
+        return "".join(parts)
+
+
+def _new_tag(
+    tag: str,
+    declarations: List[str],
+    changes: Dict[str, Optional[str]],
+    own: Optional[str],
+    has_case: bool,
+) -> str:
+    """Returns the text of a start tag with the declarations in its attribute `style`, before its
+    own, or in place of these for `None`, and with attributes set or removed."""
+    attributes = attributes_of(tag)
+    if has_case:
+        attributes = [
+            each._replace(name=tag[each.start : each.start + len(each.name)]) for each in attributes
+        ]
+    name = _TAG_NAME.match(tag)
+    last = name.end() if name else 1
+    parts = [tag[:last]]
+    missing: Dict[str, Optional[str]] = {"style": None, **changes}
+    for each in attributes:
+        text = tag[each.start : each.end]
+        before = tag[last : each.start]
+        last = each.end
+        if each.name not in missing or each.name == "style" and not declarations:
+            parts.append(before + text)
+            # A value that is missing after `=` would be what comes next.
+            parts.append('""' if each.value == "" else "")
+            continue
+        value = missing.pop(each.name)
+        if each.name == "style":
+            parts.append(before + _with_declarations(each, declarations, own is not None))
+        elif value is not None:
+            parts.append(f'{before}{each.name}="{_escape(value, chr(34))}"')
+        else:
+            parts.append(before.rstrip(BLANKS))
+        # What follows a value in quotes may follow it at once; what follows another may not, of
+        # which a slash would be a part.
+        slash = ("/",) if each.name == "style" else ()
+        if tag[last : last + 1] not in (*BLANKS, *slash, ">", "") and value is None:
+            parts.append(" ")
+    if "style" in missing and declarations:
+        both = [*declarations, own] if own and own.strip(BLANKS) else declarations
+        parts.append(f' style="{_escape("; ".join(both), chr(34))}"')
+    for key, value in missing.items():
+        if value is not None:
+            parts.append(f' {key}="{_escape(value, chr(34))}"')
+    return "".join(parts) + tag[last:]
+
+
+def _with_declarations(own: Attribute, declarations: List[str], has_both: bool) -> str:
+    """Returns an attribute `style` with declarations before its own, or in place of these."""
+    value = own.value or ""
+    quote = value[0] if value[:1] in ("'", '"') else '"'
+    raw = value[1:-1] if value[:1] == quote else value.replace('"', "&quot;")
+    style = _escape("; ".join(declarations), quote)
+    both = f"{style}; {raw}" if has_both and raw.strip(BLANKS) else style
+    return f"style={quote}{both}{quote}"

@@ -1,0 +1,393 @@
+"""Trees of elements, from HTML, XML, and the trees of other packages."""
+
+from __future__ import annotations
+
+import bisect
+from typing import (
+    Any,
+    Dict,
+    FrozenSet,
+    Iterable,
+    Iterator,
+    List,
+    Mapping,
+    NamedTuple,
+    Optional,
+    Sequence,
+    Tuple,
+    Union,
+)
+
+from . import _library as library
+from ._elements import LINK, NO_STATES, SVG_SPACE, Elements, States, TreeError, states_of
+from ._selectors import MODERN, Reading
+from ._words import words_of
+from ._xml import XmlError, read_xml
+from .html import Builder, TooDeep, decode_page
+
+_LINK_SPACES = ("", "http://www.w3.org/1999/xhtml", SVG_SPACE)
+# The nodes of BeautifulSoup that are no elements and no texts.
+_NO_TEXTS = frozenset(
+    ("Comment", "Doctype", "Declaration", "ProcessingInstruction", "XMLProcessingInstruction")
+)
+
+
+class Item(NamedTuple):
+    """An element for `Tree`: its name and attributes, the index of its parent if it has one, where
+    its start tag begins if that is known, its states, such as `link`, and the text before its first
+    child."""
+
+    name: str
+    attributes: Dict[str, str] = {}
+    parent: Optional[int] = None
+    row: Optional[int] = None
+    column: Optional[int] = None
+    states: FrozenSet[str] = NO_STATES
+    text: str = ""
+
+
+class Element:
+    """An element of a tree. Two are equal if they are the same element of the same tree."""
+
+    __slots__ = ("tree", "index")
+
+    def __init__(self, tree: "Tree", index: int) -> None:
+        self.tree = tree
+        # Its number in the tree, from 0, in document order.
+        self.index = index
+
+    @property
+    def name(self) -> str:
+        """The name, in lower case in HTML."""
+        return self.tree._elements.names[self.index]
+
+    @property
+    def attributes(self) -> Dict[str, str]:
+        """The attributes, which must not be changed."""
+        return self.tree._elements.attributes[self.index]
+
+    @property
+    def states(self) -> FrozenSet[str]:
+        """The states, as `link`."""
+        return self.tree._elements.states.get(self.index, NO_STATES)
+
+    @property
+    def is_drawn(self) -> bool:
+        """Whether it is an element of SVG."""
+        return self.index in self.tree._elements.drawn
+
+    @property
+    def parent(self) -> Optional["Element"]:
+        """The parent, if there is one."""
+        parent = self.tree._elements.parents[self.index]
+        return None if parent < 0 else Element(self.tree, parent)
+
+    @property
+    def depth(self) -> int:
+        """How many ancestors the element has."""
+        return self.tree._elements.depths[self.index]
+
+    @property
+    def children(self) -> List["Element"]:
+        """The children, in order."""
+        return [Element(self.tree, index) for index in self.tree._elements.children_of(self.index)]
+
+    @property
+    def text(self) -> str:
+        """The text of the element and of all elements in it."""
+        return self.tree._elements.text_of(self.index)
+
+    @property
+    def source(self) -> Optional[str]:
+        """The text of the document from the start tag to the end, if the tree was read from one."""
+        return self.tree._elements.source_of(self.index)
+
+    @property
+    def row(self) -> Optional[int]:
+        """The row where the start tag begins, from 1, if the document has the tag."""
+        return self.tree._elements.position(self.index)[0]
+
+    @property
+    def column(self) -> Optional[int]:
+        """The column where the start tag begins, from 1, if the document has the tag."""
+        return self.tree._elements.position(self.index)[1]
+
+    @property
+    def node(self) -> Any:
+        """The element of the tree that this one was made from, or `None`."""
+        nodes = self.tree._elements.nodes
+        return None if nodes is None else nodes[self.index]
+
+    def matches(self, selectors: str, *, grammar: str = MODERN) -> bool:
+        """Whether one of the selectors matches the element."""
+        return self.index in self.tree._elements.found_set(selectors, grammar)
+
+    def closest(self, selectors: str, *, grammar: str = MODERN) -> Optional["Element"]:
+        """Returns the element itself or its nearest ancestor that one of the selectors matches."""
+        found = self.tree._elements.found_set(selectors, grammar)
+        index = self.index
+        while index >= 0:
+            if index in found:
+                return Element(self.tree, index)
+            index = self.tree._elements.parents[index]
+        return None
+
+    def select(self, selectors: str, *, grammar: str = MODERN) -> List["Element"]:
+        """Returns the elements within this one that one of the selectors matches, in order."""
+        found = self.tree._elements.found(selectors, grammar)
+        first = bisect.bisect_right(found, self.index)
+        last = bisect.bisect_left(found, self.tree._elements.end_of(self.index))
+        return [Element(self.tree, index) for index in found[first:last]]
+
+    def __eq__(self, other: object) -> bool:
+        return isinstance(other, Element) and self.tree is other.tree and self.index == other.index
+
+    def __hash__(self) -> int:
+        return hash((id(self.tree), self.index))
+
+    def __reduce__(self) -> Tuple[Any, ...]:
+        return (Element, (self.tree, self.index))
+
+    def __repr__(self) -> str:
+        words = [self.name]
+        for key in ("id", "class"):
+            if key in self.attributes:
+                words.append(f'{key}="{" ".join(words_of(self.attributes[key]))}"')
+        return f"<{' '.join(words)}>"
+
+
+class Tree:
+    """Elements in document order, which selectors are matched against."""
+
+    def __init__(self, items: Iterable[Item] = ()) -> None:
+        """Takes elements in document order: a parent comes before its children."""
+        elements = self._elements = Elements()
+        last: List[int] = []
+        for index, item in enumerate(items):
+            self._check(index, item, last)
+            elements.add(item.name, item.attributes, -1 if item.parent is None else item.parent)
+            elements.places.append((item.row, item.column))
+            states = states_of(item.states)
+            if states:
+                elements.states[index] = states
+            if item.text:
+                elements.texts.add(index + 1, index, item.text)
+
+    def _check(self, index: int, item: Item, last: List[int]) -> None:
+        """Raises an error for an element whose parent is not one of the elements still open."""
+        depth = 0
+        if not isinstance(item, Item):
+            raise TypeError(f"an Item is expected, not {type(item).__name__}")
+        if not isinstance(item.name, str) or not isinstance(item.attributes, Mapping):
+            raise TypeError("an element has a text as its name and a mapping as its attributes")
+        library.expect_text(item.text)
+        if item.parent is not None:
+            if not 0 <= item.parent < index:
+                raise TreeError("the parent is not an earlier element", item.row, item.column)
+            depth = self._elements.depths[item.parent] + 1
+            if depth > len(last) or last[depth - 1] != item.parent:
+                raise TreeError("the elements are not in document order", item.row, item.column)
+        del last[depth:]
+        last.append(index)
+        if not item.name:
+            raise TreeError("the name is empty", item.row, item.column)
+
+    # ---- documents
+
+    @classmethod
+    def from_html(
+        cls, text: Union[str, bytes], states: Optional[States] = None, *, is_part: bool = False
+    ) -> "Tree":
+        """Reads an HTML document, as a browser does without scripts.
+
+        One in bytes is read in the encoding that it names. Bytes that are not in it raise
+        `ValueError`.
+
+        Names are in lower case, and the elements that a text leaves out (`html`, `head`, `body`,
+        `tbody`) are added. The content of a `template` is left out. `a` and `area` with `href` are
+        links. `states` maps selectors to the states of the elements that they match. `is_part`
+        reads the content of a `body`, and adds no `html`, `head` and `body`.
+        """
+        if isinstance(text, bytes):
+            text = decode_page(text)[0]
+        library.expect_text(text)
+        builder = Builder(text, is_part)
+        try:
+            root = builder.build()
+        except TooDeep as error:
+            raise TreeError(str(error), None, None) from None
+        tree = cls()
+        tree._elements.take_nodes(root, text, is_quirky=builder.is_quirky, is_part=is_part)
+        return tree._with_states(states)
+
+    @classmethod
+    def from_xml(cls, text: str, states: Optional[States] = None) -> "Tree":
+        """Reads an XML document, such as SVG or XHTML.
+
+        Names are local names, without a namespace. `a` and `area` with `href` are links.
+        """
+        library.expect_text(text)
+        tree = cls()
+        try:
+            found = read_xml(text)
+        except XmlError as error:
+            raise TreeError(error.reason, error.row, error.column) from None
+        tree._elements.take_tags(found, text)
+        return tree._with_states(states)
+
+    @classmethod
+    def from_etree(cls, root: Any, states: Optional[States] = None) -> "Tree":
+        """Takes an element of `xml.etree.ElementTree`, or a whole tree of one.
+
+        Comments and processing instructions are left out. `.node` of an element is the one that it
+        was made from.
+        """
+        if hasattr(root, "getroot"):
+            root = root.getroot()
+        if not hasattr(root, "tag") or not hasattr(root, "attrib"):
+            raise TypeError(f"an element of ElementTree is expected, not {type(root).__name__}")
+        tree = cls()
+        elements = tree._elements
+        elements.nodes = []
+        waiting: List[Tuple[Any, int]] = [(root, -1)]
+        while waiting:
+            node, parent = waiting.pop()
+            if isinstance(node, str):
+                if node:
+                    elements.texts.add(len(elements), parent, node)
+            elif isinstance(node.tag, str):
+                index = _take_element(elements, node, parent)
+                for child in reversed(list(node)):
+                    waiting.append((child.tail or "", index))
+                    waiting.append((child, index))
+                waiting.append((node.text or "", index))
+        return tree._with_states(states)
+
+    @classmethod
+    def from_lxml(cls, root: Any, states: Optional[States] = None) -> "Tree":
+        """Takes an element or a whole tree of lxml. One that `lxml.html` made is HTML."""
+        tree = cls.from_etree(root, None)
+        top = root.getroot() if hasattr(root, "getroot") else root
+        if type(top).__module__.partition(".")[0] == "lxml" and "html" in type(top).__module__:
+            doctype = getattr(getattr(top.getroottree(), "docinfo", None), "doctype", "")
+            tree._elements.reading = Reading.HTML if doctype else Reading.QUIRKS
+        return tree._with_states(states)
+
+    @classmethod
+    def from_soup(cls, root: Any, states: Optional[States] = None) -> "Tree":
+        """Takes a document or an element of BeautifulSoup, which is HTML unless it was read as
+        XML."""
+        if not hasattr(root, "contents") or not hasattr(root, "attrs"):
+            raise TypeError(f"an element of BeautifulSoup is expected, not {type(root).__name__}")
+        tree = cls()
+        elements = tree._elements
+        elements.nodes = []
+        has_doctype = False
+        waiting: List[Tuple[Any, int]] = [(root, -1)]
+        while waiting:
+            node, parent = waiting.pop()
+            if not hasattr(node, "contents"):
+                kind = type(node).__name__
+                has_doctype = has_doctype or kind == "Doctype"
+                if kind not in _NO_TEXTS and node:
+                    elements.texts.add(len(elements), parent, str(node))
+                continue
+            index = parent if node.name == "[document]" else _take_tag(elements, node, parent)
+            waiting.extend((child, index) for child in reversed(node.contents))
+        if not getattr(root, "_is_xml", False):
+            tree._elements.reading = Reading.HTML if has_doctype else Reading.QUIRKS
+        return tree._with_states(states)
+
+    def _with_states(self, states: Optional[States]) -> "Tree":
+        """Returns the tree, with states for the elements that selectors match."""
+        self._elements.set_states(states)
+        return self
+
+    # ---- elements
+
+    @property
+    def elements(self) -> Sequence[Element]:
+        """The elements, in document order."""
+        return [Element(self, index) for index in range(len(self._elements))]
+
+    def __getitem__(self, index: int) -> Element:
+        """Returns the element at an index."""
+        return Element(self, range(len(self._elements))[index])
+
+    def __iter__(self) -> Iterator[Element]:
+        return (Element(self, index) for index in range(len(self._elements)))
+
+    def __len__(self) -> int:
+        return len(self._elements)
+
+    def __repr__(self) -> str:
+        return f"<Tree of {len(self)} elements>"
+
+    # ---- selectors
+
+    def select(self, selectors: str, *, grammar: str = MODERN) -> List[Element]:
+        """Returns the elements that one of the selectors matches, in order.
+
+        The selectors are separated by commas. A text that is no such list raises `SelectorError`.
+        `grammar` is that of `Selector`.
+        """
+        return [Element(self, index) for index in self._elements.found(selectors, grammar)]
+
+    def iselect(self, selectors: str, *, grammar: str = MODERN) -> Iterator[Element]:
+        """Yields the elements that one of the selectors matches, in order."""
+        return (Element(self, index) for index in self._elements.found(selectors, grammar))
+
+    def select_one(self, selectors: str, *, grammar: str = MODERN) -> Optional[Element]:
+        """Returns the first element that one of the selectors matches, or `None`."""
+        return next(self.iselect(selectors, grammar=grammar), None)
+
+
+def elements_of(tree: Tree) -> Elements:
+    """Returns the elements of a tree as the other modules of the package use them."""
+    return tree._elements
+
+
+def _take_element(elements: Elements, node: Any, parent: int) -> int:
+    """Takes an element of ElementTree or lxml. Returns its index."""
+    space, _, name = node.tag.rpartition("}")
+    attributes = _local_attributes(node.attrib.items())
+    index = elements.add(name, attributes, parent)
+    row = getattr(node, "sourceline", None)
+    elements.places.append((row, None if row is None else 1))
+    if name in ("a", "area") and "href" in attributes and space[1:] in _LINK_SPACES:
+        elements.states[index] = LINK
+    if space[1:] == SVG_SPACE:
+        elements.drawn.add(index)
+    if elements.nodes is not None:
+        elements.nodes.append(node)
+    return index
+
+
+def _take_tag(elements: Elements, node: Any, parent: int) -> int:
+    """Takes an element of BeautifulSoup. Returns its index."""
+    attributes = {
+        str(key): " ".join(value) if isinstance(value, list) else str(value)
+        for key, value in node.attrs.items()
+    }
+    index = elements.add(node.name.rpartition(":")[2], attributes, parent)
+    row, column = getattr(node, "sourceline", None), getattr(node, "sourcepos", None)
+    elements.places.append((row, None if column is None else column + 1))
+    if node.name in ("a", "area") and "href" in attributes:
+        elements.states[index] = LINK
+    if getattr(node, "namespace", None) == SVG_SPACE:
+        elements.drawn.add(index)
+    if elements.nodes is not None:
+        elements.nodes.append(node)
+    return index
+
+
+def _local_attributes(items: Iterable[Tuple[Any, Any]]) -> Dict[str, str]:
+    """Returns attributes by local name. One without a namespace comes before one that has one."""
+    found: Dict[str, str] = {}
+    spaced: Dict[str, str] = {}
+    for key, value in items:
+        local = str(key).rpartition("}")[2]
+        (spaced if str(key).startswith("{") else found)[local] = str(value)
+    for key, value in spaced.items():
+        found.setdefault(key, value)
+    return found
