@@ -1,16 +1,25 @@
-"""Measures the built program on a real style sheet, on a real page and on made ones, beside other programs of the same commands.
+"""Measures the built program on a real style sheet, on a real page and on made ones, beside other
+programs of the same commands.
 
     speed.py PROGRAM [OTHER] [--matcher MATCHER] [--out FOLDER] [--runs N] [--quick]
+    speed.py --python [--out FOLDER]
 
-PROGRAM is the built `cssq`. OTHER and MATCHER, if given, are run on the same files, one run of each after another. OTHER is called
-the Rust crate, and MATCHER Servo's crates. Their standard output must be the same, but MATCHER's of `sheet`, since Servo's crates
-keep other rules. The style sheet is bootstrap.css of Debian's libjs-bootstrap4 and the page that of developers-reference, fetched
-by `apt-get download` into FOLDER (cssq-speed in the temporary folder) once; if that fails, both are made here, and the table
-says so. FOLDER is outside the repository: packages have links, which the toolchain refuses there.
+PROGRAM is the built `cssq`. OTHER and MATCHER, if given, are run on the same files, one run of each
+after another. OTHER is called the Rust crate, and MATCHER Servo's crates. Their standard output
+must be the same, but MATCHER's of `sheet`, since Servo's crates keep other rules. The style sheet
+is bootstrap.css of Debian's libjs-bootstrap4 and the page that of developers-reference, fetched by
+`apt-get download` into FOLDER (cssq-speed in the temporary folder) once; if that fails, both are
+made here, and the table says so. FOLDER is outside the repository: packages have links, which the
+toolchain refuses there.
 
-Prints a table, and writes it with a picture to FOLDER: speed.md and speed.svg. Each time is the least of N runs of the whole
-process, in milliseconds of processor time. The most resident memory, in megabytes, is that of one more run below GNU `time`, if it
-is there: of a process that Python starts the system reports no less than Python's own.
+Prints a table, and writes it with a picture to FOLDER: speed.md and speed.svg. Each time is the
+least of N runs of the whole process, in milliseconds of processor time. The most resident memory,
+in megabytes, is that of one more run below GNU `time`, if it is there: of a process that Python
+starts the system reports no less than Python's own.
+
+--python measures the Python package beside other packages on the same sheet and page, and prints a
+table. What is not installed is left out. Each call is made five times in a process of its own, one
+package after another, and the least processor time counts.
 """
 from __future__ import annotations
 
@@ -26,9 +35,14 @@ import tempfile
 import time
 from dataclasses import dataclass, field
 from math import ceil, floor, log10
-from typing import Callable, Iterable, Iterator, List, Optional, Sequence, Tuple
+from typing import Callable, Dict, Iterable, Iterator, List, Optional, Sequence, Tuple
 
-VOID = {"area", "base", "br", "col", "embed", "hr", "img", "input", "link", "meta", "source", "track", "wbr"}
+# fmt: off
+VOID = {
+    "area", "base", "br", "col", "embed", "hr", "img", "input", "link", "meta", "source", "track",
+    "wbr",
+}
+# fmt: on
 # As the script `cssq` sets it; and Servo's program reports what is skipped, as `cssq` does.
 ENVIRONMENT = {**os.environ, "GLIBC_TUNABLES": "glibc.malloc.hugetlb=1", "PEER_WARN": "1"}
 # What takes the Rust crate a minute and more.
@@ -83,10 +97,17 @@ class Bench:
 
     def run(self, what: str, size: int, words: Sequence[str], leave_out: Sequence[str] = ()) -> Row:
         """Runs a command by each program that has it and is not left out, and adds a row."""
-        chosen = [it if words[0] in it.commands and it.name not in leave_out else None for it in self.programs]
+        chosen = [
+            it if words[0] in it.commands and it.name not in leave_out else None
+            for it in self.programs
+        ]
         row = Row(what, size, least(chosen, words, self.runs))
         self.rows.append(row)
-        print(f"{what:52}" + "".join(f" {it.time:10.1f} {it.memory:>7}" if it else " " * 19 for it in row.costs), flush=True)
+        print(
+            f"{what:52}"
+            + "".join(f" {it.time:10.1f} {it.memory:>7}" if it else " " * 19 for it in row.costs),
+            flush=True,
+        )
         return row
 
 
@@ -119,7 +140,13 @@ def fetched(folder: str, package: str, name: str) -> Optional[str]:
     unpacked = os.path.join(folder, package)
     if not os.path.isdir(unpacked):
         try:
-            subprocess.run(["apt-get", "download", package], cwd=folder, check=True, capture_output=True, timeout=120)
+            subprocess.run(
+                ["apt-get", "download", package],
+                cwd=folder,
+                check=True,
+                capture_output=True,
+                timeout=120,
+            )
             archive = glob.glob(os.path.join(folder, package + "_*.deb"))[0]
             subprocess.run(["dpkg-deb", "-x", archive, unpacked], check=True, capture_output=True)
         except (subprocess.SubprocessError, OSError, IndexError):
@@ -132,11 +159,19 @@ def fetched(folder: str, package: str, name: str) -> Optional[str]:
 
 
 def made_sheet(count: int) -> str:
-    """Returns a sheet in the usual shape: classes of components, states and elements within them."""
+    """Returns a sheet in the usual shape: classes of components, states and elements within
+    them."""
     made = []
     for i in range(count):
         a, b = f"c{i % 97}", f"d{i % 61}"
-        head = [f".{a}-{i % 7}", f".{a} .{b}", f".{a}:hover, .{a}:focus", f"p > a.{b}", f"#x{i % 31} {b}", f"table.{a} > tr"][i % 6]
+        head = [
+            f".{a}-{i % 7}",
+            f".{a} .{b}",
+            f".{a}:hover, .{a}:focus",
+            f"p > a.{b}",
+            f"#x{i % 31} {b}",
+            f"table.{a} > tr",
+        ][i % 6]
         made.append(f"{head} {{\n  color: #{i % 4096:03x};\n  margin: {i % 9}px 0;\n}}\n")
     return "".join(made)
 
@@ -206,19 +241,26 @@ def drawing(count: int) -> str:
         if i % 40 == 0:
             lines.append(f"1\tg\tid=g{i}\ttransform=translate({i % 90},{i % 70})")
         d = "".join(f"L{(i * k) % 900}.{k} {(i + k) % 900}" for k in range(2 + i % 9))
-        lines.append(f"2\tpath\td=M{i % 900} 0{d}z\tfill=#{i % 4096:03x}\tstroke=none\tstroke-width=0.5")
+        lines.append(
+            f"2\tpath\td=M{i % 900} 0{d}z\tfill=#{i % 4096:03x}\tstroke=none\tstroke-width=0.5"
+        )
     return tree_of(lines)
 
 
 def long_values(count: int) -> str:
     """Returns elements with a value of 1,000 bytes before four other attributes."""
-    return tree_of(["0\tsvg"] + ["1\tpath\td=" + "M0 0L9 9z " * 100 + "\tfill=red\tstroke=none\tx=1\ty=2"] * count)
+    return tree_of(
+        ["0\tsvg"]
+        + ["1\tpath\td=" + "M0 0L9 9z " * 100 + "\tfill=red\tstroke=none\tx=1\ty=2"] * count
+    )
 
 
 def measured(path: str, words: Sequence[str]) -> Tuple[float, bytes]:
     """Runs a program once, and returns its processor time and its output."""
     with tempfile.TemporaryFile() as output, open(os.devnull, "r+b") as null:
-        child = subprocess.Popen([path, *words], stdin=null, stdout=output, stderr=null, env=ENVIRONMENT)
+        child = subprocess.Popen(
+            [path, *words], stdin=null, stdout=output, stderr=null, env=ENVIRONMENT
+        )
         _, status, usage = os.wait4(child.pid, 0)
         child.returncode = os.waitstatus_to_exitcode(status)
         if child.returncode != 0:
@@ -233,13 +275,22 @@ def memory_of(path: str, words: Sequence[str]) -> str:
     if not timer:
         return ""
     with tempfile.NamedTemporaryFile("r", encoding="utf-8") as report:
-        subprocess.run([timer, "-f", "%M", "-o", report.name, path, *words], check=True, stdin=subprocess.DEVNULL,
-                       stdout=subprocess.DEVNULL, stderr=subprocess.DEVNULL, env=ENVIRONMENT)
+        subprocess.run(
+            [timer, "-f", "%M", "-o", report.name, path, *words],
+            check=True,
+            stdin=subprocess.DEVNULL,
+            stdout=subprocess.DEVNULL,
+            stderr=subprocess.DEVNULL,
+            env=ENVIRONMENT,
+        )
         return f"{int(report.read()) / 1024:.1f}"
 
 
-def least(programs: Sequence[Optional[Program]], words: Sequence[str], runs: int) -> List[Optional[Cost]]:
-    """Returns the least cost by each program, one run of each after another. Their output must be the same."""
+def least(
+    programs: Sequence[Optional[Program]], words: Sequence[str], runs: int
+) -> List[Optional[Cost]]:
+    """Returns the least cost by each program, one run of each after another. Their output must be
+    the same."""
     times = [float("inf")] * len(programs)
     begun = time.monotonic()
     for number in range(runs):
@@ -254,7 +305,9 @@ def least(programs: Sequence[Optional[Program]], words: Sequence[str], runs: int
             first = output if place == 0 else first
         if number >= 2 and time.monotonic() - begun > PATIENCE:
             break
-    return [Cost(spent, memory_of(it.path, words)) if it else None for it, spent in zip(programs, times)]
+    return [
+        Cost(spent, memory_of(it.path, words)) if it else None for it, spent in zip(programs, times)
+    ]
 
 
 def read_sheets(bench: Bench, css: str, is_quick: bool) -> None:
@@ -263,7 +316,12 @@ def read_sheets(bench: Bench, css: str, is_quick: bool) -> None:
         path = bench.put(f"sheet{times}.css", css * times)
         size = os.path.getsize(path)
         # The time of the Rust crate grows as the square of the size.
-        bench.run(f"sheet: {size / 1e6:.1f} MB", size, ["sheet", path], ["the Rust crate"] if times > 4 else [])
+        bench.run(
+            f"sheet: {size / 1e6:.1f} MB",
+            size,
+            ["sheet", path],
+            ["the Rust crate"] if times > 4 else [],
+        )
 
 
 def match_parts(bench: Bench, css: str, tree: List[str], is_quick: bool) -> None:
@@ -287,8 +345,12 @@ def made_pages(tree: List[str]) -> Iterator[Tuple[str, str, Callable[[], str]]]:
     yield "an empty sheet on 300,000 elements", "", lambda: made_tree(300_000)
     yield "200 rules on 2,000 leaves under 50 ancestors", leaf, lambda: below(50, 2_000)
     yield "200 rules on 300 leaves under 500 ancestors", leaf, lambda: below(500, 300)
-    yield "utility classes, 1,800 rules on 8,000 elements", utility_sheet(1_800), lambda: utilities(8_000)
-    yield "children of a parent of 1,000 words", rules(20, ".x{0} > *"), lambda: children(1_000, 300_000)
+    yield "utility classes, 1,800 rules on 8,000 elements", utility_sheet(1_800), lambda: utilities(
+        8_000
+    )
+    yield "children of a parent of 1,000 words", rules(20, ".x{0} > *"), lambda: children(
+        1_000, 300_000
+    )
     yield "1,000 classes on 20,000 elements", rules(1_000, ".k{0}"), lambda: classed(20_000)
     yield "40 chains of 500 elements", deep, lambda: chains(40, 500)
     yield "a chain of 20,000 elements", deep, lambda: chains(1, 20_000)
@@ -302,7 +364,11 @@ def match_made(bench: Bench, css: str, tree: List[str]) -> None:
         sheet, path = bench.put("made.css", text), bench.put("made.tree", page())
         leave_out = ["the Rust crate"] if what.startswith(SLOW) else []
         bench.run(f"match: {what}", 0, ["match", sheet, path], leave_out)
-    bench.run("style: color on the page", 0, ["style", bench.put("sheet.css", css), bench.put("page.tree", tree_of(tree)), "color"])
+    bench.run(
+        "style: color on the page",
+        0,
+        ["style", bench.put("sheet.css", css), bench.put("page.tree", tree_of(tree)), "color"],
+    )
 
 
 @dataclass(frozen=True)
@@ -333,7 +399,10 @@ class Panel:
         """Returns the title, the frame and the lines of the scales."""
         x_of, y_of, powers = self.scales()
         left = self.left
-        yield f'<text x="{left}" y="24" font-size="14">{self.title}: milliseconds against {self.label}</text>'
+        yield (
+            f'<text x="{left}" y="24" font-size="14">{self.title}: milliseconds against'
+            f" {self.label}</text>"
+        )
         yield f'<rect x="{left}" y="40" width="340" height="260" fill="none" stroke="#888"/>'
         for power in powers:
             y = y_of(10.0**power)
@@ -348,23 +417,48 @@ class Panel:
     def curve(self, place: int, program: Program) -> Iterator[str]:
         """Returns the curve of a program."""
         x_of, y_of, _ = self.scales()
-        line = [(x_of(row.size), y_of(cost.time)) for row in self.rows for cost in [row.costs[place]] if cost]
+        line = [
+            (x_of(row.size), y_of(cost.time))
+            for row in self.rows
+            for cost in [row.costs[place]]
+            if cost
+        ]
         if line:
             points = " ".join(f"{x:.1f},{y:.1f}" for x, y in line)
-            yield f'<polyline fill="none" stroke="{program.colour}" stroke-width="2" points="{points}"/>'
-            yield from (f'<circle cx="{x:.1f}" cy="{y:.1f}" r="3" fill="{program.colour}"/>' for x, y in line)
+            yield (
+                f'<polyline fill="none" stroke="{program.colour}" stroke-width="2"'
+                f' points="{points}"/>'
+            )
+            yield from (
+                f'<circle cx="{x:.1f}" cy="{y:.1f}" r="3" fill="{program.colour}"/>'
+                for x, y in line
+            )
             x, y = line[-1]
-            place_of_name = f'x="{x - 14:.1f}" y="{max(y - 8, 50):.1f}" text-anchor="end"' if place else f'x="{x:.1f}" y="{y + 20:.1f}" text-anchor="middle"'
+            place_of_name = (
+                f'x="{x - 14:.1f}" y="{max(y - 8, 50):.1f}" text-anchor="end"'
+                if place
+                else f'x="{x:.1f}" y="{y + 20:.1f}" text-anchor="middle"'
+            )
             yield f'<text {place_of_name} fill="{program.colour}">{program.name}</text>'
 
 
 def picture(bench: Bench) -> str:
     """Returns the curves of reading and matching, as SVG."""
     sized = [row for row in bench.rows if row.size]
-    parts = ['<svg xmlns="http://www.w3.org/2000/svg" width="860" height="360" font-family="sans-serif" font-size="12">',
-             '<rect width="860" height="360" fill="white"/>']
-    reading, matching = ([row for row in sized if row.what.startswith(kind)] for kind in ("sheet", "match"))
-    for panel in (Panel("reading", "bytes of the style sheet", reading, 60), Panel("matching", "elements of the page", matching, 490)):
+    parts = [
+        (
+            '<svg xmlns="http://www.w3.org/2000/svg" width="860" height="360"'
+            ' font-family="sans-serif" font-size="12">'
+        ),
+        '<rect width="860" height="360" fill="white"/>',
+    ]
+    reading, matching = (
+        [row for row in sized if row.what.startswith(kind)] for kind in ("sheet", "match")
+    )
+    for panel in (
+        Panel("reading", "bytes of the style sheet", reading, 60),
+        Panel("matching", "elements of the page", matching, 490),
+    ):
         parts += panel.frame()
         for place, program in enumerate(bench.programs):
             parts += panel.curve(place, program)
@@ -375,62 +469,225 @@ def processor() -> str:
     """Returns the name of the processor."""
     try:
         with open("/proc/cpuinfo", encoding="utf-8") as file:
-            return next(line.split(":")[1].strip() for line in file if line.startswith("model name"))
+            return next(
+                line.split(":")[1].strip() for line in file if line.startswith("model name")
+            )
     except (OSError, StopIteration):
         return platform.machine()
 
 
 def cells(own: Cost, cost: Optional[Cost]) -> str:
-    """Returns the time and memory of a program, and how many times that of the first its time is."""
+    """Returns the time and memory of a program, and how many times that of the first its time
+    is."""
     if not cost:
         return "|||"
     times = cost.time / own.time
-    return f"{cost.time:.1f}|{cost.memory}|{times:.0f}|" if times >= 10 else f"{cost.time:.1f}|{cost.memory}|{times:.2f}|"
+    return (
+        f"{cost.time:.1f}|{cost.memory}|{times:.0f}|"
+        if times >= 10
+        else f"{cost.time:.1f}|{cost.memory}|{times:.2f}|"
+    )
 
 
 def table(bench: Bench, source: str) -> str:
     """Returns the rows as a table of Markdown."""
     rivals = bench.programs[1:]
-    lines = [f"Machine: {processor()}, {os.cpu_count()} processors. Date: {time.strftime('%Y-%m-%d')}.", f"Texts: {source}.", "",
-             "||`cssq`, ms|MB|" + "".join(f"{it.name}, ms|MB|times|" for it in rivals),
-             "|---|---|---|" + "---|---|---|" * len(rivals)]
+    lines = [
+        f"Machine: {processor()}, {os.cpu_count()} processors. Date: {time.strftime('%Y-%m-%d')}.",
+        f"Texts: {source}.",
+        "",
+        "||`cssq`, ms|MB|" + "".join(f"{it.name}, ms|MB|times|" for it in rivals),
+        "|---|---|---|" + "---|---|---|" * len(rivals),
+    ]
     for row in bench.rows:
         own = row.costs[0]
         if own:
-            lines.append(f"|{row.what}|{own.time:.1f}|{own.memory}|" + "".join(cells(own, it) for it in row.costs[1:]))
+            lines.append(
+                f"|{row.what}|{own.time:.1f}|{own.memory}|"
+                + "".join(cells(own, it) for it in row.costs[1:])
+            )
     return "\n".join(lines) + "\n"
+
+
+# Makes a call some times, and writes the least processor time of one in milliseconds.
+CALL = """
+import gc, sys, time
+page, css = (open(name, encoding="utf-8").read() for name in sys.argv[1:3])
+selectors = (f"div > p a[href]:not(.x{{number}})" for number in range(99))
+{prepare}
+times = []
+for _ in range(5):
+    gc.collect()
+    start = time.process_time()
+    made = {expression}
+    times.append(time.process_time() - start)
+    del made
+print(1000 * min(times))
+"""
+# The declarations that match each element, by cssselect2 and tinycss2.
+CSSSELECT2 = """
+import cssselect2, html5lib, tinycss2
+
+def styles():
+    matcher = cssselect2.Matcher()
+    for rule in tinycss2.parse_stylesheet(css):
+        if rule.type == "qualified-rule":
+            declarations = tinycss2.parse_declaration_list(rule.content)
+            try:
+                for selector in cssselect2.compile_selector_list(rule.prelude):
+                    matcher.add_selector(selector, declarations)
+            except cssselect2.SelectorError:
+                pass
+    root = cssselect2.ElementWrapper.from_html_root(html5lib.parse(page))
+    return [matcher.match(element) for element in root.iter_subtree()]
+"""
+TINYCSS2 = (
+    "[tinycss2.parse_declaration_list(rule.content) for rule in tinycss2.parse_stylesheet(css)"
+    " if rule.type == 'qualified-rule']"
+)
+# What is measured: for each package what comes first, and a call.
+CALLS: Dict[str, Dict[str, Tuple[str, str]]] = {
+    "the tree of the page": {
+        "simplecss": ("from simplecss import Tree", "Tree.from_html(page)"),
+        "html5lib": ("import html5lib", "html5lib.parse(page)"),
+        "lxml": ("import lxml.html", "lxml.html.document_fromstring(page)"),
+    },
+    "a selector": {
+        "simplecss": (
+            "from simplecss import Tree; tree = Tree.from_html(page)",
+            "tree.select(next(selectors))",
+        ),
+        "soupsieve": (
+            "import bs4, soupsieve; soup = bs4.BeautifulSoup(page, 'lxml')",
+            "soupsieve.select(next(selectors), soup)",
+        ),
+        "lxml": (
+            "import lxml.cssselect, lxml.html; root = lxml.html.document_fromstring(page)",
+            "lxml.cssselect.CSSSelector(next(selectors))(root)",
+        ),
+        "cssselect2": (
+            CSSSELECT2 + "root = cssselect2.ElementWrapper.from_html_root(html5lib.parse(page))",
+            "list(root.query_all(next(selectors)))",
+        ),
+    },
+    "the rules of the sheet": {
+        "simplecss": ("from simplecss import StyleSheet", "StyleSheet(css).rules"),
+        "tinycss2": ("import tinycss2", TINYCSS2),
+    },
+    "the styles of the page, with its tree and the sheet": {
+        "simplecss": (
+            "from simplecss import StyleSheet, Tree",
+            "StyleSheet(css).styles(Tree.from_html(page))",
+        ),
+        "cssselect2": (CSSSELECT2, "styles()"),
+    },
+    "`inline`": {"simplecss": ("import simplecss", "simplecss.inline(page, css)")},
+    "`inline` of 20 short pages": {
+        "simplecss": (
+            "import simplecss; sheet = simplecss.StyleSheet(css)",
+            "[simplecss.inline(f'<p class=btn>{each}', sheet) for each in range(20)]",
+        ),
+        "the sheet as a text": (
+            "import simplecss",
+            "[simplecss.inline(f'<p class=btn>{each}', css) for each in range(20)]",
+        ),
+    },
+}
+
+
+def measured_call(prepare: str, expression: str, files: Sequence[str]) -> Optional[float]:
+    """Returns the least processor time of a call of Python, or `None` if a package is missing."""
+    code = CALL.format(prepare=prepare, expression=expression)
+    top = os.path.dirname(os.path.dirname(os.path.abspath(__file__)))
+    environment = {**os.environ, "PYTHONPATH": os.path.join(top, "python", "src")}
+    words = [sys.executable, "-c", code, *files]
+    done = subprocess.run(words, capture_output=True, text=True, check=False, env=environment)
+    if (
+        done.returncode
+        and "ModuleNotFoundError" not in done.stderr
+        and "ImportError" not in done.stderr
+    ):
+        sys.exit(done.stderr)
+    return None if done.returncode else float(done.stdout)
+
+
+def started(code: str) -> float:
+    """Returns the least processor time of some processes of Python in milliseconds."""
+    top = os.path.dirname(os.path.dirname(os.path.abspath(__file__)))
+    words = [
+        "-c",
+        f"import sys; sys.path.insert(0, {os.path.join(top, 'python', 'src')!r}); {code}",
+    ]
+    return min(measured(sys.executable, words)[0] for _ in range(15))
+
+
+def show_python(bench: Bench, css: str, page: str) -> None:
+    """Prints the table of the Python package."""
+    files = [bench.put("page.html", page), bench.put("sheet.css", css)]
+    print("||simplecss, ms|others, in times of it|\n|---|---|---|")
+    plain = started("pass")
+    for code in ("import simplecss", "from simplecss import Tree", "from simplecss import inline"):
+        print(
+            f"|`{code}`|{started(code) - plain:.1f}|`python3 -c pass` {plain:.1f} ms|", flush=True
+        )
+    for what, calls in CALLS.items():
+        times = {name: measured_call(*call, files) for name, call in calls.items()}
+        own = times.pop("simplecss")
+        if own is not None:
+            others = ", ".join(f"{name} {time / own:.2f}" for name, time in times.items() if time)
+            print(f"|{what}|{own:.1f}|{others}|", flush=True)
 
 
 def programs_of(words: argparse.Namespace) -> List[Program]:
     """Returns the program and the others that were named."""
     every = ("sheet", "match", "style")
-    named = [("cssq", "#1764c0", words.program, every, every), ("the Rust crate", "#c04a17", words.other, every, every),
-             ("Servo's crates", "#2c8a3a", words.matcher, ("sheet", "match"), ("match",))]
-    return [Program(name, colour, os.path.abspath(path), commands, compared) for name, colour, path, commands, compared in named if path]
+    named = [
+        ("cssq", "#1764c0", words.program, every, every),
+        ("the Rust crate", "#c04a17", words.other, every, every),
+        ("Servo's crates", "#2c8a3a", words.matcher, ("sheet", "match"), ("match",)),
+    ]
+    return [
+        Program(name, colour, os.path.abspath(path), commands, compared)
+        for name, colour, path, commands, compared in named
+        if path
+    ]
 
 
 def main() -> None:
     """Makes all rows, the table and the picture."""
     parser = argparse.ArgumentParser()
-    parser.add_argument("program")
+    parser.add_argument("program", nargs="?")
     parser.add_argument("other", nargs="?")
     parser.add_argument("--matcher")
     parser.add_argument("--out", default=os.path.join(tempfile.gettempdir(), "cssq-speed"))
     parser.add_argument("--runs", type=int, default=9)
     parser.add_argument("--quick", action="store_true", help="only small inputs")
+    parser.add_argument("--python", action="store_true", help="the Python package")
     words = parser.parse_args()
+    if not words.program and not words.python:
+        parser.error("no program")
     os.makedirs(words.out, exist_ok=True)
     bench = Bench(programs_of(words), words.out, words.runs)
     css = fetched(words.out, "libjs-bootstrap4", "bootstrap.css")
     page = fetched(words.out, "developers-reference", "developers-reference.html")
-    source = "bootstrap.css of Debian's libjs-bootstrap4, and the page developers-reference.html of Debian"
+    source = (
+        "bootstrap.css of Debian's libjs-bootstrap4, and the page developers-reference.html of"
+        " Debian"
+    )
+    if words.python:
+        if not (css and page):
+            sys.exit("the sheet and the page cannot be fetched")
+        show_python(bench, css, page)
+        return
     elements = Elements()
     if css and page:
         elements.feed(page)
     else:
         source = "a sheet and a page that this script makes"
         css, elements.lines = made_sheet(1400), made_tree(8400).splitlines()
-    print(f"{'milliseconds and megabytes':52}" + "".join(f" {it.name:>18}" for it in bench.programs))
+    print(
+        f"{'milliseconds and megabytes':52}" + "".join(f" {it.name:>18}" for it in bench.programs)
+    )
     read_sheets(bench, css, words.quick)
     match_parts(bench, css, elements.lines, words.quick)
     if not words.quick:

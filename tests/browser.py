@@ -1,20 +1,25 @@
 #!/usr/bin/env python3
 """Compares the Python package with a browser: headless Chromium (Debian's package `chromium`).
 
-    tests/browser.py mails [FILE..]      the computed styles of documents before and after `simplecss.inline`
-    tests/browser.py trees [FILE..]      the elements and attributes of `Tree.from_html` with those of the browser, and
-                                         which are empty
-    tests/browser.py selectors           what random selectors find in random documents of HTML
-    tests/browser.py winners [FILE..]    which declarations of ten properties win on each element
-    tests/browser.py soup [FILE..]       what selectors find, with soupsieve over html5lib (no browser)
-    tests/browser.py reports [FILE..]    whether the browser takes what `lint` reports: one in a hundred at most
-    tests/browser.py printed [FILE..]    the rules of sheets, and of these sheets as the package prints them
+    browser.py mails [FILE..]     the computed styles of documents before and after `inline`
+    browser.py trees [FILE..]     the elements and attributes of `Tree.from_html` with those of the
+                                  browser, and which are empty
+    browser.py selectors          what random selectors find in random documents of HTML
+    browser.py winners [FILE..]   which declarations of ten properties win on each element
+    browser.py links              the colours of random pages whose sheets are in files and import
+                                  one another, before and after `inline`
+    browser.py soup [FILE..]      what selectors find, with soupsieve over html5lib (no browser)
+    browser.py reports [FILE..]   whether the browser takes what `lint` reports: at most one in 100
+    browser.py printed [FILE..]   the rules of sheets, and of these as the package prints them
 
-Without files, `mails` takes those of `tests/mails`, and `trees`, `winners` and `soup` take these and pages of Debian
-packages below /usr/share/doc. `reports` takes sheets of Bootstrap, jQuery UI, Font Awesome and Sphinx below /usr/share,
-and `printed` 200 of all there. Each test is a document. What differs is listed, and the last line is `N passed, M
-failed`. Run by hand, but for `soup`, which tests/library.py runs. The library is built by `./build library`.
+Without files, `mails` takes those of `tests/mails`, and `trees`, `winners` and `soup` take these
+and pages of Debian packages below /usr/share/doc. `reports` takes sheets of Bootstrap, jQuery UI,
+Font Awesome and Sphinx below /usr/share, and `printed` 200 of all there. Each test is a document.
+What differs is listed, and the last line is `N passed, M failed`. Run by hand, but for `soup`,
+which tests/library.py runs. The library is built by `./build library`.
 """
+from __future__ import annotations
+
 import collections
 import glob
 import html
@@ -26,35 +31,49 @@ import shutil
 import subprocess
 import sys
 import tempfile
+from typing import Any, Callable, Counter, Dict, List, Sequence, Set, Tuple
 
 TOP = os.path.dirname(os.path.dirname(os.path.abspath(__file__)))
-sys.path.insert(0, os.path.join(TOP, "python"))
+# As a script, this folder is where modules are looked for.
+sys.path[0] = TOP
 
-import level3  # noqa: E402
+from tests import modern_selectors  # noqa: E402
+from tests.common import package  # noqa: E402
+
+package()
 import simplecss  # noqa: E402
 from simplecss import _lint  # noqa: E402
 
 # How many differences of a document are listed.
 SHOWN = 4
 # Properties that no shorthand but `all` sets.
+# fmt: off
 PROPERTIES = (
-    "color", "display", "width", "height", "text-align", "vertical-align", "position", "float", "visibility", "z-index",
+    "color", "display", "width", "height", "text-align", "vertical-align", "position", "float",
+    "visibility", "z-index",
 )
+# fmt: on
+# fmt: off
 SELECTORS = (
-    "*", "p", "a", "a[href]", "A[HREF]", "ul > li", "table td", "td + td", "tr td:first-child", "p + p", "[class]",
-    "[id]", "div p a", "li li", ":first-child", "html > body > *", "h1 + p", "head > title", "body h2, body h3",
-    "img[alt]", "td[align=center]", "[lang|=en]", "div > div > p", "pre code", "dl > dt + dd", "tbody > tr", "a:link",
-    "span span", "input[type=text]", "h2 ~ p", "li:nth-child(2n+1)", "tr:nth-child(even) > td", "td:nth-last-child(2)",
-    "p:first-of-type", "dd:last-of-type", "p:nth-of-type(3n)", "li:last-child", "p:only-child", "p:not([class])",
-    "p:not(:first-child, :last-child)", ":is(h1, h2) + p", ":where(ul, ol) > li", "a[href^=http]", "a[href$='.html']",
-    "a[href*='#']", "a[href^=HTTP i]", ":root > body", "body *:not(p):not(a)",
+    "*", "p", "a", "a[href]", "A[HREF]", "ul > li", "table td", "td + td", "tr td:first-child",
+    "p + p", "[class]", "[id]", "div p a", "li li", ":first-child", "html > body > *", "h1 + p",
+    "head > title", "body h2, body h3", "img[alt]", "td[align=center]", "[lang|=en]",
+    "div > div > p", "pre code", "dl > dt + dd", "tbody > tr", "a:link", "span span",
+    "input[type=text]", "h2 ~ p", "li:nth-child(2n+1)", "tr:nth-child(even) > td",
+    "td:nth-last-child(2)", "p:first-of-type", "dd:last-of-type", "p:nth-of-type(3n)",
+    "li:last-child", "p:only-child", "p:not([class])", "p:not(:first-child, :last-child)",
+    ":is(h1, h2) + p", ":where(ul, ol) > li", "a[href^=http]", "a[href$='.html']", "a[href*='#']",
+    "a[href^=HTTP i]", ":root > body", "body *:not(p):not(a)",
 )
+# fmt: on
 
 # What soupsieve finds less of, and why: the others are found by both.
 WIDER = {
     "a:link": "a link in SVG",
     "li:nth-child(2n+1)": "by `An+B` soupsieve does not find the child B if there are B nodes",
-    "td[align=center]": "of the values that HTML compares without case, soupsieve compares those of `type`",
+    "td[align=center]": (
+        "of the values that HTML compares without case, soupsieve compares those of `type`"
+    ),
 }
 
 SCRIPT = """
@@ -82,25 +101,33 @@ function tree(text) {
     return found;
 }
 function found([text, lists]) {
-    const page = new DOMParser().parseFromString(text, "text/html"), every = [page.documentElement, ...all(page)];
+    const page = new DOMParser().parseFromString(text, "text/html");
+    const every = [page.documentElement, ...all(page)];
     return lists.map(list => {
-        try { return [...page.querySelectorAll(list)].map(each => every.indexOf(each)); } catch { return null; }
+        try {
+            return [...page.querySelectorAll(list)].map(each => every.indexOf(each));
+        } catch {
+            return null;
+        }
     });
 }
 // A sheet of another site, which is not loaded, has no rules.
 function rules_of(sheet) { try { return sheet.cssRules; } catch { return []; } }
 function winners(frame, properties, values) {
     const page = frame.contentDocument, window = frame.contentWindow, marks = [];
-    for (const name of properties) window.CSS.registerProperty({name: "--w-" + name, syntax: "*", inherits: false});
+    for (const name of properties)
+        window.CSS.registerProperty({name: "--w-" + name, syntax: "*", inherits: false});
     function mark(rules, place) {
         for (const rule of rules) {
             if (rule.style && rule.selectorText) for (const name of properties) {
                 const value = rule.style.getPropertyValue(name);
                 if (!value) continue;
-                rule.style.setProperty("--w-" + name, String(marks.length), rule.style.getPropertyPriority(name));
+                const priority = rule.style.getPropertyPriority(name);
+                rule.style.setProperty("--w-" + name, String(marks.length), priority);
                 marks.push([value, place + rule.selectorText]);
             }
-            if (rule.cssRules) mark(rule.cssRules, rule.selectorText ? "nested " : rule.cssText.split("{")[0] + "{ ");
+            const front = rule.selectorText ? "nested " : rule.cssText.split("{")[0] + "{ ";
+            if (rule.cssRules) mark(rule.cssRules, front);
             if (rule.styleSheet) mark(rules_of(rule.styleSheet), "@import ");
         }
     }
@@ -136,14 +163,19 @@ function holds(text) {
 window.onload = () => {
     const frames = [...document.querySelectorAll("iframe")];
     if (input.kind == "mails")
-        for (let i = 0; i < frames.length; i += 2) answer.push([styles(frames[i]), styles(frames[i + 1])]);
+        for (let i = 0; i < frames.length; i += 2)
+            answer.push([styles(frames[i]), styles(frames[i + 1])]);
     if (input.kind == "trees") for (const text of input.texts) answer.push(tree(text));
     if (input.kind == "selectors") for (const each of input.texts) answer.push(found(each));
     if (input.kind == "conditions") for (const text of input.texts) answer.push(holds(text));
-    if (input.kind == "reports") for (const [text, isRule] of input.texts) answer.push(takes(text, isRule));
-    if (input.kind == "printed") for (const [one, other] of input.texts) answer.push([rules(one), rules(other)]);
+    if (input.kind == "reports")
+        for (const [text, isRule] of input.texts) answer.push(takes(text, isRule));
+    if (input.kind == "printed")
+        for (const [one, other] of input.texts) answer.push([rules(one), rules(other)]);
     if (input.kind == "winners")
-        frames.forEach((frame, i) => answer.push(winners(frame, input.properties, input.values[i])));
+        frames.forEach((frame, i) => {
+            answer.push(winners(frame, input.properties, input.values[i]));
+        });
     document.documentElement.textContent = "ANS" + "WER" + JSON.stringify(answer) + "END";
 };
 window.onerror = text => { document.documentElement.textContent = "failed: " + text; };
@@ -155,40 +187,58 @@ FRAME = '<iframe width=800 height=600 sandbox="allow-same-origin" src="file://{}
 PAGE = '<!DOCTYPE html><meta charset=utf-8><script id=input type="application/json">{}</script>'
 
 
-def run_browser(values, names, folder):
+def run_browser(values: Any, names: Sequence[str], folder: str) -> Any:
     """Returns the answer of the browser about documents in frames, of which these are the files."""
-    browser = shutil.which("chromium") or shutil.which("chromium-browser") or shutil.which("google-chrome")
+    browser = (
+        shutil.which("chromium")
+        or shutil.which("chromium-browser")
+        or shutil.which("google-chrome")
+    )
     if not browser:
-        sys.exit("tests/browser.py: left out, for there is no chromium; Debian's package is `chromium`")
+        sys.exit(
+            "tests/browser.py: left out, for there is no chromium; Debian's package is `chromium`"
+        )
     frames = "".join(FRAME.format(html.escape(name)) for name in names)
     data = json.dumps(values).replace("<", "\\u003c")
     page = os.path.join(folder, "pages.html")
     with open(page, "w", encoding="utf-8") as file:
         file.write(PAGE.format(data) + frames + SCRIPT)
-    words = [browser, "--headless", "--no-sandbox", "--disable-gpu", "--allow-file-access-from-files",
-             f"--user-data-dir={folder}/profile", "--virtual-time-budget=60000", "--dump-dom", "file://" + page]
+    words = [
+        browser,
+        "--headless",
+        "--no-sandbox",
+        "--disable-gpu",
+        "--allow-file-access-from-files",
+        f"--user-data-dir={folder}/profile",
+        "--virtual-time-budget=60000",
+        "--dump-dom",
+        "file://" + page,
+    ]
     made = subprocess.run(words, capture_output=True, check=False)
     answer = re.search(r"ANSWER(.*)END", made.stdout.decode(), re.DOTALL)
     if not answer:
-        sys.exit(f"tests/browser.py: no answer: {made.stdout.decode()[-300:]} {made.stderr.decode()[-500:]}")
+        sys.exit(
+            "tests/browser.py: no answer:"
+            f" {made.stdout.decode()[-300:]} {made.stderr.decode()[-500:]}"
+        )
     return json.loads(html.unescape(answer[1]))
 
 
-def read(name):
+def read(name: str) -> str:
     """Returns the text of a page in UTF-8."""
     with open(name, encoding="utf-8", errors="replace", newline="") as file:
         return file.read()
 
 
-def mails():
+def mails() -> List[str]:
     """Returns the names of the mails of this repository."""
     return sorted(glob.glob(os.path.join(TOP, "tests", "mails", "*.html")))
 
 
-def pages():
+def pages() -> List[str]:
     """Returns the names of the mails, and of some pages of Debian packages."""
     found = []
-    counts = collections.Counter()
+    counts: Counter[str] = collections.Counter()
     for name in sorted(glob.glob("/usr/share/doc/**/*.html", recursive=True)):
         package = name.split("/")[4]
         if os.path.isfile(name) and 4000 < os.path.getsize(name) < 400000 and counts[package] < 2:
@@ -200,10 +250,10 @@ def pages():
 class Report:
     """Counts documents, and lists what differs."""
 
-    def __init__(self):
+    def __init__(self) -> None:
         self.passed = self.failed = 0
 
-    def add(self, name, differences):
+    def add(self, name: str, differences: Sequence[str]) -> None:
         """Counts a document, and lists the first of its differences."""
         self.passed += not differences
         self.failed += bool(differences)
@@ -212,13 +262,13 @@ class Report:
         if len(differences) > SHOWN:
             print(f"{os.path.basename(name)}: and {len(differences) - SHOWN} more")
 
-    def end(self):
+    def end(self) -> int:
         """Prints the last line, and returns the exit status."""
         print(f"{self.passed} passed, {self.failed} failed")
         return 1 if self.failed else 0
 
 
-def compare_mails(names):
+def compare_mails(names: Sequence[str]) -> int:
     """Compares the computed styles before and after `inline`."""
     report = Report()
     with tempfile.TemporaryDirectory() as folder:
@@ -231,28 +281,48 @@ def compare_mails(names):
                 with open(frames[-1], "wb") as file:
                     file.write(text)
         for name, (before, after) in zip(names, run_browser({"kind": "mails"}, frames, folder)):
-            found = [] if len(before) == len(after) > 0 else [f"elements: {len(before)}, after: {len(after)}"]
+            found = (
+                []
+                if len(before) == len(after) > 0
+                else [f"elements: {len(before)}, after: {len(after)}"]
+            )
             for number, ((element, old), (_, new)) in enumerate(zip(before, after), 1):
                 other = [each for each in old if old[each] != new.get(each)]
-                found += [f"{number} <{element}> {each}: {old[each]!r}, after: {new.get(each)!r}" for each in other]
+                found += [
+                    f"{number} <{element}> {each}: {old[each]!r}, after: {new.get(each)!r}"
+                    for each in other
+                ]
             report.add(name, found)
     return report.end()
 
 
-def elements_of(text):
-    """Returns the depth, name and attributes of each element, and whether it is empty, as the browser does."""
-    return [[element.depth, element.name, sorted(map(list, element.attributes.items())), element.matches(":empty")]
-            for element in simplecss.Tree.from_html(text)]
+def elements_of(text: str) -> List[List[Any]]:
+    """Returns the depth, name and attributes of each element, and whether it is empty, as the
+    browser does."""
+    return [
+        [
+            element.depth,
+            element.name,
+            sorted([key, value] for key, value in element.attributes.items()),
+            element.matches(":empty"),
+        ]
+        for element in simplecss.Tree.from_html(text)
+    ]
 
 
-def compare_trees(names):
+def compare_trees(names: Sequence[str]) -> int:
     """Compares the trees of documents."""
     report = Report()
     texts = [read(name) for name in names]
     with tempfile.TemporaryDirectory() as folder:
-        for name, text, theirs in zip(names, texts, run_browser({"kind": "trees", "texts": texts}, [], folder)):
+        for name, text, theirs in zip(
+            names, texts, run_browser({"kind": "trees", "texts": texts}, [], folder)
+        ):
             ours = elements_of(text)
-            theirs = [[depth, element, sorted(attributes), is_empty] for depth, element, attributes, is_empty in theirs]
+            theirs = [
+                [depth, element, sorted(attributes), is_empty]
+                for depth, element, attributes, is_empty in theirs
+            ]
             found = [f"{a}, in the browser {b}" for a, b in zip(ours, theirs) if a != b]
             if len(ours) != len(theirs):
                 found.insert(0, f"{len(ours)} elements, in the browser {len(theirs)}")
@@ -260,27 +330,36 @@ def compare_trees(names):
     return report.end()
 
 
-def markup(element):
-    """Returns an element of tests/level3.py as markup, with an attribute whose values HTML compares without case."""
+def markup(element: modern_selectors.Element) -> str:
+    """Returns an element of tests/modern_selectors.py as markup, with an attribute whose values
+    HTML compares without case."""
     name, attributes, children = element
-    words = "".join(f' {key}="{html.escape(value)}"' for key, value in attributes.items()).replace("title=", "TYPE=")
-    return f"<{name}{words}>{''.join(each if isinstance(each, str) else markup(each) for each in children)}</{name}>"
+    words = "".join(f' {key}="{html.escape(value)}"' for key, value in attributes.items()).replace(
+        "title=", "TYPE="
+    )
+    inside = "".join(each if isinstance(each, str) else markup(each) for each in children)
+    return f"<{name}{words}>{inside}</{name}>"
 
 
-def random_document(source, number):
-    """Returns a document, without a doctype if the number is odd, and lists that the browser should read alike."""
+def random_document(source: modern_selectors.Source, number: int) -> Tuple[str, List[str]]:
+    """Returns a document, without a doctype if the number is odd, and lists that the browser should
+    read alike."""
     text = "" if number % 2 else "<!DOCTYPE html>"
     lists = [source.listed().replace("title", "type") for _ in range(50)]
     # Without a doctype, attribute selectors ignore the case of ids and classes, too.
     odd = re.compile(r"\[[^\]]*(?:class|id|\\)" if number % 2 else r"(?!)")
-    lists = [each for each in lists if not level3.ODD_IN_BROWSERS.search(each) and not odd.search(each)]
+    lists = [
+        each
+        for each in lists
+        if not modern_selectors.ODD_IN_BROWSERS.search(each) and not odd.search(each)
+    ]
     return f"{text}<div>{markup(source.tree())}</div>", lists
 
 
-def compare_selectors(_):
+def compare_selectors(_: Sequence[str]) -> int:
     """Compares what random selectors find."""
     report = Report()
-    source = level3.Source("HTML")
+    source = modern_selectors.Source("HTML")
     texts = [random_document(source, number) for number in range(100)]
     with tempfile.TemporaryDirectory() as folder:
         answers = run_browser({"kind": "selectors", "texts": texts}, [], folder)
@@ -297,28 +376,110 @@ def compare_selectors(_):
     return report.end()
 
 
-def sheets_of(name, tree):
-    """Returns the style sheets of a page: those of its elements `style`, and those in files that it links to."""
-    found = []
-    preferred = ""
-    for element in tree:
-        if element.attributes.get("media", "all").strip().lower() not in ("", "all", "screen"):
-            continue
-        title = element.attributes.get("title", "")
-        is_sheet = element.attributes.get("type", "").lower() in ("", "text/css")
-        if element.name == "style" and is_sheet:
-            # Of the sheets with titles, those that have the first one apply.
-            preferred = preferred or title
-            found += [element.text] if title in ("", preferred) else []
-        elif element.name == "link" and "stylesheet" in element.attributes.get("rel", "").lower().split():
-            path = os.path.join(os.path.dirname(name), element.attributes.get("href", "").partition("?")[0])
-            if os.path.isfile(path) and "alternate" not in element.attributes["rel"].lower():
-                found.append(read(path).lstrip("\ufeff"))
-    return found
+class Site(random.Random):
+    """Random pages and the files of their sheets, some of which are missing."""
+
+    FOLDERS = ("", "a/", "a/b/")
+    CLASSES = ("c0", "c1", "c2", "c3")
+    # The pages with layers.
+    layered: Set[str] = set()
+
+    def named(self, files: Sequence[str], page: str) -> str:
+        """A url of a file, from where a page or a sheet is."""
+        name = self.choice(files)
+        if self.random() < 0.1:
+            return "missing.css"
+        above = os.path.relpath(name, os.path.dirname(page) or ".")
+        return above + self.choice(("", "", "?v=1", "#x"))
+
+    def rules(self) -> str:
+        """Some rules."""
+        return "\n".join(
+            f".{self.choice(self.CLASSES)}{self.choice(('', '', ':hover', '.d'))}"
+            f"{{color:rgb({self.randrange(256)}, {self.randrange(256)}, {self.randrange(256)})"
+            f"{self.choice(('', '', '', ' !important'))}}}"
+            for _ in range(self.choice((1, 2, 3)))
+        )
+
+    def sheet(self, files: Sequence[str], place: str) -> str:
+        """A sheet, which may import others."""
+        imports = []
+        for _ in range(self.choice((0, 0, 1, 2))):
+            url = self.named(files, place)
+            form = self.choice(("'{}'", '"{}"', "url({})", "url('{}')"))
+            media = self.choice(("", "", " screen", " print", " all", " layer(x)"))
+            imports.append(f"@import {form.format(url)}{media};")
+        front = self.choice(("", "", "@charset 'utf-8';", "@layer y;", "x{}", "? {}"))
+        return "\n".join([front, *imports, self.rules()])
+
+    def element(self, files: Sequence[str], place: str, base: str) -> str:
+        """An element with a sheet, or one that links to it."""
+        more = self.choice(("", "", "", " media=screen", " media=print", " media=' ALL '"))
+        more += self.choice(("", "", "", " title=x", " title=y"))
+        if self.random() < 0.5:
+            return f"<style{more}>{self.sheet(files, base)}</style>"
+        rel = self.choice(("stylesheet", "stylesheet", "StyleSheet x", "'alternate stylesheet'"))
+        more += self.choice(("", "", "", " type=text/css", " type=text/plain", " disabled"))
+        return f'<link rel={rel} href="{self.named(files, base)}"{more}>'
+
+    def page(self, folder: str) -> str:
+        """Writes a page and its sheets into a folder. Returns the name of the page."""
+        files = [f"{self.choice(self.FOLDERS)}s{number}.css" for number in range(5)]
+        place = self.choice(self.FOLDERS) + "page.html"
+        base = self.choice(("", "", "", "x/", "../"))
+        url = os.path.normpath(os.path.join(os.path.dirname(place), base, "x"))
+        if url.startswith(".."):
+            base, url = "", place
+        texts = {name: self.sheet(files, name) for name in files}
+        head = f"<base href={base}>" if base else ""
+        head += "".join(self.element(files, place, url) for _ in range(self.choice((1, 2, 3))))
+        classes = (self.choice(self.CLASSES) + self.choice(("", " d")) for _ in range(8))
+        texts[place] = head + "".join(f"<p class='{each}'>x" for each in classes)
+        for name, text in texts.items():
+            os.makedirs(os.path.dirname(os.path.join(folder, name)), exist_ok=True)
+            with open(os.path.join(folder, name), "w", encoding="utf-8") as file:
+                file.write("<!DOCTYPE html>" * (name == place) + text)
+        name = os.path.join(folder, place)
+        if any(" layer(" in text for text in texts.values()):
+            self.layered.add(name)
+        return name
 
 
-def is_beyond(cause):
-    """Whether a rule of the browser is within another, or has a selector that the library does not read."""
+def compare_links(_: Sequence[str]) -> int:
+    """Compares the colours of pages whose sheets are in files."""
+    report = Report()
+    source = Site(int(os.environ.get("SEED", 1)))
+    with tempfile.TemporaryDirectory() as folder:
+        frames, winners = [], []
+        for number in range(int(os.environ.get("COUNT", 200))):
+            top = os.path.join(folder, str(number))
+            name = source.page(top)
+            text = read(name)
+            tree = simplecss.Tree.from_html(text)
+            sheet = simplecss.StyleSheet.of_page(tree, at=name, folder=top)
+            colors = zip(tree, sheet.style(tree, "color"))
+            winners.append([each.value if each else "" for it, each in colors if it.name == "p"])
+            frames += [name, name.replace("page.html", "after.html")]
+            with open(frames[-1], "w", encoding="utf-8") as file:
+                file.write(simplecss.inline(text, at=name, folder=top))
+        answers = run_browser({"kind": "mails"}, frames, folder)
+        for name, mine, (before, after) in zip(frames[::2], winners, answers):
+            theirs = [values["color"] for _, values in before]
+            later = [values["color"] for _, values in after]
+            mine = [each or "rgb(0, 0, 0)" for each in mine]
+            # The order of layers is not known.
+            pairs = () if name in source.layered else zip(mine, theirs)
+            found = [f"{a}, in the browser {b}" for a, b in pairs if a != b]
+            found += [f"{b}, after {a}" for b, a in zip(theirs, later) if a != b]
+            report.add(os.path.relpath(name, folder), found)
+            if found and "SHOW" in os.environ:
+                print(read(name))
+    return report.end()
+
+
+def is_beyond(cause: str) -> bool:
+    """Whether a rule of the browser is within another, or has a selector that the library does not
+    read."""
     if cause.startswith(("@", "nested")):
         return True
     try:
@@ -328,43 +489,61 @@ def is_beyond(cause):
     return False
 
 
-def held_conditions(sheets, trees):
-    """Returns the conditions of group rules that hold in the browser, as `media=` is asked for them."""
-    asked = set()
+def held_conditions(
+    sheets: Sequence[simplecss.StyleSheet], trees: Sequence[simplecss.Tree]
+) -> Set[str]:
+    """Returns the conditions of group rules that hold in the browser, as `media=` is asked for
+    them."""
+    asked: Set[str] = set()
+
+    def ask(text: str) -> bool:
+        asked.add(text)
+        return False
+
     for sheet, tree in zip(sheets, trees):
-        sheet.match(tree, media=asked.add)
+        sheet.match(tree, media=ask)
     texts = sorted(asked)
     with tempfile.TemporaryDirectory() as folder:
         answers = run_browser({"kind": "conditions", "texts": texts}, [], folder)
     return {text for text, holds in zip(texts, answers) if holds}
 
 
-def last_of(found):
-    """Returns the last declaration of each property, of which `all` sets those that are compared."""
-    last = {}
+def last_of(found: Sequence[simplecss.Declaration]) -> Dict[str, simplecss.Declaration]:
+    """Returns the last declaration of each property, of which `all` sets those that are
+    compared."""
+    last: Dict[str, simplecss.Declaration] = {}
     for each in sorted(found, key=lambda each: each.important):
         last.update((name, each) for name in (PROPERTIES if each.name == "all" else [each.name]))
     return last
 
 
-def compare_winners(names):
+def compare_winners(names: Sequence[str]) -> int:
     """Compares which declarations win, by their values as the browser prints them."""
     report = Report()
     ours, values = [], []
     trees = [simplecss.Tree.from_html(read(name)) for name in names]
-    sheets = [simplecss.StyleSheet(*sheets_of(name, tree)) for name, tree in zip(names, trees)]
+    sheets = [
+        simplecss.StyleSheet.of_page(tree, at=name, folder="/") for name, tree in zip(names, trees)
+    ]
     held = held_conditions(sheets, trees)
     for tree, sheet in zip(trees, sheets):
         styles = [last_of(found) for found in sheet.styles(tree, media=held.__contains__)]
         ours.append([[found.get(each) for found in styles] for each in PROPERTIES])
-        values.append(sorted({
-            (each, winner.value) for each, winners in zip(PROPERTIES, ours[-1]) for winner in winners if winner
-        }))
+        values.append(
+            sorted(
+                {
+                    (each, winner.value)
+                    for each, winners in zip(PROPERTIES, ours[-1])
+                    for winner in winners
+                    if winner
+                }
+            )
+        )
     with tempfile.TemporaryDirectory() as folder:
         asked = {"kind": "winners", "properties": PROPERTIES, "values": values}
         answers = run_browser(asked, [os.path.abspath(name) for name in names], folder)
     count = differing = beyond = 0
-    causes = collections.Counter()
+    causes: Counter[str] = collections.Counter()
     for name, winners, tried, answer in zip(names, ours, values, answers):
         known = dict(zip(tried, answer["known"]))
         found = []
@@ -379,36 +558,50 @@ def compare_winners(names):
                     cause = answer["marks"][at][1] if at >= 0 else "nothing"
                     beyond += is_beyond(cause)
                     causes[cause.partition("{")[0].strip() if cause.startswith("@") else cause] += 1
-                    found.append(f"element {index}, {each}: {mine}, in the browser {wanted} of `{cause}`")
+                    found.append(
+                        f"element {index}, {each}: {mine}, in the browser {wanted} of `{cause}`"
+                    )
         report.add(name, found)
     for cause, number in causes.most_common(15):
         print(f"{number} differ where the browser has `{cause}`")
     equal = f"{count - differing} of {count} winners are equal"
-    print(f"{equal}; {beyond} of the others are of rules that the library does not match")
+    print(f"{equal}; {beyond} of the others are of unsupported rules")
     return report.end()
 
 
-def sheets_in(folder, words=("",)):
-    """Returns the names of style sheets below a folder whose paths have one of the words, each text once."""
-    found = {}
+def sheets_in(folder: str, words: Sequence[str] = ("",)) -> List[str]:
+    """Returns the names of style sheets below a folder whose paths have one of the words, each text
+    once."""
+    found: Dict[str, str] = {}
     for name in sorted(glob.glob(os.path.join(folder, "**", "*.css"), recursive=True)):
-        if os.path.isfile(name) and any(word in name for word in words) and 0 < os.path.getsize(name) < 300000:
+        if (
+            os.path.isfile(name)
+            and any(word in name for word in words)
+            and 0 < os.path.getsize(name) < 300000
+        ):
             found.setdefault(read(name), name)
     return list(found.values())
 
 
-def compare_reports(names):
+def compare_reports(names: Sequence[str]) -> int:
     """Asks the browser whether it takes what `lint` reports, each text alone."""
     names = names or sheets_in("/usr/share", ("bootstrap", "jquery-ui", "awesome", "sphinx"))
     found = [(name, each) for name in names for each in _lint.findings(name, read(name))]
     texts = [(each.text, each.text.endswith("}")) for _, each in found]
     with tempfile.TemporaryDirectory() as folder:
         answers = run_browser({"kind": "reports", "texts": texts}, [], folder)
-    taken = [f"{each.row}:{each.column}: {each.message}" for (_, each), answer in zip(found, answers) if answer]
+    taken = [
+        f"{each.row}:{each.column}: {each.message}"
+        for (_, each), answer in zip(found, answers)
+        if answer
+    ]
     for line in taken[:10]:
         print(line)
     rows = sum(read(name).count("\n") for name in names)
-    print(f"{len(names)} sheets of {rows} lines: {len(found)} reports, of which the browser takes {len(taken)}")
+    print(
+        f"{len(names)} sheets of {rows} lines: {len(found)} reports, of which the browser takes"
+        f" {len(taken)}"
+    )
     for kind, number in collections.Counter(each.kind for _, each in found).most_common():
         print(f"{number} {kind}")
     passed = len(taken) * 100 <= len(found)
@@ -416,35 +609,43 @@ def compare_reports(names):
     return 0 if passed else 1
 
 
-def compare_printed(names):
+def compare_printed(names: Sequence[str]) -> int:
     """Compares the rules that the browser has of sheets and of what the package prints of them."""
     report = Report()
     every = sheets_in("/usr/share")
     names = names or random.Random(1).sample(every, min(200, len(every)))
     texts = [(read(name), str(simplecss.StyleSheet(read(name), limit=None))) for name in names]
     with tempfile.TemporaryDirectory() as folder:
-        for name, (before, after) in zip(names, run_browser({"kind": "printed", "texts": texts}, [], folder)):
+        for name, (before, after) in zip(
+            names, run_browser({"kind": "printed", "texts": texts}, [], folder)
+        ):
             found = [f"{a[:120]}, printed {b[:120]}" for a, b in zip(before, after) if a != b]
-            counts = [f"{len(before)} rules, printed {len(after)}"] if len(before) != len(after) else []
+            counts = (
+                [f"{len(before)} rules, printed {len(after)}"] if len(before) != len(after) else []
+            )
             report.add(name, counts + found)
     return report.end()
 
 
-def compare_soup(names):
+def compare_soup(names: Sequence[str]) -> int:
     """Compares what selectors find with soupsieve, over the tree of html5lib."""
     try:
         import bs4
         import html5lib  # noqa: F401
     except ImportError:
         packages = "Debian's packages are `python3-bs4 python3-html5lib`"
-        sys.exit(f"tests/browser.py: left out, for there is no html5lib or BeautifulSoup; {packages}")
+        sys.exit(
+            f"tests/browser.py: left out, for there is no html5lib or BeautifulSoup; {packages}"
+        )
     report = Report()
     for name in names:
         soup = bs4.BeautifulSoup(read(name), "html5lib")
         tree = simplecss.Tree.from_soup(soup)
         found = []
         for selectors in SELECTORS:
-            mine, theirs = [element.node for element in tree.select(selectors)], soup.select(selectors)
+            mine, theirs = [element.node for element in tree.select(selectors)], soup.select(
+                selectors
+            )
             if selectors in WIDER:
                 known = set(map(id, theirs))
                 mine = [node for node in mine if id(node) in known]
@@ -454,10 +655,18 @@ def compare_soup(names):
     return report.end()
 
 
-def main():
-    kinds = {"mails": compare_mails, "trees": compare_trees, "selectors": compare_selectors, "winners": compare_winners,
-             "soup": compare_soup, "reports": compare_reports, "printed": compare_printed}
-    usual = {"mails": mails, "selectors": list, "reports": list, "printed": list}
+def main() -> int:
+    kinds = {
+        "mails": compare_mails,
+        "trees": compare_trees,
+        "selectors": compare_selectors,
+        "winners": compare_winners,
+        "links": compare_links,
+        "soup": compare_soup,
+        "reports": compare_reports,
+        "printed": compare_printed,
+    }
+    usual = {"mails": mails, "selectors": list, "links": list, "reports": list, "printed": list}
     words = sys.argv[1:] or ["mails"]
     if words[0] not in kinds:
         sys.exit(__doc__)

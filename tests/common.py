@@ -1,7 +1,18 @@
-"""What the scripts of this folder share: counted expectations, runs in which a request for memory is refused, real
-sheets, and what a browser answers."""
+"""What the modules of this folder share: cases whose rows are counted, the programs and where they
+are, runs in which a request for memory is refused, real sheets, and what a browser answers.
+
+    python3 -m unittest tests.program             a subject, from the top of the checkout
+    python3 -m unittest tests.program -k word     the cases of it whose names have this word
+    python3 -m tests program docs                 subjects, with the counts as the last line
+
+Each row of a table counts as one, and so does a test without rows. A program is the newest of what
+`rt ci`, `./build` and `./build unproved NAME` leave, or that of the folder which the environment
+variable `PROGRAMS` names. `COUNT` sets how many random inputs there are of each kind, and `SHEETS`
+the folder with real style sheets.
+"""
 from __future__ import annotations
 
+import functools
 import glob
 import html
 import json
@@ -9,45 +20,257 @@ import os
 import re
 import shutil
 import subprocess
+import sys
 import tempfile
-from typing import Any, List, Optional, Sequence, Tuple
+import unittest
+from types import TracebackType
+from typing import Any, Dict, List, NamedTuple, Optional, Sequence, Set, TextIO, Tuple, Type, Union
+
+TOP = os.path.dirname(os.path.dirname(os.path.abspath(__file__)))
+# The Python that Debian's packages are for.
+DEBIAN = "/usr/bin/python3"
+# Where a crate's program may be: as `rt ci`, `./build` and `./build unproved` leave it.
+PLACES = ("crates/{0}/out/{0}", "out/{0}", "out/unproved/{0}")
+# How many of the failures of a sweep are shown.
+SHOWN = 10
+
+Failure = Union[Tuple[Type[BaseException], BaseException, TracebackType], Tuple[None, None, None]]
 
 
-class Counts:
-    """How many expectations held, and how many did not."""
+class Case(unittest.TestCase):
+    """Tests whose rows are counted: one for each `subTest`, and what is passed to `passes`."""
 
-    def __init__(self) -> None:
+    maxDiff = 4000
+
+    def passes(self, number: int) -> None:
+        """Counts this many rows that passed."""
+        self.counted = getattr(self, "counted", 0) + number
+
+    def sweep(self, total: int, failures: Sequence[str]) -> None:
+        """Counts the rows of a sweep, and shows the first of those that failed."""
+        self.passes(total - len(failures))
+        for number, line in enumerate(failures[:SHOWN]):
+            with self.subTest(failure=number):
+                self.fail(line)
+        if len(failures) > SHOWN:
+            with self.subTest(failure=SHOWN):
+                self.fail(f"{len(failures)} of {total} failed")
+
+
+class Counts(unittest.TextTestResult):
+    """What passed, what failed, and why something was left out."""
+
+    def __init__(self, stream: TextIO, descriptions: bool, verbosity: int) -> None:
+        super().__init__(stream, descriptions, verbosity)
         self.passed = self.failed = 0
+        self.rows = 0
+        self.left_out: Set[str] = set()
 
-    def expect(self, holds: object, what: object) -> None:
-        """Counts an expectation, and prints it if it does not hold."""
-        if holds:
-            self.passed += 1
-        else:
-            self.failed += 1
-            print("FAILED", what)
+    def startTest(self, test: unittest.TestCase) -> None:
+        super().startTest(test)
+        self.rows = 0
 
-    def end(self) -> int:
-        """Prints the last line, and returns the exit status."""
-        print(f"{self.passed} passed, {self.failed} failed")
-        return 1 if self.failed else 0
+    def addSuccess(self, test: unittest.TestCase) -> None:
+        super().addSuccess(test)
+        self.passed += not self.rows and not hasattr(test, "counted")
+
+    def addSubTest(
+        self, test: unittest.TestCase, subtest: unittest.TestCase, err: Optional[Failure]
+    ) -> None:
+        super().addSubTest(test, subtest, err)
+        self.rows += 1
+        self.passed += err is None
+        self.failed += err is not None
+
+    def addFailure(self, test: unittest.TestCase, err: Failure) -> None:
+        super().addFailure(test, err)
+        self.failed += 1
+
+    def addError(self, test: unittest.TestCase, err: Failure) -> None:
+        super().addError(test, err)
+        self.failed += 1
+
+    def addSkip(self, test: unittest.TestCase, reason: str) -> None:
+        super().addSkip(test, reason)
+        self.rows += 1
+        self.left_out.add(reason)
+
+    def stopTest(self, test: unittest.TestCase) -> None:
+        super().stopTest(test)
+        self.passed += getattr(test, "counted", 0)
 
 
-def run(
-    program: str, shim: str, words: Sequence[str], refuse: int, marked: bool = False, **streams: Any
-) -> Tuple[int, bytes, bytes, bytes]:
-    """Runs a program with the request of this number refused, 0 for none. Returns its status, what it wrote to standard
-    output and to standard error, and a byte for each request that was counted, `x` for the refused one."""
-    environment = dict(os.environ)
+def run_subjects(names: Sequence[str]) -> int:
+    """Runs subjects, prints what was left out and the counts, and returns the exit status."""
+    suite = unittest.defaultTestLoader.loadTestsFromNames([f"tests.{name}" for name in names])
+    runner = unittest.TextTestRunner(sys.stdout, verbosity=0, resultclass=Counts)
+    result = runner.run(suite)
+    assert isinstance(result, Counts)
+    for reason in sorted(result.left_out):
+        print(f"left out: {reason}")
+    print(f"{result.passed} passed, {result.failed} failed", flush=True)
+    return 1 if result.failed else 0
+
+
+def count(usual: int) -> int:
+    """How many random inputs of a kind there are."""
+    return int(os.environ.get("COUNT", usual))
+
+
+def sheets_folder() -> str:
+    """The folder with real style sheets: else those that Debian's packages have."""
+    return os.environ.get("SHEETS", "/usr/share")
+
+
+def program(crate: str) -> str:
+    """The built program of a crate."""
+    folder = os.environ.get("PROGRAMS")
+    places = (
+        [os.path.join(folder, crate)]
+        if folder
+        else [os.path.join(TOP, place.format(crate)) for place in PLACES]
+    )
+    found = [path for path in places if os.path.exists(path)]
+    if not found:
+        raise FileNotFoundError(
+            f"there is no program of {crate}: ./build unproved {crate} makes it"
+        )
+    return os.path.abspath(max(found, key=os.path.getmtime))
+
+
+def library_path() -> str:
+    """The built C library."""
+    path = os.path.join(TOP, "out", "libsimplecss.so")
+    if not os.path.exists(path):
+        raise FileNotFoundError(f"there is no {path}: ./build library makes it")
+    return path
+
+
+def refusable(crate: str) -> str:
+    """The program of a crate, whose requests for memory can be refused."""
+    found = program(crate)
+    if os.path.dirname(found) == os.path.join(TOP, "out", "unproved"):
+        why = "a program with nothing proved takes its memory from AddressSanitizer"
+        raise unittest.SkipTest(f"refused requests of {crate}: {why}")
+    return found
+
+
+def has_modules(python: str, *names: str) -> bool:
+    """Whether a Python is there, and has these modules."""
+    if not os.path.exists(python):
+        return False
+    words = [python, "-c", "import " + ", ".join(names)]
+    return not subprocess.run(words, stderr=subprocess.DEVNULL, check=False).returncode
+
+
+def by_debian(case: Case, module: str, what: str) -> None:
+    """Runs a test by Debian's Python, which alone has a module, and counts its rows."""
+    is_same = os.path.realpath(sys.executable) == os.path.realpath(DEBIAN)
+    if is_same or not has_modules(DEBIAN, module):
+        case.skipTest(f"{what}: python3-{module} is missing")
+    words = [DEBIAN, "-m", "tests", case.id().partition(".")[2]]
+    got = answer(words, cwd=TOP)
+    counts = re.search(r"^(\d+) passed, (\d+) failed\n\Z", got.out, re.MULTILINE)
+    if got.status or not counts:
+        case.fail(got.out + got.err)
+    case.passes(int(counts[1]))
+
+
+class Answer(NamedTuple):
+    """What a program ends with and prints."""
+
+    status: int
+    out: str
+    err: str
+
+
+def answer(words: Sequence[str], **options: Any) -> Answer:
+    """Runs a program on no input, unless some is given, and keeps what it prints."""
+    if "input" not in options:
+        options.setdefault("stdin", subprocess.DEVNULL)
+    streams: Dict[str, Any] = {"stdout": subprocess.PIPE, "stderr": subprocess.PIPE, **options}
+    done = subprocess.run(list(words), check=False, **streams)
+    return Answer(done.returncode, (done.stdout or b"").decode(), (done.stderr or b"").decode())
+
+
+def read(*path: str) -> str:
+    """The text of a file of the repository."""
+    with open(os.path.join(TOP, *path), encoding="utf-8") as file:
+        return file.read()
+
+
+def version() -> str:
+    """The version, which stands in the C library's header."""
+    return str(
+        re.findall(r'^#define SIMPLECSS_VERSION "(.*)"', read("include/simplecss.h"), re.MULTILINE)[
+            0
+        ]
+    )
+
+
+def write(path: str, text: str) -> str:
+    """Writes a file as it stands. Returns its path."""
+    with open(path, "w", encoding="utf-8", newline="") as file:
+        file.write(text)
+    return path
+
+
+def kit() -> str:
+    """The folder of the toolchain."""
+    if not shutil.which("rt"):
+        raise unittest.SkipTest("there is no rt: what needs the toolchain")
+    page = subprocess.run(["rt", "doc"], stdout=subprocess.PIPE, text=True, check=True).stdout
+    return os.path.dirname(page.split("\n")[0])
+
+
+@functools.lru_cache(maxsize=None)
+def shim() -> str:
+    """The path of what refuses requests for memory, made by the toolchain's clang."""
+    folder = tempfile.TemporaryDirectory()
+    unittest.addModuleCleanup(folder.cleanup)
+    # As the user nobody, too.
+    os.chmod(folder.name, 0o755)
+    made = os.path.join(folder.name, "refuse.so")
+    words = [
+        os.path.join(kit(), "toolchain", "bin", "clang"),
+        "-O1",
+        "-shared",
+        "-fPIC",
+        "-nostdlib",
+    ]
+    source = os.path.join(TOP, "tests", "refuse.c")
+    subprocess.run([*words, "-fuse-ld=lld", "-o", made, source], check=True)
+    return made
+
+
+class Refused(NamedTuple):
+    """What a program ends with and prints, and a byte for each request that was counted, `x` for
+    the refused one."""
+
+    status: int
+    out: bytes
+    err: bytes
+    requests: bytes
+
+
+def run_refused(words: Sequence[str], refuse: int, marked: bool = False, **streams: Any) -> Refused:
+    """Runs a program with the request of this number refused, 0 for none."""
     reader, writer = os.pipe()
-    environment.update(LD_PRELOAD=shim, REFUSE=str(refuse), REFUSE_FD=str(writer), REFUSE_MARKED=str(int(marked)))
-    streams = {"stdin": subprocess.DEVNULL, "stdout": subprocess.PIPE, "stderr": subprocess.PIPE, **streams}
-    child = subprocess.Popen([program, *words], env=environment, pass_fds=[writer], **streams)
+    environment: Dict[str, str] = {
+        **os.environ,
+        "LD_PRELOAD": shim(),
+        "REFUSE": str(refuse),
+        "REFUSE_FD": str(writer),
+        "REFUSE_MARKED": str(int(marked)),
+    }
+    usual = {"stdin": subprocess.DEVNULL, "stdout": subprocess.PIPE, "stderr": subprocess.PIPE}
+    streams = {**usual, **streams}
+    child = subprocess.Popen(list(words), env=environment, pass_fds=[writer], **streams)
     os.close(writer)
     out, err = child.communicate()
     with os.fdopen(reader, "rb") as counted:
         requests = counted.read()
-    return child.returncode, out, err or b"", requests
+    return Refused(child.returncode, out, err or b"", requests)
 
 
 def real_sheets(folder: str) -> List[str]:
@@ -64,20 +287,33 @@ def real_sheets(folder: str) -> List[str]:
     return sorted(found)
 
 
-def browser_answers(template: str, work: Any) -> Optional[Any]:
-    """What a browser answers on a page of this template, or None if there is none or it does not answer."""
+def browser_answers(template: str, work: Any, options: Sequence[str] = ()) -> Optional[Any]:
+    """What a browser answers on a page of this template, or None if there is none or it does not
+    answer. It may get options of its own."""
     browser = shutil.which("chromium") or shutil.which("chromium-browser")
     if not browser:
         return None
     with tempfile.TemporaryDirectory() as folder:
         page = os.path.join(folder, "page.html")
-        with open(page, "w", encoding="utf-8") as file:
-            file.write(template % json.dumps(work).replace("<", "\\u003c"))
-        words = [browser, "--headless", "--no-sandbox", "--disable-gpu", f"--user-data-dir={folder}/profile",
-                 "--virtual-time-budget=60000", "--dump-dom", "file://" + page]
+        write(page, template % json.dumps(work).replace("<", "\\u003c"))
+        words = [
+            browser,
+            "--headless",
+            "--no-sandbox",
+            "--disable-gpu",
+            f"--user-data-dir={folder}/profile",
+        ]
+        words += ["--virtual-time-budget=60000", *options, "--dump-dom", "file://" + page]
         try:
             made = subprocess.run(words, capture_output=True, check=False, timeout=120)
         except subprocess.TimeoutExpired:
             return None
-    answer = re.search(r"ANSWER(.*)END", made.stdout.decode(), re.DOTALL)
-    return json.loads(html.unescape(answer[1])) if answer else None
+    found = re.search(r"ANSWER(.*)END", made.stdout.decode(), re.DOTALL)
+    return json.loads(html.unescape(found[1])) if found else None
+
+
+def package() -> None:
+    """Lets the Python package of this checkout be imported."""
+    folder = os.path.join(TOP, "python", "src")
+    if folder not in sys.path:
+        sys.path.insert(0, folder)

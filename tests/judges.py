@@ -1,150 +1,219 @@
-#!/usr/bin/env python3
-"""Judges selectors of level 3 by the tests of other projects: cssselect, css-select (with those of Sizzle,
-NWMatcher and qwery), css-what and cascadia (both with web-platform-tests), jQuery, nokogiri and Servo's crate
-`selectors`.
+"""Judges modern selectors by the tests of other projects: cssselect, css-select (with those of
+Sizzle, NWMatcher and qwery), css-what and cascadia (both with web-platform-tests), jQuery, nokogiri
+and Servo's crate `selectors`.
 
-    judges.py [--all] [PROJECT..]    by these, else by all; `--all` lists each expectation that is not judged
-
-The tests are fetched from Debian's archive by apt-get, once, into out/judges, and node runs those in
-JavaScript. What cannot be fetched is left out, and a line says so. Expectations of selectors outside the
-grammar are counted by what they need. Those of `DIFFERENCES` do not hold, for the reasons that it names; one
-that holds again fails. The library is built by `./build library`. The last line is 'N passed, M failed'.
+The tests are fetched from Debian's archive by apt-get, once, into out/judges, and node runs those
+in JavaScript. What cannot be fetched is left out, and a line says so. Expectations of selectors
+outside the grammar are counted by what they need; with `SHOW_ALL` in the environment each is
+listed. Those of `DIFFERENCES` do not hold, for the reasons that it names; one that holds again
+fails. The library is built by `./build library`.
 """
 from __future__ import annotations
 
-import argparse
 import collections
 import os
 import re
-import sys
 from typing import Callable, Dict, List, Optional, Sequence, Set, Tuple
 
-TOP = os.path.dirname(os.path.dirname(os.path.abspath(__file__)))
-sys.path.insert(0, os.path.join(TOP, "python"))
+from tests.common import TOP, Case, package
 
-import judges_tests  # noqa: E402
-from common import Counts  # noqa: E402
+package()
 from simplecss import Element, SelectorError, Tree  # noqa: E402
 from simplecss._selectors import OPAQUE, Listed, listed  # noqa: E402
+from tests import judges_tests  # noqa: E402
 
-# What a test expects of a text: that it finds these elements, that it is read, or that it is refused.
+# What a test expects of a text: that it finds these elements, that it is read, or that it is
+# refused.
 FIND, READ, REFUSE = "find", "read", "refuse"
 # Pseudo-classes that no standard has, of jQuery, css-select, cascadia, nokogiri and cssselect.
-EXTENSIONS = "|".join((
-    "contains icontains containsown haschild matches matchesown eq gt lt nth first last even odd only parent"
-    " header input button submit reset image radio checkbox text password file selected hidden visible"
-    " animated humanoid foovalue foo aaron first-or-second five-attributes nb-attr"
-).split())
+EXTENSIONS = "|".join(
+    (
+        "contains icontains containsown haschild matches matchesown eq gt lt nth first last even"
+        " odd only parent header input button submit reset image radio checkbox text password file"
+        " selected hidden visible animated humanoid foovalue foo aaron first-or-second"
+        " five-attributes nb-attr"
+    ).split()
+)
 # Pseudo-classes of what a browser knows of an element besides the tree, or of the call.
 STATES = "checked|disabled|enabled|target|scope|host|host-context|focus-visible"
-# What a text outside the grammar has, where strings, escapes and comments are blank, and which expectations
-# of it are left out. A name that is not known is read, as that of a state.
-OUTSIDE = tuple((reason, re.compile(pattern, re.IGNORECASE), kinds) for reason, pattern, kinds in (
-    (":has()", r":has\(", (FIND, READ, REFUSE)),
-    ("an extension", r"[!#]=|@|/|<|\[\d|\w\(\)", (FIND, READ)),
-    ("an extension", rf"(?<!:):({EXTENSIONS})\(", (FIND, READ)),
-    ("an extension", rf"(?<!:):({EXTENSIONS})(?![-\w(])", (FIND, REFUSE)),
-    ("a state, or what a call is about", rf":({STATES})\(", (FIND, READ, REFUSE)),
-    ("a state, or what a call is about", rf":({STATES})(?![-\w(])", (FIND, REFUSE)),
-    ("`of` in :nth-child()", r":nth-(last-)?child\([^)]*\bof\b", (FIND, READ, REFUSE)),
-    ("a pseudo-element with an argument", r"::[-\w]+\(", (FIND, READ, REFUSE)),
-    ("a pseudo-class after a pseudo-element", r"::[-\w]+:(?!:)", (FIND, READ)),
-    ("a namespace or the column combinator", r"\|(?!=)", (FIND, READ, REFUSE)),
-    ("a combinator at the beginning", r"(^|,)\s*[>+~]", (FIND, READ)),
-))
-LIST = re.compile(r":(is|where|not)\(", re.IGNORECASE)
+# What a text outside the grammar has, where strings, escapes and comments are blank, and which
+# expectations of it are left out. A name that is not known is read, as that of a state.
+OUTSIDE = tuple(
+    (reason, re.compile(pattern, re.IGNORECASE), kinds)
+    for reason, pattern, kinds in (
+        (":has()", r":has\(", (FIND, READ, REFUSE)),
+        ("an extension", r"[!#]=|@|/|<|\[\d|\w\(\)", (FIND, READ)),
+        ("an extension", rf"(?<!:):({EXTENSIONS})\(", (FIND, READ)),
+        ("an extension", rf"(?<!:):({EXTENSIONS})(?![-\w(])", (FIND, REFUSE)),
+        ("a state, or what a call is about", rf":({STATES})\(", (FIND, READ, REFUSE)),
+        ("a state, or what a call is about", rf":({STATES})(?![-\w(])", (FIND, REFUSE)),
+        ("`of` in :nth-child()", r":nth-(last-)?child\([^)]*\bof\b", (FIND, READ, REFUSE)),
+        ("a pseudo-element with an argument", r"::[-\w]+\(", (FIND, READ, REFUSE)),
+        ("a pseudo-class after a pseudo-element", r"::[-\w]+:(?!:)", (FIND, READ)),
+        ("a namespace or the column combinator", r"\|(?!=)", (FIND, READ, REFUSE)),
+        ("a combinator at the beginning", r"(^|,)\s*[>+~]", (FIND, READ)),
+    )
+)
 
 # The texts whose expectations do not hold, and why: what the standards say, or docs/DIFFERENCES.md.
 DIFFERENCES: Tuple[Tuple[str, Dict[str, Sequence[str]]], ...] = (
-    ("a selector has a compound at least (Selectors 3, section 4)", {
-        "css-select": ("", " ", "\t"),
-        "css-what": ("", " ", "\t"),
-    }),
-    ("the value of an attribute is a name or a string (Selectors 3, section 6.3)", {
-        "css-select": (
-            "[test=]", "a[href*=#]", "p a[href*=#]", "p a[href^=#]", "#qunit-fixture option[value=1]",
-            "#qunit-fixture li[tabIndex=-1]",
+    (
+        "a selector has a compound at least (Selectors 3, section 4)",
+        {
+            "css-select": ("", " ", "\t"),
+            "css-what": ("", " ", "\t"),
+        },
+    ),
+    (
+        "the value of an attribute is a name or a string (Selectors 3, section 6.3)",
+        {
+            "css-select": (
+                "[test=]",
+                "a[href*=#]",
+                "p a[href*=#]",
+                "p a[href^=#]",
+                "#qunit-fixture option[value=1]",
+                "#qunit-fixture li[tabIndex=-1]",
+            ),
+            "css-what": (
+                "[test=]",
+                "a[href*=#]",
+                "p a[href*=#]",
+                "p a[href^=#]",
+                "#qunit-fixture option[value=1]",
+                "#qunit-fixture li[tabIndex=-1]",
+            ),
+            "nokogiri": ("img[width=200]",),
+        },
+    ),
+    (
+        "an id is a name (Selectors 3, section 6.5)",
+        {
+            "css-what": ("#.identifier",),
+            "nokogiri": ("#3 ~ p", "#5 ~ p", "#3 + p", "#5 + p"),
+        },
+    ),
+    (
+        "the end of the text closes what is open (CSS Syntax 3, sections 4.3.5 and 5.4.8)",
+        {
+            "cascadia": ("[a='x]", "[a=a i"),
+            "css-what": ("input[name=']",),
+            "cssselect": ("[rel=stylesheet", ":lang(fr"),
+        },
+    ),
+    (
+        "a newline is in no string (CSS Syntax 3, section 4.3.5)",
+        {"css-what": ('[value="\nsome text\n"]',)},
+    ),
+    (
+        "the argument is no An+B (CSS Syntax 3, section 6)",
+        {
+            "css-what": (
+                ":nth-child(- 1n)",
+                ":nth-child(-)",
+                ":nth-child(-1 n)",
+                ":nth-child(2+0)",
+                ":nth-child(2n+-0)",
+                ":nth-child(asdf)",
+            ),
+        },
+    ),
+    (
+        "no standard has a function of this name",
+        {
+            "css-what": (
+                ":first-child(n)",
+                ":last-child(n)",
+                ":only-child(n)",
+                ":nth-last-last-child(1)",
+                ":bar(baz)",
+            ),
+        },
+    ),
+    (
+        (
+            "docs/DIFFERENCES.md: a name that is not known, which the standards refuse, is that of"
+            " a state"
         ),
-        "css-what": (
-            "[test=]", "a[href*=#]", "p a[href*=#]", "p a[href^=#]", "#qunit-fixture option[value=1]",
-            "#qunit-fixture li[tabIndex=-1]",
-        ),
-        "nokogiri": ("img[width=200]",),
-    }),
-    ("an id is a name (Selectors 3, section 6.5)", {
-        "css-what": ("#.identifier",),
-        "nokogiri": ("#3 ~ p", "#5 ~ p", "#3 + p", "#5 + p"),
-    }),
-    ("a newline is in no string (CSS Syntax 3, section 4.3.5)", {"css-what": ('[value="\nsome text\n"]',)}),
-    ("the argument is no An+B (CSS Syntax 3, section 6)", {
-        "css-what": (
-            ":nth-child(- 1n)", ":nth-child(-)", ":nth-child(-1 n)", ":nth-child(2+0)", ":nth-child(2n+-0)",
-            ":nth-child(asdf)",
-        ),
-    }),
-    ("no standard has a function of this name", {
-        "css-what": (
-            ":first-child(n)", ":last-child(n)", ":only-child(n)", ":nth-last-last-child(1)", ":bar(baz)",
-        ),
-    }),
-    ("docs/DIFFERENCES.md: a name that is not known, which the standards refuse, is that of a state", {
-        "css-select": (":visble", ":nth-child", ":first-last-child", ":last-last-child", ":only-last-child"),
-        "cascadia": ("div:example", ":example", "div::example", "::example"),
-    }),
+        {
+            "css-select": (
+                ":visble",
+                ":nth-child",
+                ":first-last-child",
+                ":last-last-child",
+                ":only-last-child",
+            ),
+            "cascadia": ("div:example", ":example", "div::example", "::example"),
+        },
+    ),
     ("a selector may have a pseudo-element (Selectors 3, section 7)", {"css-select": ("::after",)}),
-    ("a list may have functions with lists (Selectors 4, sections 4.2 and 4.3)", {
-        "cssselect": (":not(:not(a))",),
-    }),
-    ("a type selector is of the local name (Selectors 3, section 6.1.1)", {
-        "css-select": ("soap\\:Envelope",),
-    }),
-    ("classes are compared without case in a page without a doctype (Selectors 4, section 6.6)", {
-        "cascadia": ("div.teST",),
-    }),
-    ("only an empty value begins, ends or is in none (Selectors 3, section 6.3.2)", {
-        "cascadia": ('p[class$=" "]', 'p[class^=" "]', 'p[class*=" "]'),
-    }),
-    ("an element with white space is not empty (Selectors 3, section 6.6.5.12)", {
-        "cascadia": ("#pseudo-empty p:empty", "#pseudo-empty :empty"),
-    }),
-    ("links are `a` and `area` (HTML Standard, `:link`)", {
-        "cssselect": (":link",),
-        "cascadia": ("#head :link, #head :visited",),
-    }),
-    ("all siblings of the type are counted, with or without the class (Selectors 3, section 6.6.5.4)", {
-        "nokogiri": ("div .a:nth-of-type(2n)", "div .a:nth-of-type(2n+1)"),
-    }),
-    ("docs/DIFFERENCES.md: `*` is printed, and so are the quotes of a language", {
-        "cssselect": ("*:before", ":not(*.foo)", ":not(*[foo])"),
-        "servo": (".foo:lang(en-US)",),
-    }),
+    (
+        "a list has complex selectors (Selectors 4, sections 4.2 and 4.4)",
+        {
+            "cssselect": (":is(a b)", ":where(a b)"),
+        },
+    ),
+    (
+        "a list may have functions with lists (Selectors 4, sections 4.2 and 4.3)",
+        {
+            "cssselect": (":not(:not(a))",),
+        },
+    ),
+    (
+        "a type selector is of the local name (Selectors 3, section 6.1.1)",
+        {
+            "css-select": ("soap\\:Envelope",),
+        },
+    ),
+    (
+        "classes are compared without case in a page without a doctype (Selectors 4, section 6.6)",
+        {
+            "cascadia": ("div.teST",),
+        },
+    ),
+    (
+        "only an empty value begins, ends or is in none (Selectors 3, section 6.3.2)",
+        {
+            "cascadia": ('p[class$=" "]', 'p[class^=" "]', 'p[class*=" "]'),
+        },
+    ),
+    (
+        "an element with white space is not empty (Selectors 3, section 6.6.5.12)",
+        {
+            "cascadia": ("#pseudo-empty p:empty", "#pseudo-empty :empty"),
+        },
+    ),
+    (
+        "links are `a` and `area` (HTML Standard, `:link`)",
+        {
+            "cssselect": (":link",),
+            "cascadia": ("#head :link, #head :visited",),
+        },
+    ),
+    (
+        (
+            "all siblings of the type are counted, with or without the class (Selectors 3, section"
+            " 6.6.5.4)"
+        ),
+        {
+            "nokogiri": ("div .a:nth-of-type(2n)", "div .a:nth-of-type(2n+1)"),
+        },
+    ),
+    (
+        "docs/DIFFERENCES.md: `*` is printed, and so are the quotes of a language",
+        {
+            "cssselect": ("*:before", ":not(*.foo)", ":not(*[foo])"),
+            "servo": (".foo:lang(en-US)",),
+        },
+    ),
 )
 
 
 def blanked(text: str) -> str:
-    """The text with an `x` in place of each escape, `""` of each string, and nothing of each comment."""
+    """The text with an `x` in place of each escape, `""` of each string, and nothing of each
+    comment."""
     kinds = {"\\": "x", "/": ""}
     return re.sub(OPAQUE, lambda found: kinds.get(found[0][0], '""'), text, flags=re.DOTALL)
-
-
-def argument(text: str, start: int) -> str:
-    """The text from an index up to the parenthesis that closes it, or up to the end."""
-    depth, end = 1, start
-    while end < len(text) and depth:
-        depth += {"(": 1, ")": -1}.get(text[end], 0)
-        end += 1
-    return text[start : end - 1 if depth == 0 else end]
-
-
-def has_complex(text: str) -> bool:
-    """Whether a list within a function has a combinator."""
-    for found in LIST.finditer(text):
-        plain = argument(text, found.end())
-        for pattern in (r"\[[^]]*\]", *[r"\([^()]*\)"] * 4):
-            plain = re.sub(pattern, "", plain)
-        if any(re.search(r"[\s>+~]", each.strip()) for each in plain.split(",")):
-            return True
-    return False
 
 
 def outside(text: str, kind: str) -> Optional[str]:
@@ -153,17 +222,17 @@ def outside(text: str, kind: str) -> Optional[str]:
     for reason, pattern, kinds in OUTSIDE:
         if kind in kinds and pattern.search(shown):
             return reason
-    return "a combinator within a list" if has_complex(shown) else None
+    return None
 
 
 class Judge:
     """Counts what the tests of a project expect of selectors."""
 
-    def __init__(self, project: str, counts: Counts, shows_all: bool) -> None:
+    def __init__(self, project: str) -> None:
         self.project = project
-        self.counts = counts
-        self.shows_all = shows_all
-        self.judged = 0
+        self.shows_all = "SHOW_ALL" in os.environ
+        self.judged = self.held = 0
+        self.failures: List[str] = []
         self.left_out: Dict[str, int] = collections.Counter()
         self.rows = {text: reason for reason, each in DIFFERENCES for text in each.get(project, ())}
         self.used: Set[str] = set()
@@ -175,7 +244,8 @@ class Judge:
             print(f"{self.project}: not judged, {reason}: {', '.join(map(repr, texts))}")
 
     def settle(self, texts: Sequence[str], kind: str, holds: bool, shown: str) -> None:
-        """Counts an expectation of texts: one that does not hold must be a difference that is named."""
+        """Counts an expectation of texts: one that does not hold must be a difference that is
+        named."""
         reason = next(filter(None, (outside(text, kind) for text in texts)), None)
         if reason:
             self.leave_out(texts, reason)
@@ -184,8 +254,10 @@ class Judge:
         row = next((text for text in texts if text in self.rows), None)
         if row is not None and not holds:
             self.used.add(row)
+        elif holds:
+            self.held += 1
         else:
-            self.counts.expect(holds, f"{self.project}: {', '.join(map(repr, texts))}: {shown}")
+            self.failures.append(f"{', '.join(map(repr, texts))}: {shown}")
 
     def reads(self, text: str) -> None:
         """The text is a list of selectors."""
@@ -203,14 +275,21 @@ class Judge:
 
     def prints(self, text: str, wanted: str) -> None:
         """The text is printed so."""
-        self.settle([text], READ, printed(text) == wanted, f"printed as {printed(text)}, and not as {wanted}")
+        self.settle(
+            [text],
+            READ,
+            printed(text) == wanted,
+            f"printed as {printed(text)}, and not as {wanted}",
+        )
 
     def has_specificity(self, text: str, wanted: Tuple[int, ...]) -> None:
         """The selector has this specificity."""
         found = [each.specificity for each in reading(text) or []]
         self.settle([text], READ, found == [wanted], f"specificity {found}, and not {wanted}")
 
-    def finds(self, tree: Tree, text: str, wanted: object, seen: Callable[[List[Element]], object]) -> None:
+    def finds(
+        self, tree: Tree, text: str, wanted: object, seen: Callable[[List[Element]], object]
+    ) -> None:
         """The text finds what is wanted, of which `seen` says how it is seen."""
         try:
             found = seen(tree.select(text))
@@ -222,13 +301,18 @@ class Judge:
         """The text as it is printed, or None if it is refused."""
         return printed(text)
 
-    def end(self, least: int) -> None:
-        """Prints what was judged, at least so many expectations. Each difference must have shown."""
-        enough = self.judged >= least
-        self.counts.expect(enough, f"{self.project}: {self.judged} expectations, and not {least} or more")
-        for text in self.rows.keys() - self.used:
-            self.counts.expect(False, f"{self.project}: {text!r} is no difference any more")
-        print(f"{self.project}: {self.judged} expectations, {len(self.used)} differences that are named")
+    def end(self, case: Case, least: int) -> None:
+        """Counts and prints what was judged, at least so many expectations. Each difference must
+        have shown."""
+        unseen = [f"{text!r} is no difference any more" for text in self.rows.keys() - self.used]
+        failures = self.failures + unseen
+        case.sweep(self.held + len(failures), failures)
+        with case.subTest("expectations"):
+            case.assertGreaterEqual(self.judged, least)
+        print(
+            f"{self.project}: {self.judged} expectations, {len(self.used)} differences that are"
+            " named"
+        )
         for reason, count in sorted(self.left_out.items(), key=lambda each: -each[1]):
             print(f"{self.project}: {count} not judged: {reason}")
 
@@ -242,32 +326,50 @@ def reading(text: str) -> Optional[List[Listed]]:
 
 
 def printed(text: str) -> Optional[str]:
-    """A text as it is printed, with the names of pseudo-classes in lower case, or None if it is refused."""
+    """A text as it is printed, with the names of pseudo-classes in lower case, or None if it is
+    refused."""
     found = reading(text)
     if found is None:
         return None
     return re.sub(r":[-\w]+", lambda each: each[0].lower(), ", ".join(each.text for each in found))
 
 
-def main() -> int:
-    projects = {each.name: each for each in judges_tests.PROJECTS}
-    parser = argparse.ArgumentParser()
-    parser.add_argument("projects", nargs="*", choices=[*projects, []])
-    parser.add_argument("--all", action="store_true")
-    words = parser.parse_args()
-    counts = Counts()
+class Judges(Case):
+    """The projects, each a test."""
+
     folder = os.path.join(TOP, "out", "judges")
-    for project in (projects[name] for name in words.projects or projects):
-        why = judges_tests.fetch(project, folder)
+
+    @classmethod
+    def tearDownClass(cls) -> None:
+        judges_tests.forget_lists(cls.folder)
+
+    def judge(self, name: str) -> None:
+        """Judges by the tests of a project."""
+        (project,) = (each for each in judges_tests.PROJECTS if each.name == name)
+        why = judges_tests.fetch(project, self.folder)
         if why:
-            print(f"left out: the tests of {project.name}: {why}")
-            continue
-        judge = Judge(project.name, counts, words.all)
-        project.judge(folder, judge)
-        judge.end(project.least)
-    judges_tests.forget_lists(folder)
-    return counts.end()
+            self.skipTest(f"the tests of {name}: {why}")
+        judge = Judge(name)
+        project.judge(self.folder, judge)
+        judge.end(self, project.least)
 
+    def test_cssselect(self) -> None:
+        self.judge("cssselect")
 
-if __name__ == "__main__":
-    sys.exit(main())
+    def test_css_select(self) -> None:
+        self.judge("css-select")
+
+    def test_css_what(self) -> None:
+        self.judge("css-what")
+
+    def test_jquery(self) -> None:
+        self.judge("jquery")
+
+    def test_cascadia(self) -> None:
+        self.judge("cascadia")
+
+    def test_nokogiri(self) -> None:
+        self.judge("nokogiri")
+
+    def test_servo(self) -> None:
+        self.judge("servo")

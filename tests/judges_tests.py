@@ -1,4 +1,5 @@
-"""The tests of other projects, for tests/judges.py: where Debian's archive has them, and what they expect."""
+"""The tests of other projects, for tests/judges.py: where Debian's archive has them, and what they
+expect."""
 from __future__ import annotations
 
 import ast
@@ -10,19 +11,33 @@ import re
 import shutil
 import subprocess
 import tarfile
-from typing import TYPE_CHECKING, Any, Callable, Dict, Iterator, List, NamedTuple, Optional, Sequence, Tuple
+from typing import (
+    TYPE_CHECKING,
+    Any,
+    Callable,
+    Dict,
+    Iterator,
+    List,
+    NamedTuple,
+    Optional,
+    Sequence,
+    Tuple,
+)
 
-from simplecss import Element, Item, SelectorError, Tree
+from tests.common import package
+
+package()
+from simplecss import Element, Item, SelectorError, Tree  # noqa: E402
 
 if TYPE_CHECKING:
-    from judges import Judge
+    from tests.judges import Judge
 
 HERE = os.path.dirname(os.path.abspath(__file__))
 
 
 class Project(NamedTuple):
-    """A project: sources and packages of Debian, what judges by their tests, given the folder of all and a
-    judge, and how many expectations it judges at least."""
+    """A project: sources and packages of Debian, what judges by their tests, given the folder of
+    all and a judge, and how many expectations it judges at least."""
 
     name: str
     sources: Sequence[str]
@@ -94,7 +109,10 @@ def forget_lists(top: str) -> None:
 
 def unpack(folder: str) -> bool:
     """Unpacks what apt-get has fetched into a folder. Returns whether that worked."""
-    words = [["tar", "-xf", path, "-C", folder] for path in glob.glob(os.path.join(folder, "*.orig*.tar.*"))]
+    words = [
+        ["tar", "-xf", path, "-C", folder]
+        for path in glob.glob(os.path.join(folder, "*.orig*.tar.*"))
+    ]
     words += [["dpkg-deb", "-x", path, folder] for path in glob.glob(os.path.join(folder, "*.deb"))]
     return bool(words) and all(subprocess.run(each, check=False).returncode == 0 for each in words)
 
@@ -168,7 +186,8 @@ def within(tree: Tree, selector: str) -> Callable[[Sequence[Element]], int]:
 
 
 def asserted(module: ast.Module) -> Iterator[Tuple[str, List[str], Dict[str, bool], Any]]:
-    """The name, the words and what is wanted of each `assert call("..") == wanted`, and of other calls."""
+    """The name, the words and what is wanted of each `assert call("..") == wanted`, and of other
+    calls."""
     for node in ast.walk(module):
         call, wanted = None, None
         if isinstance(node, ast.Assert) and isinstance(node.test, ast.Compare):
@@ -251,12 +270,13 @@ def between(text: str, start: str, end: str) -> str:
 
 def start_tag(text: str) -> Tuple[str, Dict[str, str]]:
     """The name and the attributes of the start tag at the beginning of a text."""
-    name, rest = re.match(r"<(\w+)((?:[^>\"]|\"[^\"]*\")*)>", text).groups()  # type: ignore[union-attr]
+    [(name, rest), *_] = re.findall(r'^<(\w+)((?:[^>"]|"[^"]*")*)>', text)
     return name, dict(re.findall(r'([-\w]+)="([^"]*)"', rest))
 
 
 def judge_go_tables(top: str, judge: "Judge") -> None:
-    """Judges by the elements that selectors find in small pages, and by what is counted in a play."""
+    """Judges by the elements that selectors find in small pages, and by what is counted in a
+    play."""
     text = text_of(top, "sources/golang-github-andybalholm-cascadia/*/selector_test.go")
     table = between(text, "var selectorTests = []selectorTest{", "\n}\n")
     entries = re.findall(rf"\{{\s*{GO},\s*{GO},\s*\[\]string\{{((?:\s*{GO},)*)\s*\}},\s*\}}", table)
@@ -280,7 +300,8 @@ def judge_go_specificity(top: str, judge: "Judge") -> None:
 
 
 def judge_go_names(top: str, judge: "Judge") -> None:
-    """Judges by names and strings with escapes: what they denote, or nothing if they are refused."""
+    """Judges by names and strings with escapes: what they denote, or nothing if they are
+    refused."""
     text = text_of(top, "sources/golang-github-andybalholm-cascadia/*/parser_test.go")
     for table in ("identifierTests", "stringTests"):
         rows = between(text, f"var {table} = map[string]string{{", "\n}\n")
@@ -302,7 +323,9 @@ def judge_cascadia(top: str, judge: "Judge") -> None:
     pages = {"html": Tree.from_html(text), "xhtml": Tree.from_xml(text)}
     for each in json.loads(text_of(top, f"{resources}/valid_selectors.json")):
         for kind in pages.keys() - (each.get("exclude") or []):
-            judge.finds(pages[kind], each["selector"], sorted(each.get("expect") or []), sorted_ids_of)
+            judge.finds(
+                pages[kind], each["selector"], sorted(each.get("expect") or []), sorted_ids_of
+            )
     for each in json.loads(text_of(top, f"{resources}/invalid_selectors.json")):
         judge.refuses(each["selector"])
 
@@ -328,16 +351,25 @@ def joined_text(found: Sequence[Element]) -> str:
 
 
 def judge_nokogiri_pages(text: str, judge: "Judge") -> None:
-    """Judges by what selectors find in the first page of the tests, and by how many elements of others."""
-    pages = [ruby_text(f'"{each}"') for each in re.findall(r"<<~HTML\)?\n(.*?)\n *HTML\n", text, re.DOTALL)]
+    """Judges by what selectors find in the first page of the tests, and by how many elements of
+    others."""
+    pages = [
+        ruby_text(f'"{each}"')
+        for each in re.findall(r"<<~HTML\)?\n(.*?)\n *HTML\n", text, re.DOTALL)
+    ]
     first, _, siblings, classes = (Tree.from_html("<!DOCTYPE html>" + each) for each in pages[:4])
     pattern = r'assert_result_rows\((\[[^\]]*\]), subject\.search\("([^"]*)"\)(?:, "(\w+)")?\)'
     for numbers, selector, word in re.findall(pattern, text):
         wanted = " ".join(f"{word or 'row'}{each}" for each in json.loads(numbers))
         judge.finds(first, selector, wanted, joined_text)
-    for count, selector in re.findall(r'assert_equal\((\d+), doc\.search\("([^"]*)"\)\.size\)', text):
+    for count, selector in re.findall(
+        r'assert_equal\((\d+), doc\.search\("([^"]*)"\)\.size\)', text
+    ):
         judge.finds(siblings, selector, int(count), len)
-    pattern = r'result = (\w+)\.(?:search|css)\("([^"]*)"\)\n\s*assert_equal\((\d+), result\.(?:size|length)'
+    pattern = (
+        r'result = (\w+)\.(?:search|css)\("([^"]*)"\)\n\s*assert_equal\((\d+),'
+        r" result\.(?:size|length)"
+    )
     for name, selector, count in re.findall(pattern, text):
         judge.finds(first if name == "subject" else classes, selector, int(count), len)
     for selector in re.findall(r'nested\.css\("([^"]*)"\)', text):
@@ -346,7 +378,9 @@ def judge_nokogiri_pages(text: str, judge: "Judge") -> None:
 
 def judge_nokogiri(top: str, judge: "Judge") -> None:
     """Judges by nokogiri's tests of what selectors find, and by those of how they are read."""
-    judge_nokogiri_pages(text_of(top, "sources/ruby-nokogiri/*/test/css/test_css_integration.rb"), judge)
+    judge_nokogiri_pages(
+        text_of(top, "sources/ruby-nokogiri/*/test/css/test_css_integration.rb"), judge
+    )
     for name in ("xpath_visitor", "parser"):
         text = text_of(top, f"sources/ruby-nokogiri/*/test/css/test_{name}.rb")
         for raises, literal in re.findall(rf"(SyntaxError\) \{{ )?parser\.parse\({RUBY}\)", text):
@@ -364,14 +398,15 @@ def rust_text(literal: str) -> str:
 
 
 def judge_servo(top: str, judge: "Judge") -> None:
-    """Judges by what is read, how it is printed, and its specificity, which comes last of a statement."""
+    """Judges by what is read, how it is printed, and its specificity, which comes last of a
+    statement."""
     text = text_of(top, "packages/librust-selectors-dev/usr/share/cargo/registry/*/parser.rs")
     tests = text[text.index("fn test_parsing()") :]
     for literal, outcome in re.findall(rf"assert!\(parse\({RUST}\)\.is_(ok|err)\(\)\);", tests):
         (judge.reads if outcome == "ok" else judge.refuses)(rust_text(literal))
     statements = re.findall(r"assert_eq!\(\n(.*?)\n        \);", tests, re.DOTALL)
     for statement in statements:
-        literals = re.findall(rf'parse\w*\(\s*{RUST}(?:.*?Some\({RUST}\))?', statement, re.DOTALL)
+        literals = re.findall(rf"parse\w*\(\s*{RUST}(?:.*?Some\({RUST}\))?", statement, re.DOTALL)
         numbers = re.findall(r"specificity\((\d+), (\d+), (\d+)\)", statement)
         if literals and numbers:
             selector, shown = literals[0]
@@ -381,10 +416,12 @@ def judge_servo(top: str, judge: "Judge") -> None:
 
 # ---- suites of JavaScript, which node runs
 
+# fmt: off
 MODULES = (
-    "node-htmlparser2", "node-domutils", "node-domhandler", "node-domelementtype", "node-dom-serializer",
-    "node-entities", "node-boolbase", "node-css-what", "esbuild",
+    "node-htmlparser2", "node-domutils", "node-domhandler", "node-domelementtype",
+    "node-dom-serializer", "node-entities", "node-boolbase", "node-css-what", "esbuild",
 )
+# fmt: on
 
 
 class Node:
@@ -470,20 +507,28 @@ def run_suite(top: str, judge: "Judge", suite: str, folder: str) -> None:
     words = ["node", os.path.join(HERE, "judges.js"), suite, folder]
     hearing = Hearing(judge)
     environment = {**os.environ, "NODE_PATH": ":".join(modules)}
-    streams: Dict[str, Any] = {"stdin": subprocess.PIPE, "stdout": subprocess.PIPE, "encoding": "utf-8"}
+    streams: Dict[str, Any] = {
+        "stdin": subprocess.PIPE,
+        "stdout": subprocess.PIPE,
+        "encoding": "utf-8",
+    }
     with subprocess.Popen(words, env=environment, **streams) as child:
         for line in child.stdout or ():
             answer = hearing.answer(json.loads(line))
             if answer is not None and child.stdin:
                 child.stdin.write(json.dumps(answer) + "\n")
                 child.stdin.flush()
-    judge.counts.expect(child.returncode == 0, f"{suite}: node ended with status {child.returncode}")
+    if child.returncode:
+        judge.failures.append(f"{suite}: node ended with status {child.returncode}")
 
 
 def transpiled(top: str, pattern: str) -> str:
     """The folder of a suite in TypeScript, of which esbuild makes JavaScript."""
     folder = path_of(top, pattern)
-    found = [glob.glob(os.path.join(folder, name, "**", "*.ts"), recursive=True) for name in ("src", "test")]
+    found = [
+        glob.glob(os.path.join(folder, name, "**", "*.ts"), recursive=True)
+        for name in ("src", "test")
+    ]
     esbuild = os.path.join(top, PACKAGES, "esbuild", "usr", "bin", "esbuild")
     words = ["--format=cjs", "--target=node18", "--log-level=error", f"--outdir={folder}"]
     subprocess.run([esbuild, *sum(found, []), *words, f"--outbase={folder}"], check=True)
@@ -517,15 +562,25 @@ def judge_jquery(top: str, judge: "Judge") -> None:
 
 # ---- what css-what reads, as text
 
-COMBINATORS = {"descendant": " ", "child": " > ", "sibling": " ~ ", "adjacent": " + ", "parent": " < ",
-               "column-combinator": " || "}
+COMBINATORS = {
+    "descendant": " ",
+    "child": " > ",
+    "sibling": " ~ ",
+    "adjacent": " + ",
+    "parent": " < ",
+    "column-combinator": " || ",
+}
+# fmt: off
 ACTIONS = {"equals": "=", "element": "~=", "start": "^=", "end": "$=", "any": "*=", "not": "!=",
            "hyphen": "|="}
+# fmt: on
 
 
 def spelled_name(name: str) -> str:
     """A name with an escape for each character that is no letter."""
-    return "".join(each if each.isalpha() and each.isascii() else f"\\{ord(each):x} " for each in name)
+    return "".join(
+        each if each.isalpha() and each.isascii() else f"\\{ord(each):x} " for each in name
+    )
 
 
 def spelled_string(value: str) -> str:

@@ -10,6 +10,7 @@
 #define TEXT(text) (const uint8_t *)(text), sizeof(text) - 1
 #define SHEET TEXT(sheet), sheet_ends, 2, 2
 #define TREE elements, 3, TEXT(strings), string_ends, 7
+#define MOST SIMPLECSS_NO_LIMIT
 #define OUT out, sizeof(out) - 1, &len
 
 static const char sheet[] = "ul > li { color: red }.new { color: blue !important } @media x { } a:b { c: d }";
@@ -34,18 +35,19 @@ int main(int count, char **words) {
     case 3: status = simplecss_sheet(SHEET, OUT); break;
     case 4: status = simplecss_rules(SHEET, OUT); break;
     case 5: status = simplecss_skipped(TEXT(sheet), OUT); break;
-    case 6: status = simplecss_match(SHEET, TREE, OUT, &fault); break;
-    case 7: status = simplecss_select(TEXT("li, ul > .new"), TREE, OUT, &fault); break;
-    case 8: status = simplecss_style(SHEET, TREE, TEXT("color"), OUT, &fault); break;
-    case 9: status = simplecss_styles(SHEET, TREE, OUT, &fault); break;
+    case 6: status = simplecss_match(SHEET, TREE, MOST, OUT, &fault); break;
+    case 7: status = simplecss_select(TEXT("li, ul > .new"), TREE, MOST, OUT, &fault); break;
+    case 8: status = simplecss_style(SHEET, TREE, TEXT("color"), MOST, OUT, &fault); break;
+    case 9: status = simplecss_styles(SHEET, TREE, MOST, OUT, &fault); break;
     case 10: status = simplecss_version(OUT); break;
-    case 11: status = simplecss_read(TEXT("@media x { a, b:not(c), d::before { e: f; g } } h { } @i;"), OUT); break;
+    case 11: status = simplecss_read(TEXT("@media x { a, b:not(c), d::before { e: f; g } } h { } @i;"), MOST, OUT); break;
     case 12: status = simplecss_declarations(TEXT("a: b !important; c"), OUT); break;
-    case 13: status = simplecss_match_selectors(TEXT("li.new"), selector_ends, 2, TREE, OUT, &fault); break;
+    case 13: status = simplecss_match_selectors(TEXT("li.new"), selector_ends, 2, TREE, MOST, OUT, &fault); break;
     case 14: status = simplecss_list_level3(TEXT("a\\62 > c, d:not(e, f)::before"), OUT); break;
     case 15: status = simplecss_refusal_level3(TEXT("a, b:nth-child(2"), OUT); break;
-    case 16: status = simplecss_match_level3(TEXT("LI.new"), selector_ends, 2, SIMPLECSS_HTML, TREE, OUT, &fault); break;
-    case 17: status = simplecss_select_level3(TEXT("LI:empty, :is(UL, a) > .NEW"), SIMPLECSS_HTML_QUIRKS, TREE, OUT, &fault); break;
+    case 16: status = simplecss_match_level3(TEXT("LI.new"), selector_ends, 2, SIMPLECSS_HTML, TREE, MOST, OUT, &fault); break;
+    case 17: status = simplecss_select_level3(TEXT("LI:empty, :is(UL, a) > .NEW"), SIMPLECSS_HTML_QUIRKS, TREE, MOST, OUT, &fault); break;
+    case 18: status = simplecss_close(TEXT("f(g['h"), OUT); break;
     default: break;
     }
     (void)!write(2, "end", 3);

@@ -1,20 +1,21 @@
-"""Tests the built program: each request for memory refused, its answers to words, files and mistakes, and its three streams
-closed, full, or a pipe that nobody reads. Each run is ended after 20 seconds of processor time.
+"""The built program `cssq`: its answers to words, files and mistakes, each request for memory
+refused, and its three streams closed, full, or a pipe that nobody reads.
 
-    program.py PROGRAM SHIM     PROGRAM is the built `cssq`, SHIM the built tests/refuse.c
-
-Prints a line for each part with what was tried, then 'N passed, M failed'; the status is 1 if something failed. Where it is
-run as root, the program is run as nobody, since root may read every file.
+Each run is ended after 20 seconds of processor time. Where the tests are run as root, the program
+is run as nobody, since root may read every file.
 """
+from __future__ import annotations
+
 import os
 import resource
 import shutil
 import subprocess
-import sys
 import tempfile
 import time
+import unicodedata
+from typing import Any, Dict, List, Mapping, Optional, Sequence, Tuple
 
-from common import Counts, run as run_refused
+from tests.common import Case, Refused, program, refusable, run_refused, version
 
 USAGE = "usage: cssq [selector TEXT | sheet FILE... | match FILE TREE | style FILE TREE NAME]"
 REFUSED = "cssq: selector refused"
@@ -23,133 +24,27 @@ CANNOT_READ_INPUT = "cssq: cannot read standard input"
 NOBODY = 65534
 # The most seconds of processor time of a run. The longest takes about one.
 SECONDS = 20
-
-room = tempfile.TemporaryDirectory()
-folder = room.name
-os.chmod(folder, 0o755)
-# The user nobody may run the copy, wherever the program itself is.
-program = shutil.copy(sys.argv[1], os.path.join(folder, "cssq"))
-os.chmod(program, 0o755)
-shim = os.path.abspath(sys.argv[2])
-checks = Counts()
-expect = checks.expect
-
-
-def put(name, data, mode=0o644):
-    """A file of these bytes."""
-    path = os.path.join(folder, name)
-    with open(path, "wb") as file:
-        file.write(data)
-    os.chmod(path, mode)
-    return path
-
-
-sheet = put("a.css", b"a > b { c:d } b { e:f } @x; g < { h:i }")
-other = put("b.css", b"#x { c:d !important }")
-tree = put("a.tree", b"0\ta\n1\tb\n1\tc\tk=v\tl=w\n2\tb\n")
-broken = put("broken.tree", b"0\ta\n2\tb\n")
-empty = put("empty", b"")
-
-# ---- each request for memory refused, one after another
-
-
-def run_with_shim(words, stdin, refuse=0):
-    """Status, output, lines on standard error, and the requests that were counted."""
-    with open(put("stdin", stdin), "rb") as file:
-        status, out, err, requests = run_refused(program, shim, words, refuse, stdin=file)
-    return status, out, err.decode().splitlines(), requests
-
-
-refused = 0
-for words, stdin in [
-    (["selector", "a > .b"], b""),
-    (["selector", "a <"], b""),
-    ([], b"a > .b\n"),
-    (["sheet", sheet], b""),
-    (["sheet", sheet, other], b""),
-    (["match", sheet, tree], b""),
-    (["match", sheet, broken], b""),
-    (["style", sheet, tree, "e"], b""),
-]:
-    whole = run_with_shim(words, stdin)
-    names = [name for name in words[1:] if os.sep in name] or ["standard input"]
-    number = 0
-    while True:
-        number += 1
-        status, out, lines, requests = run_with_shim(words, stdin, number)
-        if b"x" not in requests:
-            break
-        refused += 1
-        last = lines[-1:] or [""]
-        wanting = {
-            3: last == ["cssq: want of memory"],
-            4: last[0] in [f"cssq: cannot read {name}" for name in names],
-            2: last == [USAGE],
-        }
-        full = (status, out) == whole[:2]
-        expect(full or (out == b"" and wanting.get(status, False)), f"{words} with request {number} refused: {status} {out} {lines}")
-    expect(number > 1, f"{words} makes no request for memory")
-print(f"the program: {refused} refused requests")
-
-# ---- its answers
-
 STREAMS = {"stdin": 0, "stdout": 1, "stderr": 2}
+MANY = 100_000
 
-
-def opened(kind):
-    """A descriptor of this kind: `full`, or `unread`, a pipe that nobody reads. One that is to be `closed` is anything yet."""
-    if kind == "full":
-        return os.open("/dev/full", os.O_WRONLY)
-    if kind == "unread":
-        reader, writer = os.pipe()
-        os.close(reader)
-        return writer
-    return os.open(os.devnull, os.O_RDWR)
-
-
-def start(words, kinds, **streams):
-    """Starts the program as nobody, with streams of these kinds by their names, and the others as they are given."""
-    given = {name: opened(kind) for name, kind in kinds.items()}
-    streams = {"stdin": subprocess.DEVNULL, "stdout": subprocess.PIPE, "stderr": subprocess.PIPE, **streams, **given}
-
-    def prepare():
-        resource.setrlimit(resource.RLIMIT_CPU, (SECONDS, SECONDS))
-        if os.geteuid() == 0:
-            os.setgroups([])
-            os.setgid(NOBODY)
-            os.setuid(NOBODY)
-        for name, kind in kinds.items():
-            if kind == "closed":
-                os.close(STREAMS[name])
-
-    child = subprocess.Popen([program, *words], preexec_fn=prepare, **streams)
-    for descriptor in given.values():
-        os.close(descriptor)
-    return child
-
-
-def faults(err):
-    """The lines of standard error that say why the program ended, and the last line."""
-    lines = err.decode(errors="replace").splitlines()
-    return [line for line in lines if line.startswith(("cssq:", "usage:"))], lines[-1:]
-
-
-def answers(words, stdin, kinds, status, out, line):
-    """Whether the program answers so: its status, its output, and its one line after all warnings, `""` for none. What goes to a
-    stream of some kind is not compared."""
-    with open(put("stdin", stdin), "rb") as file:
-        child = start(words, kinds, **({} if "stdin" in kinds else {"stdin": file}))
-        got, err = child.communicate()
-    holds = child.returncode == status and got in (None, out.encode())
-    if err is not None:
-        reasons, last = faults(err)
-        holds &= reasons == ([line] if line else []) and (not line or last == [line])
-    shown = got if got is None or len(got) < 1000 else got[:1000] + b" .."
-    expect(holds, f"{words} with {kinds or 'ordinary streams'}: status {child.returncode}, {shown}, {err}")
-
+# The files of each test's folder.
+sheet, other, tree, broken, empty = "a.css", "b.css", "a.tree", "broken.tree", "empty"
+FILES = {
+    sheet: b"a > b { c:d } b { e:f } @x; g < { h:i }",
+    other: b"#x { c:d !important }",
+    tree: b"0\ta\n1\tb\n1\tc\tk=v\tl=w\n2\tb\n",
+    broken: b"0\ta\n2\tb\n",
+    empty: b"",
+    "page.css": b"p { a:b }",
+    "page.tree": b"0\tdiv\n",
+    "latin.css": b"p { content: '\xe9' }",
+    "utf16.css": "p { a:b }".encode("utf-16"),
+    "cut.css": "p { content: '\u20ac".encode()[:-1],
+    "locked.css": b"p { a:b }",
+}
 
 # words, standard input, status, output, the line that says why
-ANSWERS = [
+ANSWERS: Sequence[Tuple[List[Any], bytes, int, str, str]] = [
     (["selector", "a > .b"], b"", 0, "a > *[class~='b']\t0,1,1\n", ""),
     (["selector", "a, b"], b"", 0, "a\t0,0,1\n", ""),
     (["selector", ""], b"", 1, "", REFUSED),
@@ -158,7 +53,13 @@ ANSWERS = [
     ([], b"", 1, "", REFUSED),
     ([], b"a\xff", 4, "", CANNOT_READ_INPUT),
     (["sheet", sheet], b"", 0, "b { e:f; }\na > b { c:d; }\n", ""),
-    (["sheet", sheet, other], b"", 0, "b { e:f; }\na > b { c:d; }\n*[id='x'] { c:d !important; }\n", ""),
+    (
+        ["sheet", sheet, other],
+        b"",
+        0,
+        "b { e:f; }\na > b { c:d; }\n*[id='x'] { c:d !important; }\n",
+        "",
+    ),
     (["sheet", empty], b"", 0, "", ""),
     (["match", sheet, tree], b"", 0, "1:\n2: 1 2\n3:\n4: 1\n", ""),
     (["match", sheet, empty], b"", 0, "", ""),
@@ -171,36 +72,23 @@ ANSWERS = [
     (["selector", "a", "b"], b"", 2, "", USAGE),
     (["match", sheet], b"", 2, "", USAGE),
     (["other"], b"", 2, "", USAGE),
-    (["--version"], b"", 0, "cssq 0.1.0\n", ""),
+    (["--version"], b"", 0, f"cssq {version()}\n", ""),
     (["--version", "a"], b"", 2, "", USAGE),
     (["--help", "selector"], b"", 2, "", USAGE),
     (["selector", "--help"], b"", 1, "", REFUSED),
     (["selector", b"\xff"], b"", 2, "", USAGE),
 ]
-before = checks.passed
-for words, stdin, *wanted in ANSWERS:
-    answers(words, stdin, {}, *wanted)
 
-# ---- mistakes: what the program says of each. A row has what it prints, and its lines on standard error before the one of the status
-
-
-def says(words, stdin, status, out, lines):
-    """Whether the program, started in the folder, answers so: its status, its output, and all that is on standard error."""
-    with open(put("stdin", stdin), "rb") as file:
-        child = start(words, {}, stdin=file, cwd=folder)
-        got, err = child.communicate()
-    wanted = (status, out, "".join(line + "\n" for line in lines))
-    expect((child.returncode, got.decode(), err.decode()) == wanted, f"{words} of {stdin}: {child.returncode}, {got}, {err.decode()!r}, not {wanted}")
-
-
-# The text of a selector, what is printed, and the warning. Nothing is printed if the selector is refused.
+# The text of a selector, what is printed, and the warning. Nothing is printed if the selector is
+# refused.
 SELECTORS = [
     # No selector.
     ("", "", ":1:1: '': selector missing"),
     (" ", "", ":1:2: '': selector missing"),
     ("/**/", "", ":1:5: '': selector missing"),
     (", a", "", ":1:1: '': selector missing"),
-    # A character that begins no part of a selector: later CSS, other languages, a name with another first character.
+    # A character that begins no part of a selector: later CSS, other languages, a name with another
+    # first character.
     ("a < b", "", ":1:3: 'a < b': invalid ident"),
     ("a<b", "", ":1:2: 'a<b': invalid ident"),
     ("a ~ b", "", ":1:3: 'a ~ b': invalid ident"),
@@ -257,18 +145,40 @@ SELECTORS = [
     ("\ufeffa", "\ufeffa\t0,0,1", ":1:1: a byte order mark is part of the first name"),
 ]
 # A style sheet, what of it is printed, and the warnings.
-SHEETS = [
+SHEETS: Sequence[Tuple[str, str, List[str]]] = [
     # Declarations. What is broken takes the rest of its block with it.
     ("a { b:c; color red; d:e }", "a { b:c; }\n", [":1:10: 'color red': broken declaration"]),
     ("a { b:c d:e }", "a { b:c d; }\n", [":1:10: ':e': broken declaration"]),
     ("a { b:c !IMPORTANT; d:e }", "a { b:c; }\n", [":1:10: 'IMPORTANT': broken declaration"]),
-    ("a { b:calc(1px + (2px)); c:d }", "a { b:calc(1px + (2px); }\n", [
-        ":1:7: 'calc(1px + (2px)': a parenthesis of the value is left open", ":1:23: ')': broken declaration"]),
-    ("a { b:-webkit-calc(1px); c:d }", "a { b:-webkit-calc; }\n", [":1:19: '(1px)': broken declaration"]),
-    ("a { b:linear-gradient(to right, rgb(1,2,3), red; c:d }", "a { b:linear-gradient(to right, rgb(1,2,3), red;c:d; }\n", [
-        ":1:7: 'linear-gradient(to right, rgb(1,2,3), red': a parenthesis of the value is left open"]),
-    ("a { b:url(\"c)d\"); e:f }", "a { b:url(\"c)d; }\n", [
-        ":1:7: 'url(\"c)d': a parenthesis of the value is left open", ":1:15: '\"); e:f }': string or function not closed"]),
+    (
+        "a { b:calc(1px + (2px)); c:d }",
+        "a { b:calc(1px + (2px); }\n",
+        [
+            ":1:7: 'calc(1px + (2px)': a parenthesis of the value is left open",
+            ":1:23: ')': broken declaration",
+        ],
+    ),
+    (
+        "a { b:-webkit-calc(1px); c:d }",
+        "a { b:-webkit-calc; }\n",
+        [":1:19: '(1px)': broken declaration"],
+    ),
+    (
+        "a { b:linear-gradient(to right, rgb(1,2,3), red; c:d }",
+        "a { b:linear-gradient(to right, rgb(1,2,3), red;c:d; }\n",
+        [
+            ":1:7: 'linear-gradient(to right, rgb(1,2,3), red': a parenthesis of the value is left"
+            " open"
+        ],
+    ),
+    (
+        'a { b:url("c)d"); e:f }',
+        'a { b:url("c)d; }\n',
+        [
+            ":1:7: 'url(\"c)d': a parenthesis of the value is left open",
+            ":1:15: '\"); e:f }': string or function not closed",
+        ],
+    ),
     ("a { b:rgb(1, 2; c:d } e { f:g }", "", [":1:5: 'b:rgb(1, 2': broken declaration"]),
     ("a { b:; c:d }", "", [":1:5: 'b:': broken declaration"]),
     ("a { :b }", "", [":1:5: ':b': broken declaration"]),
@@ -290,19 +200,48 @@ SHEETS = [
     # Blocks, comments and at-rules.
     ("a { b:c }\nd", "a { b:c; }\n", [":2:2: '': block missing"]),
     ("a { b:c d", "a { b:c d; }\n", []),
-    ("a { b }} c { d:e }", "c { d:e; }\n", [":1:5: 'b': broken declaration", ":1:8: '}': unexpected closing brace"]),
+    (
+        "a { b }} c { d:e }",
+        "c { d:e; }\n",
+        [":1:5: 'b': broken declaration", ":1:8: '}': unexpected closing brace"],
+    ),
     ("<!-- a { b:c } -->", "", [":1:1: '<!-- a': invalid ident", ":1:16: '-->': invalid ident"]),
     ("a { b:c } /* d { e:f }", "a { b:c; }\n", [":1:11: '/* d { e:f }': comment not closed"]),
-    ("a { b:c 'd } e { f:g }", "a { b:c; }\n", [":1:9: ''d } e { f:g }': string or function not closed"]),
-    ("a { b:1px var(c; d:e }", "a { b:1px; }\n", [":1:11: 'var(c; d:e }': string or function not closed"]),
+    (
+        "a { b:c 'd } e { f:g }",
+        "a { b:c; }\n",
+        [":1:9: ''d } e { f:g }': string or function not closed"],
+    ),
+    (
+        "a { b:1px var(c; d:e }",
+        "a { b:1px; }\n",
+        [":1:11: 'var(c; d:e }': string or function not closed"],
+    ),
     ("a { b:c; /* d } e { f:g }", "", [":1:5: 'b:c': broken declaration"]),
-    ("@import 'b.css';\na { c:d }", "a { c:d; }\n", [":1:1: '@import 'b.css'': at-rule not supported"]),
-    ("@media print { a { b:c } }\nd { e:f }", "d { e:f; }\n", [":1:1: '@media print': at-rule not supported"]),
+    (
+        "@import 'b.css';\na { c:d }",
+        "a { c:d; }\n",
+        [":1:1: '@import 'b.css'': at-rule not supported"],
+    ),
+    (
+        "@media print { a { b:c } }\nd { e:f }",
+        "d { e:f; }\n",
+        [":1:1: '@media print': at-rule not supported"],
+    ),
     # Bytes.
-    ("\ufeffa { b:c }", "\ufeffa { b:c; }\n", [":1:1: a byte order mark is part of the first name"]),
-    ("a < b { c:d }\r\ne { f }\r\n", "", [":1:1: 'a < b': invalid ident", ":2:5: 'f': broken declaration"]),
+    (
+        "\ufeffa { b:c }",
+        "\ufeffa { b:c; }\n",
+        [":1:1: a byte order mark is part of the first name"],
+    ),
+    (
+        "a < b { c:d }\r\ne { f }\r\n",
+        "",
+        [":1:1: 'a < b': invalid ident", ":2:5: 'f': broken declaration"],
+    ),
 ]
-# A tree, the number of its fault and of the line, and the warning. Without a fault its elements have no rule.
+# A tree, the number of its fault and of the line, and the warning. Without a fault its elements
+# have no rule.
 TREES = [
     # The depth.
     ("div\n", 1, 1, ":1: the depth 'div' is no number (a TAB belongs after it)"),
@@ -312,7 +251,12 @@ TREES = [
     ("00\tdiv\n", 1, 1, ":1: the depth '00' begins with a zero"),
     ("1\tdiv\n", 1, 1, ":1: the depth '1' is not 0, as that of the first line is"),
     ("0\tdiv\n2\tp\n", 1, 2, ":2: the depth '2' is more than one deeper than '0'"),
-    ("0\tdiv\n99999999999999999999\tp\n", 1, 2, ":2: the depth '99999999999999999999' is more than one deeper than '0'"),
+    (
+        "0\tdiv\n99999999999999999999\tp\n",
+        1,
+        2,
+        ":2: the depth '99999999999999999999' is more than one deeper than '0'",
+    ),
     ("0\tdiv\n\n0\tdiv\n", 1, 2, ":2: the line is empty"),
     ("0\tdiv\n\n", 1, 2, ":2: the line is empty"),
     ("\ufeff0\tdiv\n", 1, 1, ":1: a byte order mark is before the depth"),
@@ -330,17 +274,24 @@ TREES = [
     # A field that ends in a carriage return.
     ("0\tdiv\r\n1\tp\r\n", 0, 2, ": lines end in CR LF; the CR belongs to the last field"),
 ]
-# Words, and what the status and the lines are.
-UNKNOWN = [["select", "a"], ["--help", "a"], ["--versions"], ["selector"], ["selector", "a", "b"], ["sheet"], ["match", "page.css"], ["match"], ["match", "page.css", "page.tree", "a"], ["style", "page.css", "page.tree"], ["style", "page.css", "page.tree", "a", "b"], ["Sheet", "page.css"], [""]]
-# A file, its bytes if it is one, and why it cannot be read.
-put("page.css", b"p { a:b }")
-put("page.tree", b"0\tdiv\n")
-os.mkdir(os.path.join(folder, "folder"))
-put("latin.css", b"p { content: '\xe9' }")
-put("utf16.css", "p { a:b }".encode("utf-16"))
-put("cut.css", "p { content: '\u20ac".encode()[:-1])
-put("locked.css", b"p { a:b }", 0)
-FILES = [
+# Words that the program does not know.
+UNKNOWN = [
+    ["select", "a"],
+    ["--help", "a"],
+    ["--versions"],
+    ["selector"],
+    ["selector", "a", "b"],
+    ["sheet"],
+    ["match", "page.css"],
+    ["match"],
+    ["match", "page.css", "page.tree", "a"],
+    ["style", "page.css", "page.tree"],
+    ["style", "page.css", "page.tree", "a", "b"],
+    ["Sheet", "page.css"],
+    [""],
+]
+# A file, and why it cannot be read.
+UNREADABLE = [
     ("missing.css", "missing.css: no such file"),
     ("missing/page.css", "missing/page.css: no such file"),
     ("", ": no such file"),
@@ -351,166 +302,447 @@ FILES = [
     ("utf16.css", "utf16.css: not UTF-8 at byte offset 0"),
     ("cut.css", "cut.css: not UTF-8 at byte offset 14"),
 ]
-began = checks.passed
-for text, printed, warning in SELECTORS:
-    wanted = (0, printed + "\n") if printed else (1, "")
-    last = [] if printed else [REFUSED]
-    says(["selector", text], b"", *wanted, ["selector" + warning] + last)
-    says([], text.encode(), *wanted, ["standard input" + warning] + last)
-for text, printed, warnings in SHEETS:
-    put("text.css", text.encode())
-    says(["sheet", "text.css"], b"", 0, printed, ["text.css" + line for line in warnings])
-    says(["match", "text.css", "empty"], b"", 0, "", ["text.css" + line for line in warnings])
-for text, fault, line, warning in TREES:
-    put("text.tree", text.encode())
-    wanted = (1, "") if fault else (0, "".join(f"{number}:\n" for number in range(1, line + 1)))
-    last = [f"cssq: tree fault {fault} at line {line}"] if fault else []
-    says(["match", "page.css", "text.tree"], b"", *wanted, ["text.tree" + warning] + last)
-    says(["style", "page.css", "text.tree", "c"], b"", *wanted, ["text.tree" + warning] + last)
-for words in UNKNOWN:
-    says(words, b"", 2, "", [USAGE])
-for name, reason in FILES:
-    for words in (["sheet", "page.css", name], ["match", name, "page.tree"], ["style", "page.css", name, "a"]):
-        says(words, b"", 4, "", [reason, f"cssq: cannot read {name}"])
-says([], b"a\xff", 4, "", ["standard input: not UTF-8 at byte offset 1", CANNOT_READ_INPUT])
-# Warnings of several texts and of a tree, in order.
-put("first.css", b"a { b:c(d(e) } f < g { }")
-put("second.css", b"@h; i { j:k(l(m)); n:o(p(q) }")
-put("crlf.tree", b"0\tdiv\r\n2\tp\r\n")
-says(["sheet", "first.css", "second.css"], b"", 0, "a { b:c(d(e); }\ni { j:k(l(m); }\n", [
-    "first.css:1:7: 'c(d(e)': a parenthesis of the value is left open",
-    "first.css:1:16: 'f < g': invalid ident",
-    "second.css:1:1: '@h': at-rule not supported",
-    "second.css:1:11: 'k(l(m)': a parenthesis of the value is left open",
-    "second.css:1:17: ')': broken declaration",
-])
-says(["match", "second.css", "crlf.tree"], b"", 1, "", [
-    "second.css:1:1: '@h': at-rule not supported",
-    "second.css:1:11: 'k(l(m)': a parenthesis of the value is left open",
-    "second.css:1:17: ')': broken declaration",
-    "crlf.tree: lines end in CR LF; the CR belongs to the last field",
-    "crlf.tree:2: the depth '2' is more than one deeper than '0'",
-    "cssq: tree fault 1 at line 2",
-])
-# Parentheses that are closed, or in a string or a comment.
-put("closed.css", b"a { b:url('c(d'); e:'f(' g; h:i /* ( */; j:k(l) m(n) } o[p='q(r'] { s:t('u\\'(') }")
-says(["sheet", "closed.css"], b"", 0, "a { b:url('c(d');e:'f(' g;h:i;j:k(l) m(n); }\no[p='q(r'] { s:t('u\\'('); }\n", [])
-# The same text is in a comment before the value.
-put("open.css", b"a { /* c:f((1) */ b:f((1); }\nd { e/*:g((1)*/:g((1); }")
-says(["sheet", "open.css"], b"", 0, "a { b:f((1); }\nd { e:g((1); }\n", [
-    "open.css:1:21: 'f((1)': a parenthesis of the value is left open",
-    "open.css:2:17: 'g((1)': a parenthesis of the value is left open",
-])
-# The limit that the environment sets, over all texts of a call.
-put("two.css", b"a, b { c:d } @x;")
-put("one.css", b"e { f:g }")
-for limit, printed, lines in [
-    ("3", "a { c:d; }\nb { c:d; }\ne { f:g; }\n", []),
-    ("2", None, ["cssq: the rules have more than 2 declarations (CSSQ_LIMIT)", "cssq: want of memory"]),
-    ("two", None, ["cssq: CSSQ_LIMIT is no number"]),
-]:
-    os.environ["CSSQ_LIMIT"] = limit
-    status = 0 if printed else 3 if limit == "2" else 2
-    at_rule = [] if limit == "two" else ["two.css:1:14: '@x': at-rule not supported"]
-    says(["sheet", "two.css", "one.css"], b"", status, printed or "", at_rule + lines)
-    if limit != "3":
-        put("text.css", b"a, b, c { d:e }")
-        says(["match", "text.css", "page.tree"], b"", status, "", lines)
-del os.environ["CSSQ_LIMIT"]
-mistakes = len(SELECTORS) + len(SHEETS) + len(TREES) + len(UNKNOWN) + len(FILES) + 1
-print(f"the program: {mistakes} mistakes, {checks.passed - began} answers to them")
-
-# ---- files that cannot be read: the first in the words' order is reported, and nothing is written
-
-missing = os.path.join(folder, "missing.css")
-locked = put("locked.css", b"a { b:c }", 0)
-latin = put("latin.css", b"\xe9 { a:b }")
-UNREADABLE = [missing, folder, locked, latin, os.path.join(sheet, "below.css"), ""]
-for bad in UNREADABLE:
-    for words in (
-        ["sheet", bad],
-        ["sheet", sheet, bad, other],
-        ["match", bad, tree],
-        ["match", sheet, bad],
-        ["style", bad, tree, "c"],
-        ["style", sheet, bad, "c"],
-    ):
-        answers(words, b"", {}, 4, "", f"cssq: cannot read {bad}")
-    for worse in UNREADABLE:
-        for words in (["sheet", bad, worse], ["match", bad, worse], ["style", bad, worse, "c"]):
-            answers(words, b"", {}, 4, "", f"cssq: cannot read {bad}")
-# ---- inputs of a hundred thousand parts, and 750,000 siblings: the answers, on an ordinary stack and in little time. Testing each
-# of the hundred thousand rules on each of the hundred thousand elements would take minutes.
-
-MANY = 100_000
-chain = " ".join(["a"] * MANY)
-classes = put("classes.css", "".join(f".c{number} {{ a:v{number} }}\n" for number in range(MANY)).encode())
-classed = put("classes.tree", "".join(f"0\ta\tclass=c{number}\n" for number in range(MANY)).encode())
-HUGE = [
-    ([], chain, f"{chain}\t0,0,255\n"),
-    (["sheet", put("closing.css", b"}" * MANY + b"a { b:c }")], "", ""),
-    (["sheet", put("opening.css", b"{" * MANY + b"}")], "", ""),
-    (["sheet", put("declarations.css", b"a { " + b"b:c;" * MANY + b"}")], "", "a { " + "b:c;" * MANY + " }\n"),
+# Files of a test, words, the status, what is printed, and the lines on standard error.
+SEVERAL: Sequence[Tuple[Dict[str, bytes], List[str], int, str, List[str]]] = [
     (
-        ["match", put("child.css", b"a > a { b:c }"), put("deep.tree", "".join(f"{depth}\ta\n" for depth in range(MANY)).encode())],
-        "",
-        "1:\n" + "".join(f"{number}: 1\n" for number in range(2, MANY + 1)),
+        {"first.css": b"a { b:c(d(e) } f < g { }", "second.css": b"@h; i { j:k(l(m)); n:o(p(q) }"},
+        ["sheet", "first.css", "second.css"],
+        0,
+        "a { b:c(d(e); }\ni { j:k(l(m); }\n",
+        [
+            "first.css:1:7: 'c(d(e)': a parenthesis of the value is left open",
+            "first.css:1:16: 'f < g': invalid ident",
+            "second.css:1:1: '@h': at-rule not supported",
+            "second.css:1:11: 'k(l(m)': a parenthesis of the value is left open",
+            "second.css:1:17: ')': broken declaration",
+        ],
     ),
     (
-        ["match", put("step.css", b"b + a { c:d }"), put("wide.tree", b"0\ta\n" * 749_998 + b"0\tb\n0\ta\n")],
+        {"second.css": b"@h; i { j:k(l(m)); n:o(p(q) }", "crlf.tree": b"0\tdiv\r\n2\tp\r\n"},
+        ["match", "second.css", "crlf.tree"],
+        1,
         "",
-        "".join(f"{number}:\n" for number in range(1, 750_000)) + "750000: 1\n",
+        [
+            "second.css:1:1: '@h': at-rule not supported",
+            "second.css:1:11: 'k(l(m)': a parenthesis of the value is left open",
+            "second.css:1:17: ')': broken declaration",
+            "crlf.tree: lines end in CR LF; the CR belongs to the last field",
+            "crlf.tree:2: the depth '2' is more than one deeper than '0'",
+            "cssq: tree fault 1 at line 2",
+        ],
     ),
-    (["match", classes, classed], "", "".join(f"{number}: {number}\n" for number in range(1, MANY + 1))),
-    (["style", classes, classed, "a"], "", "".join(f"{number + 1}: v{number}\n" for number in range(MANY))),
+    # Parentheses that are closed, or in a string or a comment.
+    (
+        {
+            "closed.css": (
+                b"a { b:url('c(d'); e:'f(' g; h:i /* ( */; j:k(l) m(n) } o[p='q(r'] {"
+                b" s:t('u\\'(') }"
+            )
+        },
+        ["sheet", "closed.css"],
+        0,
+        "a { b:url('c(d');e:'f(' g;h:i;j:k(l) m(n); }\no[p='q(r'] { s:t('u\\'('); }\n",
+        [],
+    ),
+    # The same text is in a comment before the value.
+    (
+        {"open.css": b"a { /* c:f((1) */ b:f((1); }\nd { e/*:g((1)*/:g((1); }"},
+        ["sheet", "open.css"],
+        0,
+        "a { b:f((1); }\nd { e:g((1); }\n",
+        [
+            "open.css:1:21: 'f((1)': a parenthesis of the value is left open",
+            "open.css:2:17: 'g((1)': a parenthesis of the value is left open",
+        ],
+    ),
 ]
-for words, stdin, out in HUGE:
-    answers(words, stdin.encode(), {}, 0, out, "")
-print(f"the program: {checks.passed - before} answers to words and files")
+# The words of calls of which each request for memory is refused, and their standard input.
+REFUSABLE: Sequence[Tuple[List[str], bytes]] = [
+    (["selector", "a > .b"], b""),
+    (["selector", "a <"], b""),
+    ([], b"a > .b\n"),
+    (["sheet", sheet], b""),
+    (["sheet", sheet, other], b""),
+    (["match", sheet, tree], b""),
+    (["match", sheet, broken], b""),
+    (["style", sheet, tree, "e"], b""),
+]
 
-# ---- streams: the status reports what can't be written, with no line if nobody reads it; standard error changes no status
 
-before = checks.passed
-for kind in ("closed", "full", "unread"):
-    for words, stdin, status, out, line in ANSWERS:
-        fails = (4, "", "" if kind == "unread" else CANNOT_WRITE) if out else (status, out, line)
-        answers(words, stdin, {"stdout": kind}, *fails)
-        answers(words, stdin, {"stderr": kind}, status, out, line)
-        answers(words, stdin, {"stdout": kind, "stderr": kind}, *fails)
-for words, stdin, status, out, line in ANSWERS:
-    wanted = (status, out, line) if words else (4, "", CANNOT_READ_INPUT)
-    answers(words, b"", {"stdin": "closed"}, *wanted)
-    all_closed = (4, "", CANNOT_WRITE) if wanted[1] else wanted
-    answers(words, b"", {name: "closed" for name in STREAMS}, *all_closed)
+def opened(kind: str) -> int:
+    """A descriptor of this kind: `full`, or `unread`, a pipe that nobody reads. One that is to be
+    `closed` is anything yet."""
+    if kind == "full":
+        return os.open("/dev/full", os.O_WRONLY)
+    if kind == "unread":
+        reader, writer = os.pipe()
+        os.close(reader)
+        return writer
+    return os.open(os.devnull, os.O_RDWR)
 
-# Standard input that is a folder.
-descriptor = os.open(folder, os.O_RDONLY)
-child = start([], {}, stdin=descriptor)
-out, err = child.communicate()
-os.close(descriptor)
-expect((child.returncode, out, faults(err)[0]) == (4, b"", [CANNOT_READ_INPUT]), f"a folder as standard input: {child.returncode} {out} {err}")
 
-# Standard input that comes in pieces.
-child = start([], {}, stdin=subprocess.PIPE)
-for piece in (b"a ", b"> .", b"b\n"):
-    child.stdin.write(piece)
-    child.stdin.flush()
-    time.sleep(0.05)
-out, err = child.communicate()
-expect((child.returncode, out) == (0, b"a > *[class~='b']\t0,1,1\n"), f"standard input in pieces: {child.returncode} {out} {err}")
+def faults(err: bytes) -> Tuple[List[str], List[str]]:
+    """The lines of standard error that say why the program ended, and the last line."""
+    lines = err.decode(errors="replace").splitlines()
+    return [line for line in lines if line.startswith(("cssq:", "usage:"))], lines[-1:]
 
-# More than a pipe holds: a reader that waits gets all of it, and one that leaves after a byte is no reason for a line.
-text = "".join(f"n{i} {{ a:b; }}\n" for i in range(20_000)).encode()
-large = put("large.css", text)
-child = start(["sheet", large], {})
-time.sleep(0.1)
-out, err = child.communicate()
-expect((child.returncode, out, err) == (0, text, b""), f"a reader that waits: {child.returncode}, {len(out)} bytes, {err}")
-child = start(["sheet", large], {})
-child.stdout.read1(1)
-child.stdout.close()
-err = child.stderr.read()
-child.stderr.close()
-expect((child.wait(), err) == (4, b""), f"a reader that goes: {child.returncode} {err}")
-print(f"the program: {checks.passed - before} closed and full streams")
-sys.exit(checks.end())
+
+def cut(out: Optional[bytes]) -> Optional[bytes]:
+    """The beginning of a large output, to be shown."""
+    return out if out is None or len(out) < 1000 else out[:1000] + b" .."
+
+
+class Program(Case):
+    """Runs a copy of the program, in a folder with `FILES`."""
+
+    folder: str
+    program: str
+    # The limit of declarations that the environment sets.
+    limit: Optional[str] = None
+
+    def setUp(self) -> None:
+        room = tempfile.TemporaryDirectory()
+        self.addCleanup(room.cleanup)
+        self.folder = room.name
+        os.chmod(self.folder, 0o755)
+        # The user nobody may run the copy, wherever the program itself is.
+        self.program = shutil.copy(program("cssq_cli"), os.path.join(self.folder, "cssq"))
+        os.chmod(self.program, 0o755)
+        os.mkdir(os.path.join(self.folder, "folder"))
+        for name, data in FILES.items():
+            self.put(name, data)
+        os.chmod(os.path.join(self.folder, "locked.css"), 0)
+
+    def put(self, name: str, data: bytes) -> str:
+        """A file of these bytes."""
+        path = os.path.join(self.folder, name)
+        with open(path, "wb") as file:
+            file.write(data)
+        os.chmod(path, 0o644)
+        return name
+
+    def start(
+        self, words: Sequence[Any], kinds: Mapping[str, str], **streams: Any
+    ) -> "subprocess.Popen[bytes]":
+        """Starts the program as nobody, with streams of these kinds by their names, and the others
+        as they are given."""
+        given = {name: opened(kind) for name, kind in kinds.items()}
+        usual = {"stdin": subprocess.DEVNULL, "stdout": subprocess.PIPE, "stderr": subprocess.PIPE}
+        streams = {**usual, **streams, **given}
+        environment = {**os.environ, **({"CSSQ_LIMIT": self.limit} if self.limit else {})}
+
+        def prepare() -> None:
+            resource.setrlimit(resource.RLIMIT_CPU, (SECONDS, SECONDS))
+            if os.geteuid() == 0:
+                os.setgroups([])
+                os.setgid(NOBODY)
+                os.setuid(NOBODY)
+            for name, kind in kinds.items():
+                if kind == "closed":
+                    os.close(STREAMS[name])
+
+        command = [self.program, *words]
+        child = subprocess.Popen(
+            command, cwd=self.folder, env=environment, preexec_fn=prepare, **streams
+        )
+        for descriptor in given.values():
+            os.close(descriptor)
+        return child
+
+    def ends(
+        self, words: Sequence[Any], stdin: bytes, kinds: Mapping[str, str]
+    ) -> Tuple[int, Optional[bytes], Optional[bytes]]:
+        """What the program ends with, and what it writes to those streams that are of no kind."""
+        with open(os.path.join(self.folder, self.put("stdin", stdin)), "rb") as file:
+            child = self.start(words, kinds, **({} if "stdin" in kinds else {"stdin": file}))
+            out, err = child.communicate()
+        return child.returncode, out, err
+
+    def answers(
+        self,
+        words: Sequence[Any],
+        stdin: bytes,
+        kinds: Mapping[str, str],
+        status: int,
+        out: str,
+        line: str,
+    ) -> None:
+        """The program answers so: its status, its output, and its one line after all warnings, `""`
+        for none. What goes to a stream of some kind is not compared."""
+        with self.subTest(words=[word[:80] for word in words], stdin=stdin[:80], kinds=kinds):
+            got, printed, err = self.ends(words, stdin, kinds)
+            holds = printed is None or printed == out.encode()
+            self.assertEqual((got, holds), (status, True), f"{cut(printed)!r} {cut(err)!r}")
+            if err is not None:
+                reasons, last = faults(err)
+                self.assertEqual(
+                    (reasons, last if line else []), ([line], [line]) if line else ([], [])
+                )
+
+    def says(
+        self, words: Sequence[str], stdin: bytes, status: int, out: str, lines: Sequence[str]
+    ) -> None:
+        """The program answers so: its status, its output, and all that is on standard error."""
+        with self.subTest(words=words, stdin=stdin):
+            got, printed, err = self.ends(words, stdin, {})
+            wanted = (status, out, "".join(line + "\n" for line in lines))
+            self.assertEqual((got, (printed or b"").decode(), (err or b"").decode()), wanted)
+
+
+# What a terminal takes for commands.
+CONTROL = "\x1b]0;x\x07\x9b31m\r\x7f\x08"
+
+
+class Controls(Program):
+    def test_control_characters(self) -> None:
+        """No control character of a text or a name reaches a terminal through the lines of standard
+        error, newlines and TABs apart."""
+        text = f"a{CONTROL}b {{ c:d }}\n@{CONTROL};\np {{ {CONTROL}:q }}\nq {{ a:b({CONTROL} }}"
+        rows = (
+            ["selector", f"a{CONTROL}<"],
+            ["sheet", self.put("control.css", text.encode())],
+            ["match", sheet, self.put("depth.tree", f"0\ta\n{CONTROL}\tb\n".encode())],
+            ["style", sheet, self.put("field.tree", f"0\ta\t{CONTROL}\n".encode()), "c"],
+        )
+        for words in rows:
+            with self.subTest(words=words):
+                err = (self.ends(words, b"", {})[2] or b"").decode()
+                reached = {c for c in err if unicodedata.category(c) == "Cc"} - {"\n", "\t"}
+                self.assertEqual(reached, set(), err)
+                self.assertIn("\ufffd", err)
+
+
+class Refusals(Program):
+    """Each request for memory of a call is refused, one after another."""
+
+    def run_with_shim(self, words: Sequence[str], stdin: bytes, refuse: int) -> Refused:
+        self.put("stdin", stdin)
+        with open(os.path.join(self.folder, "stdin"), "rb") as file:
+            return run_refused([self.program, *words], refuse, stdin=file, cwd=self.folder)
+
+    def is_answer(self, words: Sequence[str], got: Refused) -> bool:
+        """Whether the program wrote nothing, and said why."""
+        lines = got.err.decode().splitlines()
+        last = lines[-1] if lines else ""
+        names = [name for name in words[1:] if name in FILES] or ["standard input"]
+        wanting = {
+            3: last == "cssq: want of memory",
+            4: last in [f"cssq: cannot read {name}" for name in names],
+            2: last == USAGE,
+        }
+        return got.out == b"" and wanting.get(got.status, False)
+
+    def test_refused_requests(self) -> None:
+        refusable("cssq_cli")
+        total = 0
+        for words, stdin in REFUSABLE:
+            whole = self.run_with_shim(words, stdin, 0)
+            failures: List[str] = []
+            number = 1
+            while b"x" in (got := self.run_with_shim(words, stdin, number)).requests:
+                is_full = (got.status, got.out) == (whole.status, whole.out)
+                if not is_full and not self.is_answer(words, got):
+                    failures.append(f"{words} with request {number} refused: {got}")
+                number += 1
+            with self.subTest(words=words):
+                self.sweep(number - 1, failures)
+                self.assertGreater(number, 1, "it makes no request for memory")
+            total += number - 1
+        print(f"the program: {total} refused requests")
+
+
+class Words(Program):
+    """Its answers to words and files."""
+
+    def test_answers(self) -> None:
+        for words, stdin, status, out, line in ANSWERS:
+            self.answers(words, stdin, {}, status, out, line)
+
+    def test_unreadable(self) -> None:
+        """Of files that cannot be read the first in the words' order is reported, and nothing is
+        written."""
+        names = ["missing.css", "folder", "locked.css", "latin.css", sheet + "/below.css", ""]
+        for bad in names:
+            rows = [
+                ["sheet", bad],
+                ["sheet", sheet, bad, other],
+                ["match", bad, tree],
+                ["match", sheet, bad],
+                ["style", bad, tree, "c"],
+                ["style", sheet, bad, "c"],
+            ]
+            for worse in names:
+                rows += [["sheet", bad, worse], ["match", bad, worse], ["style", bad, worse, "c"]]
+            for words in rows:
+                self.answers(words, b"", {}, 4, "", f"cssq: cannot read {bad}")
+
+
+class Mistakes(Program):
+    """What the program says of mistakes. A row has what it prints, and its lines on standard error
+    before the one of the status."""
+
+    def test_selectors(self) -> None:
+        for text, printed, warning in SELECTORS:
+            wanted = (0, printed + "\n") if printed else (1, "")
+            last = [] if printed else [REFUSED]
+            self.says(["selector", text], b"", *wanted, ["selector" + warning] + last)
+            self.says([], text.encode(), *wanted, ["standard input" + warning] + last)
+
+    def test_sheets(self) -> None:
+        for text, printed, warnings in SHEETS:
+            self.put("text.css", text.encode())
+            lines = ["text.css" + line for line in warnings]
+            self.says(["sheet", "text.css"], b"", 0, printed, lines)
+            self.says(["match", "text.css", "empty"], b"", 0, "", lines)
+
+    def test_trees(self) -> None:
+        for text, fault, line, warning in TREES:
+            self.put("text.tree", text.encode())
+            wanted = (
+                (1, "") if fault else (0, "".join(f"{number}:\n" for number in range(1, line + 1)))
+            )
+            last = [f"cssq: tree fault {fault} at line {line}"] if fault else []
+            lines = ["text.tree" + warning] + last
+            self.says(["match", "page.css", "text.tree"], b"", *wanted, lines)
+            self.says(["style", "page.css", "text.tree", "c"], b"", *wanted, lines)
+
+    def test_unknown_words(self) -> None:
+        for words in UNKNOWN:
+            self.says(words, b"", 2, "", [USAGE])
+
+    def test_files(self) -> None:
+        for name, reason in UNREADABLE:
+            for words in (
+                ["sheet", "page.css", name],
+                ["match", name, "page.tree"],
+                ["style", "page.css", name, "a"],
+            ):
+                self.says(words, b"", 4, "", [reason, f"cssq: cannot read {name}"])
+        self.says(
+            [], b"a\xff", 4, "", ["standard input: not UTF-8 at byte offset 1", CANNOT_READ_INPUT]
+        )
+
+    def test_several_texts(self) -> None:
+        """Warnings of several texts and of a tree, in order."""
+        for files, words, status, printed, lines in SEVERAL:
+            for name, data in files.items():
+                self.put(name, data)
+            self.says(words, b"", status, printed, lines)
+
+    def test_limit(self) -> None:
+        """The limit that the environment sets, over all texts of a call."""
+        self.put("two.css", b"a, b { c:d } @x;")
+        self.put("one.css", b"e { f:g }")
+        self.put("text.css", b"a, b, c { d:e }")
+        at_rule = "two.css:1:14: '@x': at-rule not supported"
+        over = [
+            "cssq: the rules have more than 2 declarations (CSSQ_LIMIT)",
+            "cssq: want of memory",
+        ]
+        self.limit = "3"
+        printed = "a { c:d; }\nb { c:d; }\ne { f:g; }\n"
+        self.says(["sheet", "two.css", "one.css"], b"", 0, printed, [at_rule])
+        self.limit = "2"
+        self.says(["sheet", "two.css", "one.css"], b"", 3, "", [at_rule, *over])
+        self.says(["match", "text.css", "page.tree"], b"", 3, "", over)
+        self.limit = "two"
+        for words in (["sheet", "two.css", "one.css"], ["match", "text.css", "page.tree"]):
+            self.says(words, b"", 2, "", ["cssq: CSSQ_LIMIT is no number"])
+
+
+class Large(Program):
+    """Inputs of a hundred thousand parts, and 750,000 siblings: the answers, on an ordinary stack
+    and in little time. Testing each of the hundred thousand rules on each of the hundred thousand
+    elements would take minutes."""
+
+    def test_selector(self) -> None:
+        chain = " ".join(["a"] * MANY)
+        self.answers([], chain.encode(), {}, 0, f"{chain}\t0,0,255\n", "")
+
+    def test_sheets(self) -> None:
+        for text, out in [
+            (b"}" * MANY + b"a { b:c }", ""),
+            (b"{" * MANY + b"}", ""),
+            (b"a { " + b"b:c;" * MANY + b"}", "a { " + "b:c;" * MANY + " }\n"),
+        ]:
+            self.answers(["sheet", self.put("large.css", text)], b"", {}, 0, out, "")
+
+    def test_depth(self) -> None:
+        self.put("child.css", b"a > a { b:c }")
+        self.put("deep.tree", "".join(f"{depth}\ta\n" for depth in range(MANY)).encode())
+        out = "1:\n" + "".join(f"{number}: 1\n" for number in range(2, MANY + 1))
+        self.answers(["match", "child.css", "deep.tree"], b"", {}, 0, out, "")
+
+    def test_siblings(self) -> None:
+        self.put("step.css", b"b + a { c:d }")
+        self.put("wide.tree", b"0\ta\n" * 749_998 + b"0\tb\n0\ta\n")
+        out = "".join(f"{number}:\n" for number in range(1, 750_000)) + "750000: 1\n"
+        self.answers(["match", "step.css", "wide.tree"], b"", {}, 0, out, "")
+
+    def test_classes(self) -> None:
+        self.put(
+            "many.css",
+            "".join(f".c{number} {{ a:v{number} }}\n" for number in range(MANY)).encode(),
+        )
+        self.put(
+            "many.tree", "".join(f"0\ta\tclass=c{number}\n" for number in range(MANY)).encode()
+        )
+        out = "".join(f"{number}: {number}\n" for number in range(1, MANY + 1))
+        self.answers(["match", "many.css", "many.tree"], b"", {}, 0, out, "")
+        out = "".join(f"{number + 1}: v{number}\n" for number in range(MANY))
+        self.answers(["style", "many.css", "many.tree", "a"], b"", {}, 0, out, "")
+
+
+class Streams(Program):
+    """The status reports what cannot be written, with no line if nobody reads it; standard error
+    changes no status."""
+
+    def test_output(self) -> None:
+        for kind in ("closed", "full", "unread"):
+            for words, stdin, status, out, line in ANSWERS:
+                why = "" if kind == "unread" else CANNOT_WRITE
+                fails = (4, "", why) if out else (status, out, line)
+                self.answers(words, stdin, {"stdout": kind}, *fails)
+                self.answers(words, stdin, {"stderr": kind}, status, out, line)
+                self.answers(words, stdin, {"stdout": kind, "stderr": kind}, *fails)
+
+    def test_closed(self) -> None:
+        for words, _, status, out, line in ANSWERS:
+            wanted = (status, out, line) if words else (4, "", CANNOT_READ_INPUT)
+            self.answers(words, b"", {"stdin": "closed"}, *wanted)
+            all_closed = (4, "", CANNOT_WRITE) if wanted[1] else wanted
+            self.answers(words, b"", {name: "closed" for name in STREAMS}, *all_closed)
+
+    def test_folder_as_input(self) -> None:
+        descriptor = os.open(self.folder, os.O_RDONLY)
+        child = self.start([], {}, stdin=descriptor)
+        out, err = child.communicate()
+        os.close(descriptor)
+        self.assertEqual((child.returncode, out, faults(err)[0]), (4, b"", [CANNOT_READ_INPUT]))
+
+    def test_input_in_pieces(self) -> None:
+        child = self.start([], {}, stdin=subprocess.PIPE)
+        assert child.stdin
+        for piece in (b"a ", b"> .", b"b\n"):
+            child.stdin.write(piece)
+            child.stdin.flush()
+            time.sleep(0.05)
+        out, _ = child.communicate()
+        self.assertEqual((child.returncode, out), (0, b"a > *[class~='b']\t0,1,1\n"))
+
+    def test_large_output(self) -> None:
+        """More than a pipe holds: a reader that waits gets all of it, and one that leaves after a
+        byte is no reason for a line."""
+        text = "".join(f"n{i} {{ a:b; }}\n" for i in range(20_000)).encode()
+        words = ["sheet", self.put("large.css", text)]
+        child = self.start(words, {})
+        time.sleep(0.1)
+        out, err = child.communicate()
+        self.assertEqual((child.returncode, out == text, err), (0, True, b""), len(out))
+        child = self.start(words, {})
+        assert child.stdout and child.stderr
+        child.stdout.read(1)
+        child.stdout.close()
+        err = child.stderr.read()
+        child.stderr.close()
+        self.assertEqual((child.wait(), err), (4, b""))

@@ -1,16 +1,16 @@
-#!/usr/bin/env python3
-"""Tests what `./build release` makes: that it is the same twice, that the Rust crate has the API of `simplecss` 0.2.2
-and passes its tests, that it and the WebAssembly module answer as the proved library does on random texts, and that
-each package works where it is unpacked, outside the checkout.
+"""What `./build release` makes: that it is the same twice, that the Rust crate has the API of
+`simplecss` 0.2.2 and passes its tests, that it and the WebAssembly module answer as the proved
+library does on random texts, and that each package works where it is unpacked, outside the
+checkout.
 
-    tests/release.py TOKENS [PART..]    TOKENS is the built `tests_tokens`; PART is eraser, crate, wheel, program, npm
-                                        or twice; without one all, and ./build release first
-    tests/release.py TOKENS speed       parsing and matching beside Debian's librust-simplecss-dev
-
-`SIMPLECSS_TESTS` may name a folder with the tests of the Rust crate 0.2.2: files `*.rs`, or texts in which lines
-`// ===== tests/NAME.rs =====` begin them. What was left out, since a tool or a package of Debian is missing, is named
-at the end, before `N passed, M failed`.
+Without out/release it is made first, and so it is where `PROGRAMS` is set, as tests/all.py does.
+With `SPEED` in the environment, parsing and matching are timed beside Debian's
+librust-simplecss-dev. `SIMPLECSS_TESTS` may name a folder with the tests of the Rust crate 0.2.2:
+files `*.rs`, or texts in which lines `// ===== tests/NAME.rs =====` begin them. What needs a tool
+or a package of Debian that is missing is left out.
 """
+from __future__ import annotations
+
 import ctypes
 import functools
 import glob
@@ -20,29 +20,44 @@ import os
 import pathlib
 import random
 import re
-import resource
 import shutil
 import struct
 import subprocess
 import sys
 import tarfile
 import tempfile
+from typing import Any, Callable, Dict, List, Optional, Sequence, Tuple
 
-import library_calls
-from common import Counts
+from tests import library_calls
+from tools import erase
+from tests.common import (
+    DEBIAN,
+    TOP,
+    Case,
+    browser_answers,
+    count,
+    has_modules,
+    kit,
+    library_path,
+    package,
+    program,
+    read,
+    version,
+    write,
+)
 
-TOP = os.path.dirname(os.path.dirname(os.path.abspath(__file__)))
+Done = subprocess.CompletedProcess[bytes]
 MADE = os.path.join(TOP, "out", "release")
 REGISTRY = "/usr/share/cargo/registry"
+# Where Debian's packages have the modules of node.
+NODE_MODULES = "/usr/share/nodejs"
+# How many random texts there are, unless `COUNT` says it.
 TEXTS = 20_000
 NO_LIMIT = 2**64 - 1
 # The length of the buffer that answers are written to.
 ROOM = 1 << 20
-checks = Counts()
-expect = checks.expect
-left_out = []
 # The elements of the tree of compare.rs.
-PAGE = [
+PAGE: Sequence[Tuple[int, str, List[Tuple[str, str]]]] = [
     (0, "div", [("lang", "en")]),
     (1, "p", [("class", "note b"), ("a", "b")]),
     (2, "a", [("a", "b c"), ("id", "x")]),
@@ -51,130 +66,219 @@ PAGE = [
     (2, "color", [("class", "x")]),
     (1, "div", [("a", ""), ("lang", "de")]),
 ]
-PIECES = ["a", "p", "div", ".note", "#x", "*", "[a]", "[a=b]", '[a~="b c"]', "[a|='x']", ":first-child", ":lang(en)",
-          ":hover", "::x", ">", "+", "~", " ", ",", "{", "}", "{", "}", ";", ":", "color", "red", "!important", "! ",
-          '"', "'", "/*", "*/", "/", "@media", "@import", "@", "(", ")", "url(x)", "\\", "\n", "\t", "\u00a0", "\u00e9",
-          "\U0001F600", "-", "--", "_", "0", "1px", ".5", "%", "#fff", "a{b:c}",
-          "p { color: red }\n", "a,b{x:y;z:w!important}", "<!--", "-->", "\x00", "\r\n", "\f", "&", "=", "|", "^", "$"]
+# fmt: off
+PIECES = [
+    "a", "p", "div", ".note", "#x", "*", "[a]", "[a=b]", '[a~="b c"]', "[a|='x']", ":first-child",
+    ":lang(en)", ":hover", "::x", ">", "+", "~", " ", ",", "{", "}", "{", "}", ";", ":", "color",
+    "red", "!important", "! ", '"', "'", "/*", "*/", "/", "@media", "@import", "@", "(", ")",
+    "url(x)", "\\", "\n", "\t", "\u00a0", "\u00e9", "\U0001F600", "-", "--", "_", "0", "1px", ".5",
+    "%", "#fff", "a{b:c}", "p { color: red }\n", "a,b{x:y;z:w!important}", "<!--", "-->", "\x00",
+    "\r\n", "\f", "&", "=", "|", "^", "$",
+]
+MODERN_PIECES = [
+    ":nth-child(2n+1)", ":is(a, p)", ":not(.note)", ":where(", "[a^=b]", "[a$=c i]", "::before",
+    "@media print{", "@media screen{", "@layer x{", "}", ":root", "*{", ".note,p{", ":empty{",
+    ":has(b)", "@font-face{", "@media", "@page{", ";", "p{color:a(", "color:url(a b)", "x:'", "/*x",
+    "--X:{a}", "COLOR:Red;",
+]
+# fmt: on
 
 
-def run(words, cwd=TOP, **options):
+@functools.lru_cache(maxsize=None)
+def not_made() -> List[str]:
+    """Makes the release, if there is none or the gate runs. Returns what it says that it has not
+    made."""
+    if os.path.isdir(MADE) and "PROGRAMS" not in os.environ:
+        return []
+    done = run([os.path.join(TOP, "build"), "release"])
+    lines = done.stderr.decode().splitlines()
+    missing = [line for line in lines if "not made" in line]
+    if done.returncode and not missing:
+        raise AssertionError(f"./build release: status {done.returncode}: {lines[-20:]}")
+    return missing
+
+
+def run(words: Sequence[str], cwd: str = TOP, **options: Any) -> Done:
     """Runs a program, and keeps what it prints."""
-    return subprocess.run(words, cwd=cwd, stdout=subprocess.PIPE, stderr=subprocess.PIPE, check=False, **options)
+    return subprocess.run(
+        words, cwd=cwd, stdout=subprocess.PIPE, stderr=subprocess.PIPE, check=False, **options
+    )
 
 
-def works(words, what, cwd=TOP, **options):
-    """Whether a program ends with status 0, which is counted; with what it prints."""
-    done = run(words, cwd, **options)
-    shown = (done.stdout + done.stderr).decode(errors="replace")[-1500:]
-    expect(done.returncode == 0, f"{what}: status {done.returncode}: {shown}")
-    return done
-
-
-def has(tool, what):
-    """Whether a tool is there; else what is left out is noted."""
-    if not shutil.which(tool):
-        left_out.append(f"{what}: there is no {tool}")
-    return bool(shutil.which(tool))
-
-
-def made(pattern):
-    """The artifact whose name has this form, or None, which fails unless a tool that it needs is missing."""
-    found = glob.glob(os.path.join(MADE, pattern))
-    if not found and any("not made" in line for line in left_out):
-        return None
-    expect(len(found) == 1, f"artifacts {pattern}: {found}")
-    return found[0] if found else None
-
-
-def unpack(path, folder):
+def unpack(path: str, folder: str) -> None:
     """Unpacks a tar.gz."""
     with tarfile.open(path) as packed:
         packed.extractall(folder)
 
 
+class Release(Case):
+    """Tests of what was made, each in a folder of its own."""
+
+    def setUp(self) -> None:
+        folder = tempfile.TemporaryDirectory()
+        self.addCleanup(folder.cleanup)
+        self.folder = folder.name
+
+    def works(self, words: Sequence[str], what: str, cwd: str = TOP, **options: Any) -> Done:
+        """A program ends with status 0. Returns what it prints."""
+        done = run(words, cwd, **options)
+        with self.subTest(what=what):
+            shown = (done.stdout + done.stderr).decode(errors="replace")[-1500:]
+            self.assertEqual(done.returncode, 0, shown)
+        return done
+
+    def needs(self, tool: str, what: str) -> None:
+        """Leaves out what needs a tool that is missing."""
+        if not shutil.which(tool):
+            self.skipTest(f"{what}: there is no {tool}")
+
+    def made(self, pattern: str) -> str:
+        """The artifact whose name has this form. It may be missing only if a tool that it needs
+        is."""
+        missing = not_made()
+        found = glob.glob(os.path.join(MADE, pattern))
+        if not found and missing:
+            self.skipTest("; ".join(missing))
+        self.assertEqual(len(found), 1, f"artifacts {pattern}")
+        return found[0]
+
+    def compare(
+        self, what: str, texts: Sequence[bytes], wanted: Sequence[Any], got: Sequence[Any]
+    ) -> None:
+        """All answers are equal."""
+        self.assertEqual(len(got), len(texts), what)
+        self.sweep(
+            len(texts),
+            [
+                f"{what}: {text!r}: {given}, not {due}"
+                for text, given, due in zip(texts, got, wanted)
+                if given != due
+            ],
+        )
+        print(f"{what}: {len(texts)} texts")
+
+
 # ---- random texts, and what the proved library answers
 
-def random_texts():
+
+def random_texts() -> List[bytes]:
     """The same texts in every run."""
     rng = random.Random(7)
-    lengths = (rng.randrange(1, 14 if number % 2 else 60) for number in range(TEXTS))
+    lengths = (rng.randrange(1, 14 if number % 2 else 60) for number in range(count(TEXTS)))
     return ["".join(rng.choice(PIECES) for _ in range(length)).encode() for length in lengths]
 
 
-def framed(texts):
+def framed(texts: Sequence[bytes]) -> bytes:
     """The texts with their lengths."""
     return b"".join(struct.pack("<Q", len(text)) + text for text in texts)
 
 
-def parts_of(data, count):
-    """The answers of a program, `count` for each text."""
-    at, found = 0, []
+def parts_of(data: bytes, number: int) -> List[List[bytes]]:
+    """The answers of a program, `number` for each text."""
+    at = 0
+    found: List[bytes] = []
     while at < len(data):
         (length,) = struct.unpack_from("<Q", data, at)
-        found.append(data[at + 8:at + 8 + length])
+        found.append(data[at + 8 : at + 8 + length])
         at += 8 + length
-    return [found[at:at + count] for at in range(0, len(found), count)]
+    return [found[at : at + number] for at in range(0, len(found), number)]
 
 
 class Library:
     """The proved library."""
 
-    def __init__(self):
-        self.library = ctypes.CDLL(os.path.join(TOP, "out", "libsimplecss.so"))
-        rows = ((depth, [name, *sum(map(list, fields), [])]) for depth, name, fields in PAGE)
-        self.page = library_calls.tree_of(*((depth, *(it.encode() for it in words)) for depth, words in rows))
+    def __init__(self) -> None:
+        self.library = ctypes.CDLL(library_path())
+        rows = (
+            (depth, [name, *(it for pair in pairs for it in pair)]) for depth, name, pairs in PAGE
+        )
+        self.page = library_calls.tree_of(
+            *((depth, *(it.encode() for it in words)) for depth, words in rows)
+        )
         self.room, self.length = ctypes.create_string_buffer(ROOM), library_calls.SIZE(0)
         self.fault = library_calls.TreeFault()
 
-    def call(self, name, *arguments):
+    def call(self, name: str, *arguments: Any) -> bytes:
         """What a call writes, or nothing where it refuses a selector."""
         name = "simplecss_" + name
         tail = (ctypes.byref(self.fault),) if name in library_calls.WITH_TREE else ()
         words = library_calls.words_of(arguments)
+        if name in library_calls.LIMITED:
+            words.append(library_calls.SIZE(NO_LIMIT))
         place = (self.room, library_calls.SIZE(ROOM), ctypes.byref(self.length))
         status = getattr(self.library, name)(*words, *place, *tail)
         assert status in (library_calls.DONE, library_calls.REFUSED), status
-        return self.room[:self.length.value] if status == library_calls.DONE else b""
+        return (
+            ctypes.string_at(self.room, self.length.value) if status == library_calls.DONE else b""
+        )
 
-    def answers(self, text):
-        """The answers of compare.mjs."""
+    def modern_answers(self, text: bytes) -> List[bytes]:
+        """The answers of compare.mjs after those of `answers`."""
+        texts: List[Any] = [
+            ("read", text),
+            ("declarations", text),
+            ("close", text),
+            ("list_level3", text),
+            ("refusal_level3", text),
+            ("select_level3", text, library_calls.AS_WRITTEN, *self.page),
+            (
+                "match_level3",
+                *library_calls.buffer_of([text]),
+                library_calls.AS_WRITTEN,
+                *self.page,
+            ),
+        ]
+        return [self.call(*it) for it in texts]
+
+    def answers(self, text: bytes) -> List[bytes]:
+        """The first answers of compare.mjs, by the grammar of the Rust crate."""
         sheet = (*library_calls.buffer_of([text]), NO_LIMIT)
-        texts = [("sheet", *sheet), ("selector", text), ("skipped", text), ("list", text), ("rules", *sheet)]
-        return [self.call(*it) for it in [*texts, ("match", *sheet, *self.page), ("styles", *sheet, *self.page)]]
+        texts: List[Any] = [
+            ("sheet", *sheet),
+            ("selector", text),
+            ("skipped", text),
+            ("list", text),
+            ("rules", *sheet),
+        ]
+        return [
+            self.call(*it)
+            for it in [*texts, ("match", *sheet, *self.page), ("styles", *sheet, *self.page)]
+        ]
 
 
 @functools.lru_cache(maxsize=None)
-def answered():
+def answered() -> Tuple[List[bytes], List[List[bytes]]]:
     """The random texts, and what the proved library answers to each."""
     texts, library = random_texts(), Library()
     return texts, [library.answers(text) for text in texts]
 
 
-def tokens_of(program, texts):
+def modern_texts(number: int) -> List[str]:
+    """Random texts, most of pieces of modern sheets."""
+    rng = random.Random(11)
+    pieces = PIECES + 2 * MODERN_PIECES
+    return ["".join(rng.choices(pieces, k=rng.randrange(1, 30))) for _ in range(number)]
+
+
+def tokens_of(path: str, texts: Sequence[bytes]) -> List[bytes]:
     """What the proved program prints of each text: its tokens."""
-    done = run([program], input=b"\x01".join(texts))
-    expect(done.returncode == 0, f"{program}: status {done.returncode}: {done.stderr!r}")
+    done = run([path, "tokens"], input=b"\x01".join(texts))
+    assert done.returncode == 0, f"{path}: status {done.returncode}: {done.stderr!r}"
     return done.stdout.split(b"\x01")[:-1]
 
 
-def as_text(answers, tokens):
+def as_text(answers: Sequence[bytes], tokens: bytes) -> List[bytes]:
     """The same answers in the form of compare.rs."""
     sheet, selector, skipped, _, _, matches, styles = answers
     lines = [json.loads(line) for line in skipped.decode().splitlines()]
     faults = "".join(f"{it['row']}:{it['column']}:{it['reason']}:{it['text']}\n" for it in lines)
     rows = [json.loads(line) for line in styles.decode().splitlines()]
-    printed = [[f"{it['name']}={it['value']}={str(it['important']).lower()};" for it in row] for row in rows]
+    printed = [
+        [f"{it['name']}={it['value']}={str(it['important']).lower()};" for it in row]
+        for row in rows
+    ]
     winners = "".join("".join(row) + "\n" for row in printed)
     return [sheet, selector, faults.encode(), matches, winners.encode(), tokens]
-
-
-def compare(what, texts, wanted, got):
-    """Counts whether all answers are equal, and shows the first that is not."""
-    differ = [at for at in range(len(texts)) if at >= len(got) or got[at] != wanted[at]]
-    shown = "".join(f": {texts[at]!r}: {got[at:at + 1]}, not {wanted[at]}" for at in differ[:1])
-    expect(not differ and len(got) == len(texts), f"{what}: {len(differ)} of {len(texts)} texts differ{shown}")
-    print(f"{what}: {len(texts)} texts, {len(differ)} differ")
 
 
 # ---- the eraser
@@ -182,17 +286,34 @@ def compare(what, texts, wanted, got):
 # A source, and what is left of it.
 ERASED = [
     ("ghost use Rattle.std.specs.Prelude.{A, B};\n\npub fn f() {}\n", "\n\npub fn f() {}\n"),
-    ("fn f(a: u8) -> u8\n    // Holds.\n    ensures bound { result ≤ 4 }\n    requires { a.now < 3 }\n{\n    a\n}\n",
-     "fn f(a: u8) -> u8 {\n    a\n}\n"),
+    (
+        (
+            "fn f(a: u8) -> u8\n    // Holds.\n    ensures bound { result ≤ 4 }\n    requires {"
+            " a.now < 3 }\n{\n    a\n}\n"
+        ),
+        "fn f(a: u8) -> u8 {\n    a\n}\n",
+    ),
     ("fn f()\n    ensures { x ≡ '}' };\n", "fn f();\n"),
-    ("struct A {\n    /// A list.\n    pub ghost items: { List Nat },\n    pub b: u8,\n}\n",
-     "struct A {\n\n    pub b: u8,\n}\n"),
+    (
+        "struct A {\n    /// A list.\n    pub ghost items: { List Nat },\n    pub b: u8,\n}\n",
+        "struct A {\n\n    pub b: u8,\n}\n",
+    ),
     ("let a = A { ghost items = { nil }, b: 1 };", "let a = A {  b: 1 };"),
-    ("#![tactic(auto)]\n#[derive(Drop)]\n#[derive(Clone, Drop, Debug)]\n#[tactic(auto)]\n#[inline]\nstruct A;\n",
-     "\n\n#[derive(Clone, Debug)]\n\n#[inline]\nstruct A;\n"),
-    ('let a = "ghost { requires }"; // ghost use x;\n', 'let a = "ghost { requires }"; // ghost use x;\n'),
-    ("let a: &'static str = b; let c = '{'; let d = b'\\'';\n",
-     "let a: &'static str = b; let c = '{'; let d = b'\\'';\n"),
+    (
+        (
+            "#![tactic(auto)]\n#[derive(Drop)]\n#[derive(Clone, Drop,"
+            " Debug)]\n#[tactic(auto)]\n#[inline]\nstruct A;\n"
+        ),
+        "\n\n#[derive(Clone, Debug)]\n\n#[inline]\nstruct A;\n",
+    ),
+    (
+        'let a = "ghost { requires }"; // ghost use x;\n',
+        'let a = "ghost { requires }"; // ghost use x;\n',
+    ),
+    (
+        "let a: &'static str = b; let c = '{'; let d = b'\\'';\n",
+        "let a: &'static str = b; let c = '{'; let d = b'\\'';\n",
+    ),
 ]
 # A source that is refused, and the line.
 REFUSED = [
@@ -208,24 +329,26 @@ REFUSED = [
 ]
 
 
-def test_eraser(folder):
+class Eraser(Release):
     """What is left of small sources, and which are refused."""
-    sys.path.insert(0, os.path.join(TOP, "tools"))
-    import erase
-    erase.TOP = pathlib.Path(folder)
-    source = erase.TOP / "a.rt"
-    for text, wanted in ERASED:
-        source.write_text(text, encoding="utf-8")
-        got = erase.Eraser(source).read()
-        expect(got == wanted, f"the eraser leaves {got!r} of {text!r}, not {wanted!r}")
-    for text, line in REFUSED:
-        source.write_text(text, encoding="utf-8")
-        try:
-            got = erase.Eraser(source).read()
-            expect(False, f"the eraser takes {text!r}: {got!r}")
-        except erase.Unknown as unknown:
-            is_there = str(unknown).startswith(f"a.rt:{line}: ")
-            expect(is_there, f"the eraser refuses {text!r} with {unknown}, not at line {line}")
+
+    def setUp(self) -> None:
+        super().setUp()
+        erase.TOP = pathlib.Path(self.folder)
+        self.source = erase.TOP / "a.rt"
+
+    def test_left(self) -> None:
+        for text, wanted in ERASED:
+            with self.subTest(text=text):
+                self.source.write_text(text, encoding="utf-8")
+                self.assertEqual(erase.Eraser(self.source).read(), wanted)
+
+    def test_refused(self) -> None:
+        for text, line in REFUSED:
+            with self.subTest(text=text):
+                self.source.write_text(text, encoding="utf-8")
+                with self.assertRaisesRegex(erase.Unknown, f"^a.rt:{line}: "):
+                    erase.Eraser(self.source).read()
 
 
 # ---- the Rust crate
@@ -245,41 +368,69 @@ codegen-units = 1
 class Cargo:
     """A folder in which cargo takes other crates from Debian's packages."""
 
-    def __init__(self, folder):
-        self.folder = folder
-        os.makedirs(os.path.join(folder, "home"))
-        with open(os.path.join(folder, "home", "config.toml"), "w", encoding="utf-8") as config:
-            config.write(f'[source.crates-io]\nreplace-with = "debian"\n[source.debian]\ndirectory = "{REGISTRY}"\n')
+    def __init__(self, case: Release) -> None:
+        self.case, self.folder = case, case.folder
+        os.makedirs(os.path.join(self.folder, "home"))
+        text = (
+            '[source.crates-io]\nreplace-with = "debian"\n[source.debian]\ndirectory ='
+            f' "{REGISTRY}"\n'
+        )
+        write(os.path.join(self.folder, "home", "config.toml"), text)
         rustup = os.environ.get("RUSTUP_HOME") or os.path.expanduser("~/.rustup")
-        self.environment = {**os.environ, "CARGO_HOME": os.path.join(folder, "home"), "RUSTUP_HOME": rustup,
-                            "CARGO_TARGET_DIR": os.path.join(folder, "target"),
-                            "PATH": os.environ["PATH"] + os.pathsep + os.path.expanduser("~/.cargo/bin")}
+        self.environment = {
+            **os.environ,
+            "CARGO_HOME": os.path.join(self.folder, "home"),
+            "RUSTUP_HOME": rustup,
+            "CARGO_TARGET_DIR": os.path.join(self.folder, "target"),
+            "PATH": os.environ["PATH"] + os.pathsep + os.path.expanduser("~/.cargo/bin"),
+        }
 
-    def __call__(self, words, cwd, what, **options):
-        """Runs cargo, and counts whether it ends with status 0 and warns of nothing."""
-        done = works(["cargo", *words, "--offline"], what, cwd, env=self.environment, **options)
+    def __call__(self, words: Sequence[str], cwd: str, what: str, **options: Any) -> Done:
+        """Runs cargo, which ends with status 0 and warns of nothing."""
+        done = self.case.works(
+            ["cargo", *words, "--offline"], what, cwd, env=self.environment, **options
+        )
         lines = done.stderr.decode().splitlines()
         warned = [line for line in lines if line.startswith("warning") and "Cargo.lock" not in line]
-        expect(not warned, f"{what} warns: {warned[:3]}")
+        with self.case.subTest(what=what):
+            self.case.assertEqual(warned[:3], [])
         return done
 
-    def lacks(self, package):
+    def lacks(self, package: str) -> Optional[str]:
         """Why a package cannot be compiled here, or None."""
         if not shutil.which("cargo", path=self.environment["PATH"]):
             return "there is no cargo"
-        found = re.match(rb"cargo (\d+)\.(\d+)", run(["cargo", "--version"], env=self.environment).stdout)
+        found = re.match(
+            rb"cargo (\d+)\.(\d+)", run(["cargo", "--version"], env=self.environment).stdout
+        )
         with open(os.path.join(package, "Cargo.toml"), encoding="utf-8") as file:
             wanted = re.search(r'rust-version = "(\d+)\.(\d+)"', file.read())
+        assert wanted
         if not found or tuple(map(int, found.groups())) < tuple(map(int, wanted.groups())):
             return f"cargo is not of {wanted[0]}"
         lacking = [name for name in ("log", "roxmltree") if not self.has(name)]
         return f"there is no librust-{lacking[0]}-dev" if lacking else None
 
-    def has(self, name):
+    def pass_tests_of_0_2_2(self, needed: str) -> None:
+        """The tests of the crate 0.2.2 pass over the crate of this dependency."""
+        tests = tests_of_0_2_2()
+        if not tests:
+            self.case.skipTest("the tests of the crate 0.2.2: SIMPLECSS_TESTS names none")
+        folder = self.project(
+            "own_tests", needed + 'roxmltree = "0.16"\n', **{"src/lib.rs": "", **tests}
+        )
+        done = run(["cargo", "test", "--offline"], folder, env=self.environment)
+        counts = re.findall(r"test result: \w+\. (\d+) passed; (\d+) failed", done.stdout.decode())
+        passed, failed = (sum(int(it[at]) for it in counts) for at in (0, 1))
+        print(f"the tests of the crate 0.2.2: {passed} passed, {failed} failed")
+        shown = f"{done.stdout.decode()[-1500:]} {done.stderr.decode()[-1500:]}"
+        self.case.assertTrue(done.returncode == 0 and failed == 0 and passed > 0, shown)
+
+    def has(self, name: str) -> bool:
         """Whether a crate is among Debian's."""
         return bool(glob.glob(os.path.join(REGISTRY, name + "-[0-9]*")))
 
-    def project(self, name, needs, **files):
+    def project(self, name: str, needs: str, **files: str) -> str:
         """A folder with a program or tests over the crate."""
         folder = os.path.join(self.folder, name)
         files["Cargo.toml"] = PROJECT.format(name=name, needs=needs)
@@ -290,39 +441,23 @@ class Cargo:
         return folder
 
 
-def text_of(*path):
-    """A file of this repository as text."""
-    with open(os.path.join(TOP, *path), encoding="utf-8") as file:
-        return file.read()
-
-
-def tests_of_0_2_2():
-    """The test files of the crate 0.2.2 by their names, but the one that runs an example of its own."""
-    folder, found = os.environ.get("SIMPLECSS_TESTS"), {}
+def tests_of_0_2_2() -> Dict[str, str]:
+    """The test files of the crate 0.2.2 by their names, but the one that runs an example of its
+    own."""
+    folder = os.environ.get("SIMPLECSS_TESTS")
+    found: Dict[str, str] = {}
     for path in sorted(glob.glob(os.path.join(folder, "*"))) if folder else []:
         with open(path, encoding="utf-8") as file:
             text = file.read()
         if path.endswith(".rs"):
             found["tests/" + os.path.basename(path)] = text
         parts = re.split(r"(?m)^// ===== (tests/\S+\.rs|\S+) =====\n", text)
-        found.update((name, body) for name, body in zip(parts[1::2], parts[2::2]) if name.startswith("tests/"))
+        found.update(
+            (name, body)
+            for name, body in zip(parts[1::2], parts[2::2])
+            if name.startswith("tests/")
+        )
     return {name: text for name, text in found.items() if not name.endswith("warnings.rs")}
-
-
-def run_tests_of_0_2_2(cargo, package):
-    """The crate's own tests pass, unchanged."""
-    tests = tests_of_0_2_2()
-    if not tests:
-        left_out.append("the tests of the crate 0.2.2: SIMPLECSS_TESTS names none")
-        return
-    needs = f'simplecss = {{ path = "{package}" }}\nroxmltree = "0.16"\n'
-    folder = cargo.project("own_tests", needs, **{"src/lib.rs": "", **tests})
-    done = run(["cargo", "test", "--offline"], folder, env=cargo.environment)
-    counts = re.findall(r"test result: \w+\. (\d+) passed; (\d+) failed", done.stdout.decode())
-    passed, failed = (sum(int(it[at]) for it in counts) for at in (0, 1))
-    print(f"the tests of the crate 0.2.2: {passed} passed, {failed} failed")
-    shown = f"{done.stdout.decode()[-1500:]} {done.stderr.decode()[-1500:]}"
-    expect(done.returncode == 0 and failed == 0 and passed > 0, f"the tests of the crate 0.2.2: {shown}")
 
 
 WARNINGS = """
@@ -331,7 +466,9 @@ static SEEN: Mutex<Vec<String>> = Mutex::new(Vec::new());
 struct Keeps;
 impl log::Log for Keeps {
     fn enabled(&self, _: &log::Metadata) -> bool { true }
-    fn log(&self, record: &log::Record) { SEEN.lock().unwrap().push(format!("{}: {}", record.level(), record.args())) }
+    fn log(&self, record: &log::Record) {
+        SEEN.lock().unwrap().push(format!("{}: {}", record.level(), record.args()))
+    }
     fn flush(&self) {}
 }
 fn main() {
@@ -344,138 +481,95 @@ fn main() {
 WARNED = """WARN: Selector parsing failed cause unexpected combinator.
 WARN: The @import rule is not supported. Skipped.
 WARN: ':x' is not supported. Selector skipped."""
-DRAWING = (b"<svg><style>.a { fill: red } path { fill: blue !important; x: 1 }</style>"
-           b"<path class='a' style='fill: none; x: 2'/></svg>")
+DRAWING = (
+    b"<svg><style>.a { fill: red } path { fill: blue !important; x: 1 }</style>"
+    b"<path class='a' style='fill: none; x: 2'/></svg>"
+)
 
 
-def test_crate(tokens, folder):
+class Crate(Release):
     """The erased crate."""
-    packed = made("simplecss-0.2.2.crate")
-    cargo = Cargo(folder)
-    if not packed:
-        return
-    unpack(packed, folder)
-    package = os.path.join(folder, "simplecss-0.2.2")
-    why = cargo.lacks(package)
-    if why:
-        left_out.append(f"the Rust crate was not compiled: {why}")
-        return
-    cargo(["doc", "--no-deps"], package, "cargo doc")
-    if run(["cargo", "clippy", "--version"], env=cargo.environment).returncode == 0:
-        cargo(["clippy", "--all-features"], package, "cargo clippy")
-        cargo(["clippy", "--no-default-features"], package, "cargo clippy without features")
-    else:
-        left_out.append("clippy of the Rust crate: there is none")
-    cargo(["test", "--doc"], package, "the crate's doc tests")
-    cargo(["package", "--allow-dirty"], package, "cargo package")
-    done = cargo(["run", "-q", "--example", "drawing"], package, "the example", input=DRAWING)
-    expect(done.stdout.decode().splitlines()[-1:] == ['path fill="blue" x="2"'], f"the example prints {done.stdout}")
-    run_tests_of_0_2_2(cargo, package)
-    needs = f'simplecss = {{ path = "{package}" }}\n'
-    project = cargo.project("warnings", needs + 'log = "0.4"\n', **{"src/main.rs": WARNINGS})
-    done = cargo(["run", "-q"], project, "warnings")
-    expect(done.stdout.decode() == WARNED, f"warnings: {done.stdout.decode()!r}")
-    compare_crate(cargo, needs, tokens)
 
+    def setUp(self) -> None:
+        super().setUp()
+        unpack(self.made("simplecss-0.2.2.crate"), self.folder)
+        self.cargo, self.package = Cargo(self), os.path.join(self.folder, "simplecss-0.2.2")
+        self.needed = f'simplecss = {{ path = "{self.package}" }}\n'
+        why = self.cargo.lacks(self.package)
+        if why:
+            self.skipTest(f"the Rust crate was not compiled: {why}")
 
-def compare_crate(cargo, needs, tokens):
-    """The crate answers as the proved library does, and has the tokens of the proved program."""
-    project = cargo.project("compare", needs, **{"src/main.rs": text_of("tests", "release", "compare.rs")})
-    texts, wanted = answered()
-    done = cargo(["run", "-q", "--release"], project, "the comparison", input=framed(texts))
-    wanted = [as_text(*it) for it in zip(wanted, tokens_of(tokens, texts))]
-    compare("the Rust crate and the proved sources", texts, wanted, parts_of(done.stdout, 6))
+    def test_package(self) -> None:
+        self.cargo(["doc", "--no-deps"], self.package, "cargo doc")
+        self.cargo(["test", "--doc"], self.package, "the crate's doc tests")
+        self.cargo(["package", "--allow-dirty"], self.package, "cargo package")
 
+    def test_clippy(self) -> None:
+        if run(["cargo", "clippy", "--version"], env=self.cargo.environment).returncode:
+            self.skipTest("clippy of the Rust crate: there is none")
+        self.cargo(["clippy", "--all-features"], self.package, "cargo clippy")
+        self.cargo(
+            ["clippy", "--no-default-features"], self.package, "cargo clippy without features"
+        )
 
-def test_speed(folder):
-    """Shows how long the crate and the one of Debian take to parse a sheet, and to test each rule on each element."""
-    packed, cargo = made("simplecss-0.2.2.crate"), Cargo(folder)
-    # The sheet of Debian's package libjs-bootstrap4.
-    sheets = glob.glob("/usr/share/javascript/bootstrap4/css/bootstrap.css")
-    if not packed or not cargo.has("simplecss") or not sheets:
-        left_out.append("the speed of the Rust crate: there is no librust-simplecss-dev or no libjs-bootstrap4")
-        return
-    unpack(packed, folder)
-    # Two crates of one name cannot be linked by one program.
-    peer = os.path.join(folder, "peer")
-    shutil.copytree(glob.glob(os.path.join(REGISTRY, "simplecss-0.2.0"))[0], peer)
-    with open(os.path.join(peer, "Cargo.toml"), encoding="utf-8") as file:
-        stated = file.read().replace('name = "simplecss"', 'name = "peer"')
-    with open(os.path.join(peer, "Cargo.toml"), "w", encoding="utf-8") as file:
-        file.write(stated)
-    needs = f'simplecss = {{ path = "{folder}/simplecss-0.2.2" }}\npeer = {{ path = "{peer}" }}\n'
-    project = cargo.project("speed", needs, **{"src/main.rs": text_of("tests", "release", "speed.rs")})
-    words = ["cargo", "run", "-q", "--release", "--offline", "--", sheets[0]]
-    done = works(words, "the speed", project, env=cargo.environment)
-    print(done.stdout.decode(), end="")
+    def test_example(self) -> None:
+        words = ["run", "-q", "--example", "drawing"]
+        done = self.cargo(words, self.package, "the example", input=DRAWING)
+        self.assertEqual(done.stdout.decode().splitlines()[-1:], ['path fill="blue" x="2"'])
+
+    def test_own_tests(self) -> None:
+        """The tests of the crate 0.2.2 pass, unchanged."""
+        self.cargo.pass_tests_of_0_2_2(self.needed)
+
+    def test_warnings(self) -> None:
+        project = self.cargo.project(
+            "warnings", self.needed + 'log = "0.4"\n', **{"src/main.rs": WARNINGS}
+        )
+        done = self.cargo(["run", "-q"], project, "warnings")
+        self.assertEqual(done.stdout.decode(), WARNED)
+
+    def test_answers(self) -> None:
+        """The crate answers as the proved library does, and has the tokens of the proved
+        program."""
+        files = {"src/main.rs": read("tests", "release", "compare.rs")}
+        project = self.cargo.project("compare", self.needed, **files)
+        texts, wanted = answered()
+        done = self.cargo(
+            ["run", "-q", "--release"], project, "the comparison", input=framed(texts)
+        )
+        due = [as_text(*it) for it in zip(wanted, tokens_of(program("tests_driver"), texts))]
+        self.compare("the Rust crate and the proved sources", texts, due, parts_of(done.stdout, 6))
+
+    def test_speed(self) -> None:
+        """Shows how long the crate and the one of Debian take to parse a sheet, and to test each
+        rule on each element."""
+        # The sheet of Debian's package libjs-bootstrap4.
+        sheets = glob.glob("/usr/share/javascript/bootstrap4/css/bootstrap.css")
+        if "SPEED" not in os.environ:
+            return
+        if not self.cargo.has("simplecss") or not sheets:
+            self.skipTest(
+                "the speed of the Rust crate: there is no librust-simplecss-dev or no"
+                " libjs-bootstrap4"
+            )
+        # Two crates of one name cannot be linked by one program.
+        peer = os.path.join(self.folder, "peer")
+        shutil.copytree(glob.glob(os.path.join(REGISTRY, "simplecss-0.2.0"))[0], peer)
+        with open(os.path.join(peer, "Cargo.toml"), encoding="utf-8") as file:
+            stated = file.read().replace('name = "simplecss"', 'name = "peer"')
+        write(os.path.join(peer, "Cargo.toml"), stated)
+        files = {"src/main.rs": read("tests", "release", "speed.rs")}
+        project = self.cargo.project(
+            "speed", self.needed + f'peer = {{ path = "{peer}" }}\n', **files
+        )
+        words = ["cargo", "run", "-q", "--release", "--offline", "--", sheets[0]]
+        print(
+            self.works(words, "the speed", project, env=self.cargo.environment).stdout.decode(),
+            end="",
+        )
 
 
 # ---- the other packages
-
-def test_wheel(folder):
-    """The wheel's package passes its tests where nothing else of this repository is."""
-    wheel = made("simplecss-*-manylinux_2_5_x86_64*.whl")
-    arm = made("simplecss-*aarch64*.whl")
-    if not wheel or not arm:
-        return
-    environment = {"PATH": os.environ["PATH"], "HOME": folder, "PYTHONDONTWRITEBYTECODE": "1"}
-    if run([sys.executable, "-m", "venv", "--without-pip", os.path.join(folder, "probe")]).returncode:
-        left_out.append("the wheel was not installed: there is no python3-venv")
-        return
-    works([sys.executable, "-m", "venv", os.path.join(folder, "venv")], "venv")
-    python = os.path.join(folder, "venv", "bin", "python")
-    words = [python, "-m", "pip", "install", "-q", "--no-index", "--no-deps", "--disable-pip-version-check", wheel]
-    works(words, "pip install", folder, env=environment)
-    # The tests with the files that they read, and no package beside them.
-    for name in ("python/tests", "examples", "include"):
-        shutil.copytree(os.path.join(TOP, name), os.path.join(folder, "copy", name))
-    done = run([python, "-m", "unittest", "discover", "-s", "copy/python/tests"], folder, env=environment)
-    text = done.stderr.decode()
-    found = re.search(r"Ran (\d+) tests", text)
-    expect(done.returncode == 0 and found and int(found[1]) > 0, f"the package's tests on the wheel: {text[-1500:]}")
-    print(f"the package's tests on the wheel: {found[1] if found else 0}")
-    command = os.path.join(folder, "venv", "bin", "simplecss")
-    works([command, "--help"], "simplecss --help", folder, env=environment)
-    words = [python, "-c", "import simplecss; print(simplecss.library_path(), simplecss.__version__)"]
-    done = works(words, "where the library is", folder, env=environment)
-    path, _, version = done.stdout.decode().strip().rpartition(" ")
-    expect(path.startswith(folder) and version == library_calls.VERSION, f"the wheel uses {path}, {version}")
-    names = run(["nm", "-D", path]).stdout.decode() if shutil.which("nm") else ""
-    wanted = {"free", "malloc", "memcpy", "memmove", "memset", "realloc"}
-    imported = re.findall(r" U (\S+)", names)
-    expect(set(imported) <= wanted, f"the library imports {imported}")
-    run_on_arm(arm, folder)
-    install_from_checkout(folder)
-
-
-def has_modules(python, names):
-    """Whether a Python is there, and has these modules."""
-    return os.path.exists(python) and run([python, "-c", f"import {names}"]).returncode == 0
-
-
-def install_from_checkout(folder):
-    """From a checkout pip makes a wheel with the library for this system, and where there is none, says what to do."""
-    able = [it for it in (sys.executable, "/usr/bin/python3") if has_modules(it, "setuptools, wheel, pip")]
-    if not able:
-        packages = "(python3-setuptools, python3-wheel, python3-pip)"
-        left_out.append(f"pip install from a checkout: there is no setuptools, wheel or pip {packages}")
-        return
-    checkout = os.path.join(folder, "checkout")
-    for name in ("python", "include"):
-        made_by_pip = shutil.ignore_patterns("build", "*.egg-info")
-        shutil.copytree(os.path.join(TOP, name), os.path.join(checkout, name), ignore=made_by_pip)
-    words = [able[0], "-m", "pip", "wheel", "-q", "--no-build-isolation", "--no-deps",
-             "--disable-pip-version-check", "-w", "made", "./python"]
-    done = run(words, checkout)
-    is_refused = done.returncode != 0 and b"run ./build library first" in done.stdout + done.stderr
-    expect(is_refused, f"pip without a library: {done}")
-    os.makedirs(os.path.join(checkout, "out"))
-    shutil.copy(os.path.join(TOP, "out", "libsimplecss.so"), os.path.join(checkout, "out"))
-    works(words, "pip with a library", checkout)
-    found = glob.glob(os.path.join(checkout, "made", "simplecss-*-py3-none-linux_*.whl"))
-    names = subprocess.run([sys.executable, "-m", "zipfile", "-l", *found], stdout=subprocess.PIPE, check=False).stdout
-    expect(len(found) == 1 and b"simplecss/libsimplecss.so" in names, f"pip makes {found}, with {names}")
-
 
 ARM = """
 #include <dlfcn.h>
@@ -484,7 +578,8 @@ ARM = """
 #include <stdlib.h>
 #include <string.h>
 typedef uint32_t call(const uint8_t *, size_t, uint8_t *, size_t, size_t *);
-typedef uint32_t texts(const uint8_t *, size_t, const size_t *, size_t, size_t, uint8_t *, size_t, size_t *);
+typedef uint32_t texts(
+    const uint8_t *, size_t, const size_t *, size_t, size_t, uint8_t *, size_t, size_t *);
 static uint8_t text[1 << 16], out[1 << 20];
 static void put(uint32_t status, size_t n) {
     uint64_t w = status ? 0 : n;
@@ -494,8 +589,10 @@ static void put(uint32_t status, size_t n) {
 int main(int argc, char **argv) {
     void *l = dlopen(argv[argc - 1], RTLD_NOW);
     if (!l) { fputs(dlerror(), stderr); return 1; }
-    texts *sheet = (texts *)dlsym(l, "simplecss_sheet"), *rules = (texts *)dlsym(l, "simplecss_rules");
-    call *selector = (call *)dlsym(l, "simplecss_selector"), *skipped = (call *)dlsym(l, "simplecss_skipped");
+    texts *sheet = (texts *)dlsym(l, "simplecss_sheet");
+    texts *rules = (texts *)dlsym(l, "simplecss_rules");
+    call *selector = (call *)dlsym(l, "simplecss_selector");
+    call *skipped = (call *)dlsym(l, "simplecss_skipped");
     for (uint64_t n; fread(&n, 8, 1, stdin) == 1;) {
         size_t len = 0, end = fread(text, 1, n, stdin);
         put(sheet(text, end, &end, 1, SIZE_MAX, out, sizeof out, &len), len);
@@ -507,113 +604,719 @@ int main(int argc, char **argv) {
 """
 
 
-def run_on_arm(wheel, folder):
-    """The library for aarch64 answers as the proved one, in an emulator."""
-    if not shutil.which("qemu-aarch64") or not shutil.which("aarch64-linux-gnu-gcc"):
-        left_out.append("the wheel for aarch64 was not run: there is no qemu-user or no gcc-aarch64-linux-gnu")
-        return
-    shutil.unpack_archive(wheel, os.path.join(folder, "arm"), "zip")
-    source, program = os.path.join(folder, "arm.c"), os.path.join(folder, "arm_calls")
-    with open(source, "w", encoding="utf-8") as file:
-        file.write(ARM)
-    works(["aarch64-linux-gnu-gcc", "-O1", "-o", program, source, "-ldl"], "the program for aarch64")
-    texts, wanted = answered()
-    library = os.path.join(folder, "arm", "simplecss", "libsimplecss.so")
-    words = ["qemu-aarch64", "-L", "/usr/aarch64-linux-gnu", program, library]
-    done = works(words, "aarch64", input=framed(texts))
-    some = [[it[at] for at in (0, 1, 2, 4)] for it in wanted]
-    compare("the library for aarch64 and the proved library", texts, some, parts_of(done.stdout, 4))
+class Wheel(Release):
+    """The wheel's package passes its tests where nothing else of this repository is."""
 
+    def setUp(self) -> None:
+        super().setUp()
+        self.environment = {
+            "PATH": os.environ["PATH"],
+            "HOME": self.folder,
+            "PYTHONDONTWRITEBYTECODE": "1",
+        }
 
-def test_program(folder):
-    """The tarball and the Debian package work where they are unpacked."""
-    packed, debian = made("cssq-*-linux-x86_64.tar.gz"), made("cssq_*_amd64.deb")
-    if not packed or not debian:
-        return
-    unpack(packed, folder)
-    try_installation(glob.glob(os.path.join(folder, "cssq-*"))[0], folder)
-    if has("dpkg-deb", "the Debian package was not unpacked"):
-        root = os.path.join(folder, "root")
-        works(["dpkg-deb", "-x", debian, root], "dpkg-deb")
-        fields = works(["dpkg-deb", "-I", debian], "dpkg-deb -I").stdout.decode()
-        is_right = f"Version: {library_calls.VERSION}" in fields and "Package: cssq" in fields
-        expect(is_right, f"the Debian package: {fields}")
-        try_installation(os.path.join(root, "usr"), folder)
+    def install(self) -> str:
+        """Installs the wheel. Returns the folder of its programs."""
+        wheel = self.made("simplecss-*-manylinux_2_5_x86_64*.whl")
+        venv = os.path.join(self.folder, "venv")
+        if run(
+            [sys.executable, "-m", "venv", "--without-pip", os.path.join(self.folder, "probe")]
+        ).returncode:
+            self.skipTest("the wheel was not installed: there is no python3-venv")
+        self.works([sys.executable, "-m", "venv", venv], "venv")
+        words = [
+            "-m",
+            "pip",
+            "install",
+            "-q",
+            "--no-index",
+            "--no-deps",
+            "--disable-pip-version-check",
+            wheel,
+        ]
+        python = os.path.join(venv, "bin", "python")
+        self.works([python, *words], "pip install", self.folder, env=self.environment)
+        return os.path.join(venv, "bin")
 
+    def test_own_tests(self) -> None:
+        """The tests with the files that they read, and no package beside them."""
+        folder = self.install()
+        for name in ("python/tests", "examples", "include"):
+            shutil.copytree(os.path.join(TOP, name), os.path.join(self.folder, "copy", name))
+        words = [
+            os.path.join(folder, "python"),
+            "-m",
+            "unittest",
+            "discover",
+            "-s",
+            "copy/python/tests",
+        ]
+        done = run(words, self.folder, env=self.environment)
+        text = done.stderr.decode()
+        found = re.search(r"Ran (\d+) tests", text)
+        self.assertTrue(done.returncode == 0 and found and int(found[1]) > 0, text[-1500:])
+        print(f"the package's tests on the wheel: {found[1] if found else 0}")
 
-def try_installation(prefix, folder):
-    """The program, the manual and the C library below a prefix."""
-    with open(os.path.join(folder, "page.css"), "w", encoding="utf-8") as file:
-        file.write(".note { color: red }\n")
-    with open(os.path.join(folder, "page.tree"), "w", encoding="utf-8") as file:
-        file.write("0\tdiv\n1\tp\tclass=note\n")
-    cssq = os.path.join(prefix, "bin", "cssq")
-    calls = [(["style", "page.css", "page.tree", "color"], "1:\n2: red\n"),
-             (["--version"], f"cssq {library_calls.VERSION}\n")]
-    for words, wanted in calls:
-        done = run([cssq, *words], folder, env={})
-        expect((done.returncode, done.stdout.decode()) == (0, wanted), f"the installed cssq {words}: {done}")
-    done = run([cssq, "--help"], folder, env={})
-    expect(done.returncode == 0 and done.stdout.startswith(b"cssq reads CSS 2.1"), f"the installed cssq --help: {done}")
-    if shutil.which("file"):
-        expect(b"statically linked" in run(["file", cssq]).stdout, "cssq is not linked statically")
-    completion = os.path.join(prefix, "share/bash-completion/completions/cssq")
-    if shutil.which("bash"):
-        tried = "; ".join(f'COMP_WORDS=({words}); COMP_CWORD={number}; _cssq; echo "${{COMPREPLY[*]}}"'
-                          for words, number in (("cssq s", 1), ("cssq match page.css page.t", 3)))
-        done = run(["bash", "-c", f". {completion}; {tried}"], folder)
-        expect(done.stdout == b"selector sheet style\npage.tree\n", f"completion: {done}")
-    if shutil.which("man"):
-        words = ["man", "--warnings", "-l", os.path.join(prefix, "share/man/man1/cssq.1.gz")]
-        done = run(words, env={**os.environ, "MANWIDTH": "120", "LC_ALL": "C.UTF-8"})
-        is_right = done.returncode == 0 and not done.stderr and b"cssq selector TEXT" in done.stdout
-        expect(is_right, f"the manual: {done.stderr} {done.stdout[:200]}")
-    if not has("gcc", "the C example over the tarball") or not has("pkg-config", "the C example over the tarball"):
-        return
-    environment = {**os.environ, "PKG_CONFIG_PATH": os.path.join(prefix, "lib", "pkgconfig")}
-    done = works(["pkg-config", "--cflags", "--libs", "simplecss"], "pkg-config", env=environment)
-    flags = done.stdout.decode().split()
-    source, program = os.path.join(TOP, "examples", "c", "page.c"), os.path.join(folder, "page")
-    for more in ([], ["-static"]):
-        works(["gcc", "-std=c99", "-Wall", "-Werror", "-o", program, source, *flags, *more], f"page.c {more}")
-        done = run([program], env={"LD_LIBRARY_PATH": os.path.join(prefix, "lib")})
-        expect((done.returncode, done.stdout) == (0, b"1:\n2: 1 2\n3: 1\n"), f"page.c {more}: {done}")
+    def test_installed(self) -> None:
+        """The command, and the library that is loaded: it imports no more than memory."""
+        folder = self.install()
+        words = [os.path.join(folder, "simplecss"), "--help"]
+        self.works(words, "simplecss --help", self.folder, env=self.environment)
+        line = "import simplecss; print(simplecss.library_path(), simplecss.__version__)"
+        words = [os.path.join(folder, "python"), "-c", line]
+        done = self.works(words, "where the library is", self.folder, env=self.environment)
+        path, _, shown = done.stdout.decode().strip().rpartition(" ")
+        self.assertEqual((path[: len(self.folder)], shown), (self.folder, version()))
+        self.needs("nm", "what the library imports")
+        imported = re.findall(r" U (\S+)", run(["nm", "-D", path]).stdout.decode())
+        allowed = {"free", "malloc", "memcpy", "memmove", "memset", "realloc"}
+        self.assertEqual(set(imported) - allowed, set())
 
+    def pip_wheel(self, checkout: str) -> List[str]:
+        """The words by which pip makes a wheel of a checkout, without the C library in it."""
+        able = [
+            it for it in (sys.executable, DEBIAN) if has_modules(it, "setuptools", "wheel", "pip")
+        ]
+        if not able:
+            packages = "(python3-setuptools, python3-wheel, python3-pip)"
+            self.skipTest(
+                f"pip install from a checkout: there is no setuptools, wheel or pip {packages}"
+            )
+        second_checkout(checkout, ())
+        words = [able[0], "-m", "pip", "wheel", "-q", "--no-build-isolation", "--no-deps"]
+        return [*words, "--disable-pip-version-check", "-w", "made", "./python"]
 
-def test_npm(folder):
-    """The npm package answers as the proved library does, and the page works from a file."""
-    packed, page = made("simplecss-*.tgz"), made("playground.html")
-    if not packed or not page:
-        return
-    unpack(packed, folder)
-    package = os.path.join(folder, "package")
-    if has("node", "the npm package was not run"):
-        tree = os.path.join(folder, "page.json")
-        with open(tree, "w", encoding="utf-8") as file:
-            json.dump(PAGE, file)
+    def has_library(self, checkout: str) -> None:
+        """The wheel of a checkout is one, for this system, and has the library."""
+        found = glob.glob(os.path.join(checkout, "made", "simplecss-*-py3-none-linux_*.whl"))
+        self.assertEqual(len(found), 1)
+        self.assertIn(
+            b"simplecss/libsimplecss.so",
+            run([sys.executable, "-m", "zipfile", "-l", *found]).stdout,
+        )
+
+    def test_checkout(self) -> None:
+        """From a checkout pip makes a wheel with the proved library. Where there is none and no
+        cargo, it says what to do."""
+        checkout = os.path.join(self.folder, "checkout")
+        words = self.pip_wheel(checkout)
+        done = run(
+            words, checkout, env={**os.environ, "PATH": "/usr/bin:/bin", "CARGO_HOME": self.folder}
+        )
+        if not shutil.which("cargo", path="/usr/bin:/bin"):
+            self.assertNotEqual(done.returncode, 0)
+            self.assertIn(
+                b"run ./build library with the toolchain first", done.stdout + done.stderr
+            )
+        os.makedirs(os.path.join(checkout, "out"))
+        shutil.copy(library_path(), os.path.join(checkout, "out"))
+        self.works(words, "pip with a library", checkout)
+        self.has_library(checkout)
+
+    def test_arm(self) -> None:
+        """The library for aarch64 answers as the proved one, in an emulator."""
+        wheel = self.made("simplecss-*aarch64*.whl")
+        if not shutil.which("qemu-aarch64") or not shutil.which("aarch64-linux-gnu-gcc"):
+            self.skipTest(
+                "the wheel for aarch64 was not run: there is no qemu-user or no"
+                " gcc-aarch64-linux-gnu"
+            )
+        shutil.unpack_archive(wheel, os.path.join(self.folder, "arm"), "zip")
+        source = write(os.path.join(self.folder, "arm.c"), ARM)
+        path = os.path.join(self.folder, "arm_calls")
+        self.works(
+            ["aarch64-linux-gnu-gcc", "-O1", "-o", path, source, "-ldl"], "the program for aarch64"
+        )
         texts, wanted = answered()
+        library = os.path.join(self.folder, "arm", "simplecss", "libsimplecss.so")
+        words = ["qemu-aarch64", "-L", "/usr/aarch64-linux-gnu", path, library]
+        done = self.works(words, "aarch64", input=framed(texts))
+        some = [[it[at] for at in (0, 1, 2, 4)] for it in wanted]
+        self.compare(
+            "the library for aarch64 and the proved library", texts, some, parts_of(done.stdout, 4)
+        )
+
+
+CMAKE = """cmake_minimum_required(VERSION 3.13)
+project(page C CXX)
+find_package(simplecss %s REQUIRED)
+foreach(kind simplecss static)
+  foreach(end c cpp)
+    add_executable(page_${kind}_${end} page.${end})
+    target_link_libraries(page_${kind}_${end} PRIVATE simplecss::${kind})
+  endforeach()
+endforeach()
+"""
+# What `examples/c/page.c` prints.
+PRINTED = b"1:\n2: 1 2\n3: 1\n"
+
+
+class Program(Release):
+    """The tarball and the Debian packages work where they are unpacked."""
+
+    def prefixes(self) -> List[Tuple[str, str]]:
+        """The folders into which they are unpacked, and in each that of the libraries."""
+        unpack(self.made("cssq-*-linux-x86_64.tar.gz"), self.folder)
+        (found,) = glob.glob(os.path.join(self.folder, "cssq-*"))
+        root = os.path.join(self.folder, "root")
+        if not shutil.which("dpkg-deb"):
+            return [(found, os.path.join(found, "lib"))]
+        for path in self.packages():
+            self.works(["dpkg-deb", "-x", path, root], "dpkg-deb")
+        system = os.path.join(root, "usr")
+        libraries = os.path.join(system, "lib", "x86_64-linux-gnu")
+        return [(found, os.path.join(found, "lib")), (system, libraries)]
+
+    def packages(self) -> List[str]:
+        """The Debian packages: of the program, the library, and its callers."""
+        return [self.made(f"{it}_*_amd64.deb") for it in ("cssq", "libsimplecss[0-9]", "*-dev")]
+
+    def test_fields(self) -> None:
+        self.needs("dpkg-deb", "the Debian packages were not unpacked")
+        program, library, callers = self.packages()
+        name = os.path.basename(library).partition("_")[0]
+        rows = [
+            (program, "cssq", "Depends: python3"),
+            (library, name, "Multi-Arch: same"),
+            (callers, "libsimplecss-dev", f"Depends: {name} (= {version()})"),
+        ]
+        for path, package, field in rows:
+            done = self.works(["dpkg-deb", "-I", path], "dpkg-deb -I")
+            for wanted in (f"Version: {version()}", f"Package: {package}", field):
+                with self.subTest(path=path, wanted=wanted):
+                    self.assertIn(f" {wanted}\n", done.stdout.decode())
+        done = self.works(["dpkg-deb", "-I", library, "shlibs"], "dpkg-deb -I")
+        number = name.removeprefix("libsimplecss")
+        due = f"libsimplecss {number} {name} (>= {version()})\n"
+        self.assertEqual(done.stdout.decode(), due)
+
+    def test_lintian(self) -> None:
+        """Lintian finds no error in the packages."""
+        self.needs("lintian", "the Debian packages before lintian")
+        done = self.works(["lintian", "--allow-root", *self.packages()], "lintian")
+        self.assertEqual(re.findall(r"^E: .*", done.stdout.decode(), re.MULTILINE), [])
+
+    def test_hardened(self) -> None:
+        """What is linked is written only before it runs, at any address, and no stack runs."""
+        self.needs("readelf", "how the program and the library are linked")
+        for prefix, libraries in self.prefixes():
+            shared = glob.glob(os.path.join(libraries, "libsimplecss.so*"))
+            self.assertEqual(len(shared), 2)
+            for path in (os.path.join(prefix, "bin", "cssq"), *shared):
+                text = self.works(["readelf", "-hldW", path], "readelf").stdout.decode()
+                with self.subTest(path=path):
+                    self.assertRegex(text, r"Type: +DYN ")
+                    self.assertRegex(text, r"GNU_STACK +(0x\w+ +){5}RW +\w+\n")
+                    self.assertRegex(text, r"GNU_RELRO ")
+                    self.assertRegex(text, r"\(FLAGS_1\) .*\bNOW\b")
+                    self.assertNotIn("INTERP", text)
+
+    def test_answers(self) -> None:
+        write(os.path.join(self.folder, "page.css"), ".note { color: red }\n")
+        write(os.path.join(self.folder, "page.html"), "<div><p class=note></div>")
+        tree = "0\tdiv\n1\tp\tclass=note\n"
+        write(os.path.join(self.folder, "page.tree"), tree)
+        rows = [
+            (["cssq", "style", "page.css", "page.tree", "color"], "1:\n2: red\n"),
+            (["cssq", "--version"], f"cssq {version()}\n"),
+            (["cssq-tree", "page.html"], tree),
+        ]
+        for prefix, _ in self.prefixes():
+            for words, wanted in rows:
+                with self.subTest(prefix=prefix, words=words):
+                    path = os.path.join(prefix, "bin", words[0])
+                    done = run([path, *words[1:]], self.folder, env={"PATH": "/usr/bin:/bin"})
+                    self.assertEqual((done.returncode, done.stdout.decode()), (0, wanted))
+            with self.subTest(prefix=prefix, words=["--help"]):
+                done = run([os.path.join(prefix, "bin", "cssq"), "--help"], self.folder, env={})
+                self.assertEqual((done.returncode, done.stdout[:18]), (0, b"cssq reads CSS 2.1"))
+            with self.subTest(prefix=prefix):
+                page = read(prefix, "share", "doc", "cssq", "PROGRAM.md")
+                self.assertIn("| `cssq selector 'a > .b'` | `a > *", page)
+                self.assertIn("`cssq-tree page.html > page.tree` writes", page)
+                self.assertEqual(re.findall(r"\./|tools/|build|toolchain", page), [])
+
+    def test_completion(self) -> None:
+        self.needs("bash", "completion")
+        write(os.path.join(self.folder, "page.tree"), "")
+        for prefix, _ in self.prefixes():
+            completion = os.path.join(prefix, "share/bash-completion/completions/cssq")
+            tried = "; ".join(
+                f'COMP_WORDS=({words}); COMP_CWORD={number}; _cssq; echo "${{COMPREPLY[*]}}"'
+                for words, number in (("cssq s", 1), ("cssq match page.css page.t", 3))
+            )
+            with self.subTest(prefix=prefix):
+                done = run(["bash", "-c", f". {completion}; {tried}"], self.folder)
+                self.assertEqual(done.stdout, b"selector sheet style\npage.tree\n", done.stderr)
+
+    def test_manual(self) -> None:
+        self.needs("man", "the manual")
+        pages = (("cssq", b"cssq selector TEXT"), ("cssq-tree", b"cssq-tree [FILE] > page.tree"))
+        for prefix, _ in self.prefixes():
+            for name, wanted in pages:
+                path = os.path.join(prefix, f"share/man/man1/{name}.1.gz")
+                with self.subTest(prefix=prefix, name=name):
+                    environment = {**os.environ, "MANWIDTH": "120", "LC_ALL": "C.UTF-8"}
+                    done = run(["man", "--warnings", "-l", path], env=environment)
+                    self.assertEqual((done.returncode, done.stderr), (0, b""))
+                    self.assertIn(wanted, done.stdout)
+
+    def test_example_in_c(self) -> None:
+        """The example that is in the packages, as C and as C++, as docs/C.md says."""
+        self.needs("gcc", "the C example over the tarball")
+        self.needs("pkg-config", "the C example over the tarball")
+        compilers = [["gcc", "-std=c99"], ["g++", "-x", "c++", "-std=c++11"]]
+        for prefix, libraries in self.prefixes():
+            (source,) = glob.glob(os.path.join(prefix, "share", "doc", "*", "examples", "page.c"))
+            path = os.path.join(self.folder, "page")
+            environment = {**os.environ, "PKG_CONFIG_PATH": os.path.join(libraries, "pkgconfig")}
+            words = ["pkg-config", "--cflags", "--libs", "simplecss"]
+            done = self.works(words, "pkg-config", env=environment)
+            flags = done.stdout.decode().split()
+            for compiler in compilers:
+                self.needs(compiler[0], "the C example as C++")
+                for more in ("-static", f"-Wl,-rpath,{libraries}"):
+                    words = [*compiler, "-Wall", "-Werror", source, "-x", "none", "-o", path]
+                    self.works([*words, *flags, more], f"page.c {more}")
+                    with self.subTest(prefix=prefix, compiler=compiler, more=more):
+                        ran = run([path], env={})
+                        self.assertEqual((ran.returncode, ran.stdout), (0, PRINTED))
+
+    def test_cmake(self) -> None:
+        """CMake finds the libraries; not for another version."""
+        for tool in ("cmake", "g++", "make"):
+            self.needs(tool, "the libraries by CMake")
+        first, second, *_ = version().split(".")
+        rows = [(f"{first}.{second}", 0), (f"{first}.{int(second) + 1}", 1), (f"{first}", 0)]
+        for number, (prefix, libraries) in enumerate(self.prefixes()):
+            source = os.path.join(self.folder, f"source{number}")
+            os.makedirs(source)
+            for end in ("c", "cpp"):
+                shutil.copy(os.path.join(TOP, "examples/c/page.c"), f"{source}/page.{end}")
+            for wanted, status in rows:
+                write(os.path.join(source, "CMakeLists.txt"), CMAKE % wanted)
+                built = os.path.join(source, wanted)
+                words = ["cmake", "-S", source, "-B", built, f"-DCMAKE_PREFIX_PATH={prefix}"]
+                words.append(f"-Dsimplecss_DIR={libraries}/cmake/simplecss")
+                with self.subTest(prefix=prefix, version=wanted):
+                    done = run(words)
+                    self.assertEqual(min(done.returncode, 1), status, done.stderr.decode()[-1500:])
+            self.works(["cmake", "--build", os.path.join(source, rows[0][0])], "cmake --build")
+            for path in glob.glob(os.path.join(source, rows[0][0], "page_*")):
+                with self.subTest(path=path):
+                    self.assertEqual(run([path], env={}).stdout, PRINTED)
+
+
+# Sheets with mistakes of each kind, and some without.
+SHEETS = [
+    "",
+    "a { color: red }\n",
+    ".note { color: a !important } p { color: b; COLOR: c; x: y } * { color: d !important; x: z }",
+    "#x { color: a } @media { a { color: b !important } } @media print { * { color: c } } a { b: c }",
+    "a < b { x: y }\n@media print { c { d: e } }\n",
+    "a { b }\r\nc { d: e; f; g: h }\r\n",
+    "\ufeffa { b: c;; d }",
+    "é > < ü { x: y }\n  é { \U0001F600 } \U0001F600 < { }\n",
+    "a { b: url(c d); e: f }",
+    "a { b: 'c\n; d: e } f { g: h }",
+    "@media screen { a { b: c",
+    "@media screen",
+    "@media screen { @supports (a: b) { c { d: e } }",
+    "a { b: c } /* d",
+    "/* a */ b { c: d(e",
+    "@font-face { a: b; c; d: url(e f) } @page { f }",
+    "@font-face { a: b",
+    "@charset 'x'; @import url(a); b { c: d }",
+    "a:has(b) { c: d } ::-x-y { e: f } a::before::after { }",
+    "a, b:nth-child(2n { c: d } e { f: g }",
+    "} a { b: c } ) d { e: f }",
+    "a { b: \x01\x7f\x9b } \t\t c d < e f g h i j k l m n o p q r s t u v w x y z a b c d e f g { }",
+    "@layer a { @layer b { c { d: e } } } f { &:hover { g: h } i }",
+    "a{b:c}" * 2000 + "d < e{}",
+    "@media a{" * 70 + "b { c: d }",
+    "@font-face{" * 3000,
+]
+PAGES = [
+    (
+        "text/html",
+        "<!DOCTYPE html><title>a</title><p class='Note b'>1<a HREF='#x' lang=en-GB><b>2</b></a>"
+        "<ul><li><li class=note id=X> <li>3<!-- c --></ul><input type=TEXT><svg><a xlink:href=x />"
+        "<g id=g></g></svg><p lang=de>",
+    ),
+    ("text/html", "<p class=NOTE id=x>1<p class='a&#10;b'><table><tr><td><a><i></i></a></table>"),
+    ("application/xml", "<a xmlns:x='u'><b x:c='d' c='e'/><B C='D'>x</B><x:b class='n'/></a>"),
+]
+SELECTORS = [
+    "*",
+    "p",
+    "P",
+    ".note",
+    ".NOTE",
+    "#x",
+    "#X",
+    "[type=text]",
+    "[class~=b]",
+    "a:link",
+    ":any-link",
+    "li:nth-child(2n+1)",
+    "li:nth-last-of-type(2)",
+    "li:empty",
+    "p ~ ul > li:not(.note, :empty)",
+    "p + p",
+    ":root > *",
+    ":is(ul, p) :where(a, li)",
+    "[href^='#' i]",
+    "[lang|=en]",
+    ":lang(en)",
+    ":lang(de)",
+    "b:only-child",
+    "i:first-of-type",
+    "td > a, [c=e]",
+    "[class='a\\a b']",
+    ".b",
+]
+STYLED = [
+    (
+        "p { z-index: 1 } .a { z-index: 2 } .b { z-index: 3 !important } #c { z-index: 4 }"
+        " @media print { * { z-index: 9 !important } } @media screen { i { Z-INDEX: 5 } }",
+        "<body><p>1<p class=a>2<p class='b' id=c>3<p id=c><i></i>",
+    ),
+    (
+        "div div { z-index: 7 } div > div { z-index: 8 } :where(#x) { z-index: 9 } div:not(#y) + b"
+        " { z-index: 10; z-index: 11 !important; z-index: 12 } b { z-index: 13 !important }",
+        "<body><div><div id=x></div><b></b></div><b></b>",
+    ),
+]
+NODES = """
+<!DOCTYPE html><meta charset=utf-8><body><script id=input type="application/json">%s</script>
+<script type=module>
+import * as css from "PACKAGE/index.mjs";
+import { compared } from "SCRIPT";
+const work = JSON.parse(document.getElementById("input").textContent);
+document.documentElement.textContent = "ANS" + "WER" + JSON.stringify(compared(css, work)) + "END";
+</script>
+"""
+# What a program does with the package where node finds it by its name, and what it prints.
+PROGRAM = """
+import css, { Tree, select } from 'simplecss';
+const tree = new Tree([{ name: 'a' }, { name: 'b', parent: 0, text: 'x' }]);
+console.log(select(tree, 'a > b:not(:empty)').length, css.select === select, css.version());
+console.log(Object.keys(css).join(' '));
+"""
+LOADING = """
+import { createRequire } from 'node:module';
+import { readFileSync } from 'node:fs';
+import { load, rules } from 'simplecss/load';
+const module = readFileSync(createRequire(import.meta.url).resolve('simplecss/simplecss.wasm'));
+try { rules('a { b: c }'); } catch (error) { console.log(error.message); }
+await load(Promise.resolve(module));
+console.log(rules('a { b: c }')[0].declarations[0].value);
+await load(new WebAssembly.Module(module));
+await load(new Response(module, { headers: { 'Content-Type': 'application/wasm' } }));
+console.log(rules('a { b: c }').length);
+"""
+# The document is what parse5 makes of a page: a tree of plain objects, here by hand.
+TREES = """
+import css, { Tree, closest, matches, select, styles } from 'simplecss';
+const made = (tagName, attrs, ...childNodes) => {
+  const node = { nodeName: tagName, tagName, attrs, namespaceURI: 'http://www.w3.org/1999/xhtml', childNodes };
+  for (const each of childNodes) each.parentNode = node;
+  return node;
+};
+const text = value => ({ nodeName: '#text', value });
+const link = made('a', [{ name: 'href', value: 'x' }, { name: 'class', value: 'N' }], text('1'));
+const list = made('ul', [], made('li', [], link), { nodeName: '#comment', data: '' }, made('li', []));
+const page = { nodeName: '#document', mode: 'quirks', childNodes: [list] };
+list.parentNode = page;
+const shown = nodes => nodes.map(node => node.tagName).join(' ');
+console.log(shown(select(page, 'li:empty, .n:link')), shown(select(list, 'ul > li')), matches(link, '[href]'));
+console.log(closest(link, 'ul') === list, closest(link, 'p'), styles(page, 'a { b: c }').get(link)[0].value);
+// Halves of a character in two values, and one alone.
+const halves = new Tree([{ name: 'a', attributes: [['x', 'q\\ud83d'], ['y', '\\ude00é']] }]);
+console.log(halves.select('[x="q\\ufffd"][y="\\ufffdé"]').length, halves.select('[x="q\\ud83d"]').length);
+let items = [{ name: 'a' }];
+for (let index = 0; index < 20000; index += 1) items.push({ name: index % 2 ? 'a' : 'b', parent: index });
+const deep = new Tree(items);
+console.log(deep.select('a b:nth-child(1) > a').length, deep.elements.at(-1).closest(':root').index);
+for (const call of [
+  () => new Tree([{ name: '' }]), () => new Tree([{ name: 'a' }, { name: 'b' }, { name: 'c', parent: 0 }]),
+  () => select(halves, 'a,\\n\\u{1F600}:nth-child(2'), () => select({}, 'a'), () => css.lint(3),
+  () => css.rules('a{b:c}'.repeat(9), { limit: 8 }), () => styles(halves, '*{b:c}a{b:d}', { answerLimit: 1 }),
+  () => select(halves, 'a', { grammar: 'today' }),
+]) {
+  try { call(); } catch (error) { console.log(error.name, error.row ?? error.element, error.message); }
+}
+"""
+PARSED = """
+import { readFileSync } from 'node:fs';
+import { parse } from 'parse5';
+import { Tree, select } from 'simplecss';
+const [pages, selectors] = JSON.parse(readFileSync('work.json', 'utf8'));
+const found = pages.flatMap(text => {
+  const page = parse(text), tree = Tree.from(page);
+  return selectors.map(each => select(page, each).map(node => tree.elementOf(node).index));
+});
+console.log(JSON.stringify(found));
+"""
+TREES_PRINTED = """a li li li true
+true null c
+1 1
+10000 0
+TreeError 0 element 0: its name is empty
+TreeError 2 element 2: its parent is not one of the open elements
+SelectorError 2 2:2: `:nth-child(2` is not closed
+TypeError undefined a node of a DOM or of parse5, or a tree, is expected
+TypeError undefined a text is expected, not number
+LimitError undefined the rules would hold more declarations than the limit
+LimitError undefined more declarations than `limit`, or a longer answer than `answerLimit` allows
+TypeError undefined no grammar: today
+"""
+
+
+class Npm(Release):
+    """The npm package and the page."""
+
+    def unpacked(self) -> str:
+        """The folder of the package, where node finds it by its name."""
+        self.needs("node", "the npm package was not run")
+        unpack(self.made("simplecss-*.tgz"), self.folder)
+        folder = os.path.join(self.folder, "node_modules", "simplecss")
+        os.makedirs(os.path.dirname(folder))
+        os.rename(os.path.join(self.folder, "package"), folder)
+        return folder
+
+    def program(self, text: str, name: str = "main.mjs") -> str:
+        """What a program over the package prints."""
+        path = write(os.path.join(self.folder, name), text)
+        return self.works(["node", path], name, self.folder).stdout.decode()
+
+    def test_answers(self) -> None:
+        """The npm package answers as the proved library does."""
+        package = self.unpacked()
+        tree = write(os.path.join(self.folder, "page.json"), json.dumps(items_of_page()))
+        texts, wanted = answered()
+        library = Library()
+        due = [[*it, *library.modern_answers(text)] for it, text in zip(wanted, texts)]
         words = ["node", os.path.join(TOP, "tests", "release", "compare.mjs"), package, tree]
-        done = works(words, "node", input=framed(texts))
-        compare("the npm package and the proved library", texts, wanted, parts_of(done.stdout, 7))
-        bad = os.path.join(folder, "bad.css")
-        with open(bad, "w", encoding="utf-8") as file:
-            file.write("a < b { x: y }\n")
-        done = run(["node", os.path.join(package, "cli.mjs"), "lint", bad])
-        wanted = (1, f"{bad}:1:1: 'a < b': invalid ident\n")
-        expect((done.returncode, done.stdout.decode()) == wanted, f"simplecss lint: {done}")
-    browser = shutil.which("chromium") or shutil.which("chromium-browser")
-    if not browser:
-        left_out.append("the page was not opened: there is no chromium")
-        return
-    words = [browser, "--headless", "--no-sandbox", "--disable-gpu", f"--user-data-dir={folder}/profile",
-             "--virtual-time-budget=20000", "--dump-dom", "file://" + page]
-    dom = run(words).stdout.decode()
-    wanted = ('data-done="yes"', "(0,1,0) *[class~='note'] { color: red !important }", "at-rule not supported")
-    expect(all(it in dom for it in wanted), f"the page: {dom[-800:]}")
+        done = self.works(words, "node", input=framed(texts))
+        self.compare(
+            "the npm package and the proved library", texts, due, parts_of(done.stdout, 14)
+        )
+
+    def test_python(self) -> None:
+        """The npm package answers as the Python package does."""
+        package, texts = self.unpacked(), [*SHEETS, *modern_texts(count(TEXTS) // 10)]
+        answers = python_answers(texts)
+        words = ["node", os.path.join(TOP, "tests", "release", "answers.mjs"), package]
+        work = json.dumps({"items": items_of_page(), "texts": texts}).encode()
+        done = self.works(words, "answers.mjs", input=work)
+        shown = [it.encode() for it in texts]
+        self.compare("the npm and the Python package", shown, answers, json.loads(done.stdout))
+
+    def test_lint(self) -> None:
+        """The commands `lint` of both packages print the same."""
+        cli, paths = os.path.join(self.unpacked(), "cli.mjs"), []
+        for number, text in enumerate(SHEETS):
+            paths.append(write(os.path.join(self.folder, f"{number:02}.css"), text))
+        environment = {**os.environ, "PYTHONPATH": os.path.join(TOP, "python", "src")}
+        python = [sys.executable, "-m", "simplecss", "lint"]
+        grammars: List[List[str]] = [[], ["--grammar", "simplecss"]]
+        for words in grammars:
+            due = run([*python, *words, *paths], env=environment)
+            got = run(["node", cli, "lint", *words, *paths])
+            with self.subTest(words=words):
+                self.assertEqual((got.returncode, got.stderr), (due.returncode, due.stderr))
+                self.assertEqual(got.stdout.decode(), due.stdout.decode())
+                self.assertGreater(got.stdout.count(b"\n"), 20)
+
+    def test_command(self) -> None:
+        good = write(os.path.join(self.folder, "good.css"), "a { b: c }\n")
+        bad = write(os.path.join(self.folder, "bad.css"), "a < b { x: y }\n")
+        cli = os.path.join(self.unpacked(), "cli.mjs")
+        line = f"{bad}:1:1: 'a < b {{ x: y }}': invalid selector\n"
+        rows: List[Tuple[List[str], Tuple[int, str]]] = [
+            (["lint", good], (0, "")),
+            (["lint", bad, good], (1, line)),
+            (["lint", bad, os.path.join(self.folder, "none.css")], (4, line)),
+            (["lint", bad, os.path.join(self.folder, "page.html")], (4, line)),
+            (["lint"], (2, "")),
+            (["lint", "--grammar", "today", bad], (2, "")),
+            (["lint", "--x", bad], (2, "")),
+            ([], (2, "")),
+        ]
+        for words, wanted in rows:
+            with self.subTest(words=words):
+                done = run(["node", cli, *words])
+                self.assertEqual((done.returncode, done.stdout.decode()), wanted)
+                self.assertEqual(done.stderr == b"", wanted[0] < 2)
+
+    def test_entries(self) -> None:
+        """By its name in node and in a bundle, and from the module beside it."""
+        package = self.unpacked()
+        stated = read(package, "index.d.ts")
+        self.assertEqual(re.findall(r"\bany\b", re.sub(r"/\*.*?\*/", "", stated, flags=re.S)), [])
+        members = re.findall(r"^  readonly (\w+): typeof \1;", stated, re.MULTILINE)
+        named = re.findall(r"^export (?:class|function) (\w+)", stated, re.MULTILINE)
+        self.assertEqual(sorted(set(named)), members)
+        due = f"1 true {version()}\n{' '.join(members)}\n"
+        self.assertEqual(self.program(PROGRAM), due)
+        unread = "simplecss: call load first\nc\n1\n"
+        self.assertEqual(self.program(LOADING, "loading.mjs"), unread)
+        self.needs("esbuild", "the npm package in a bundle")
+        bundle = os.path.join(self.folder, "alone", "bundle.js")
+        for form in ("iife", "esm", "cjs"):
+            words = ["esbuild", "--bundle", "--log-level=error", f"--format={form}"]
+            words += [f"--outfile={bundle}", os.path.join(self.folder, "main.mjs")]
+            self.works(words, f"esbuild, {form}", self.folder)
+            with self.subTest(form=form):
+                os.replace(bundle, f"{bundle}.mjs") if form == "esm" else None
+                path = f"{bundle}.mjs" if form == "esm" else bundle
+                self.assertEqual(self.works(["node", path], form).stdout.decode(), due)
+
+    def test_types(self) -> None:
+        """The types allow what tests/release/types.mts does, and refuse what it says."""
+        self.unpacked()
+        self.needs("tsc", "the types of the npm package")
+        shutil.copy(os.path.join(TOP, "tests", "release", "types.mts"), self.folder)
+        words = ["tsc", "--noEmit", "--strict", "--target", "es2022", "--lib", "es2022,dom"]
+        words += ["--module", "nodenext", "--moduleResolution", "nodenext", "types.mts"]
+        self.works([*words, "--noUncheckedIndexedAccess"], "tsc", self.folder)
+
+    def test_trees(self) -> None:
+        self.unpacked()
+        self.assertEqual(self.program(TREES), TREES_PRINTED)
+
+    def test_parse5(self) -> None:
+        """Nodes of parse5 are found as the package for Python finds those of the page."""
+        self.unpacked()
+        if not os.path.exists(os.path.join(NODE_MODULES, "parse5")):
+            self.skipTest("the nodes of parse5: there is no node-parse5")
+        package()
+        import simplecss
+
+        pages = [text for kind, text in PAGES if kind == "text/html"]
+        due = []
+        for text in pages:
+            tree = simplecss.Tree.from_html(text)
+            due += [[it.index for it in tree.select(selector)] for selector in SELECTORS]
+        write(os.path.join(self.folder, "work.json"), json.dumps([pages, SELECTORS]))
+        for name in ("parse5", "entities"):
+            to = os.path.join(self.folder, "node_modules", name)
+            shutil.copytree(os.path.join(NODE_MODULES, name), to)
+        self.assertEqual(json.loads(self.program(PARSED, "parsed.mjs")), due)
+
+    def test_browser(self) -> None:
+        """Elements of a DOM are found as a browser finds them, and of declarations the same win."""
+        script = os.path.join(TOP, "tests", "release", "nodes.mjs")
+        work = {"pages": PAGES, "selectors": SELECTORS, "sheets": STYLED, "depth": 20_000}
+        page = NODES
+        for name, path in (("PACKAGE", self.unpacked()), ("SCRIPT", script)):
+            page = page.replace(name, pathlib.Path(path).as_uri())
+        found = browser_answers(page, work, ("--allow-file-access-from-files",))
+        if found is None:
+            self.skipTest("the nodes of a DOM: there is no chromium")
+        self.sweep(found[1], found[0])
+        self.assertGreater(found[1], 1000)
+
+    def test_page(self) -> None:
+        """The page works from a file."""
+        page = self.made("playground.html")
+        browser = shutil.which("chromium") or shutil.which("chromium-browser")
+        if not browser:
+            self.skipTest("the page was not opened: there is no chromium")
+        words = [
+            browser,
+            "--headless",
+            "--no-sandbox",
+            "--disable-gpu",
+            f"--user-data-dir={self.folder}/profile",
+        ]
+        dom = run(
+            [*words, "--virtual-time-budget=20000", "--dump-dom", "file://" + page]
+        ).stdout.decode()
+        for wanted in (
+            'data-done="yes"',
+            "<mark>a &lt; b { x: y }</mark>",
+            "5:1: 'a &lt; b { x: y }': invalid selector",
+            "It matches 3 of 8 elements.",
+            '<code>.note</code><span class="faint"> (0,1,0)</span>',
+            '<s title="another declaration wins">color: blue;</s>',
+        ):
+            with self.subTest(wanted=wanted):
+                self.assertIn(wanted, dom)
 
 
-def second_checkout(folder):
-    """The files of this checkout elsewhere, as new ones in another order, with the parts that are built."""
+def items_of_page() -> List[Dict[str, Any]]:
+    """The elements of `PAGE` as items of a tree."""
+    items: List[Dict[str, Any]] = []
+    opened: List[int] = []
+    for index, (depth, name, pairs) in enumerate(PAGE):
+        del opened[depth:]
+        parent = opened[-1] if opened else None
+        items.append({"name": name, "attributes": dict(pairs), "parent": parent})
+        opened.append(index)
+    return items
+
+
+def python_answers(texts: Sequence[str]) -> List[Any]:
+    """What the Python package answers to each text by both grammars, as answers.mjs prints it."""
+    package()
+    import simplecss
+
+    tree = simplecss.Tree(simplecss.Item(**it) for it in items_of_page())
+    return [
+        json.loads(json.dumps([answers_to(text, tree, it) for it in ("modern", "simplecss")]))
+        for text in texts
+    ]
+
+
+def answers_to(text: str, tree: Any, grammar: str) -> List[Any]:
+    """What the Python package answers to a text by a grammar."""
+    import simplecss
+    from simplecss import _lint
+
+    found = _lint.findings("a.css", text, False, grammar)
+    sheet = simplecss.StyleSheet(text, text + "é", grammar=grammar)
+    return [
+        [[*it[1:], it.kind, it.message] for it in found],
+        simplecss.declarations(text),
+        sheet.rules,
+        sheet.unsupported,
+        sheet.at_rules,
+        sheet.skipped,
+        sheet.match(tree),
+        sheet.styles(tree, media=lambda query: len(query) % 2 == 0),
+        sheet.style(tree, "color"),
+        tried(lambda: [it.index for it in tree.select(text, grammar=grammar)]),
+        tried(lambda: shown_selector(simplecss.Selector(text, grammar=grammar), tree)),
+        tried(lambda: [index_of(it.closest(text, grammar=grammar)) for it in tree]),
+    ]
+
+
+def tried(call: Callable[[], Any]) -> Any:
+    """What a call returns, or where a selector is refused, and why."""
+    from simplecss import SelectorError
+
+    try:
+        return call()
+    except SelectorError as error:
+        return [error.row, error.column, error.reason]
+
+
+def index_of(element: Any) -> Optional[int]:
+    """The index of an element, if there is one."""
+    return None if element is None else int(element.index)
+
+
+def shown_selector(selector: Any, tree: Any) -> List[Any]:
+    """What a selector is, and which elements it matches."""
+    matches = [selector.matches(it) for it in tree]
+    return [str(selector), selector.specificity, selector.pseudo_element, matches]
+
+
+def second_checkout(folder: str, built: Sequence[str]) -> None:
+    """The files of this checkout elsewhere, as new ones in another order, with links to parts that
+    are built."""
     words = ["ls-files", "-z", "--cached", "--others", "--exclude-standard"]
     names = run(["git", "-c", f"safe.directory={TOP}", *words]).stdout.decode().split("\0")
     for name in reversed(names[:-1]):
@@ -621,62 +1324,36 @@ def second_checkout(folder):
         os.makedirs(os.path.dirname(copy), exist_ok=True)
         if os.path.isfile(path):
             shutil.copyfile(path, copy)
-    for name in ("out", "crates/cssq_cli/out"):
+    for name in built:
         os.symlink(os.path.join(TOP, name), os.path.join(folder, name))
 
 
-def test_twice(folder):
-    """A second checkout of the commit makes the same bytes."""
-    kit = os.path.dirname(run(["rt", "doc"]).stdout.decode().strip())
-    checkout, again = os.path.join(folder, "checkout"), os.path.join(folder, "again")
-    if not has("git", "the second release"):
-        return
-    second_checkout(checkout)
-    when = run(["git", "-c", f"safe.directory={TOP}", "log", "-1", "--format=%ct"]).stdout.decode().strip()
-    environment = {"SOURCE_DATE_EPOCH": when, **os.environ, "LC_ALL": "C", "TZ": "Asia/Tokyo"}
-    words = [sys.executable, os.path.join(checkout, "tools", "release.py"), kit, again]
-    done = run(words, env=environment, umask=0o077)
-    expect(done.returncode == int(b"not made" in done.stderr), f"the second release: {done}")
-    names = sorted(os.listdir(again))
-    expect(names == sorted(os.listdir(MADE)), f"the second release makes {names}")
-    for path in sorted(glob.glob(os.path.join(again, "*"))):
-        with open(path, "rb") as first, open(os.path.join(MADE, os.path.basename(path)), "rb") as second:
-            expect(first.read() == second.read(), f"{os.path.basename(path)} has other bytes in a second checkout")
-    with open(os.path.join(MADE, "SHA256SUMS"), encoding="utf-8") as sums:
-        for line in sums:
+class Twice(Release):
+    def test_second_checkout(self) -> None:
+        """A second checkout of the commit makes the same bytes."""
+        self.made("SHA256SUMS")
+        self.needs("git", "the second release")
+        checkout, again = os.path.join(self.folder, "checkout"), os.path.join(self.folder, "again")
+        second_checkout(checkout, ("out", "crates/cssq_cli/out"))
+        when = (
+            run(["git", "-c", f"safe.directory={TOP}", "log", "-1", "--format=%ct"])
+            .stdout.decode()
+            .strip()
+        )
+        environment = {"SOURCE_DATE_EPOCH": when, **os.environ, "LC_ALL": "C", "TZ": "Asia/Tokyo"}
+        words = [sys.executable, os.path.join(checkout, "tools", "release.py"), kit(), again]
+        done = run(words, env=environment, umask=0o077)
+        self.assertEqual(done.returncode, int(b"not made" in done.stderr), done.stderr[-1500:])
+        self.assertEqual(sorted(os.listdir(again)), sorted(os.listdir(MADE)))
+        for path in sorted(glob.glob(os.path.join(again, "*"))):
+            with self.subTest(name=os.path.basename(path)):
+                made = pathlib.Path(MADE, os.path.basename(path)).read_bytes()
+                self.assertTrue(pathlib.Path(path).read_bytes() == made, "it has other bytes")
+
+    def test_sums(self) -> None:
+        for line in pathlib.Path(self.made("SHA256SUMS")).read_text(encoding="utf-8").splitlines():
             total, _, name = line.strip().partition("  ")
-            with open(os.path.join(MADE, name), "rb") as file:
-                expect(hashlib.sha256(file.read()).hexdigest() == total, f"the sum of {name}")
-
-
-def processor_time():
-    """The processor time of this process and of those that it started, in seconds."""
-    both = map(resource.getrusage, (resource.RUSAGE_SELF, resource.RUSAGE_CHILDREN))
-    return sum(it.ru_utime + it.ru_stime for it in both)
-
-
-def main(words):
-    """Runs the parts that the words name."""
-    crate = functools.partial(test_crate, words.pop(0))
-    parts = {"eraser": test_eraser, "crate": crate, "wheel": test_wheel, "program": test_program, "npm": test_npm,
-             "twice": test_twice, "speed": test_speed}
-    if not words:
-        done = run([os.path.join(TOP, "build"), "release"])
-        lines = [line for line in done.stderr.decode().splitlines() if "not made" in line]
-        left_out.extend(lines)
-        shown = done.stderr.decode()[-1500:]
-        expect(done.returncode == 0 or bool(lines), f"./build release: status {done.returncode}: {shown}")
-    for name in words or [name for name in parts if name != "speed"]:
-        begun = processor_time()
-        with tempfile.TemporaryDirectory() as folder:
-            parts[name](folder)
-        print(f"{name}: {processor_time() - begun:.0f} s of a processor", flush=True)
-    for line in left_out:
-        print("left out:", line)
-    return checks.end()
-
-
-if __name__ == "__main__":
-    if not sys.argv[1:] or not os.access(sys.argv[1], os.X_OK):
-        sys.exit(__doc__)
-    sys.exit(main([os.path.abspath(sys.argv[1]), *sys.argv[2:]]))
+            with self.subTest(name=name):
+                self.assertEqual(
+                    hashlib.sha256(pathlib.Path(MADE, name).read_bytes()).hexdigest(), total
+                )

@@ -1,32 +1,23 @@
-#!/usr/bin/env python3
-"""Compares what the Python package reads of real style sheets with tinycss2: the pairs of a selector and a declaration,
-contents of `@media` and other group rules included, and pseudo-elements apart. Each pair of tinycss2 whose selector the
-library reads should be one of the package, but for one in a thousand, and none else. What docs/DIFFERENCES.md shows of
-today's grammar is what it reads.
+"""What the Python package reads of real style sheets beside tinycss2: the pairs of a selector and a
+declaration, contents of `@media` and other group rules included, and pseudo-elements apart. And
+what docs/DIFFERENCES.md shows of the modern grammar.
 
-    sheets.py [--sheets FOLDER] [--count N]
-
-The sheets are N of those below FOLDER, else 150 of those that Debian's packages have put into /usr/share, the same in
-each run. The library is built by `./build library`. The last line is 'N passed, M failed'.
+The library is built by `./build library`. tinycss2 may be Debian's alone: then /usr/bin/python3
+runs these tests.
 """
 from __future__ import annotations
 
-import argparse
-import os
+import importlib.util
 import random
 import re
-import subprocess
-import sys
 from collections import Counter
 from typing import Any, Dict, Iterator, List, Optional, Sequence, Tuple
 
-TOP = os.path.dirname(os.path.dirname(os.path.abspath(__file__)))
-sys.path.insert(0, os.path.join(TOP, "python"))
+from tests.common import Case, by_debian, count, package, read, real_sheets, sheets_folder
 
+package()
 import simplecss  # noqa: E402
-from common import Counts, real_sheets  # noqa: E402
 
-DEBIAN = "/usr/bin/python3"
 GROUPS = ("media", "supports", "layer", "container", "document", "-moz-document")
 # The pseudo-elements that one colon may precede.
 OLD = ("before", "after", "first-line", "first-letter")
@@ -84,7 +75,9 @@ def rules_in(nodes: Sequence[Any]) -> Iterator[Any]:
     for node in nodes:
         if node.type == "qualified-rule":
             yield node
-        elif node.type == "at-rule" and node.content is not None and node.lower_at_keyword in GROUPS:
+        elif (
+            node.type == "at-rule" and node.content is not None and node.lower_at_keyword in GROUPS
+        ):
             yield from rules_in(tinycss2.parse_rule_list(node.content))
 
 
@@ -93,7 +86,11 @@ def declared(nodes: Sequence[Any]) -> Iterator[Tuple[str, str, bool]]:
     import tinycss2
 
     for one in tinycss2.parse_declaration_list(nodes, skip_comments=True, skip_whitespace=True):
-        if one.type != "declaration" or is_faulty(one.value) or any(is_literal(node, "!") for node in one.value):
+        if (
+            one.type != "declaration"
+            or is_faulty(one.value)
+            or any(is_literal(node, "!") for node in one.value)
+        ):
             continue
         name = one.name if one.name.startswith("--") else one.lower_name
         value = plain(one.value)
@@ -102,7 +99,8 @@ def declared(nodes: Sequence[Any]) -> Iterator[Tuple[str, str, bool]]:
 
 
 def printed(selector: str, known: Dict[str, Optional[str]]) -> Optional[str]:
-    """Returns a selector as the library prints it, or `None` if it does not read it. What is known is kept."""
+    """Returns a selector as the library prints it, or `None` if it does not read it. What is known
+    is kept."""
     if selector not in known:
         try:
             known[selector] = str(simplecss.Selector(selector))
@@ -145,72 +143,50 @@ def our_pairs(text: str, known: Dict[str, Optional[str]]) -> Counter[Pair]:
     return found
 
 
-def compare(texts: Sequence[str], counts: Counts) -> None:
-    """Compares the pairs of sheets, and prints at most ten that differ."""
-    pairs = others = 0
-    missing: Counter[Pair] = Counter()
-    added: Counter[Pair] = Counter()
-    known: Dict[str, Optional[str]] = {}
-    for text in texts:
-        theirs, other = their_pairs(text, known)
-        ours = our_pairs(text, known)
-        pairs += sum(theirs.values())
-        others += other
-        missing += theirs - ours
-        added += ours - theirs
-    for line in [f"missing: {pair}" for pair in missing] + [f"added: {pair}" for pair in added][:10]:
-        print(line[:200])
-    lost, more = sum(missing.values()), sum(added.values())
-    read = f"of {pairs} pairs of tinycss2 {lost} are missing, and {more} are not of tinycss2"
-    print(f"{len(texts)} sheets: {read}; {others} pairs have other selectors")
-    counts.expect(lost * 1000 <= pairs, f"{lost} of {pairs} pairs are missing")
-    counts.expect(more == 0, f"{more} pairs are not of tinycss2")
-
-
-def check_document(counts: Counts) -> None:
-    """Compares what docs/DIFFERENCES.md shows of today's grammar: what is kept of a text, or `unmatched`."""
-    with open(os.path.join(TOP, "docs", "DIFFERENCES.md"), encoding="utf-8") as file:
-        rows = re.findall(r"^\| `([^`]+)` \| [^|]* \|([^|]*)\| [^|]* \|$", file.read(), re.MULTILINE)
-    for text, shown in rows:
-        sheet = simplecss.StyleSheet(text)
-        lines = re.findall(r"`([^`]+)`", shown)
-        if lines:
-            holds = str(sheet).split("\n") == lines
-        else:
-            holds = not sheet.skipped and shown.strip() == ("unmatched" if sheet.unmatched else "")
-        counts.expect(holds, f"docs/DIFFERENCES.md: {text!r} has {str(sheet)!r}, and is shown as {shown!r}")
-    counts.expect(len(rows) > 15, f"docs/DIFFERENCES.md shows {len(rows)} texts")
-
-
-def has_tinycss2() -> bool:
-    """Whether there is tinycss2. Runs the script by Debian's Python, if only that has it."""
-    try:
-        import tinycss2  # noqa: F401
-    except ImportError:
-        is_other = os.path.exists(DEBIAN) and os.path.realpath(sys.executable) != os.path.realpath(DEBIAN)
-        words = [DEBIAN, "-c", "import tinycss2"]
-        if is_other and not subprocess.run(words, stderr=subprocess.DEVNULL, check=False).returncode:
-            os.execv(DEBIAN, [DEBIAN, *sys.argv])
-        return False
-    return True
-
-
-def main() -> int:
-    parser = argparse.ArgumentParser()
-    parser.add_argument("--count", type=int, default=150)
-    parser.add_argument("--sheets", default="/usr/share")
-    words = parser.parse_args()
-    is_compared = has_tinycss2()
-    counts = Counts()
-    check_document(counts)
-    if is_compared:
-        texts = real_sheets(words.sheets)
+class Sheets(Case):
+    def test_real_sheets(self) -> None:
+        """Each pair of tinycss2 whose selector the library reads is one of the package, but for one
+        in a thousand, and none else."""
+        if not importlib.util.find_spec("tinycss2"):
+            return by_debian(self, "tinycss2", "real sheets beside tinycss2, by the Python package")
+        texts = real_sheets(sheets_folder())
         random.Random(1).shuffle(texts)
-        compare(texts[: words.count], counts)
-    else:
-        print("left out: real sheets beside tinycss2, by the Python package, since python3-tinycss2 is missing")
-    return counts.end()
+        known: Dict[str, Optional[str]] = {}
+        pairs = others = 0
+        missing: Counter[Pair] = Counter()
+        added: Counter[Pair] = Counter()
+        texts = texts[: count(150)]
+        for text in texts:
+            theirs, other = their_pairs(text, known)
+            ours = our_pairs(text, known)
+            pairs += sum(theirs.values())
+            others += other
+            missing += theirs - ours
+            added += ours - theirs
+        lost = sum(missing.values())
+        print(
+            f"{len(texts)} sheets: {pairs} pairs of tinycss2, {lost} of them missing; {others} have"
+            " other selectors"
+        )
+        with self.subTest("missing"):
+            self.assertLessEqual(lost * 1000, pairs, "\n".join(f"{pair}"[:200] for pair in missing))
+        with self.subTest("added"):
+            self.assertEqual(list(added)[:10], [])
 
 
-if __name__ == "__main__":
-    sys.exit(main())
+class Differences(Case):
+    def test_modern_grammar(self) -> None:
+        """What docs/DIFFERENCES.md shows of modern grammar: what is kept of a text, or
+        `unsupported`."""
+        text = read("docs", "DIFFERENCES.md")
+        rows = re.findall(r"^\| `([^`]+)` \| [^|]* \|([^|]*)\| [^|]* \|$", text, re.MULTILINE)
+        for text, shown in rows:
+            with self.subTest(text=text):
+                sheet = simplecss.StyleSheet(text)
+                lines = re.findall(r"`([^`]+)`", shown)
+                if lines:
+                    self.assertEqual(str(sheet).split("\n"), lines)
+                else:
+                    self.assertEqual(list(sheet.skipped), [])
+                    self.assertEqual(shown.strip(), "unsupported" if sheet.unsupported else "")
+        self.assertGreater(len(rows), 15)

@@ -1,69 +1,133 @@
-#!/usr/bin/env python3
-"""The reader of today's sheets beside tinycss2: statements and declarations of random texts, of a table and of real sheets.
+"""The reader of modern style sheets beside tinycss2, soupsieve and a browser: statements and
+declarations of random texts, of a table and of real sheets.
 
-    syntax.py TODAY [--count N] [--sheets FOLDER]    TODAY is the built `example_today`; N random texts of each kind, else 4000
-
-tinycss2 is Debian's `python3-tinycss2`, used by /usr/bin/python3. Without it only the table is compared, and a line says so. Real
-sheets are those of FOLDER, else those that Debian's packages have put into /usr/share. The texts are equal in each run. The last
-line is 'N passed, M failed'.
+The program is `tests_driver`. tinycss2 is Debian's `python3-tinycss2`, used by /usr/bin/python3;
+what is missing is left out. The texts are equal in each run.
 """
 from __future__ import annotations
 
-import argparse
 import json
-import os
 import random
 import re
 import subprocess
-import sys
+import unittest
 from typing import Any, Iterator, List, Optional, Sequence, Tuple
 
-from common import Counts, browser_answers, real_sheets
+from tests.common import (
+    DEBIAN,
+    Case,
+    browser_answers,
+    count,
+    has_modules,
+    program,
+    real_sheets,
+    sheets_folder,
+)
 
-# What the program prints of an item, and what the tables have of a declaration, a statement and a selector.
+# What the program prints of an item, and what the tables have of a declaration, a statement and a
+# selector.
 Fields = Tuple[str, ...]
 Declared = Tuple[str, str, str]
 Stated = Tuple[str, str, Optional[str]]
 
 # The pieces of random texts: what is rare in style sheets comes as often as what is common.
+# fmt: off
 PIECES = (
-    "a", "b", "\xe9", "ab", "url(", "URL(", "Url( ", "xurl(", "f(", "-f(", "--x", "-", "--", "(", ")", "[", "]", "{", "}", ";", ";", ":", ":", ":",
-    "!", "!important", "! IMPORTANT", "!/**/important", "'", '"', "\\", "\\)", "\\'", "\\a ", "\\a\n", "\\61\r\n", "\n", "\r", "\f", "\r\n", " ", " ",
-    "/*", "*/", "/**/", "/", "*", "<!--", "-->", "#", "#a", "@", "@m", "1", "1.5", "1e3", "1e-", "5px", ".", ",", "+", "$", "url(x)", "'s'", "\\",
-    "\x0b", "\x7f", "a:b", "c:d;", "x:'y'",
+    "a", "b", "\xe9", "ab", "url(", "URL(", "Url( ", "xurl(", "f(", "-f(", "--x", "-", "--", "(",
+    ")", "[", "]", "{", "}", ";", ";", ":", ":", ":", "!", "!important", "! IMPORTANT",
+    "!/**/important", "'", '"', "\\", "\\)", "\\'", "\\a ", "\\a\n", "\\61\r\n", "\n", "\r", "\f",
+    "\r\n", " ", " ", "/*", "*/", "/**/", "/", "*", "<!--", "-->", "#", "#a", "@", "@m", "1", "1.5",
+    "1e3", "1e-", "5px", ".", ",", "+", "$", "url(x)", "'s'", "\\", "\x0b", "\x7f", "a:b", "c:d;",
+    "x:'y'",
 )
+# fmt: on
+# fmt: off
 MORE = PIECES + (
-    "{", "}", "{}", "{a:b}", "@media x", "@import 'y';", "a", "b ", ",", ".c", "#d", "<!--", "-->", "@f{g{h:i}}", "}", "}",
+    "{", "}", "{}", "{a:b}", "@media x", "@import 'y';", "a", "b ", ",", ".c", "#d", "<!--", "-->",
+    "@f{g{h:i}}", "}", "}",
 )
+# fmt: on
+
+BRACELESS = tuple(piece for piece in PIECES if piece != "{")
+
+# The pieces of random blocks for a browser: declarations, and rules among them.
+# fmt: off
+BLOCK = (
+    "color:red", "color:blue;", "color:green;", "width:1px;", "height:2px", "width:2px\\\n;",
+    "colo\\72:red;", "color:redd;", "--x:{q:r};", "--x: (;);", "--y:", ";", ";", ";", " ", "5", ":",
+    "color:", "!x", "p q", "color:x'\n", "content:'a\n", "p{", ".b{", "& q{", "> p{", "span:hover{",
+    "color:hover{", "p:not(.z){", "--x:hover{", "@media all{", "@foo x{", "p'\n{", "a:{", "}", "}",
+    "}", "};", "\n", "/*", "*/", "(", ")", "[", "]", "'", "\\", "!important", "!imp\\6f rtant;", "url(",
+    "<!--", "-->",
+)
+# fmt: on
+# What a browser keeps of the declarations of a sheet's first rule, and of these declarations, of
+# which each that is none alone is left out. It writes a value that is open again with an end.
+BLOCKS = """
+<!DOCTYPE html><meta charset=utf-8><script id=input type="application/json">%s</script>
+<script>
+function sheet(text) { const made = new CSSStyleSheet(); made.replaceSync(text); return made.cssRules; }
+function kept(text) { const rules = sheet("x{" + text); return rules.length ? rules[0].style.cssText : ""; }
+const asked = new Map();
+function is_one(text) { if (!asked.has(text)) asked.set(text, kept(text) != ""); return asked.get(text); }
+function own(rule) {
+  if (!rule || rule.selectorText != "a") return null;
+  const runs = Array.from(rule.cssRules).filter(one => one.constructor.name == "CSSNestedDeclarations");
+  return kept(kept([rule.style, ...runs.map(one => one.style)].map(one => one.cssText).join(" ")));
+}
+const texts = JSON.parse(document.getElementById("input").textContent);
+const answers = texts.map(([text, found]) =>
+  [own(sheet(text)[0]), found === null ? null : kept(kept(found.filter(is_one).join(";")))]);
+document.documentElement.textContent = "ANS" + "WER" + JSON.stringify(answers) + "END";
+</script>
+"""
 
 # The pieces of random style attributes for a browser.
+# fmt: off
 STYLE = (
-    "color", "width", "content", "--x", ":", ":", ":", ":", ";", ";", "red", "1px", "url(x", "url('y')", "calc(1px + (2px", ")", "'s", "'", '"',
-    "(", "[", "]", "{", "}", "!important", " ", "/*", "*/", "c\\6f lor", "rgb(1,2,3)", ",", "color:red;", "width:1px;", "content:'a", "--y:{a;b}",
+    "color", "width", "content", "--x", ":", ":", ":", ":", ";", ";", "red", "1px", "url(x",
+    "url('y')", "calc(1px + (2px", ")", "'s", "'", '"', "(", "[", "]", "{", "}", "!important", " ",
+    "/*", "*/", "c\\6f lor", "rgb(1,2,3)", ",", "color:red;", "width:1px;", "content:'a",
+    "--y:{a;b}",
 )
+# fmt: on
 STYLES = """
 <!DOCTYPE html><meta charset=utf-8><script id=input type="application/json">%s</script>
 <script>
 const style = document.createElement("p").style;
 function kept(text) { style.cssText = ""; style.cssText = text; return style.cssText; }
-const answers = JSON.parse(document.getElementById("input").textContent).map(pair => pair.map(kept));
+const pairs = JSON.parse(document.getElementById("input").textContent);
+const answers = pairs.map(pair => pair.map(kept));
 document.documentElement.textContent = "ANS" + "WER" + JSON.stringify(answers) + "END";
 </script>
 """
 
 # The pieces of random declarations with escapes in their names.
+# fmt: off
 ESCAPES = (
-    "\\", "\\61", "\\61 ", "\\0", "\\000061", "\\0000611", "\\10ffff\n", "\\110000\t", "\\ffffff", "\\e9\r\n", "\\\xe9", "\\g",
-    "\\\\", "\\:", "\\;", "a", "F", "0", "-", "_", "\xe9", " ", ":b;", ":b;", ":b;c",
+    "\\", "\\61", "\\61 ", "\\0", "\\000061", "\\0000611", "\\10ffff\n", "\\110000\t", "\\ffffff",
+    "\\e9\r\n", "\\\xe9", "\\g", "\\\\", "\\:", "\\;", "a", "F", "0", "-", "_", "\xe9", " ", ":b;",
+    ":b;", ":b;c",
 )
+# fmt: on
 
 # Declarations, and their names with the escapes decoded. (tinycss2 keeps surrogates.)
 NAMES = (
-    ("a\\62 c:d", "abc"), ("\\000061b:c", "ab"), ("\\61\r\nb:c", "ab"), ("\\0:b", "\ufffd"), ("\\d800 a:b", "\ufffda"), ("\\dfff:b", "\ufffd"),
-    ("\\110000:b", "\ufffd"), ("\\10ffff:b", "\U0010ffff"), ("\\\xe9:b", "\xe9"), ("\\\\\\::b", "\\:"), ("col\\6fr:b", "color"),
+    ("a\\62 c:d", "abc"),
+    ("\\000061b:c", "ab"),
+    ("\\61\r\nb:c", "ab"),
+    ("\\0:b", "\ufffd"),
+    ("\\d800 a:b", "\ufffda"),
+    ("\\dfff:b", "\ufffd"),
+    ("\\110000:b", "\ufffd"),
+    ("\\10ffff:b", "\U0010ffff"),
+    ("\\\xe9:b", "\xe9"),
+    ("\\\\\\::b", "\\:"),
+    ("col\\6fr:b", "color"),
 )
 
-# Texts of declarations, with each declaration that is read: its name, its value, and whether it is important and open.
+# Texts of declarations, with each declaration that is read: its name, its value, and whether it is
+# important and open.
 DECLARATIONS: Tuple[Tuple[str, List[Declared]], ...] = (
     ("", []),
     (";; /**/ ; ;", []),
@@ -74,7 +138,11 @@ DECLARATIONS: Tuple[Tuple[str, List[Declared]], ...] = (
     ("@import 'foo.css'; a:b; @import 'bar.css'", [("a", "b", "")]),
     ("@media screen { div{;}} a:b;; @media print{div{", [("a", "b", "")]),
     ("a:f(b;c)", [("a", "f(b;c)", "")]),
-    ("a:[b;c]d;e:{f;g}", [("a", "[b;c]d", ""), ("e", "{f;g}", "")]),
+    ("a:[b;c]d;--e:{f;g}", [("a", "[b;c]d", ""), ("--e", "{f;g}", "")]),
+    ("a:[{b}]c", [("a", "[{b}]c", "")]),
+    ("span:hover{color:red}color:blue;a:b", [("a", "b", "")]),
+    ("a:b{c}d:e;f:g", [("f", "g", "")]),
+    ("@media x{a:b}c:d", [("c", "d", "")]),
     ("a:'b;c'", [("a", "'b;c'", "")]),
     ("a:'b\nc;d:e", [("d", "e", "")]),
     ("a:b;c:'d", [("a", "b", ""), ("c", "'d", "open")]),
@@ -90,12 +158,29 @@ DECLARATIONS: Tuple[Tuple[str, List[Declared]], ...] = (
     ("a/**/:/**/b/**/!/**/IMPORTANT/**/", [("a", "b", "important")]),
     ("a\\:b:c", [("a\\:b", "c", "")]),
     ("a:b\\;c;d:e", [("a", "b\\;c", ""), ("d", "e", "")]),
+    ("a:b\\\n;c:d", [("a", "b\\\n", ""), ("c", "d", "")]),
+    ("a:b!imp\\6f rtant;c:d!importan\\74", [("a", "b", "important"), ("c", "d", "important")]),
+    ("a:b!\\69\\6dportant;c:d!import\\61", [("a", "b", "important")]),
     ("a:/*b;c", []),
     ("a:b/*c", [("a", "b", "")]),
     ("1a:b;-1:c;-a:d;--:e", [("-a", "d", ""), ("--", "e", "")]),
 )
 
-# Texts of sheets, with each statement: `@` and the name of an at-rule, or nothing; its prelude; and its block, or None.
+# Texts of blocks, in which rules may be, with the same (CSS Syntax 3, editor's draft, "consume a
+# block's contents").
+BLOCKS_READ = (
+    ("span:hover{color:red}color:blue", [("color", "blue", "")]),
+    (" b{c:d} color:red; margin:0 ", [("color", "red", ""), ("margin", "0", "")]),
+    ("a:b{c}d:e", [("d", "e", "")]),
+    ("5px {; c:d } e:f", [("e", "f", "")]),
+    ("a b;c{d}e:f", [("e", "f", "")]),
+    ("--x:hover{..} c:d; e:f", [("--x", "hover{..} c:d", ""), ("e", "f", "")]),
+    ("--x y{a:b}c:d", [("c", "d", "")]),
+    ("--x:'a\n{b:c};d:e", [("d", "e", "")]),
+)
+
+# Texts of sheets, with each statement: `@` and the name of an at-rule, or nothing; its prelude; and
+# its block, or None.
 STATEMENTS: Tuple[Tuple[str, List[Stated]], ...] = (
     ("", []),
     (" /**/ ", []),
@@ -115,6 +200,63 @@ STATEMENTS: Tuple[Tuple[str, List[Stated]], ...] = (
     ("a{b/*}*/c}d{}", [("", "a", "b/*}*/c"), ("", "d", "")]),
     ("a{b\\}c}d{}", [("", "a", "b\\}c"), ("", "d", "")]),
     ("@a\\62 c d{}", [("@a\\62 c", "d", "")]),
+)
+
+# Texts of declarations, and these printed as one list.
+LISTS = (
+    ("", ""),
+    ("color:red", "color: red;"),
+    (" a : b c ! important ;; --x:{y}", "a: b c!important; --x: {y};"),
+    ("a:b; c; d:e", "a: b; d: e;"),
+    ("--x:;a:'b'", "--x: ; a: 'b';"),
+)
+
+# Declarations whose values the end of the text closes, and the same with what closes them. A bracket
+# that closes nothing makes a declaration invalid.
+CLOSED = (
+    ("a:red", "a: red; "),
+    ("a:'b", "a: 'b'; "),
+    ("a:url(b", "a: url(b); "),
+    ("a:calc(1px + [2", "a: calc(1px + [2]); "),
+    ("a:(b /* c", "a: (b /* c*/); "),
+    ("--a:{'b", "--a: {'b'}; "),
+    ("a:b)", ""),
+)
+
+# A sheet, and its selectors in the order of the cascade: by specificity (Selectors 4, section 17),
+# then by source, but for those in `@media print`. Of its last rule set one selector is invalid, so
+# the set is dropped (Selectors 4, section 3.9). Its rules have eight declarations.
+SHEET = """p.b, :is(#x, .b) + p { color: red; margin: 1px }
+p { color: green !important; margin: 2px }
+@media print { p { color: black !important } }
+@supports (a: b) { p:not(.b) { COLOR: blue } }
+p::before { color: gray !important }
+div, p > > a { color: white !important }"""
+ORDER = ["p", "p::before", "p.b", "p:not(.b)", ":is(#x, .b) + p"]
+TOO_MANY = ["too many declarations"]
+
+# Sheets, and of each rule set the preludes of its group rules, its prelude, and its declarations in
+# their place: a newline that ends a string is the last byte of a block, and brackets are counted
+# from the brace of each block.
+PLACED: Tuple[Tuple[str, List[Tuple[str, str, List[Declared]]]], ...] = (
+    ('a{content:"foo;\n}b{c:d}', [("", "a", []), ("", "b", [("c", "d", "")])]),
+    ("a{b:c;d:'e\r\n}", [("", "a", [("b", "c", "")])]),
+    ("a{b:c\\\n}", [("", "a", [("b", "c\\\n", "")])]),
+    ("@m\\65 dia x{a{b:c}}", [("x,", "a", [("b", "c", "")])]),
+    ("@-m\\6fz-document x{@\\6c ayer{a{b:c}}}", [("x,,", "a", [("b", "c", "")])]),
+    (
+        "@media x{a{b:" + "(" * 64 + ")" * 64 + "}c{d:e}}f{g:h}",
+        [
+            ("x,", "a", [("b", "(" * 64 + ")" * 64, "")]),
+            ("x,", "c", [("d", "e", "")]),
+            ("", "f", [("g", "h", "")]),
+        ],
+    ),
+    (
+        "a{b:" + "(" * 99 + "[" + "}" + ")" * 99 + ";c:d}e{f:g}",
+        [("", "a", [("c", "d", "")]), ("", "e", [("f", "g", "")])],
+    ),
+    ("@media{" * 65 + "a{b:c}" + "}" * 65 + "d{e:f}", [("", "d", [("e", "f", "")])]),
 )
 
 # Lists of selectors, and why a rule set of each is dropped, by the grammar of Selectors 4.
@@ -157,45 +299,105 @@ SELECTORS = (
     ("1", "invalid selector"),
     ("50%", "invalid selector"),
     ("#\\31, .\\31 a, \\61", ""),
+    ("a, b\\\n", "invalid selector"),
+    ("a\\\n, b", "invalid selector"),
+    ("a, b -->c", "invalid selector"),
     ("a b)", "stray bracket"),
     ("a['b\n]", "bad string"),
     ("a:b(url(c d))", "bad url"),
 )
 
-# Lists of selectors, and of each part whether the library reads it, as the standard means it, and its pseudo-element.
+# Lists of selectors, and of each part whether the library reads it, as the standard means it, and
+# its pseudo-element.
 READ = (
     ("a, b > c + d e, *", [("a", True, ""), ("b > c + d e", True, ""), ("*", True, "")]),
-    ("a.b#c[d][e=f][g|='h'][i~=j]:first-child:hover", [("a.b#c[d][e=f][g|='h'][i~=j]:first-child:hover", True, "")]),
-    ("p/**/.k, p /**/ .k", [("p/**/.k", False, ""), ("p /**/ .k", True, "")]),
+    (
+        "a.b#c[d][e=f][g|='h'][i~=j]:first-child:hover",
+        [("a.b#c[d][e=f][g|='h'][i~=j]:first-child:hover", True, "")],
+    ),
+    ("p/**/.k, p /**/ .k", [("p/**/.k", True, ""), ("p /**/ .k", True, "")]),
     ("/**/ a /**/, b/**/", [("a", True, ""), ("b", True, "")]),
-    ("p::before, :first-line, ::-x-y(z)", [("p::before", True, "before"), (":first-line", True, "first-line"), ("::-x-y(z)", True, "-x-y(z)")]),
-    ("a:not(b)::after, c ::before", [("a:not(b)::after", True, "after"), ("c ::before", False, "")]),
+    (
+        "p::before, :first-line, ::-x-y(z)",
+        [
+            ("p::before", True, "before"),
+            (":first-line", True, "first-line"),
+            ("::-x-y(z)", True, "-x-y(z)"),
+        ],
+    ),
+    (
+        "a:not(b)::after, c ::before",
+        [("a:not(b)::after", True, "after"), ("c ::before", False, "")],
+    ),
     ("a::before:hover", [("a::before:hover", False, "")]),
-    (":lang(en), :lang('en'), :lang(en, fr), :lang( en )", [
-        (":lang(en)", True, ""), (":lang('en')", True, ""), (":lang(en, fr)", True, ""), (":lang( en )", True, "")]),
-    ("#id, [id=a], [id], [ids], [idea=x]", [
-        ("#id", True, ""), ("[id=a]", True, ""), ("[id]", True, ""), ("[ids]", True, ""), ("[idea=x]", True, "")]),
-    ("[a~=''], [a~='b c'], [a~='b'], [a='']", [
-        ("[a~='']", True, ""), ("[a~='b c']", True, ""), ("[a~='b']", True, ""), ("[a='']", True, "")]),
-    ("[a='b\\'c'], .\\31, [a='/*'], [a='/b']", [
-        ("[a='b\\'c']", True, ""), (".\\31", True, ""), ("[a='/*']", True, ""), ("[a='/b']", True, "")]),
-    ("a ~ b, c|d, [ e ], [f=g i], [h^=i], j:HOVER, k:nth-child(2)", [
-        ("a ~ b", True, ""), ("c|d", False, ""), ("[ e ]", True, ""), ("[f=g i]", True, ""), ("[h^=i]", True, ""), ("j:HOVER", True, ""),
-        ("k:nth-child(2)", True, "")]),
+    (
+        ":lang(en), :lang('en'), :lang(en, fr), :lang( en )",
+        [
+            (":lang(en)", True, ""),
+            (":lang('en')", True, ""),
+            (":lang(en, fr)", True, ""),
+            (":lang( en )", True, ""),
+        ],
+    ),
+    (
+        "#id, [id=a], [id], [ids], [idea=x]",
+        [
+            ("#id", True, ""),
+            ("[id=a]", True, ""),
+            ("[id]", True, ""),
+            ("[ids]", True, ""),
+            ("[idea=x]", True, ""),
+        ],
+    ),
+    (
+        "[a~=''], [a~='b c'], [a~='b'], [a='']",
+        [
+            ("[a~='']", True, ""),
+            ("[a~='b c']", True, ""),
+            ("[a~='b']", True, ""),
+            ("[a='']", True, ""),
+        ],
+    ),
+    (
+        "[a='b\\'c'], .\\31, [a='/*'], [a='/b']",
+        [
+            ("[a='b\\'c']", True, ""),
+            (".\\31", True, ""),
+            ("[a='/*']", True, ""),
+            ("[a='/b']", True, ""),
+        ],
+    ),
+    (
+        "a ~ b, c|d, [ e ], [f=g i], [h^=i], j:HOVER, k:nth-child(2)",
+        [
+            ("a ~ b", True, ""),
+            ("c|d", False, ""),
+            ("[ e ]", True, ""),
+            ("[f=g i]", True, ""),
+            ("[h^=i]", True, ""),
+            ("j:HOVER", True, ""),
+            ("k:nth-child(2)", True, ""),
+        ],
+    ),
     ("a, b:", [("a, b:", False, "")]),
-    ("[a=\"b,c\"], d", [("[a=\"b,c\"]", True, ""), ("d", True, "")]),
+    ('[a="b,c"], d', [('[a="b,c"]', True, ""), ("d", True, "")]),
 )
 
 # A page on which soupsieve finds elements: by a selector, and by what the library prints of it.
-PAGE = """<html lang="en"><body class="a"><p id="b" class="a b" a="b"><b class="k" a="b c">x</b> <a href="#" a="" title="a-b"><b></b></a></p>
-<div class="b" lang="en-GB" a="b-c"><p class="k a" title=""><i a="c"></i><b class="a" id="k"><p></p></b></p><b a="a"></b><i class="b a"></i></div></body></html>"""
+PAGE = """<html lang="en"><body class="a"><p id="b" class="a b" a="b"><b class="k" a="b c">x</b>
+<a href="#" a="" title="a-b"><b></b></a></p>
+<div class="b" lang="en-GB" a="b-c"><p class="k a" title=""><i a="c"></i><b class="a" id="k"><p>
+</p></b></p><b a="a"></b><i class="b a"></i></div></body></html>"""
 
 # The pieces of random selectors for that page.
+# fmt: off
 SELECTOR_PIECES = (
-    "a", "b", "p", "i", "div", "*", " ", " ", ">", " + ", "/**/", " /**/ ", ".a", ".b", ".k", "#b", "#k", "[a]", "[a=b]", "[a='b c']", "[a~=b]",
-    "[a~='c']", "[a|=b]", "[a='']", "[title|='a']", "[a~='']", "[a~='b c']", "[id]", "[id=b]", ":first-child", ":lang(en)", ":lang('en')", "[ a ]",
+    "a", "b", "p", "i", "div", "*", " ", " ", ">", " + ", "/**/", " /**/ ", ".a", ".b", ".k", "#b",
+    "#k", "[a]", "[a=b]", "[a='b c']", "[a~=b]", "[a~='c']", "[a|=b]", "[a='']", "[title|='a']",
+    "[a~='']", "[a~='b c']", "[id]", "[id=b]", ":first-child", ":lang(en)", ":lang('en')", "[ a ]",
     "[a=B i]", ":link", "~", ".\\61 ", ":not(.a)",
 )
+# fmt: on
 
 FINDS = r"""
 import json, sys
@@ -270,14 +472,8 @@ def statements(text):
             found.append(["@" + one.at_keyword, key(one.prelude), block])
     return found
 
-def value(text, wanted):
-    # A slice that ends with a bad string lacks the newline that makes it one.
-    found = key(tinycss2.parse_component_value_list(text))
-    if found != wanted:
-        ended = key(tinycss2.parse_component_value_list(text + "\n"))
-        if ended == wanted:
-            return ended
-    return found
+def value(text):
+    return key(tinycss2.parse_component_value_list(text))
 
 def name(text):
     nodes = tinycss2.parse_component_value_list(text)
@@ -285,17 +481,17 @@ def name(text):
         return ("@" if nodes[0].type == "at-keyword" else "") + nodes[0].value
     return "no name: " + text
 
-def declaration(item, wanted):
-    return [name(item[0]), value(item[1], wanted[1]), "important" in item[2]]
+def declaration(item):
+    return [name(item[0]), value(item[1]), "important" in item[2]]
 
-def statement(item, wanted):
-    block = None if item[2] is None else value(item[2], wanted[2])
-    return [name(item[0]) if item[0] else "", value(item[1], wanted[1]), block]
+def statement(item):
+    block = None if item[2] is None else value(item[2])
+    return [name(item[0]) if item[0] else "", value(item[1]), block]
 
 def names(text):
     return [[one[0]] for one in declarations(text)]
 
-def decoded(item, wanted):
+def decoded(item):
     return [item[0]]
 
 GROUPS = ("media", "supports", "layer", "container", "document", "-moz-document")
@@ -318,50 +514,76 @@ def rules_in(nodes, conditions):
 def rules(text):
     return list(rules_in(tinycss2.parse_stylesheet(text), ""))
 
-def rule(item, wanted):
-    return [item[0], value(item[1], wanted[1]), value(item[2], wanted[2])]
+def rule(item):
+    return [item[0], value(item[1]), value(item[2])]
 
 work = json.load(sys.stdin)
 readers = {
-    "declarations": (declarations, declaration), "names": (names, decoded), "statements": (statements, statement), "rules": (rules, rule),
+    "declarations": (declarations, declaration),
+    "names": (names, decoded),
+    "statements": (statements, statement),
+    "rules": (rules, rule),
 }
 read, one = readers[work["what"]]
 theirs = [read(text) for text in work["texts"]]
-ours = [
-    [one(item, wanted[i] if i < len(wanted) else [None] * 3) for i, item in enumerate(found)]
-    for found, wanted in zip(work["found"], theirs)
-]
+ours = [[one(item) for item in found] for found in work["found"]]
 json.dump([theirs, ours], sys.stdout)
 """
 
 
-def fields_of(today: str, what: str, texts: Sequence[str]) -> Iterator[List[Fields]]:
+def replies_of(what: str, texts: Sequence[str]) -> List[str]:
+    """What the program replies to each text."""
+    words, joined = [program("tests_driver"), *what.split()], "\0".join(texts).encode()
+    reply = subprocess.run(words, input=joined, stdout=subprocess.PIPE, check=True).stdout.decode()
+    return reply.split("\0")[:-1]
+
+
+def fields_of(what: str, texts: Sequence[str]) -> Iterator[List[Fields]]:
     """What the program prints for each text: its items, each of four fields."""
-    joined = "\0".join(texts).encode()
-    reply = subprocess.run([today, what], input=joined, stdout=subprocess.PIPE, check=True).stdout.decode()
-    replies = reply.split("\0")[:-1]
+    replies = replies_of(what, texts)
     assert len(replies) == len(texts), (len(replies), len(texts))
     for one in replies:
         fields = one.split("\x01")[:-1]
         yield [tuple(fields[i : i + 4]) for i in range(0, len(fields), 4)]
 
 
-def declarations_of(today: str, texts: Sequence[str]) -> Iterator[List[Fields]]:
-    """The declarations of each text: name, value and flags."""
-    for items in fields_of(today, "declarations", texts):
+def declared_in(what: str, texts: Sequence[str]) -> Iterator[List[Fields]]:
+    """The declarations of each text, which is read as this: name, value and flags."""
+    for items in fields_of(what, texts):
         yield [item[1:] for item in items if item[0] == "declaration"]
 
 
-def names_of(today: str, texts: Sequence[str]) -> Iterator[List[Fields]]:
+def declarations_of(texts: Sequence[str]) -> Iterator[List[Fields]]:
+    """The declarations of each style attribute."""
+    return declared_in("declarations", texts)
+
+
+def block_declarations_of(texts: Sequence[str]) -> Iterator[List[Fields]]:
+    """The declarations of each block."""
+    return declared_in("block", texts)
+
+
+def names_of(texts: Sequence[str]) -> Iterator[List[Fields]]:
     """The declarations of each text: name with its escapes decoded, value and flags."""
-    for items in fields_of(today, "names", texts):
+    for items in fields_of("names", texts):
         yield [item[1:] for item in items]
 
 
-def printed_of(today: str, texts: Sequence[str]) -> List[str]:
+def first_declarations(texts: Sequence[str]) -> List[Optional[List[str]]]:
+    """The declarations of the first rule of each sheet, if its selector is `a`."""
+    rules = [next(iter(found), ("", "", "")) for found in rules_of(texts)]
+    items = block_declarations_of([block for _, _, block in rules])
+    return [
+        [f"{name}:{value}{'!important' * ('important' in flags)}" for name, value, flags in own]
+        if (where, prelude) == ("", "a")
+        else None
+        for (where, prelude, _), own in zip(rules, items)
+    ]
+
+
+def printed_of(texts: Sequence[str]) -> List[str]:
     """The declarations of each text as they are printed, with what closes their values."""
-    reply = subprocess.run([today, "printed"], input="\0".join(texts).encode(), stdout=subprocess.PIPE, check=True).stdout.decode()
-    return reply.split("\0")[:-1]
+    return replies_of("printed", texts)
 
 
 def statement(kind: str, name: str, prelude: str, block: str) -> Stated:
@@ -371,115 +593,79 @@ def statement(kind: str, name: str, prelude: str, block: str) -> Stated:
     return ("@" + name, prelude, block if kind == "at-rule with block" else None)
 
 
-def statements_of(today: str, texts: Sequence[str]) -> Iterator[List[Stated]]:
+def statements_of(texts: Sequence[str]) -> Iterator[List[Stated]]:
     """The statements of each text: name, prelude and block."""
-    for items in fields_of(today, "statements", texts):
+    for items in fields_of("statements", texts):
         yield [statement(*item) for item in items if item[0] != "skipped"]
 
 
-def rules_of(today: str, texts: Sequence[str]) -> Iterator[List[Declared]]:
-    """The rule sets of each text: the preludes of their group rules, their preludes and their blocks."""
-    for items in fields_of(today, "rules", texts):
+def rules_of(texts: Sequence[str]) -> Iterator[List[Declared]]:
+    """The rule sets of each text: the preludes of their group rules, their preludes and their
+    blocks."""
+    for items in fields_of("rules", texts):
         yield [(conditions, prelude, block) for conditions, _, prelude, block in items]
 
 
-def faults_of(today: str, texts: Sequence[str]) -> Iterator[List[str]]:
+def faults_of(texts: Sequence[str]) -> Iterator[List[str]]:
     """Why each rule set of each text is dropped."""
-    for items in fields_of(today, "rules", texts):
+    for items in fields_of("rules", texts):
         yield [fault for _, fault, _, _ in items]
 
 
-def check_tables(today: str, counts: Counts) -> None:
-    """Compares what is read of the texts of the tables."""
-    tables: List[Tuple[Sequence[Tuple[str, Any]], Iterator[List[Any]]]] = [
-        (DECLARATIONS, declarations_of(today, [text for text, _ in DECLARATIONS])),
-        (STATEMENTS, statements_of(today, [text for text, _ in STATEMENTS])),
-    ]
-    for table, read in tables:
-        for (text, wanted), found in zip(table, read):
-            counts.expect(found == wanted, f"{text!r} has {found}, and not {wanted}")
-    for (text, name), items in zip(NAMES, names_of(today, [text for text, _ in NAMES])):
-        counts.expect([item[0] for item in items] == [name], f"{text!r} has {items}, and not {name!r}")
-    reported = faults_of(today, [selectors + "{}" for selectors, _ in SELECTORS])
-    for (selectors, fault), faults in zip(SELECTORS, reported):
-        counts.expect(faults == [fault], f"{selectors!r} has {faults}, and not {fault!r}")
-
-
-def selectors_of(today: str, texts: Sequence[str]) -> Iterator[List[Fields]]:
-    """The selectors of each text's rule sets: text, what the library reads, pseudo-element, and why its rule set is dropped."""
-    return fields_of(today, "selectors", texts)
-
-
-def check_selectors(today: str, counts: Counts) -> None:
-    """Compares what is read of the selectors of the table."""
-    texts = [selectors + "{}" for selectors, _ in READ]
-    for (selectors, wanted), items in zip(READ, selectors_of(today, texts)):
-        found = [(text, bool(read), pseudo_element) for text, read, pseudo_element, _ in items]
-        counts.expect(found == wanted, f"{selectors!r} has {found}, and not {wanted}")
+def selectors_of(texts: Sequence[str]) -> Iterator[List[Fields]]:
+    """The selectors of each text's rule sets: text, what the library reads, pseudo-element, and why
+    its rule set is dropped."""
+    return fields_of("selectors", texts)
 
 
 def one_blank(text: str) -> str:
-    """A selector with one blank for several and for comments, since soupsieve refuses two before a combinator; the blank that ends
-    an escape stays."""
+    """A selector with one blank for several and for comments, since soupsieve refuses two before a
+    combinator; the blank that ends an escape stays."""
     return re.sub(r"(\\[0-9a-f]+ )|(?: |/\*.*?\*/)+", lambda found: found[1] or " ", text)
 
 
-def beside_soupsieve(today: str, counts: Counts, count: int) -> None:
-    """Compares what a selector finds with what its printed text finds, where the library reads it."""
-    texts = random_texts(SELECTOR_PIECES, count, 3, ("",))
-    read = [item[:2] for items in selectors_of(today, [text + "{}" for text in texts]) for item in items if item[1] and not item[2]]
-    pairs = {(one_blank(text), printed) for text, printed in read}
-    work = {"page": PAGE, "selectors": sorted(pairs)}
-    reply = subprocess.run(["/usr/bin/python3", "-c", FINDS], input=json.dumps(work), stdout=subprocess.PIPE, text=True, check=True).stdout
-    for (text, printed), equal in zip(work["selectors"], json.loads(reply)):
-        counts.expect(equal, f"{text!r} finds others than {printed!r} in soupsieve")
-    print(f"{len(texts)} random selectors: {len(work['selectors'])} that are read compared")
-
-
-def compared(today: str, what: str, texts: Sequence[str]) -> Iterator[Tuple[Any, Any]]:
+def compared(what: str, texts: Sequence[str]) -> Iterator[Tuple[Any, Any]]:
     """What tinycss2 reads of each text, and what the program does, in the same form."""
-    read = {"declarations": declarations_of, "names": names_of, "statements": statements_of, "rules": rules_of}[what]
-    work = {"what": what, "texts": texts, "found": list(read(today, texts))}
-    reply = subprocess.run(["/usr/bin/python3", "-c", THEIRS], input=json.dumps(work), stdout=subprocess.PIPE, text=True, check=True).stdout
+    read = {
+        "declarations": declarations_of,
+        "names": names_of,
+        "statements": statements_of,
+        "rules": rules_of,
+    }[what]
+    work = {"what": what, "texts": texts, "found": list(read(texts))}
+    reply = subprocess.run(
+        [DEBIAN, "-c", THEIRS],
+        input=json.dumps(work),
+        stdout=subprocess.PIPE,
+        text=True,
+        check=True,
+    ).stdout
     return zip(*json.loads(reply))
 
 
-def has_bare_end(text: str) -> bool:
-    """Whether a backslash is before a blank or at the end: the slice of a value that ends there has other tokens than in its place."""
-    return any(text[i + 1 : i + 2] in ("", "\n", "\r", "\f") for i, c in enumerate(text) if c == "\\")
-
-
 def escaped_in_bad_url(text: str) -> bool:
-    """Whether tinycss2 may misread a bad address: it takes the second of two backslashes before a parenthesis for an escape."""
+    """Whether tinycss2 may misread a bad address: it takes the second of two backslashes before a
+    parenthesis for an escape."""
     return "\\\\" in text and "url(" in text.lower()
-
-
-def beside(today: str, counts: Counts, what: str, texts: Sequence[str], kind: str) -> None:
-    """Compares with tinycss2 and counts each text; prints at most five that differ."""
-    shown = left_out = items = 0
-    for text, (theirs, ours) in zip(texts, compared(today, what, texts)):
-        items += len(theirs)
-        if theirs != ours and (has_bare_end(text) or escaped_in_bad_url(text)):
-            left_out += 1
-            continue
-        if theirs == ours or shown < 5:
-            counts.expect(theirs == ours, f"{what} of {text[:200]!r}: tinycss2 has {str(theirs)[:300]}, and not {str(ours)[:300]}")
-        else:
-            counts.failed += 1
-        shown += theirs != ours
-    print(f"{len(texts)} {kind}: {items} {what} compared; {left_out} left out: a bare backslash, or two in an address")
 
 
 def theirs(texts: Sequence[str]) -> List[Any]:
     """The declarations that tinycss2 reads of each text."""
     work = {"what": "declarations", "texts": texts, "found": [[] for _ in texts]}
-    reply = subprocess.run(["/usr/bin/python3", "-c", THEIRS], input=json.dumps(work), stdout=subprocess.PIPE, text=True, check=True).stdout
+    reply = subprocess.run(
+        [DEBIAN, "-c", THEIRS],
+        input=json.dumps(work),
+        stdout=subprocess.PIPE,
+        text=True,
+        check=True,
+    ).stdout
     found: List[Any] = json.loads(reply)[0]
     return found
 
 
 def without_ends(found: Any) -> Any:
-    """What tinycss2 reads, without the ends of strings and addresses: it has none where the end of the text closed one."""
+    """What tinycss2 reads, without the ends of strings and addresses: it has none where the end of
+    the text closed one."""
     if isinstance(found, list):
         return list(map(without_ends, found))
     if isinstance(found, str) and found.startswith(('"', "url(")):
@@ -487,69 +673,189 @@ def without_ends(found: Any) -> Any:
     return found
 
 
-def beside_printed(today: str, counts: Counts, texts: Sequence[str]) -> None:
-    """Compares what tinycss2 reads of texts, and of what is printed of their declarations."""
-    printed = printed_of(today, texts)
-    for text, read, other in zip(texts, theirs(texts), theirs(printed)):
-        if not (escaped_in_bad_url(text) or has_bare_end(text)):
-            counts.expect(without_ends(read) == without_ends(other), f"printed of {text!r}: tinycss2 has {other}, and not {read}")
-    print(f"{len(texts)} texts printed, and read again by tinycss2")
-
-
-def browser_reads(today: str, counts: Counts, texts: Sequence[str]) -> None:
-    """Compares what a browser keeps of style attributes, and of what is printed of these. It keeps a custom property that is
-    open at the end as it is written."""
-    read = declarations_of(today, texts)
-    texts = [text for text, found in zip(texts, read) if not any(one[0].startswith("--") and "open" in one[2] for one in found)]
-    printed = printed_of(today, texts)
-    answers = browser_answers(STYLES, list(zip(texts, printed)))
-    if answers is None:
-        print("left out: printed declarations beside chromium, which is missing or does not answer")
-        return
-    for text, shown, (kept, other) in zip(texts, printed, answers):
-        counts.expect(kept == other, f"{text!r}: chromium keeps {kept!r}, and of {shown!r} {other!r}")
-    print(f"{len(texts)} style attributes printed, and read by chromium: {sum(bool(one[0]) for one in answers)} with declarations")
-
-
-def random_texts(pieces: Sequence[str], count: int, seed: int, starts: Sequence[str]) -> List[str]:
+def random_texts(pieces: Sequence[str], number: int, seed: int, starts: Sequence[str]) -> List[str]:
     """Random texts, the same in each run."""
     source = random.Random(seed)
-    return [source.choice(starts) + "".join(source.choice(pieces) for _ in range(source.choice((3, 6, 12, 20)))) for _ in range(count)]
+    return [
+        source.choice(starts)
+        + "".join(source.choice(pieces) for _ in range(source.choice((3, 6, 12, 20))))
+        for _ in range(number)
+    ]
 
 
-def has_modules(modules: str) -> bool:
-    """Whether Debian's Python has these modules."""
-    return os.path.exists("/usr/bin/python3") and not subprocess.run(
-        ["/usr/bin/python3", "-c", "import " + modules], stderr=subprocess.DEVNULL, check=False
-    ).returncode
+class Tables(Case):
+    """What is read of the texts of the tables."""
+
+    def check(self, table: Sequence[Tuple[str, Any]], read: Iterator[List[Any]]) -> None:
+        """Compares what is read of each text of a table."""
+        for (text, wanted), found in zip(table, read):
+            with self.subTest(text=text):
+                self.assertEqual(found, wanted)
+
+    def test_declarations(self) -> None:
+        self.check(DECLARATIONS, declarations_of([text for text, _ in DECLARATIONS]))
+
+    def test_blocks(self) -> None:
+        self.check(BLOCKS_READ, block_declarations_of([text for text, _ in BLOCKS_READ]))
+
+    def test_printed(self) -> None:
+        """What is printed of declarations: as one list, and each with what closes its value."""
+        for table, what in ((LISTS, "list"), (CLOSED, "printed")):
+            for (text, wanted), found in zip(table, replies_of(what, [text for text, _ in table])):
+                with self.subTest(text=text, what=what):
+                    self.assertEqual(found, wanted)
+
+    def test_order(self) -> None:
+        """The order of the rules of a sheet, with a limit on their declarations that they keep and
+        one that they do not."""
+        for most, wanted in ((8, ORDER), (7, TOO_MANY)):
+            with self.subTest(most=most):
+                [items] = fields_of(f"order {most}", [SHEET])
+                self.assertEqual([item[0] for item in items], wanted)
+
+    def test_statements(self) -> None:
+        self.check(STATEMENTS, statements_of([text for text, _ in STATEMENTS]))
+
+    def test_names(self) -> None:
+        read = names_of([text for text, _ in NAMES])
+        self.check(
+            [(text, [name]) for text, name in NAMES],
+            ([item[0] for item in items] for items in read),
+        )
+
+    def test_placed(self) -> None:
+        """The declarations of each rule set of a sheet."""
+        for (text, wanted), rules in zip(PLACED, rules_of([text for text, _ in PLACED])):
+            found = block_declarations_of([block for _, _, block in rules])
+            with self.subTest(text=text):
+                self.assertEqual(
+                    [(*rule[:2], own) for rule, own in zip(rules, found)],
+                    [(where, prelude, own) for where, prelude, own in wanted],
+                )
+
+    def test_faults(self) -> None:
+        read = faults_of([selectors + "{}" for selectors, _ in SELECTORS])
+        self.check([(selectors, [fault]) for selectors, fault in SELECTORS], read)
+
+    def test_selectors(self) -> None:
+        read = selectors_of([selectors + "{}" for selectors, _ in READ])
+        self.check(
+            READ,
+            ([(text, bool(shown), element) for text, shown, element, _ in items] for items in read),
+        )
 
 
-def main() -> int:
-    parser = argparse.ArgumentParser()
-    parser.add_argument("today")
-    parser.add_argument("--count", type=int, default=4000)
-    parser.add_argument("--sheets", default="/usr/share")
-    words = parser.parse_args()
-    counts = Counts()
-    check_tables(words.today, counts)
-    check_selectors(words.today, counts)
-    if has_modules("soupsieve, bs4, html5lib"):
-        beside_soupsieve(words.today, counts, words.count)
-    else:
-        print("left out: random selectors beside soupsieve, since python3-soupsieve or python3-html5lib is missing")
-    browser_reads(words.today, counts, random_texts(STYLE, 400, 5, ("", "color:", "--x:", "width:1px;color:")))
-    if has_modules("tinycss2"):
-        lists = random_texts(PIECES, words.count, 1, ("", "a:", "a:", "--x:", "a:b;c:"))
-        beside(words.today, counts, "declarations", lists, "random texts")
-        beside_printed(words.today, counts, lists)
-        beside(words.today, counts, "names", random_texts(ESCAPES, words.count, 4, ("", "a", "--")), "random texts")
-        beside(words.today, counts, "statements", random_texts(MORE, words.count, 2, ("",)), "random texts")
-        sheets = real_sheets(words.sheets)
-        beside(words.today, counts, "statements", sheets, "real sheets")
-        beside(words.today, counts, "rules", sheets, "real sheets")
-    else:
-        print("left out: random texts and real sheets beside tinycss2, since python3-tinycss2 is missing")
-    return counts.end()
+class Soupsieve(Case):
+    def test_printed_selectors(self) -> None:
+        """A selector finds what its printed text finds, where the library reads it."""
+        if not has_modules(DEBIAN, "soupsieve", "bs4", "html5lib"):
+            self.skipTest(
+                "random selectors beside soupsieve: python3-soupsieve or python3-html5lib is"
+                " missing"
+            )
+        texts = random_texts(SELECTOR_PIECES, count(4000), 3, ("",))
+        read = (item for items in selectors_of([text + "{}" for text in texts]) for item in items)
+        pairs = sorted({(one_blank(item[0]), item[1]) for item in read if item[1] and not item[2]})
+        work = json.dumps({"page": PAGE, "selectors": pairs})
+        words = [DEBIAN, "-c", FINDS]
+        reply = subprocess.run(
+            words, input=work, stdout=subprocess.PIPE, text=True, check=True
+        ).stdout
+        failures = [
+            f"{text!r} finds others than {printed!r}"
+            for (text, printed), equal in zip(pairs, json.loads(reply))
+            if not equal
+        ]
+        self.sweep(len(pairs), failures)
 
 
-sys.exit(main())
+class Browser(Case):
+    def test_style_attributes(self) -> None:
+        """What a browser keeps of style attributes, and of what is printed of these. It keeps a
+        custom property that is open at the end as it is written."""
+        texts = random_texts(STYLE, 400, 5, ("", "color:", "--x:", "width:1px;color:"))
+        texts = [
+            text
+            for text, found in zip(texts, declarations_of(texts))
+            if not any(one[0].startswith("--") and "open" in one[2] for one in found)
+        ]
+        printed = printed_of(texts)
+        answers = browser_answers(STYLES, list(zip(texts, printed)))
+        if answers is None:
+            self.skipTest(
+                "printed declarations beside chromium, which is missing or does not answer"
+            )
+        failures = [
+            f"{text!r}: chromium keeps {kept!r}, and of {shown!r} {other!r}"
+            for text, shown, (kept, other) in zip(texts, printed, answers)
+            if kept != other
+        ]
+        self.sweep(len(texts), failures)
+
+    def test_blocks(self) -> None:
+        """Which declarations a browser keeps of a block with rules in it."""
+        texts = random_texts(BLOCK, 3000, 7, ("a{", "a{color:red;", "a{p{"))
+        texts = [text + "}d{color:red}" for text in texts]
+        found = first_declarations(texts)
+        answers = browser_answers(BLOCKS, list(zip(texts, found)))
+        if answers is None:
+            self.skipTest("random blocks beside chromium, which is missing or does not answer")
+        failures = [
+            f"{text!r}: chromium keeps {theirs!r}, and of {own!r} {ours!r}"
+            for text, own, (theirs, ours) in zip(texts, found, answers)
+            if (theirs or "").rstrip("; ") != (ours or "").rstrip("; ")
+        ]
+        self.sweep(len(texts), failures)
+
+
+@unittest.skipUnless(
+    has_modules(DEBIAN, "tinycss2"),
+    "random texts and real sheets beside tinycss2: python3-tinycss2 is missing",
+)
+class Tinycss2(Case):
+    """What is read beside tinycss2."""
+
+    def beside(self, what: str, texts: Sequence[str], kind: str) -> None:
+        """Compares what is read of each text."""
+        left_out = items = 0
+        failures = []
+        for text, (wanted, ours) in zip(texts, compared(what, texts)):
+            items += len(wanted)
+            if wanted != ours and escaped_in_bad_url(text):
+                left_out += 1
+            elif wanted != ours:
+                shown = f"tinycss2 has {str(wanted)[:300]}, and not {str(ours)[:300]}"
+                failures.append(f"{what} of {text[:200]!r}: {shown}")
+        print(
+            f"{len(texts)} {kind}: {items} {what} compared; {left_out} left out: two backslashes in"
+            " an url"
+        )
+        self.sweep(len(texts) - left_out, failures)
+
+    def test_declarations(self) -> None:
+        """Without braces: tinycss2 reads no rules among declarations."""
+        texts = random_texts(BRACELESS, count(4000), 1, ("", "a:", "a:", "--x:", "a:b;c:"))
+        self.beside("declarations", texts, "random texts")
+
+    def test_printed(self) -> None:
+        """What tinycss2 reads of texts, and of what is printed of their declarations."""
+        texts = random_texts(BRACELESS, count(4000), 1, ("", "a:", "a:", "--x:", "a:b;c:"))
+        failures = []
+        total = 0
+        for text, read, other in zip(texts, theirs(texts), theirs(printed_of(texts))):
+            if not escaped_in_bad_url(text):
+                total += 1
+                if without_ends(read) != without_ends(other):
+                    failures.append(f"printed of {text!r}: tinycss2 has {other}, and not {read}")
+        self.sweep(total, failures)
+
+    def test_names(self) -> None:
+        self.beside("names", random_texts(ESCAPES, count(4000), 4, ("", "a", "--")), "random texts")
+
+    def test_statements(self) -> None:
+        self.beside("statements", random_texts(MORE, count(4000), 2, ("",)), "random texts")
+
+    def test_real_sheets(self) -> None:
+        sheets = real_sheets(sheets_folder())
+        for what in ("statements", "rules"):
+            self.beside(what, sheets, "real sheets")

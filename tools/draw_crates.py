@@ -1,9 +1,11 @@
 #!/usr/bin/env python3
-"""Draws docs/crates.svg: the crates of crates.txt, each above those that it uses, and the ways of the commands `sheet` and `match`.
+"""Draws docs/crates.svg: the crates of crates.txt, each above those that it uses, and the ways of
+the commands `sheet` and `match`.
 
     draw_crates.py > docs/crates.svg
 
-Crates of tests and examples are left out, and so is what another crate brings along. What MAKES does not name has no words.
+Crates of tests and examples are left out, and so is what another crate brings along. What MAKES
+does not name has no words.
 """
 import os
 import sys
@@ -12,24 +14,40 @@ from typing import Dict, List, Set, Tuple
 TOP = os.path.dirname(os.path.dirname(os.path.abspath(__file__)))
 # What each crate makes of what is below it.
 MAKES = {
-    "simplecss_text": "names, strings, blanks",
+    "css_text": "names, strings, blanks",
+    "simplecss_grammar": "the rules of CSS 2.1",
     "simplecss_selector": "selectors, matching",
     "simplecss_declaration": "declarations, blocks",
-    "css_syntax": "today's sheets, cut",
-    "css_selectors": "today's selectors",
-    "sibling_matching": "matching with ~",
-    "selectors3": "selectors of level 3",
+    "css_syntax": "modern sheets, cut",
+    "css_matching": "matching with ~",
+    "css_selectors": "modern selectors",
+    "css_open_elements": "what open elements have",
+    "css_index": "an index of these",
+    "css_sheet": "modern rules in order",
+    "css_tree": "trees as documents",
     "simplecss": "rules in order, index",
     "simplecss_tree": "trees of programs",
-    "cssq_page": "the tree of a text",
+    "cssq_tree": "the tree of a text",
     "cssq": "winners, output",
     "cssq_cli": "files, words, statuses",
     "simplecss_c": "the C library",
 }
 # Each command's color, and the edges that its texts take, from below to above.
 WAYS = {
-    "sheet": ("#1f6fb4", "simplecss_text simplecss_selector simplecss cssq cssq_cli; simplecss_text simplecss_declaration simplecss"),
-    "match": ("#d9690a", "simplecss_text simplecss_selector cssq_page cssq cssq_cli; simplecss_selector simplecss cssq"),
+    "sheet": (
+        "#1f6fb4",
+        (
+            "css_text simplecss_grammar simplecss_selector simplecss cssq cssq_cli;"
+            " simplecss_grammar simplecss_declaration simplecss"
+        ),
+    ),
+    "match": (
+        "#d9690a",
+        (
+            "css_text simplecss_grammar simplecss_selector cssq_tree cssq cssq_cli;"
+            " simplecss_selector simplecss cssq"
+        ),
+    ),
 }
 WIDE, HIGH, GAP_X, GAP_Y, LEFT, TOP_SPACE = 176, 46, 22, 54, 20, 46
 
@@ -75,7 +93,11 @@ def layers_of(uses: Dict[str, Set[str]]) -> List[List[str]]:
     for number in range(1 + max(level.values())):
         last = {name: index for index, name in enumerate(layers[-1])} if layers else {}
         ties = {name: [last[other] for other in uses[name] if other in last] for name in uses}
-        order = sorted((sum(ties[name]) / len(ties[name]) if ties[name] else 9.0, name) for name in uses if level[name] == number)
+        order = sorted(
+            (sum(ties[name]) / len(ties[name]) if ties[name] else 9.0, name)
+            for name in uses
+            if level[name] == number
+        )
         layers.append([name for _, name in order])
     return layers
 
@@ -83,7 +105,7 @@ def layers_of(uses: Dict[str, Set[str]]) -> List[List[str]]:
 def places_of(layers: List[List[str]]) -> Dict[str, Tuple[float, float]]:
     """The upper left corner of each box."""
     widest = max(map(len, layers))
-    places = {}
+    places: Dict[str, Tuple[float, float]] = {}
     for number, layer in enumerate(reversed(layers)):
         start = LEFT + (widest - len(layer)) * (WIDE + GAP_X) / 2
         for index, name in enumerate(layer):
@@ -96,20 +118,34 @@ def way_edges(words: str) -> List[Edge]:
     return [pair for part in words.split(";") for pair in zip(part.split(), part.split()[1:])]
 
 
-def line(place: Tuple[float, float], other: Tuple[float, float], color: str, width: float, shift: float) -> str:
+def line(
+    place: Tuple[float, float], other: Tuple[float, float], color: str, width: float, shift: float
+) -> str:
     """A line from the upper edge of the lower box to the lower edge of the upper one."""
     (x, y), (u, v) = place, other
     middle = WIDE / 2 + shift
-    return f'<line x1="{x + middle:g}" y1="{y + HIGH:g}" x2="{u + middle:g}" y2="{v:g}" stroke="{color}" stroke-width="{width:g}"/>'
+    return (
+        f'<line x1="{x + middle:g}" y1="{y + HIGH:g}" x2="{u + middle:g}" y2="{v:g}"'
+        f' stroke="{color}" stroke-width="{width:g}"/>'
+    )
 
 
 def box(name: str, place: Tuple[float, float]) -> List[str]:
     """A crate's box, with its name and what it makes."""
     x, y = place
     return [
-        f'<rect x="{x:g}" y="{y:g}" width="{WIDE}" height="{HIGH}" rx="6" fill="#f4f6f8" stroke="#667"/>',
-        f'<text x="{x + WIDE / 2:g}" y="{y + 19:g}" text-anchor="middle" font-weight="bold">{name}</text>',
-        f'<text x="{x + WIDE / 2:g}" y="{y + 36:g}" text-anchor="middle" fill="#445">{MAKES.get(name, "")}</text>',
+        (
+            f'<rect x="{x:g}" y="{y:g}" width="{WIDE}" height="{HIGH}" rx="6" fill="#f4f6f8"'
+            ' stroke="#667"/>'
+        ),
+        (
+            f'<text x="{x + WIDE / 2:g}" y="{y + 19:g}" text-anchor="middle"'
+            f' font-weight="bold">{name}</text>'
+        ),
+        (
+            f'<text x="{x + WIDE / 2:g}" y="{y + 36:g}" text-anchor="middle"'
+            f' fill="#445">{MAKES.get(name, "")}</text>'
+        ),
     ]
 
 
@@ -120,13 +156,19 @@ def picture() -> str:
     places = places_of(layers)
     wide = 2 * LEFT + max(map(len, layers)) * (WIDE + GAP_X) - GAP_X
     high = TOP_SPACE + len(layers) * (HIGH + GAP_Y) - GAP_Y + 20
-    parts = [f'<svg xmlns="http://www.w3.org/2000/svg" width="{wide}" height="{high}" font-family="sans-serif" font-size="12">']
+    parts = [
+        f'<svg xmlns="http://www.w3.org/2000/svg" width="{wide}" height="{high}"'
+        ' font-family="sans-serif" font-size="12">'
+    ]
     parts.append(f'<rect width="{wide}" height="{high}" fill="white"/>')
     parts += [line(places[upper], places[lower], "#bbb", 1.5, 0) for upper, lower in direct(uses)]
     for index, (command, (color, words)) in enumerate(WAYS.items()):
         for lower, upper in way_edges(words):
             parts.append(line(places[upper], places[lower], color, 3, 4 - 8 * index))
-        parts.append(f'<text x="{LEFT + 110 * index}" y="26" fill="{color}" font-weight="bold">cssq {command}</text>')
+        parts.append(
+            f'<text x="{LEFT + 110 * index}" y="26" fill="{color}" font-weight="bold">cssq'
+            f" {command}</text>"
+        )
     parts += [part for layer in layers for name in layer for part in box(name, places[name])]
     return "\n".join([*parts, "</svg>"]) + "\n"
 

@@ -1,12 +1,14 @@
 #!/usr/bin/env python3
 """Writes the proved sources as a crate of Rust, by leaving out what only a prover reads.
 
-  tools/erase.py DIR    the package, with its Cargo.toml
+  tools/erase.py DIR          the crate `simplecss`, with its Cargo.toml
+  tools/erase.py --c DIR      the C library as a crate: `cargo build --release` makes libsimplecss
 
-What is left out is listed here, and any other construct that Rust does not have is refused, with its
-file and line, here or by rustc. Nothing that runs is changed but two things: a formatter has no type
-parameter, since Rust's has none, and paths begin with the module that the erased crate has become. The
-names of Rattle's `std` are those of `release/rust/src/rattle_std`.
+What is left out is listed here, and any other construct that Rust does not have is refused, with
+its file and line, here or by rustc. Nothing that runs is changed but three things: a formatter has no
+type parameter, since Rust's has none; paths begin with the module that the erased crate has become;
+and what `CHANGED` names, which changes nothing on a target of 64 bits. The names of Rattle's `std`
+are those of `release/rust/src/rattle_std`.
 """
 
 from __future__ import annotations
@@ -15,19 +17,56 @@ import re
 import shutil
 import sys
 from pathlib import Path
-from typing import Dict, List, Tuple
+from typing import Dict, List, NamedTuple, Tuple
 
 TOP = Path(__file__).resolve().parent.parent
-PARTS = TOP / "release/rust"
-# What the package has, with all that these use; of `cssq` only the cascade.
-WHOLE = ("simplecss", "simplecss_tree")
-CASCADE = "cssq/src/cascade.rt"
-# The libraries of Rattle besides `std` whose names are there over Rust's.
-LIBRARIES = ("log",)
-# Attributes that stay, and that go. Of derived traits, `Drop` says only that a value may be dropped.
-KEPT_ATTRIBUTES = ("derive", "inline", "cold", "must_use", "allow", "doc", "rustfmt")
+# The names of Rattle's libraries over Rust's, which each package has.
+SHARED = TOP / "release/rust/src"
+
+
+class Package(NamedTuple):
+    """A package: the folder with what is written by hand, and the crates that it has with all that
+    these use."""
+
+    parts: Path
+    crates: Tuple[str, ...]
+    # Single sources of other crates.
+    sources: Tuple[str, ...] = ()
+    # Crates that are there with the feature `modern` alone.
+    modern: Tuple[str, ...] = ()
+    # What is copied beside the manifest.
+    texts: Tuple[Path, ...] = ()
+
+
+# fmt: off
+RUST = Package(TOP / "release/rust", ("simplecss", "simplecss_tree"), ("cssq/src/cascade.rt",),
+               ("css_sheet", "css_index", "css_tree"))
+# fmt: on
+LIBRARY = Package(TOP / "release/c/crate", ("simplecss_c",), texts=(TOP / "include/simplecss.h",))
+# The libraries of Rattle besides `std` whose names are there over Rust's, or that only proofs use.
+LIBRARIES = ("log", "memchr")
+# Attributes that stay, and that go. Of derived traits, `Drop` says only that a value may be
+# dropped.
+# fmt: off
+KEPT_ATTRIBUTES = (
+    "derive", "inline", "cold", "must_use", "allow", "doc", "rustfmt", "repr", "unsafe",
+)
+# fmt: on
+DROPPED_ATTRIBUTES = ("tactic", "cycle")
 DERIVED = ("Clone", "Copy", "Debug", "Default", "Eq", "Hash", "Ord", "PartialEq", "PartialOrd")
 CLAUSES = ("requires", "ensures", "decreases")
+# What is changed for targets of 32 bits, by the source: a product stays one of 64 bits, and a text
+# that is read has a greatest length.
+CHANGED = {
+    "css_matching/hashes.rs": (
+        "(number_of(text).wrapping_mul(0x9E37_79B9_7F4A_7C15) >> 32)",
+        "((number_of(text) as u64).wrapping_mul(0x9E37_79B9_7F4A_7C15) >> 32) as usize",
+    ),
+    "css_text/stream.rs": (
+        "Stream { text, pos: 0 }",
+        "Stream { text: crate::within(text), pos: 0 }",
+    ),
+}
 TOKEN = re.compile(
     r"""(?P<comment>//[^\n]*)
     |(?P<raw>b?r(?P<hashes>\#*)".*?"(?P=hashes))
@@ -66,7 +105,8 @@ class Eraser:
         return Unknown(f"{self.path.relative_to(TOP)}:{line}: erase.py does not know {what}")
 
     def skip_group(self, start: int, closing: str) -> int:
-        """Returns where the group ends that opens at an index; texts and comments in it are skipped."""
+        """Returns where the group ends that opens at an index; texts and comments in it are
+        skipped."""
         opening, depth, at = self.text[start], 0, start
         while at < len(self.text):
             found = TOKEN.match(self.text, at)
@@ -78,7 +118,8 @@ class Eraser:
         raise self.refuse(f"a group that {closing} does not close")
 
     def drop_before(self) -> None:
-        """Drops what belongs to an item that is left out: its documentation, and that it is public."""
+        """Drops what belongs to an item that is left out: its documentation, and that it is
+        public."""
         self.out = re.sub(r"\bpub(\([a-z]+\))?\s+\Z", "", self.out)
         self.out = DOCUMENTATION.sub("", self.out)
 
@@ -101,7 +142,7 @@ class Eraser:
         end = self.skip_group(self.text.index("[", start), "]")
         text, self.at = self.text[start:end], end
         name = re.match(r"#!?\[\s*(\w+)", text)
-        if name and name[1] == "tactic":
+        if name and name[1] in DROPPED_ATTRIBUTES:
             return
         if not name or name[1] not in KEPT_ATTRIBUTES:
             self.at = start
@@ -135,7 +176,9 @@ class Eraser:
                 if body:
                     self.out += " " * (body[1] == "{")
                     self.at = body.start(1)
-            elif kind == "other" and not found.group().isascii() or self.text.startswith("/*", start):
+            elif (
+                kind == "other" and not found.group().isascii() or self.text.startswith("/*", start)
+            ):
                 raise self.refuse(f"`{self.text[start:start + 2]}`")
             else:
                 self.out += found.group()
@@ -154,7 +197,8 @@ def without_writers(text: str, path: Path) -> str:
 
 
 def without_examples(text: str) -> str:
-    """Leaves out of the documentation what is of Rattle: blocks of code, and paragraphs that name definitions."""
+    """Leaves out of the documentation what is of Rattle: blocks of code, and paragraphs that name
+    definitions."""
     out: List[str] = []
     for block in re.split(r"(?m)((?:^[ \t]*//[/!].*\n)+)", text):
         mark = re.match(r"[ \t]*//[/!]", block)
@@ -174,74 +218,154 @@ def without_examples(text: str) -> str:
 def erased(path: Path) -> str:
     """Returns a source as Rust, with its own paths."""
     text = without_examples(without_writers(Eraser(path).read(), path))
+    if re.search(r"&&\s*let\b|\b(if|while) let\b[^{;]*&&", text):
+        raise Unknown(f"{path.relative_to(TOP)}: a condition with `let` and `&&` needs Rust 1.88")
     # A bound that every type meets.
     text = re.sub(r"\bDrop\b", "Sized", text)
     return re.sub(r"\n\s*\n(\s*\n)+", "\n\n", re.sub(r"[ \t]+\n", "\n", text))
 
 
+def with_pointers(text: str) -> str:
+    """Returns a source whose exported functions take a slice as a pointer and a length, as Rattle's
+    do."""
+    head = re.compile(r'pub extern "C" fn (\w+)\(([^)]*)\) -> u32 \{\n')
+
+    def exported(found: "re.Match[str]") -> str:
+        parameters, lines = [], []
+        for name, _, kind in (
+            it.strip().partition(": ") for it in found[2].split(",") if it.strip()
+        ):
+            is_changed = kind.startswith("&mut [")
+            if kind == "Global":
+                lines.append(f"let {name} = Global;")
+            elif kind.startswith("&[") or is_changed:
+                item = kind[kind.index("[") + 1 : -1]
+                parameters += [
+                    f"{name}: *{'mut' if is_changed else 'const'} {item}",
+                    f"{name}_len: usize",
+                ]
+                lines.append(
+                    f"let {name} = unsafe {{ crate::{'filled' if is_changed else 'read'}({name},"
+                    f" {name}_len) }};"
+                )
+            else:
+                parameters.append(f"{name}: {kind}")
+        return (
+            f'pub extern "C" fn {found[1]}({", ".join(parameters)}) -> u32 {{\n    '
+            + "\n    ".join(lines)
+            + "\n"
+        )
+
+    return head.sub(exported, text).replace("#[unsafe(no_mangle)]", "#[no_mangle]")
+
+
 def placed(text: str, crate: str, crates: List[str]) -> str:
-    """Returns a source whose paths are those in the package, with the names that Rattle has everywhere."""
+    """Returns a source whose paths are those in the package, with the names that Rattle has
+    everywhere."""
     text = re.sub(r"(?<![\w:])std::", "crate::rattle_std::", text)
     text = re.sub(r"(?<![\w:$])crate::(?!rattle_std::)", f"crate::erased::{crate}::", text)
     text = re.sub(rf"(?<![\w:$])({'|'.join(crates)})::", r"crate::erased::\1::", text)
     text = re.sub(r"(?<![\w:$])log::", "crate::rattle_log::", text)
+    text = text.replace(".to_ascii_lowercase(alloc)", ".to_ascii_lowercase_in(alloc)")
+    text = re.sub(r"\bformat!\(in ", "crate::rattle_std::string::format_in!(", text)
     lines = text.split("\n")
     head = 0
     while lines[head].startswith(("//!", "#![")) or not lines[head].strip():
         head += 1
-    return "\n".join([*lines[:head], "#[allow(unused_imports)]", "use crate::rattle_std::prelude::*;", *lines[head:]])
+    return "\n".join(
+        [
+            *lines[:head],
+            "#[allow(unused_imports)]",
+            "use crate::rattle_std::prelude::*;",
+            *lines[head:],
+        ]
+    )
+
+
+def changed(text: str, name: str) -> str:
+    """Returns a source with what `CHANGED` says of it."""
+    old, new = CHANGED.get(name, ("", ""))
+    if old and text.count(old) != 1:
+        raise Unknown(f"{name}: erase.py does not find `{old}`")
+    return text.replace(old, new) if old else text
 
 
 def uses_of() -> Dict[str, List[str]]:
     """Returns the crates of the repository, and the libraries that each uses."""
-    rows = [it.partition("#")[0].partition(":") for it in (TOP / "crates.txt").read_text().splitlines()]
+    rows = [
+        it.partition("#")[0].partition(":") for it in (TOP / "crates.txt").read_text().splitlines()
+    ]
     return {left.split()[0]: right.split() for left, _, right in rows if left.strip()}
 
 
-def sources() -> List[Tuple[str, Path, str]]:
-    """Returns the crate, the path and the place in the package of each source."""
-    uses, crates = uses_of(), list(WHOLE)
+def closure(names: Tuple[str, ...]) -> List[str]:
+    """Returns the crates, and those that they use."""
+    uses, crates = uses_of(), list(names)
     for crate in crates:
         unknown = [it for it in uses[crate] if it not in uses and it not in LIBRARIES]
         if unknown:
-            raise Unknown(f"crates.txt: erase.py has no names for the library {unknown[0]}, which {crate} uses")
+            raise Unknown(
+                f"crates.txt: erase.py has no names for the library {unknown[0]}, which"
+                f" {crate} uses"
+            )
         crates += [it for it in uses[crate] if it in uses and it not in crates]
-    found = [("cssq", TOP / "crates" / CASCADE, "cssq/cascade.rs")]
+    return crates
+
+
+def sources(package: Package) -> List[Tuple[str, Path, str]]:
+    """Returns the crate, the path and the place in the package of each source."""
+    crates = closure(package.crates + package.modern)
+    found = []
+    for source in package.sources:
+        crate, _, name = source.partition("/src/")
+        found.append((crate, TOP / "crates" / source, f"{crate}/{Path(name).with_suffix('.rs')}"))
     for crate in sorted(crates):
         top = TOP / "crates" / crate / "src"
         for path in sorted(top.rglob("*.rt")):
-            name = "mod.rs" if path.name == "lib.rt" else str(path.relative_to(top).with_suffix(".rs"))
+            name = (
+                "mod.rs" if path.name == "lib.rt" else str(path.relative_to(top).with_suffix(".rs"))
+            )
             found.append((crate, path, f"{crate}/{name}"))
     return found
 
 
-def write_package(to: Path) -> None:
-    """Writes the package."""
-    found = sources()
+def write_sources(package: Package, to: Path) -> None:
+    """Writes the erased sources."""
+    found = sources(package)
     crates = sorted({crate for crate, _, _ in found})
-    shutil.copytree(PARTS, to, dirs_exist_ok=True)
-    whole = ""
     for crate, path, name in found:
-        place = to / "src/erased" / name
+        place = to / name
         place.parent.mkdir(parents=True, exist_ok=True)
-        text = placed(erased(path), crate, crates)
+        text = changed(with_pointers(placed(erased(path), crate, crates)), name)
         place.write_text(text, encoding="utf-8")
-        whole += text
-    (to / "src/erased/cssq/mod.rs").write_text("pub mod cascade;\n")
-    (to / "src/erased/mod.rs").write_text("".join(f"pub mod {it};\n" for it in crates))
-    # The oldest edition that the sources let it be: only the newest has conditions with several `let`.
-    is_newest = re.search(r"&&\s*let\b|\b(if|while) let\b[^{;]*&&", whole)
-    edition, version = ("2024", "1.88") if is_newest else ("2021", "1.81")
-    manifest = (to / "Cargo.toml").read_text()
-    (to / "Cargo.toml").write_text(manifest.replace("EDITION", edition).replace("RUST", version))
-    for licence in TOP.glob("LICENSE-*"):
-        shutil.copy(licence, to)
+    for source in package.sources:
+        (to / source.partition("/")[0] / "mod.rs").write_text(f"pub mod {Path(source).stem};\n")
+    always = {*closure(package.crates), *(it.partition("/")[0] for it in package.sources)}
+    gates = ("" if it in always else '#[cfg(feature = "modern")]\n' for it in crates)
+    (to / "mod.rs").write_text("".join(f"{gate}pub mod {it};\n" for gate, it in zip(gates, crates)))
+
+
+def write_package(package: Package, to: Path) -> None:
+    """Writes a package."""
+    shutil.copytree(package.parts, to, dirs_exist_ok=True)
+    shutil.copytree(SHARED / "rattle_std", to / "src/rattle_std", dirs_exist_ok=True)
+    shutil.copy(SHARED / "rattle_log.rs", to / "src")
+    write_sources(package, to / "src/erased")
+    for text in (*TOP.glob("LICENSE-*"), *(package.texts)):
+        shutil.copy(text, to)
+
+
+def main(words: List[str]) -> None:
+    """Writes the package that the words name."""
+    package = LIBRARY if words[:1] == ["--c"] else RUST
+    folders = words[1:] if package is LIBRARY else words
+    if len(folders) != 1 or folders[0].startswith("-"):
+        sys.exit("usage: tools/erase.py [--c] DIR")
+    try:
+        write_package(package, Path(folders[0]))
+    except Unknown as unknown:
+        sys.exit(str(unknown))
 
 
 if __name__ == "__main__":
-    if len(sys.argv) != 2:
-        sys.exit("usage: tools/erase.py DIR")
-    try:
-        write_package(Path(sys.argv[1]))
-    except Unknown as unknown:
-        sys.exit(str(unknown))
+    main(sys.argv[1:])

@@ -1,19 +1,25 @@
 #!/usr/bin/env python3
 """Writes the tree of an HTML, XML or SVG document in the form that the program `cssq` reads.
 
-    html_tree.py [FILE] > page.tree     without FILE, or with `-`, the document is read from standard input
+    html_tree.py [FILE] > page.tree     without FILE, or with `-`, of standard input
 
-A document is XML by its extension (.svg, .xml, .xhtml) or by its first bytes, and else HTML, with the elements that a browser adds.
-Text with no tag of `html`, `head` or `body` is read as the content of a body, and these three are not added. Nothing has to be
-built. A value that has a TAB, a newline or a carriage return is written with a space for each, and
-a warning says so. The status is 1 if the document is no tree, and 4 if it cannot be read or the output cannot be written.
+A document is XML by its extension (.svg, .xml, .xhtml), and else HTML, with the elements that a
+browser adds. Text with no tag of `html`, `head` or `body` is read as the
+content of a body, and these three are not added. Nothing has to be built. A value that has a TAB, a
+newline or a carriage return is written with a space for each, and a warning says so. The status is
+1 if the document is no tree, and 4 if it cannot be read or the output cannot be written.
 """
+from __future__ import annotations
+
 import os
 import re
 import sys
+from pathlib import Path
+from typing import Iterator, List, Optional
 
-sys.path.insert(0, os.path.join(os.path.dirname(os.path.dirname(os.path.abspath(__file__))), "python"))
-from simplecss import Tree, TreeError  # noqa: E402
+sys.path.insert(0, str(Path(__file__).resolve().parents[1] / "python" / "src"))
+from simplecss import Element, Tree, TreeError  # noqa: E402
+from simplecss._xml import is_xml  # noqa: E402
 
 REFUSED, USAGE, UNREADABLE = 1, 2, 4
 # What would end a field or a line, or belong to the end of one.
@@ -22,13 +28,13 @@ SPECIAL = re.compile("[\t\r\n]")
 PAGE = re.compile(r"<(?:html|head|body)[\s/>]", re.IGNORECASE)
 
 
-def warn(name, row, column, words):
+def warn(name: str, row: Optional[int], column: Optional[int], words: str) -> None:
     """Writes a warning with its position, as far as it is known."""
     position = "" if row is None else f"{row}:{column}:"
     print(f"{name}:{position} {words}", file=sys.stderr)
 
 
-def read(name):
+def read(name: str) -> str:
     """Returns the text of a file, or of standard input for `-`."""
     if name == "-":
         data = sys.stdin.buffer.read()
@@ -38,29 +44,34 @@ def read(name):
     return data.decode("utf-8-sig")
 
 
-def parse(name, text):
+def parse(name: str, text: str) -> Tree:
     """Returns the tree of a document."""
-    start = text.lstrip()
-    is_xml = name.endswith((".svg", ".xml", ".xhtml")) or start.startswith(("<?xml", "<svg"))
-    return Tree.from_xml(text) if is_xml else Tree.from_html(text, is_part=not PAGE.search(text))
+    return (
+        Tree.from_xml(text) if is_xml(name) else Tree.from_html(text, is_part=not PAGE.search(text))
+    )
 
 
-def fields_of(name, element):
+def fields_of(name: str, element: Element) -> Iterator[str]:
     """Yields the fields of an element after its depth."""
     yield element.name
     for key, value in element.attributes.items():
         if SPECIAL.search(value):
-            warn(name, element.row, element.column, f"'{element.name}': a TAB or newline in '{key}' is written as a space")
+            warn(
+                name,
+                element.row,
+                element.column,
+                f"'{element.name}': a TAB or newline in '{key}' is written as a space",
+            )
         yield f"{key}={SPECIAL.sub(' ', value)}"
 
 
-def lines_of(name, tree):
+def lines_of(name: str, tree: Tree) -> Iterator[str]:
     """Yields the line of each element."""
     for element in tree:
         yield "\t".join([str(element.depth), *fields_of(name, element)]) + "\n"
 
 
-def main(words):
+def main(words: List[str]) -> int:
     """Writes the tree of the document that the words name, and returns the status."""
     if len(words) > 1 or words[:1] in (["-h"], ["--help"]):
         print("usage: html_tree.py [FILE]", file=sys.stderr)

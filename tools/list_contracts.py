@@ -1,5 +1,6 @@
 #!/usr/bin/env python3
-"""Writes docs/CONTRACTS.md from the sources: how clauses are read, the headline's clauses, and each law with its sentence.
+"""Writes docs/CONTRACTS.md from the sources: how clauses are read, the headline's clauses, and each
+law with its sentence.
 
     list_contracts.py > docs/CONTRACTS.md
 
@@ -33,41 +34,59 @@ of elements are on the calls that count them; that the calls over these make no 
 
 """
 QUOTES = (
-    ("Matching, by `Selector::matches_counted`, which `matches` calls:", "crates/simplecss_selector/src/selector.rt", "ensures answer { IsTrue result ↔ HasPlacement", 7),
-    ("Reading into a sheet, by `StyleSheet::parse_more`:", "crates/simplecss/src/sheet/style_sheet.rt", "ensures sheet { (texts : List (List ℕ)) → rules_in self.old", 2),
+    (
+        "Matching, by `Selector::matches_counted`, which `matches` calls:",
+        "crates/simplecss_selector/src/selector.rt",
+        "ensures answer { IsTrue result ↔ HasPlacement",
+        7,
+    ),
+    (
+        "Reading into a sheet, by `StyleSheet::parse_more`:",
+        "crates/simplecss/src/sheet/style_sheet.rt",
+        "ensures sheet { (texts : List (List ℕ)) → rules_in self.old",
+        2,
+    ),
 )
 # Laws that are said in one sentence, by words of their names.
 GATHERED = {
     "Values are equal exactly if what contracts see of them is.": ("equality",),
-    "Blanks and comments are what their definitions say, which do not mention reading.": ("blank", "comment", "space_bytes"),
-    "Elements that a selector matches, and their ancestors, have the keys that it requires of them.": ("key_law", "keys_law"),
+    "Blanks and comments are what their definitions say, which do not mention reading.": (
+        "blank",
+        "comment",
+        "space_bytes",
+    ),
+    "Elements that a selector matches, and their ancestors, have the keys that it requires of them.": (
+        "key_law",
+        "keys_law",
+    ),
 }
 CALLS = (
-    ("cursor", "simplecss_text/src/stream.rt"),
+    ("cursor", "css_text/src/stream.rt"),
     ("tokens", "simplecss_selector/src/tokenizer.rt"),
     ("selectors and matching", "simplecss_selector/src/selector.rt"),
     ("traits for trees", "simplecss_selector/src/element.rt"),
     ("declarations", "simplecss_declaration/src/tokenizer.rt"),
     ("style sheets", "simplecss/src/sheet/style_sheet.rt"),
     ("index", "simplecss/src/index/rule_index.rt"),
-    ("reporters", "simplecss_text/src/report.rt"),
-    ("what is skipped", "simplecss_text/src/quoting.rt"),
+    ("reporters", "simplecss_grammar/src/report.rt"),
+    ("what is skipped", "simplecss_grammar/src/quoting.rt"),
+    ("hints", "simplecss/src/hints.rt"),
     ("places", "simplecss/src/place.rt"),
     ("ready tree", "simplecss_tree/src/tree.rt"),
-    ("tree texts", "cssq_page/src/tree.rt"),
+    ("tree texts", "cssq_tree/src/tree.rt"),
     ("cascade", "cssq/src/cascade.rt"),
     ("commands", "cssq/src/runs.rt"),
     ("C library", "simplecss_c/src/exports.rt"),
-    ("today's sheets", "css_syntax/src"),
-    ("today's selectors", "css_selectors/src"),
+    ("modern sheets", "css_syntax/src"),
+    ("modern selectors' grammar", "css_syntax/src/selectors"),
     ("which of them are read", "css_sheet/src/selectors.rt"),
     ("rules of a sheet in order", "css_sheet/src/sheet_order.rt"),
-    ("reading selectors of level 3", "selectors3/src/reading.rt"),
-    ("printing them", "selectors3/src/printing.rt"),
-    ("matching them", "selectors3/src/matching.rt"),
-    ("an index of them", "selectors3_index/src/selector_index.rt"),
-    ("an index over both kinds", "any_selector_index/src/any_selector_index.rt"),
-    ("matching with `~`", "sibling_matching/src"),
+    ("reading modern selectors", "css_selectors/src/reading.rt"),
+    ("printing them", "css_selectors/src/printing.rt"),
+    ("matching them", "css_selectors/src/matching.rt"),
+    ("an index of them", "css_index/src/selector_index.rt"),
+    ("a walk along a page", "css_index/src/selector_walk.rt"),
+    ("matching with `~`", "css_matching/src"),
 )
 
 
@@ -95,11 +114,16 @@ def first_sentence(documentation: str) -> str:
 
 
 def laws_in(lines: List[str]) -> Iterator[Tuple[str, str]]:
-    """The name and the sentence of each law of a file: a function at the top whose body is `{}` on a line of its own."""
+    """The name and the sentence of each law of a file: a function at the top whose body is `{}` on
+    a line of its own."""
     for index, line in enumerate(lines):
         found = re.match(r"pub fn (\w+)", line)
         if found:
-            end = next(at for at in range(index, len(lines)) if lines[at].startswith(("{", "}")) or lines[at].endswith(" {"))
+            end = next(
+                at
+                for at in range(index, len(lines))
+                if lines[at].startswith(("{", "}")) or lines[at].endswith(" {")
+            )
             start = index
             while lines[start - 1].startswith("///"):
                 start -= 1
@@ -109,7 +133,9 @@ def laws_in(lines: List[str]) -> Iterator[Tuple[str, str]]:
 
 def laws() -> Iterator[Tuple[str, str, str]]:
     """The file, the name and the sentence of each law."""
-    for path in sorted(glob.glob(os.path.join(TOP, "crates", "*", "src", "**", "*.rt"), recursive=True)):
+    for path in sorted(
+        glob.glob(os.path.join(TOP, "crates", "*", "src", "**", "*.rt"), recursive=True)
+    ):
         name = os.path.relpath(path, TOP)
         if not name.split(os.sep)[1].startswith(LEFT_OUT):
             yield from ((name, law, sentence) for law, sentence in laws_in(read(name).split("\n")))
@@ -120,19 +146,36 @@ def page() -> str:
     lines = [HEAD.rstrip("\n"), ""]
     for words, path, start, count in QUOTES:
         lines += [words, "", *quote(path, start, count)]
-    lines += ["## Laws", "", "Each is the contract of a function that does nothing. A proof calls the function to have the law.", ""]
+    lines += [
+        "## Laws",
+        "",
+        (
+            "Each is the contract of a function that does nothing. A proof calls the function to"
+            " have the law."
+        ),
+        "",
+    ]
     lines += ["| Law | Says |", "|---|---|"]
     found = list(laws())
-    gathered = {said: [law for law in found if any(word in law[1] for word in words)] for said, words in GATHERED.items()}
+    gathered = {
+        said: [law for law in found if any(word in law[1] for word in words)]
+        for said, words in GATHERED.items()
+    }
     single = [law for law in found if not any(law in several for several in gathered.values())]
     lines += [f"| [`{name}`](../{path}) | {sentence} |" for path, name, sentence in single]
     for said, several in gathered.items():
-        lines.append(f"| {', '.join(f'[`{name}`](../{path})' for path, name, _ in several)} | {said} |")
+        lines.append(
+            f"| {', '.join(f'[`{name}`](../{path})' for path, name, _ in several)} | {said} |"
+        )
     lines += ["", "## Calls", ""]
     missing = [path for _, path in CALLS if not os.path.exists(os.path.join(TOP, "crates", path))]
     if missing:
         raise SystemExit(f"list_contracts.py: there is no {missing[0]}")
-    lines.append("The contracts of each: " + ",\n".join(f"[{words}](../crates/{path})" for words, path in CALLS) + ".")
+    lines.append(
+        "The contracts of each: "
+        + ",\n".join(f"[{words}](../crates/{path})" for words, path in CALLS)
+        + "."
+    )
     return "\n".join(lines) + "\n"
 
 

@@ -1,16 +1,17 @@
 #!/usr/bin/env python3
-"""Makes what people without the toolchain install, from what ./build release has proved: Rust crate, wheels, tarball,
-Debian package, npm package, one page, and their sums.
+"""Makes what people without the toolchain install, from what ./build release has proved: Rust
+crate, wheels, tarball, Debian package, npm package, one page, and their sums.
 
-    tools/release.py KIT [DIR]    KIT is the toolchain's folder; without DIR it writes to out/release
+    release.py KIT [DIR]    KIT is the toolchain's folder; without DIR it writes to out/release
 
-The bytes are the same from two checkouts of one commit: names are sorted, and times are the commit's. What cannot be
-made, since a tool is missing, is named, and the status is 1.
+The bytes are the same from two checkouts of one commit: names are sorted, and times are the
+commit's. What cannot be made, since a tool is missing, is named, and the status is 1.
 """
 
 from __future__ import annotations
 
 import base64
+import email.utils
 import gzip
 import hashlib
 import io
@@ -25,20 +26,49 @@ import tempfile
 import time
 import zipfile
 from pathlib import Path
-from typing import Dict, List, NamedTuple, Tuple
+from typing import Dict, List, NamedTuple, Optional, Tuple
 
 TOP = Path(__file__).resolve().parent.parent
 PARTS = TOP / "release"
 BUILT = TOP / "crates/cssq_cli/out/rlib/build"
 LICENCES = sorted(TOP.glob("LICENSE-*"))
-SUMMARY = "CSS 2.1 selectors and style sheets, over a library whose answers are proved"
 # The library imports six functions of the C library and no version of them: it loads with any.
 X86_TAGS = ("manylinux_2_5_x86_64", "manylinux1_x86_64", "musllinux_1_1_x86_64")
 ARM_TAGS = ("manylinux_2_17_aarch64", "musllinux_1_1_aarch64")
+# Of a shared library: what the linker may, it writes before anything runs, and then never again; and
+# no stack runs.
+HARDENED = ("-Wl,-z,relro", "-Wl,-z,now", "-Wl,-z,noexecstack")
 # As the toolchain compiles its modules.
-SHARED = ["-shared", "-nostdlib", "-fuse-ld=lld", "-Wl,-s", "-Wl,-soname,libsimplecss.so.0"]
-FLAGS = ["-O3", "-ffunction-sections", "-fdata-sections", "--no-default-config", "-mllvm", "-sink-common-insts=false",
-         "-mllvm", "-disable-machine-licm", "-mllvm", "-disable-postra-machine-licm"]
+# fmt: off
+FLAGS = [
+    "-O3", "-ffunction-sections", "-fdata-sections", "--no-default-config", "-mllvm",
+    "-sink-common-insts=false", "-mllvm", "-disable-machine-licm", "-mllvm",
+    "-disable-postra-machine-licm",
+]
+# fmt: on
+
+# What makes the tree of a page, where it is installed.
+TREE_WRITER = "cssq-tree"
+# Of the Debian packages: who answers for them, and what each is.
+MAINTAINER = "The maintainers <maintainers@simplecss.example>"
+OF_PROGRAM = """proved library of style sheets and selectors, command line
+ The program cssq prints selectors, style sheets, which rules match the elements
+ of a tree, and which declarations win. The program cssq-tree writes the tree of
+ a page."""
+OF_LIBRARY = """proved library of style sheets and selectors
+ It reads style sheets and selectors of modern CSS, matches the elements of a
+ tree, and has no state."""
+OF_CALLERS = """proved library of style sheets and selectors, header
+ The header and the static library, for programs in C and C++, with an example."""
+# The modules of the npm package that its page has in it, each after those that it uses, and one
+# that has the WebAssembly module.
+MODULES = ("bytes", "library", "reading", "tree", "sheet", "lint")
+BYTES = """// The WebAssembly module.
+const packed = atob('%s');
+const bytes = new Uint8Array(packed.length);
+for (let at = 0; at < bytes.length; at += 1) bytes[at] = packed.charCodeAt(at);
+export default bytes;
+"""
 
 
 class Missing(Exception):
@@ -46,18 +76,23 @@ class Missing(Exception):
 
 
 class File(NamedTuple):
-    """A file of an archive."""
+    """A file of an archive, or a link to another one."""
 
     name: str
     data: bytes
     mode: int = 0o644
+    link: str = ""
 
 
 def run(*words: object, cwd: Path = TOP) -> bytes:
     """Runs a program, and returns what it prints."""
-    done = subprocess.run(list(map(str, words)), cwd=cwd, stdin=subprocess.DEVNULL, capture_output=True, check=False)
+    done = subprocess.run(
+        list(map(str, words)), cwd=cwd, stdin=subprocess.DEVNULL, capture_output=True, check=False
+    )
     if done.returncode:
-        sys.exit(f"tools/release.py: {words[0]} failed: {(done.stdout + done.stderr).decode()[-2000:]}")
+        sys.exit(
+            f"tools/release.py: {words[0]} failed: {(done.stdout + done.stderr).decode()[-2000:]}"
+        )
     return done.stdout
 
 
@@ -73,7 +108,10 @@ def commit_time() -> int:
     """Returns the time of the commit, or the one that the environment has."""
     given = os.environ.get("SOURCE_DATE_EPOCH")
     if not given and not shutil.which("git"):
-        sys.exit("tools/release.py: the time of the commit is not known: there is no git, and no SOURCE_DATE_EPOCH")
+        sys.exit(
+            "tools/release.py: the time of the commit is not known: there is no git, and no"
+            " SOURCE_DATE_EPOCH"
+        )
     return int(given or run("git", "-c", f"safe.directory={TOP}", "log", "-1", "--format=%ct"))
 
 
@@ -88,13 +126,51 @@ def read_version() -> str:
     return found_in(TOP / "include/simplecss.h", r'SIMPLECSS_VERSION "(.*)"')
 
 
+def read_soname() -> str:
+    """Returns the name by which programs load the library, which `build` states."""
+    return found_in(TOP / "build", r'SONAME = "(.*)"')
+
+
+def replaced(text: str, values: Dict[str, str]) -> str:
+    """Returns a text with the values of names."""
+    for name, value in values.items():
+        text = text.replace(name, value)
+    return text
+
+
+def of_installed(page: str) -> str:
+    """Returns the page on the program for those who have it installed, without what it says of a
+    checkout."""
+    page = replaced(page, {"./cssq": "cssq", "tools/html_tree.py": TREE_WRITER})
+    page = re.sub(r"(?m)^The script `cssq` .*\n(?:.+\n)*\n", "", page)
+    return re.sub(r"(?m)^\| 127, other \|.*\n", "", page)
+
+
+def copyright_of_package() -> str:
+    """Returns the copyright file of a Debian package, in the form that programs read."""
+    mit = (TOP / "LICENSE-MIT").read_text(encoding="utf-8")
+    [owner] = re.findall(r"Copyright \(c\) (.*)", mit)
+    terms = mit[mit.index("Permission is") :].strip().splitlines()
+    return (
+        "Format: https://www.debian.org/doc/packaging-manuals/copyright-format/1.0/\n\n"
+        f"Files: *\nCopyright: {owner}\nLicense: Apache-2.0 or MIT\n\n"
+        "License: Apache-2.0\n On Debian systems it is in /usr/share/common-licenses/Apache-2.0.\n\n"
+        f"License: MIT\n{''.join(f' {line or chr(46)}{chr(10)}' for line in terms)}"
+    )
+
+
 class Release:
     """What is made, and where."""
 
     def __init__(self, kit: Path, to: Path, room: Path) -> None:
         self.kit, self.to, self.room = kit, to, room
         self.tools = kit / "toolchain/bin"
-        self.version, self.when = read_version(), commit_time()
+        self.version, self.when, self.soname = read_version(), commit_time(), read_soname()
+
+    def shared(self, *words: object) -> None:
+        """Links a shared library of these words: with no names but those of the calls."""
+        fixed = ["-shared", "-nostdlib", "-fuse-ld=lld", "-Wl,-s", f"-Wl,-soname,{self.soname}"]
+        run(self.tools / "clang", *fixed, *HARDENED, *words)
 
     # ---- archives
 
@@ -109,15 +185,22 @@ class Release:
                     if folder not in made and folder != ".":
                         made.add(folder)
                         tar.addfile(self.stated(folder, tarfile.DIRTYPE, 0o755))
-                info = self.stated(prefix + file.name, tarfile.REGTYPE, file.mode)
-                info.size = len(file.data)
+                kind = tarfile.SYMTYPE if file.link else tarfile.REGTYPE
+                info = self.stated(prefix + file.name, kind, 0o777 if file.link else file.mode)
+                info.size, info.linkname = len(file.data), file.link
                 tar.addfile(info, io.BytesIO(file.data))
         return self.packed(raw.getvalue())
 
     def stated(self, name: str, kind: bytes, mode: int) -> tarfile.TarInfo:
         """Returns the entry of a file or a folder."""
         info = tarfile.TarInfo(name)
-        info.type, info.mode, info.mtime, info.uname, info.gname = kind, mode, self.when, "root", "root"
+        info.type, info.mode, info.mtime, info.uname, info.gname = (
+            kind,
+            mode,
+            self.when,
+            "root",
+            "root",
+        )
         return info
 
     def packed(self, data: bytes) -> bytes:
@@ -135,17 +218,34 @@ class Release:
         """Writes the erased crate."""
         folder = self.room / "crate"
         run(sys.executable, TOP / "tools/erase.py", folder)
-        files = [File(str(it.relative_to(folder)), it.read_bytes()) for it in folder.rglob("*") if it.is_file()]
+        files = [
+            File(str(it.relative_to(folder)), it.read_bytes())
+            for it in folder.rglob("*")
+            if it.is_file()
+        ]
         self.write("simplecss-0.2.2.crate", self.tarred(files, "simplecss-0.2.2/"))
 
     # ---- the library for other machines
 
     def module_for(self, triple: str) -> Path:
         """Returns the proved library's module for another machine, as text."""
-        text = run(self.tools / "clang", "-S", "-emit-llvm", "-x", "ir", BUILT / "simplecss_c.bc", "-o", "-").decode()
+        text = run(
+            self.tools / "clang",
+            "-S",
+            "-emit-llvm",
+            "-x",
+            "ir",
+            BUILT / "simplecss_c.bc",
+            "-o",
+            "-",
+        ).decode()
         text = re.sub(r"(?m)^target datalayout.*\n", "", text)
         text = re.sub(r"(?m)^target triple.*", f'target triple = "{triple}"', text)
-        text = re.sub(r' *"(probe-stack|stack-probe-size|target-cpu|target-features|tune-cpu)"="[^"]*"', "", text)
+        text = re.sub(
+            r' *"(probe-stack|stack-probe-size|target-cpu|target-features|tune-cpu)"="[^"]*"',
+            "",
+            text,
+        )
         path = self.room / f"{triple}.ll"
         path.write_text(text)
         return path
@@ -158,32 +258,44 @@ class Release:
         for source in (self.module_for(triple), PARTS / "c/heap.ll"):
             objects.append(self.room / (source.stem + ".o"))
             run(*words, "-c", "-x", "ir", source, "-o", objects[-1])
-        run(self.tools / "clang", f"--target={triple}", *SHARED, "-Wl,--gc-sections", "-o", made, *objects)
+        self.shared(f"--target={triple}", "-Wl,--gc-sections", "-o", made, *objects)
         return made.read_bytes()
 
     # ---- Python
 
     def make_wheels(self) -> None:
         """Writes the wheels."""
-        stripped = self.room / "x86.so"
-        # As `strip` does: no names but those of the calls.
-        words = ["-Wl,--whole-archive", BUILT / "simplecss_c.a", "-Wl,--no-whole-archive", self.kit / "c/liblibc_c.a"]
-        run(self.tools / "clang", *SHARED, "-o", stripped, *words)
-        self.make_wheel(X86_TAGS, stripped.read_bytes())
+        self.make_wheel(X86_TAGS, self.library())
         self.make_wheel(ARM_TAGS, self.library_for_arm())
+
+    def library(self) -> bytes:
+        """Returns the shared library for x86-64."""
+        made = self.room / "x86.so"
+        whole = ("-Wl,--whole-archive", BUILT / "simplecss_c.a", "-Wl,--no-whole-archive")
+        self.shared("-o", made, *whole, self.kit / "c/liblibc_c.a")
+        return made.read_bytes()
 
     def make_wheel(self, tags: Tuple[str, ...], library: bytes) -> None:
         """Writes a wheel with this library."""
         info = f"simplecss-{self.version}.dist-info/"
-        package = TOP / "python/simplecss"
-        files = {f"simplecss/{it.name}": it.read_bytes() for it in (*package.glob("*.py"), package / "py.typed")}
+        package = TOP / "python/src/simplecss"
+        files = {
+            it.relative_to(package.parent).as_posix(): it.read_bytes()
+            for it in (*package.rglob("*.py"), package / "py.typed")
+        }
         files["simplecss/libsimplecss.so"] = library
         files.update({f"{info}licenses/{it.name}": it.read_bytes() for it in LICENCES})
         files[info + "METADATA"] = self.metadata().encode()
-        files[info + "entry_points.txt"] = b"[console_scripts]\nsimplecss = simplecss.__main__:main\n"
+        files[
+            info + "entry_points.txt"
+        ] = b"[console_scripts]\nsimplecss = simplecss.__main__:main\n"
         lines = ["Wheel-Version: 1.0", "Generator: tools/release.py", "Root-Is-Purelib: false"]
-        files[info + "WHEEL"] = "".join(f"{it}\n" for it in (*lines, *(f"Tag: py3-none-{it}" for it in tags))).encode()
-        rows = [f"{name},sha256={digest_of(data)},{len(data)}" for name, data in sorted(files.items())]
+        files[info + "WHEEL"] = "".join(
+            f"{it}\n" for it in (*lines, *(f"Tag: py3-none-{it}" for it in tags))
+        ).encode()
+        rows = [
+            f"{name},sha256={digest_of(data)},{len(data)}" for name, data in sorted(files.items())
+        ]
         files[info + "RECORD"] = ("\n".join([*rows, info + "RECORD,,"]) + "\n").encode()
         out = io.BytesIO()
         with zipfile.ZipFile(out, "w", zipfile.ZIP_DEFLATED, compresslevel=9) as packed:
@@ -195,79 +307,198 @@ class Release:
 
     def metadata(self) -> str:
         """Returns the wheel's metadata, which pyproject.toml states."""
-        stated = found_in(TOP / "python/pyproject.toml", r"(?s)classifiers = \[(.*?)\]")
-        classifiers = re.findall(r'"(.*)"', stated)
-        lines = ["Metadata-Version: 2.4", "Name: simplecss", f"Version: {self.version}", f"Summary: {SUMMARY}",
-                 "License-Expression: MIT OR Apache-2.0", *(f"License-File: {it.name}" for it in LICENCES),
-                 *(f"Classifier: {it}" for it in classifiers), "Requires-Python: >=3.9",
-                 "Description-Content-Type: text/markdown"]
+        stated = TOP / "python/pyproject.toml"
+        summary = found_in(stated, r'description = "(.*)"')
+        classifiers = re.findall(r'"(.*)"', found_in(stated, r"(?s)classifiers = \[(.*?)\]"))
+        lines = [
+            "Metadata-Version: 2.4",
+            "Name: simplecss",
+            f"Version: {self.version}",
+            f"Summary: {summary}",
+            "License-Expression: MIT OR Apache-2.0",
+            *(f"License-File: {it.name}" for it in LICENCES),
+            *(f"Classifier: {it}" for it in classifiers),
+            "Requires-Python: >=3.9",
+            "Description-Content-Type: text/markdown",
+        ]
         return "\n".join(lines) + "\n\n" + (TOP / "python/README.md").read_text()
 
     # ---- the program
 
     def program(self) -> bytes:
-        """Returns the program, linked with the C library, so that it starts on any distribution."""
+        """Returns the program, linked with the C library, so that it starts on any distribution and
+        at any address."""
         made = self.room / "cssq"
         parts = [BUILT / "cssq_cli.o", self.kit / "c/libos_c.a", self.kit / "c/liblibc_c.a"]
-        words = [need("gcc"), "-static", "-s", "-o", made, *parts]
+        words = [need("gcc"), "-static-pie", "-s", *HARDENED, "-o", made, *parts]
         done = subprocess.run(list(map(str, words)), capture_output=True, text=True, check=False)
         if done.returncode:
             raise Missing("gcc with a static C library (libc6-dev)")
         return made.read_bytes()
 
-    def manual(self) -> bytes:
-        """Returns the page of the manual: what `cssq --help` says."""
+    def manual(self, name: str, summary: str, usage: str, text: str) -> bytes:
+        """Returns a page of the manual, packed."""
+        day = time.strftime("%Y-%m-%d", time.gmtime(self.when))
+        first, _, rest = text.partition("\n\n")
+        shown = rest.replace("\\", "\\e").replace("-", "\\-").replace("\n.", "\n\\&.")
+        page = (
+            f'.TH {name.upper()} 1 "{day}" "cssq {self.version}"\n.SH NAME\n'
+            f"{name} \\- {summary}\n.SH SYNOPSIS\n.B {name}\n{usage}\n"
+            f".SH DESCRIPTION\n{first}\n.PP\n.nf\n{shown}.fi\n"
+        )
+        return self.packed(page.encode())
+
+    def manual_of_program(self) -> bytes:
+        """Returns the page on cssq: what `cssq --help` says."""
         source = TOP / "crates/cssq_cli/src/help.rt"
         text = found_in(source, r'(?s)const HELP: &str = "\\\n(.*?)";').replace("\\\\", "\\")
-        first, _, rest = text.partition("\n\n")
-        day = time.strftime("%Y-%m-%d", time.gmtime(self.when))
-        shown = rest.replace("\\", "\\e").replace("-", "\\-").replace("\n.", "\n\\&.")
-        return (f'.TH CSSQ 1 "{day}" "cssq {self.version}"\n.SH NAME\n'
-                "cssq \\- CSS 2.1 selectors, style sheets and matching\n"
-                ".SH SYNOPSIS\n.B cssq\n[command operand..]\n"
-                f".SH DESCRIPTION\n{first}\n.PP\n.nf\n{shown}.fi\n").encode()
+        summary = "CSS 2.1 selectors, style sheets and matching"
+        return self.manual("cssq", summary, "[command operand..]", text)
 
-    def installed(self) -> List[File]:
-        """Returns the files of an installation, below its prefix."""
-        shared = (TOP / "out/libsimplecss.so").read_bytes()
-        config, top = found_in(TOP / "build", r'(?s)PKG_CONFIG = """(.*?)"""'), "${pcfiledir}/../.."
-        config = config.format(lib=top + "/lib", include=top + "/include", version=self.version)
-        text = b"\n".join(it.read_bytes() for it in LICENCES)
+    def manual_of_trees(self) -> bytes:
+        """Returns the page on cssq-tree: what the tool's source says."""
+        text = found_in(TOP / "tools/html_tree.py", r'(?s)\A#!.*?\n"""(.*?)"""')
+        text = text.replace("html_tree.py", TREE_WRITER)
+        return self.manual(TREE_WRITER, "trees of pages for cssq", "[file]", text)
+
+    def of_program(self) -> List[File]:
+        """Returns the files of the program, and of what makes the tree of a page, below a
+        prefix."""
+        tool, package = "share/cssq/tools/html_tree.py", TOP / "python/src/simplecss"
+        page = (TOP / "docs/PROGRAM.md").read_text(encoding="utf-8")
         return [
             File("bin/cssq", self.program(), 0o755),
-            File("include/simplecss.h", (TOP / "include/simplecss.h").read_bytes()),
-            File("lib/libsimplecss.a", (TOP / "out/libsimplecss.a").read_bytes()),
-            File("lib/libsimplecss.so", shared),
-            File("lib/libsimplecss.so.0", shared),
-            File("lib/pkgconfig/simplecss.pc", config.encode()),
+            File(f"bin/{TREE_WRITER}", b"", link=f"../{tool}"),
+            File(tool, (TOP / "tools/html_tree.py").read_bytes(), 0o755),
+            *(
+                File(f"share/cssq/python/src/{it.relative_to(package.parent)}", it.read_bytes())
+                for it in package.rglob("*.py")
+            ),
             File("share/bash-completion/completions/cssq", (PARTS / "pack/cssq.bash").read_bytes()),
-            File("share/doc/cssq/PROGRAM.md", (TOP / "docs/PROGRAM.md").read_bytes()),
-            File("share/doc/cssq/changelog.gz", self.packed((TOP / "CHANGELOG.md").read_bytes())),
-            File("share/doc/cssq/copyright", text),
-            File("share/man/man1/cssq.1.gz", self.packed(self.manual())),
+            File("share/doc/cssq/PROGRAM.md", of_installed(page).encode()),
+            File("share/man/man1/cssq.1.gz", self.manual_of_program()),
+            File(f"share/man/man1/{TREE_WRITER}.1.gz", self.manual_of_trees()),
         ]
 
+    def of_library(self, lib: str) -> List[File]:
+        """Returns the shared library in this folder below a prefix."""
+        return [File(f"{lib}/{self.soname}", self.library())]
+
+    def for_callers(self, lib: str, doc: str) -> List[File]:
+        """Returns what programs over the library are compiled with, in these folders below a
+        prefix."""
+        up = "/".join([".."] * len(lib.split("/")))
+        stated = found_in(TOP / "build", r'(?s)PKG_CONFIG = """(.*?)"""').format(
+            lib="${pcfiledir}/..", include=f"${{pcfiledir}}/../{up}/include", version=self.version
+        )
+        values = {
+            "@INCLUDE@": f"../../{up}/include",
+            "@SONAME@": self.soname,
+            "@VERSION@": self.version,
+        }
+        return [
+            File("include/simplecss.h", (TOP / "include/simplecss.h").read_bytes()),
+            File(f"{lib}/libsimplecss.a", (TOP / "out/libsimplecss.a").read_bytes()),
+            File(f"{lib}/libsimplecss.so", b"", link=self.soname),
+            File(f"{lib}/pkgconfig/simplecss.pc", stated.encode()),
+            *(
+                File(f"{lib}/cmake/simplecss/{it.name}", replaced(it.read_text(), values).encode())
+                for it in (PARTS / "c").glob("*.cmake")
+            ),
+            File(f"share/doc/{doc}/C.md", (TOP / "docs/C.md").read_bytes()),
+            File(f"share/doc/{doc}/examples/page.c", (TOP / "examples/c/page.c").read_bytes()),
+        ]
+
+    def make_tarball(self) -> None:
+        """Writes the tarball of the program and the library."""
+        texts = [
+            File("share/doc/cssq/changelog.gz", self.packed((TOP / "CHANGELOG.md").read_bytes())),
+            File("share/doc/cssq/copyright", b"\n".join(it.read_bytes() for it in LICENCES)),
+        ]
+        files = [*self.of_program(), *self.of_library("lib"), *texts]
+        files += self.for_callers("lib", "simplecss")
+        name = f"cssq-{self.version}"
+        self.write(f"{name}-linux-x86_64.tar.gz", self.tarred(files, f"{name}/"))
+
+    # ---- Debian
+
     def make_packages(self) -> None:
-        """Writes the tarball and the Debian package."""
-        files = self.installed()
-        self.write(f"cssq-{self.version}-linux-x86_64.tar.gz", self.tarred(files, f"cssq-{self.version}/"))
-        size = sum(len(it.data) for it in files) // 1024
-        control = f"""Package: cssq
-Version: {self.version}
-Architecture: amd64
-Maintainer: unstated <nobody@localhost>
-Installed-Size: {size}
-Section: web
-Priority: optional
-Description: {SUMMARY}
- The program cssq, and the C library simplecss with its header.
-"""
-        sums = "".join(f"{hashlib.md5(it.data).hexdigest()}  usr/{it.name}\n" for it in sorted(files))
-        triggers = b"activate-noawait ldconfig\n"
-        inner = [File("./control", control.encode()), File("./md5sums", sums.encode()), File("./triggers", triggers)]
-        data = self.tarred([File(f"./usr/{it.name}", it.data, it.mode) for it in files])
-        members = (("debian-binary", b"2.0\n"), ("control.tar.gz", self.tarred(inner)), ("data.tar.gz", data))
-        self.write(f"cssq_{self.version}_amd64.deb", b"!<arch>\n" + b"".join(self.member(*it) for it in members))
+        """Writes the Debian packages: the program, the library, and what its callers need."""
+        number, lib = self.soname.rpartition(".")[2], "lib/x86_64-linux-gnu"
+        library = f"libsimplecss{number}"
+        self.make_package(
+            "cssq",
+            {"Depends": "python3", "Section": "web", "Description": OF_PROGRAM},
+            self.of_program(),
+            alone="bin/cssq",
+        )
+        self.make_package(
+            library,
+            {"Multi-Arch": "same", "Section": "libs", "Description": OF_LIBRARY},
+            self.of_library(lib),
+            {
+                "shlibs": f"libsimplecss {number} {library} (>= {self.version})\n",
+                "triggers": "activate-noawait ldconfig\n",
+            },
+            # It takes memory from whatever C library the program has.
+            f"{lib}/{self.soname}",
+        )
+        depends = {"Depends": f"{library} (= {self.version})", "Multi-Arch": "same"}
+        self.make_package(
+            "libsimplecss-dev",
+            {**depends, "Section": "libdevel", "Description": OF_CALLERS},
+            self.for_callers(lib, "libsimplecss-dev"),
+        )
+
+    def make_package(
+        self,
+        name: str,
+        fields: Dict[str, str],
+        files: List[File],
+        control: Optional[Dict[str, str]] = None,
+        alone: str = "",
+    ) -> None:
+        """Writes a Debian package of files below `/usr`, of which one may need no other library."""
+        log = f"simplecss ({self.version}) unstable; urgency=medium\n\n  * A release.\n\n"
+        log += f" -- {MAINTAINER}  {email.utils.formatdate(self.when)}\n"
+        files = [
+            *files,
+            File(f"share/doc/{name}/changelog.gz", self.packed(log.encode())),
+            File(f"share/doc/{name}/copyright", copyright_of_package().encode()),
+        ]
+        if alone:
+            line = f"{name}: shared-library-lacks-prerequisites [usr/{alone}]\n"
+            files.append(File(f"share/lintian/overrides/{name}", line.encode()))
+        stated = {
+            "Package": name,
+            "Source": "simplecss",
+            "Version": self.version,
+            "Architecture": "amd64",
+            "Maintainer": MAINTAINER,
+            "Installed-Size": str(sum(len(it.data) + 1023 for it in files) // 1024),
+            "Priority": "optional",
+            **fields,
+        }
+        sums = "".join(
+            f"{hashlib.md5(it.data).hexdigest()}  usr/{it.name}\n"
+            for it in sorted(files)
+            if not it.link
+        )
+        texts = {
+            "control": "".join(f"{key}: {value}\n" for key, value in stated.items()),
+            "md5sums": sums,
+            **(control or {}),
+        }
+        inner = [File(f"./{key}", text.encode()) for key, text in texts.items()]
+        members = (
+            ("debian-binary", b"2.0\n"),
+            ("control.tar.gz", self.tarred(inner)),
+            ("data.tar.gz", self.tarred([it._replace(name=f"./usr/{it.name}") for it in files])),
+        )
+        self.write(
+            f"{name}_{self.version}_amd64.deb",
+            b"!<arch>\n" + b"".join(self.member(*it) for it in members),
+        )
 
     def member(self, name: str, data: bytes) -> bytes:
         """Returns a member of the Debian package."""
@@ -279,16 +510,25 @@ Description: {SUMMARY}
     def make_npm(self) -> None:
         """Writes the npm package, and the page with all in it."""
         wasm, parts = self.webassembly(), PARTS / "npm"
-        files = [File(it.name, it.read_bytes()) for it in parts.iterdir() if it.suffix in (".mjs", ".ts", ".md")]
+        files = [
+            File(it.name, it.read_bytes(), 0o755 if it.name == "cli.mjs" else 0o644)
+            for it in parts.iterdir()
+            if it.suffix in (".mjs", ".ts", ".md")
+        ]
         stated = json.loads((parts / "package.json").read_text())
         stated["version"] = self.version
-        files += [File("package.json", (json.dumps(stated, indent=2) + "\n").encode()), File("simplecss.wasm", wasm)]
+        files += [
+            File("package.json", (json.dumps(stated, indent=2) + "\n").encode()),
+            File("simplecss.wasm", wasm),
+            File("bytes.mjs", (BYTES % base64.b64encode(wasm).decode()).encode()),
+        ]
         files += [File(it.name, it.read_bytes()) for it in LICENCES]
         self.write(f"simplecss-{self.version}.tgz", self.tarred(files, "package/"))
-        code = re.sub(r"(?m)^export ", "", (parts / "simplecss.mjs").read_text())
-        text = base64.b64encode(wasm).decode()
-        code += f"const bytes = Uint8Array.from(atob('{text}'), (c) => c.charCodeAt(0));\n"
-        code += "const css = new Simplecss(new WebAssembly.Instance(new WebAssembly.Module(bytes)).exports);\n"
+        by_name = {it.name: it.data for it in files}
+        modules = (by_name[f"{it}.mjs"].decode() for it in MODULES)
+        unbound = (re.sub(r"(?m)^import .*\n|^export (default .*\n)?", "", it) for it in modules)
+        code = "".join(unbound)
+        code += "start(new WebAssembly.Module(bytes));\n"
         page = (parts / "playground.html").read_text().replace("// THE LIBRARY\n", code)
         self.write("playground.html", page.encode())
 
@@ -297,21 +537,57 @@ Description: {SUMMARY}
         optimizer, triple = need("wasm-opt"), "wasm64-unknown-unknown"
         clang, linker = self.tools / "clang", self.room / "wasm-ld"
         words = [clang, f"--target={triple}", "-mcpu=lime1", "-mbulk-memory", "--no-default-config"]
-        run(*words, *FLAGS, "-c", "-x", "ir", self.module_for(triple), "-o", self.room / "library.o")
-        run(*words, "-O2", "-ffreestanding", "-fno-builtin", "-nostdlib", "-c", PARTS / "wasm/runtime.c",
-            "-o", self.room / "runtime.o")
+        run(
+            *words, *FLAGS, "-c", "-x", "ir", self.module_for(triple), "-o", self.room / "library.o"
+        )
+        run(
+            *words,
+            "-O2",
+            "-ffreestanding",
+            "-fno-builtin",
+            "-nostdlib",
+            "-c",
+            PARTS / "wasm/runtime.c",
+            "-o",
+            self.room / "runtime.o",
+        )
         # The toolchain's linker is every linker, by its name.
         linker.unlink(missing_ok=True)
         linker.symlink_to(clang)
-        calls = re.findall(r"(?m)^uint32_t (simplecss_\w+)\(", (TOP / "include/simplecss.h").read_text())
+        calls = re.findall(
+            r"(?m)^uint32_t (simplecss_\w+)\(", (TOP / "include/simplecss.h").read_text()
+        )
         exports = [f"--export={it}" for it in calls]
         whole, lowered = self.room / "whole.wasm", self.room / "lowered.wasm"
-        run(linker, "-mwasm64", "--no-entry", "--stack-first", "-z", "stack-size=1048576", "--gc-sections", *exports,
-            "-o", whole, self.room / "library.o", self.room / "runtime.o")
+        run(
+            linker,
+            "-mwasm64",
+            "--no-entry",
+            "--stack-first",
+            "-z",
+            "stack-size=1048576",
+            "--gc-sections",
+            *exports,
+            "-o",
+            whole,
+            self.room / "library.o",
+            self.room / "runtime.o",
+        )
         whole.write_bytes(without_table(whole.read_bytes()))
-        run(optimizer, whole, "--enable-memory64", "--enable-bulk-memory", "--enable-sign-ext",
-            "--enable-mutable-globals", "--enable-nontrapping-float-to-int", "--enable-multivalue",
-            "--memory64-lowering", "-Oz", "-o", lowered)
+        run(
+            optimizer,
+            whole,
+            "--enable-memory64",
+            "--enable-bulk-memory",
+            "--enable-sign-ext",
+            "--enable-mutable-globals",
+            "--enable-nontrapping-float-to-int",
+            "--enable-multivalue",
+            "--memory64-lowering",
+            "-Oz",
+            "-o",
+            lowered,
+        )
         return lowered.read_bytes()
 
 
@@ -321,8 +597,8 @@ def digest_of(data: bytes) -> str:
 
 
 def without_table(module: bytes) -> bytes:
-    """Returns a module without its table, which has no elements, and without names: many engines refuse a table of 64
-    bits."""
+    """Returns a module without its table, which has no elements, and without names: many engines
+    refuse a table of 64 bits."""
 
     def number(at: int) -> Tuple[int, int]:
         value = shift = 0
@@ -351,14 +627,20 @@ def main(kit: str, to: Path) -> int:
     missing: Dict[str, str] = {}
     with tempfile.TemporaryDirectory() as room:
         release = Release(Path(kit), to, Path(room))
-        for make, what in ((release.make_crate, "the Rust crate"), (release.make_wheels, "the wheels"),
-                           (release.make_packages, "the tarball and the Debian package"),
-                           (release.make_npm, "the npm package and the page")):
+        for make, what in (
+            (release.make_crate, "the Rust crate"),
+            (release.make_wheels, "the wheels"),
+            (release.make_tarball, "the tarball"),
+            (release.make_packages, "the Debian packages"),
+            (release.make_npm, "the npm package and the page"),
+        ):
             try:
                 make()
             except Missing as lacking:
                 missing[what] = str(lacking)
-    sums = "".join(f"{hashlib.sha256(it.read_bytes()).hexdigest()}  {it.name}\n" for it in sorted(to.iterdir()))
+    sums = "".join(
+        f"{hashlib.sha256(it.read_bytes()).hexdigest()}  {it.name}\n" for it in sorted(to.iterdir())
+    )
     (to / "SHA256SUMS").write_text(sums)
     for what, tool in missing.items():
         print(f"tools/release.py: {what}: not made, since there is no {tool}", file=sys.stderr)

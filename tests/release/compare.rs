@@ -67,7 +67,7 @@ fn skipped(text: &str) -> String {
     out
 }
 
-/// What the program tests_tokens prints.
+/// What `tests_driver tokens` prints.
 fn tokens(text: &str) -> String {
     let items = SelectorTokenizer::from(text).map(|it| format!("{it:?}\n"));
     items.chain(DeclarationTokenizer::from(text).map(|it| format!("{it:?}\n"))).collect()

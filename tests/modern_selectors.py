@@ -1,0 +1,749 @@
+"""Modern selectors beside soupsieve and a browser: what random selectors match, which texts are
+refused, how selectors are serialized, and which languages are in language ranges.
+
+The program is `tests_driver`. soupsieve is Debian's `python3-soupsieve`, used by
+/usr/bin/python3; the browser is Debian's `chromium`. What is missing is left out. The trees and the
+texts are equal in each run.
+"""
+from __future__ import annotations
+
+import json
+import random
+import re
+import subprocess
+import time
+from typing import Any, Dict, List, Optional, Sequence, Tuple, Union
+
+from tests.common import DEBIAN, Case, browser_answers, count, has_modules, program
+
+# An element: its name, its attributes, and its children, which are elements and texts.
+Element = Tuple[str, Dict[str, str], List[Any]]
+# What a text is: the numbers of the elements that it matches, None if it is refused, or that there
+# is no answer.
+Found = Union[List[int], None, str]
+
+NAMES = ("a", "b", "li", "x-y", "\xe9")
+WORDS = ("c", "d", "C", "1", "e-f", "\xe9t\xe9", "a b", "en", "en-US", "", " ", "x.y", "-")
+ATTRIBUTES = ("class", "id", "title", "lang", "data-x")
+OPERATORS = ("=", "~=", "|=", "^=", "$=", "*=")
+# fmt: off
+STRUCTURES = (
+    "root", "empty", "first-child", "last-child", "only-child", "first-of-type", "last-of-type",
+    "only-of-type", "FIRST-child", "Empty",
+)
+# fmt: on
+NUMBERINGS = ("nth-child", "nth-last-child", "nth-of-type", "nth-last-of-type", "NTH-Child")
+# fmt: off
+PROGRESSIONS = (
+    "odd", "even", "ODD", "1", "2", "+3", "-1", "0", "n", "-n", "+n", "2n", "2n+1", "2N + 1",
+    "-n+3", "-2n + 5", "3n - 1", "0n+2", "n+0", " 2n ", "-0n-0", "+2n+0", "00002n+00001",
+    "99999999999n+1", "n- 2", "-n- 1", "2n/**/+ 1",
+)
+# With escapes and comments, and texts that are none.
+RARE_PROGRESSIONS = (
+    "+/**/n", "2\\6e", "2\\6e -1", "2n/**/+/**/1", "n-1", "-n-1", "+N-1", "2n-/**/1", "2N\\-1",
+    "\\-n", "o\\64 d", "e\\56 en", "-/**/n", "2/**/n", "+ n", "2n- 1", "+\\6e", "n--1", "2e1",
+    "+odd", "n-1n", "2.0", "n\\2d 2", "2\\6e/**/-/**/1", "+/**/2n", "-n-\\31", "2n +-1", "n/**/n",
+)
+# fmt: on
+# Pseudo-elements, which may have one colon (Selectors 3, section 7).
+ELEMENTS = ("before", "after", "first-line", "first-letter", "BEFORE")
+COMBINATORS = (" ", " > ", " + ", " ~ ", ">", "+", "~", "  ", "\n>\t", " /**/ ", "/**/ ~")
+# What a text is changed by, so that many changed texts are no selectors.
+# fmt: off
+CHANGES = (
+    ".", "#", ":", "::", "[", "]", "(", ")", "=", "'", '"', "\\", "\n", ",", ">", "*", "a", "1",
+    " ", "|", "/*", "/**/", "+", "~", "-", "n", "!", "=>", "\\\n", "\\31 ", ":not(", ":is(",
+    ":foo(", ":before", "::after",
+)
+# fmt: on
+
+
+class Source(random.Random):
+    """Random trees and selectors, the same in each run."""
+
+    # Whether comments and escapes are also where hardly anyone writes them.
+    is_rare = False
+
+    def comment(self) -> str:
+        """Nothing, or a comment on a rare path."""
+        if not self.is_rare or self.random() < 0.85:
+            return ""
+        return self.choice(("/**/", "/* .b */", "/*\n*/", "/***/"))
+
+    def keyword(self, word: str) -> str:
+        """The word, on a rare path with escapes."""
+        return self.name(word) if self.is_rare else word
+
+    def tree(self, depth: int = 0) -> Element:
+        """A random element."""
+        attributes = {name: self.choice(WORDS) for name in ATTRIBUTES if self.random() < 0.4}
+        children: List[Any] = []
+        for _ in range(self.choice((0, 1, 2, 3, 4)) if depth < 4 else 0):
+            children.append(self.tree(depth + 1))
+            if self.random() < 0.2:
+                children.append(self.choice(("text", "")))
+        if not children and self.random() < 0.3:
+            children.append("text")
+        return self.choice(NAMES), attributes, children
+
+    def escaped(self, letter: str) -> str:
+        """The letter as an escape."""
+        number = f"{ord(letter):x}"
+        return "\\" + self.choice(
+            (number + " ", number.zfill(6), number.upper().zfill(6) + " ", number + "\n")
+        )
+
+    def name(self, value: str) -> str:
+        """A name of this value, with escapes where it needs them, and sometimes where it does
+        not."""
+        spelled = ""
+        for at, letter in enumerate(value):
+            bare = letter.isalpha() or (at and (letter in "-_" or letter.isdigit()))
+            usual = 0.85 if self.is_rare else 0.93
+            spelled += letter if bare and self.random() < usual else self.escaped(letter)
+        return spelled
+
+    def string(self, value: str) -> str:
+        """A string of this value."""
+        quote = self.choice("'\"")
+        return (
+            quote
+            + "".join(self.escaped(letter) if self.random() < 0.1 else letter for letter in value)
+            + quote
+        )
+
+    def attribute(self) -> str:
+        """An attribute selector."""
+        name, value = self.name(self.choice(ATTRIBUTES)), self.choice(WORDS)
+        blank = self.choice(("", "", "", " ", "/**/"))
+        if self.random() < 0.2:
+            return f"[{blank}{name}{blank}]"
+        text = self.string(value) if self.random() < 0.6 or not value else self.name(value)
+        flag = self.choice(("", "", " i", " s", " I"))
+        return f"[{blank}{name}{blank}{self.choice(OPERATORS)}{blank}{text}{blank}{flag}{blank}]"
+
+    def simple(self) -> str:
+        """A simple selector that is no type selector."""
+        kind = self.random()
+        if kind < 0.3:
+            return f".{self.comment()}" + self.name(self.choice([word for word in WORDS if word]))
+        if kind < 0.4:
+            return "#" + self.name(self.choice([word for word in WORDS if word]))
+        if kind < 0.6:
+            return self.attribute()
+        if kind < 0.8:
+            return f":{self.comment()}" + self.keyword(self.choice(STRUCTURES))
+        number = self.choice(PROGRESSIONS + RARE_PROGRESSIONS if self.is_rare else PROGRESSIONS)
+        inside = self.comment() + number + self.comment()
+        return f":{self.comment()}{self.keyword(self.choice(NUMBERINGS))}({inside})"
+
+    def plain(self) -> str:
+        """A compound selector without lists."""
+        front = self.choice(("", "", "*", self.name(self.choice(NAMES))))
+        return front + "".join(
+            self.comment() + self.simple()
+            for _ in range(self.choice((0, 1, 1, 2) if front else (1, 1, 2)))
+        )
+
+    def compound(self, depth: int = 0) -> str:
+        """A compound selector, with lists up to four deep."""
+        if depth == 4 or self.random() < 0.7:
+            return self.plain()
+        parts = self.choice((",", " , ", ", ")).join(
+            self.complex(depth + 1) for _ in range(self.choice((1, 1, 2, 3)))
+        )
+        front = self.plain() if self.random() < 0.5 else ""
+        name, blank = self.choice(("not", "is", "where", "NOT")), self.choice(("", " "))
+        return f"{front}:{name}({blank}{parts}{blank})"
+
+    def complex(self, depth: int) -> str:
+        """A complex selector in lists, with combinators in at most two of them."""
+        text = self.compound(depth)
+        for _ in range(self.choice((0, 0, 0, 1, 2)) if depth <= 2 else 0):
+            text += self.choice(COMBINATORS) + self.compound(depth)
+        return text
+
+    def selector(self) -> str:
+        """A selector."""
+        text = self.compound()
+        for _ in range(self.choice((0, 0, 1, 1, 2, 3))):
+            text += self.choice(COMBINATORS) + self.compound()
+        if self.random() < 0.08:
+            text += (
+                self.choice(("", self.choice(COMBINATORS)))
+                + self.comment()
+                + self.choice((":", "::", f":{self.comment()}:"))
+                + self.comment()
+                + self.name(self.choice(ELEMENTS))
+            )
+        return text
+
+    def listed(self) -> str:
+        """A list of selectors, most often of one."""
+        return self.choice((",", " , ")).join(
+            self.selector() for _ in range(self.choice((1, 1, 1, 2, 3)))
+        )
+
+    def rare(self) -> str:
+        """A list with comments between any tokens and escapes in any word, perhaps cut anywhere."""
+        self.is_rare = True
+        text = self.listed()
+        return text[: self.randrange(len(text) + 1)] if self.random() < 0.4 else text
+
+    def changed(self) -> str:
+        """A text that may be no selector."""
+        text = self.listed()
+        for _ in range(self.choice((1, 1, 2))):
+            at, to = sorted(self.randrange(len(text) + 1) for _ in range(2))
+            text = text[:at] + self.choice(CHANGES + ("",)) + text[self.choice((at, at + 1, to)) :]
+        return text
+
+
+def lines_of(element: Element, depth: int = 0) -> List[str]:
+    """The tree as the program reads it: for each element a line of depth, name, whether it has
+    text, and attributes."""
+    name, attributes, children = element
+    content = "1" if any(child for child in children if isinstance(child, str)) else "0"
+    fields = [str(depth), name, content]
+    fields += [f"{key}={value}" for key, value in attributes.items()]
+    found = ["\1".join(fields)]
+    for child in children:
+        if not isinstance(child, str):
+            found += lines_of(child, depth + 1)
+    return found
+
+
+def answers_of(word: str, tree: Element, texts: Sequence[str]) -> List[str]:
+    """What the program prints with a word, of a tree and lists of selectors."""
+    data = "\0".join(["\n".join(lines_of(tree))] + list(texts)).encode()
+    words = [program("tests_driver"), word]
+    made = subprocess.run(words, input=data, stdout=subprocess.PIPE, check=True).stdout.decode()
+    return made.split("\0")[:-1]
+
+
+def ours(tree: Element, texts: Sequence[str]) -> List[str]:
+    """What the program prints of each text: the numbers of the elements that it matches, or
+    `refused` and why."""
+    replies = answers_of("match", tree, texts)
+    assert len(replies) == len(texts), (len(replies), len(texts))
+    return replies
+
+
+def found_of(reply: str) -> Found:
+    """The numbers of a reply, or None if the text is refused."""
+    if reply.startswith("refused"):
+        return None
+    return [int(number) for number in reply.split("\1")[0].split(":", 1)[1].split()]
+
+
+def printed_of(reply: str) -> Optional[str]:
+    """The list of a reply as it is serialized, or None if the text is refused."""
+    return None if reply.startswith("refused") else reply.split("\1", 1)[1]
+
+
+SOUP = r"""
+import json, signal, sys
+import soupsieve
+from bs4 import BeautifulSoup, Comment, Tag
+
+class Above(Tag):
+    # The parent of a root: soupsieve would take a document for a further ancestor.
+    def __bool__(self):
+        return False
+
+class Slow(Exception):
+    pass
+
+def stop(number, frame):
+    raise Slow
+
+signal.signal(signal.SIGALRM, stop)
+
+def build(soup, element):
+    tag = soup.new_tag(element[0])
+    for key, value in element[1].items():
+        tag[key] = value
+    for child in element[2]:
+        tag.append(child if isinstance(child, str) else build(soup, child))
+    return commented(tag)
+
+def commented(tag):
+    # soupsieve does not find the child B by `An+B` if B is the number of nodes.
+    for _ in range(8):
+        tag.append(Comment(""))
+    return tag
+
+def select(root, numbers, text):
+    # Some texts take it very long, and numbers of escapes above 10FFFF raise another error.
+    signal.setitimer(signal.ITIMER_REAL, 0.5)
+    try:
+        selector = soupsieve.compile(text)
+        return [numbers[id(tag)] for tag in [root, *root.find_all(True)] if selector.match(tag)]
+    except (soupsieve.SelectorSyntaxError, NotImplementedError):
+        return None
+    except (Slow, ValueError):
+        return "no answer"
+    finally:
+        signal.setitimer(signal.ITIMER_REAL, 0)
+
+answers = []
+for tree, texts in json.load(sys.stdin):
+    soup = BeautifulSoup("", "xml")
+    root, above = build(soup, tree), Above(name="above", is_xml=True)
+    above.append(root)
+    commented(above)
+    numbers = {id(tag): number for number, tag in enumerate([root, *root.find_all(True)])}
+    answers.append([select(root, numbers, text) for text in texts])
+json.dump(answers, sys.stdout)
+"""
+
+PAGE = """
+<!DOCTYPE html><meta charset=utf-8><script id=input type="application/json">%s</script>
+<script>
+const answers = [];
+function build(page, element) {
+    const made = page.createElementNS(null, element[0]);
+    for (const name in element[1]) made.setAttribute(name, element[1][name]);
+    for (const child of element[2])
+        made.append(typeof child == "string" ? child : build(page, child));
+    return made;
+}
+for (const [tree, texts] of JSON.parse(document.getElementById("input").textContent)) {
+    const page = document.implementation.createDocument(null, "", null);
+    page.append(build(page, tree));
+    const all = [...page.querySelectorAll("*")];
+    answers.push(texts.map(text => {
+        try {
+            return [...page.querySelectorAll(text)].map(each => all.indexOf(each));
+        } catch {
+            return null;
+        }
+    }));
+}
+document.documentElement.textContent = "ANS" + "WER" + JSON.stringify(answers) + "END";
+</script>
+"""
+
+
+SHEET = """
+<!DOCTYPE html><meta charset=utf-8><script id=input type="application/json">%s</script>
+<script>
+const answers = JSON.parse(document.getElementById("input").textContent).map(text => {
+    const sheet = document.createElement("style");
+    sheet.textContent = text + " {}";
+    document.head.append(sheet);
+    const rule = sheet.sheet.cssRules[0];
+    sheet.remove();
+    return rule && rule.selectorText !== undefined ? rule.selectorText : null;
+});
+document.documentElement.textContent = "ANS" + "WER" + JSON.stringify(answers) + "END";
+</script>
+"""
+
+
+def soup_finds(work: List[Tuple[Element, List[str]]]) -> Optional[List[List[Found]]]:
+    """What soupsieve finds, or None if it is missing."""
+    if not has_modules(DEBIAN, "soupsieve", "bs4", "lxml"):
+        return None
+    words = [DEBIAN, "-c", SOUP]
+    made = subprocess.run(
+        words, input=json.dumps(work), stdout=subprocess.PIPE, text=True, check=True
+    )
+    answers: List[List[Found]] = json.loads(made.stdout)
+    return answers
+
+
+def browser_finds(work: List[Tuple[Element, List[str]]]) -> Optional[List[List[Found]]]:
+    """What a browser finds, or None if it does not answer."""
+    return browser_answers(PAGE, work)
+
+
+def browser_texts(texts: Sequence[str]) -> Optional[List[Optional[str]]]:
+    """How a browser serializes each text, None where it refuses one, or None if it does not
+    answer."""
+    return browser_answers(SHEET, list(texts))
+
+
+# Differences that docs/DIFFERENCES.md names, by the words of a refusal and by a list that is read
+# before its place.
+REFUSED_HERE = re.compile(r": `\|")
+INNER = re.compile(r":(is|where|not)\([^()]*(\([^()]*)*$", re.IGNORECASE)
+FORGIVING = re.compile(r":(is|where)\(", re.IGNORECASE)
+# A browser knows no flag `s`, and takes a large number for another; it refuses pseudo-classes that
+# it does not know, and reads `:is()` and a further pseudo-element after one.
+ODD_IN_BROWSERS = re.compile(
+    r"""[\s'"/]s\s*(/\*.*?(\*/|$)\s*)*(\]|$)|\d{10}|:(before|after)(:(is|where)\(|::)""",
+    re.IGNORECASE,
+)
+KNOWN = {
+    *STRUCTURES,
+    *ELEMENTS,
+    *(name + "(" for name in (*NUMBERINGS, "not", "is", "where", "NOT")),
+}
+# soupsieve takes an empty value for the start of each, finds nothing by `n-1`, refuses two blanks
+# before a sign and newlines after escapes, takes away comments before it reads escapes, takes the
+# name `*` for any, knows `!=`, and refuses pseudo-elements, comments within and directly
+# before a simple selector, and escapes in `An+B` and in flags.
+ODD_IN_SOUP = re.compile(
+    r"""[$^*]=\s*(/\*.*?\*/\s*)*(''|"")|\bn\s*-\s*\d|\s(\s|/\*.*?\*/)+[,+>~]|\\[0-9a-f]{0,6}\n|\\/?\*"""
+    r"|:(:|before|after|first-l)|!=|\*/[.#:\[]|[.:]/\*|nth-[\w-]*\([^)]*\\|\\\w\s*\]",
+    re.IGNORECASE | re.DOTALL,
+)
+
+
+def plain(text: str) -> str:
+    """The text without comments, with an escape as the letter, digit or hyphen that it spells, or as
+    an underscore."""
+
+    def spelled(found: "re.Match[str]") -> str:
+        letter = chr(int(found[1], 16) % 0x110000) if found[1] else found[2]
+        return letter if letter.isalnum() or letter == "-" else "_"
+
+    text = re.sub(r"/\*.*?(\*/|$)", "", text, flags=re.DOTALL)
+    return re.sub(r"\\(?:([0-9a-fA-F]{1,6})\s?|(.|$))", spelled, text, flags=re.DOTALL)
+
+
+def is_open(text: str) -> bool:
+    """Whether a comment, a string or a bracket is open at the end of the text, which soupsieve
+    refuses."""
+    closed = r"""\\.|/\*.*?\*/|"(?:\\.|[^"\\\n])*"|'(?:\\.|[^'\\\n])*'"""
+    left = re.sub(closed, "", text, flags=re.DOTALL)
+    brackets = left.count("(") > left.count(")") or left.count("[") > left.count("]")
+    return brackets or bool(re.search(r"/\*|[\"']", left))
+
+
+def front_of(text: str, reply: str) -> str:
+    """The text before the place of a refusal, without what is in parentheses."""
+    row, column = (int(number) for number in reply.split(":")[1:3])
+    lines = text.split("\n")[:row]
+    front = plain("\n".join(lines[:-1] + [lines[-1][: column - 1]]))
+    inside = 1
+    while inside:
+        front, inside = re.subn(r"\([^()]*\)", "", front)
+    return front
+
+
+def has_unknown(text: str) -> bool:
+    """Whether the text has the name of a pseudo-class or a pseudo-element that a browser may not
+    know."""
+    names = re.findall(r"(::?)([\w-]*\(?)", plain(text))
+    return any(name not in (ELEMENTS if colons == "::" else KNOWN) for colons, name in names)
+
+
+class Judge:
+    """Compares what the program and another found, and counts."""
+
+    def __init__(self, name: str) -> None:
+        self.name = name
+        self.total = self.left_out = 0
+        self.failures: List[str] = []
+
+    def compare(self, text: str, reply: str, theirs: Found) -> None:
+        """Compares one text."""
+        found = found_of(reply)
+        if theirs == "no answer" or found != theirs and self.is_known(text, reply, theirs):
+            self.left_out += 1
+            return
+        self.total += 1
+        if found != theirs:
+            self.failures.append(f"{text!r}: {self.name} has {theirs}, and not {reply!r}")
+
+    def is_known(self, text: str, reply: str, theirs: Found) -> bool:
+        """Whether the difference is one of those that are named."""
+        odd = ODD_IN_BROWSERS if self.name == "chromium" else ODD_IN_SOUP
+        if any(map(odd.search, (text, plain(text)))):
+            return True
+        if self.name == "soupsieve" and is_open(text):
+            return True
+        if found_of(reply) is None:
+            return bool(REFUSED_HERE.search(reply) or INNER.search(front_of(text, reply)))
+        return has_unknown(text) and bool(theirs is None or FORGIVING.search(plain(text)))
+
+
+class Random(Case):
+    """What random texts match."""
+
+    def compare(self, kind: str, others: Sequence[str] = ("soupsieve", "chromium")) -> None:
+        """Compares random texts of this kind with what these others find."""
+        source = Source(kind)
+        number = count(4000) // 50
+        work = [
+            (source.tree(), [getattr(source, kind)() for _ in range(50)]) for _ in range(number)
+        ]
+        replies = [ours(tree, texts) for tree, texts in work]
+        finders = {"soupsieve": soup_finds, "chromium": browser_finds}
+        for name, finds in ((name, finders[name]) for name in others):
+            with self.subTest(judge=name):
+                self.judge(kind, name, finds(work), work, replies)
+
+    def judge(
+        self,
+        kind: str,
+        name: str,
+        theirs: Optional[List[List[Found]]],
+        work: List[Tuple[Element, List[str]]],
+        replies: List[List[str]],
+    ) -> None:
+        """Compares with what another found."""
+        if theirs is None:
+            self.skipTest(f"{kind} selectors beside {name}, which is missing or does not answer")
+        judge = Judge(name)
+        for (_, texts), answers, others in zip(work, replies, theirs):
+            for text, reply, other in zip(texts, answers, others):
+                judge.compare(text, reply, other)
+        print(
+            f"{judge.total} {kind} texts beside {name}; {judge.left_out} left out, of named"
+            " differences"
+        )
+        self.sweep(judge.total, judge.failures)
+
+    def test_selectors(self) -> None:
+        self.compare("listed")
+
+    def test_changed_texts(self) -> None:
+        self.compare("changed")
+
+    def test_rare_paths(self) -> None:
+        """soupsieve closes nothing, and reads comments and escapes as no tokens."""
+        self.compare("rare", ("chromium",))
+
+
+# A tree, lists of a selector each, and for each element the numbers of those that match it. The
+# sixth matches no element.
+INDEXED: Tuple[Element, Sequence[str], List[List[int]]] = (
+    ("div", {}, [("p", {"class": "b"}, []), ("p", {"class": "c  b c"}, [])]),
+    # fmt: off
+    (
+        "p", "*", ".b", "div > p", ":is(.b, #x)", "p::before", ".b > p", "div p + p", ".c", ".B",
+        ".b + .c",
+    ),
+    # fmt: on
+    [[1], [0, 1, 2, 3, 4], [0, 1, 2, 3, 4, 7, 8, 10]],
+)
+
+
+def numbers_of(tree: Element, texts: Sequence[str]) -> List[List[int]]:
+    """For each element the numbers of the lists of which an index over all of them finds a selector,
+    each once."""
+    return [sorted(set(map(int, one.split()))) for one in answers_of("index", tree, texts)]
+
+
+class Index(Case):
+    """What an index over selectors finds."""
+
+    def test_table(self) -> None:
+        tree, texts, wanted = INDEXED
+        self.assertEqual(numbers_of(tree, texts), wanted)
+
+    def test_random_selectors(self) -> None:
+        """It finds what testing each selector finds."""
+        source = Source("index")
+        failures = []
+        elements = 0
+        for _ in range(count(4000) // 50):
+            tree, lists = source.tree(), [source.listed() for _ in range(50)]
+            tested = [found_of(reply) or [] for reply in ours(tree, lists)]
+            for element, numbers in enumerate(numbers_of(tree, lists)):
+                others = [number for number, found in enumerate(tested) if element in found]
+                elements += 1
+                if numbers != others:
+                    shown = f"an index finds {numbers}, and not {others}"
+                    failures.append(f"element {element} of {tree}: {shown}")
+        self.sweep(elements, failures)
+
+
+# How many lists may be within one another.
+DEEPEST = 32
+
+
+class Nested(Case):
+    def test_lists_within_lists(self) -> None:
+        """Lists within lists have their meaning: of `:not()` within `:not()` each other one is the
+        class itself."""
+        tree: Element = ("a", {"class": "c"}, [("b", {}, [])])
+        depths = (1, 2, 3, DEEPEST - 1, DEEPEST, DEEPEST + 1, 100_000)
+        texts = [":not(" * depth + ".c" + ")" * depth for depth in depths]
+        texts += [":is(" * depth + ".c, x" + ")" * depth for depth in depths]
+        start = time.monotonic()
+        replies = ours(tree, texts)
+        self.assertLess(time.monotonic() - start, 10)
+        for text, reply in zip(texts, replies):
+            depth, name = text.count("("), text.split("(")[0]
+            if depth > DEEPEST:
+                place = 1 + DEEPEST * len(name + "(")
+                wanted = f"refused: 1:{place}: `{name}` is nested too deep"
+            else:
+                wanted = f"0,1,0: {depth % 2 if name == ':not' else 0}\1{text}"
+            with self.subTest(depth=depth, name=name):
+                self.assertEqual(reply, wanted)
+
+
+# Texts whose serialization shows something: names that need escapes, strings, `An+B`, lists,
+# combinators, blanks.
+# fmt: off
+SERIALIZED = (
+    "*", "*.a", "a.b#c", "a  >  b", "a>b+c~d e", "#\\31 x", ".\\31 23", "#-\\31 ", "#\\-", "#--",
+    ".a\\.b", ".a\\20 b", ".a\\7f b", ".a\\1 b", ".a\\1f c", ".\\1f600 ", "\\@x", ".\xe9", ".\\e9",
+    "\\61 ", "a\\62 c", "\\-a", "-\\-a", "--a", "_a", "a\\:hover", ".\\0 ", ".\\d800 x", "[a]",
+    "[a=b]", "[a='b\"c']", '[a="x\\\\y"]', "[ a ~= b i ]", "[a^=''] ", "[a$=b]", '[a*="\\a "]',
+    "[a|='\\7f\\\n']", "[\\31 a='\xe9']", ":ROOT", ":First-Child", ":nth-child(odd)",
+    ":nth-child(even)", ":nth-child( 2n + 1 )", ":nth-child(+n)", ":nth-child(-n+3)",
+    ":nth-child(0n+5)", ":nth-child(5)", ":nth-child(n)", ":nth-child(2n+0)", ":nth-child(-5)",
+    ":nth-child(-n)", ":nth-last-child(-2n - 1)", ":nth-of-type(3n-1)", ":nth-last-of-type(1n+2)",
+    ":not( .a )", ":not(.a,b)", ":is(*,a)", ":where( a , .b )", ":IS(a)", ":not(:not(a))",
+    "a:not( :IS(.a,:Where( b )) , [c] )", "a::before", "::before", "a:before", ":AFTER",
+    "a > :first-line", "a:\\66irst-letter, b", "a > ::after", "*::after", ":hover", ":not(*)",
+    ":not(*.a)", "a /**/ b", "a,b , c", ":lang(en)",
+)
+# fmt: on
+# A browser drops a `*` before other simple selectors, and writes a language range as it was written
+# and a pseudo-element in lower case.
+DROPPED = re.compile(r'("(?:\\.|[^"\\])*"|\\.)|\*(?=[.#:\[])')
+
+
+def as_browsers_do(printed: str) -> str:
+    """A serialized list with the differences that docs/DIFFERENCES.md names."""
+    shown = re.sub(
+        r':lang\("(\w+)"\)', r":lang(\1)", DROPPED.sub(lambda found: found[1] or "", printed)
+    )
+    return re.sub(r"::[\w-]+", lambda found: found[0].lower(), shown)
+
+
+class Serialized(Case):
+    def test_serialized(self) -> None:
+        """How selectors are serialized, beside a browser."""
+        source = Source("printed")
+        texts = list(SERIALIZED) + [source.listed() for _ in range(count(4000))]
+        theirs = browser_texts(texts)
+        if theirs is None:
+            self.skipTest(
+                "serialized selectors beside chromium, which is missing or does not answer"
+            )
+        failures = []
+        left_out = 0
+        for text, reply, other in zip(texts, ours(("a", {}, []), texts), theirs):
+            printed = printed_of(reply)
+            is_odd = None in (other, printed) or ODD_IN_BROWSERS.search(text) or "-0" in text
+            shown = printed and as_browsers_do(printed)
+            if text not in SERIALIZED and is_odd:
+                left_out += 1
+            elif not shown or shown != other:
+                failures.append(f"{text!r}: chromium has {other!r}, and not {printed!r}")
+        print(
+            f"{len(texts)} serialized texts beside chromium; {left_out} left out, of named"
+            " differences"
+        )
+        self.sweep(len(texts) - left_out, failures)
+
+
+# Language ranges, tags that are in each, and tags that are not: the examples of RFC 4647, section
+# 3.3.2, and of Selectors 4, section 8.2, tags of RFC 5646, and at least one tag for each step. An
+# element without a language has the tag "".
+GERMAN = [
+    "de-DE",
+    "de-de",
+    "de-Latn-DE",
+    "de-Latf-DE",
+    "de-DE-x-goethe",
+    "de-Latn-DE-1996",
+    "de-Deva-DE",
+]
+NOT_GERMAN = ["", "de", "de-x-DE", "de-Deva", "de-1-DE", "en-DE", "de-DEU"]
+LANGUAGES = (
+    ("de-*-DE", GERMAN, NOT_GERMAN),
+    ("de-DE", GERMAN, NOT_GERMAN),
+    ("DE-*-*-de-*", GERMAN, NOT_GERMAN),
+    ("*-DE", GERMAN + ["en-DE"], ["", "de", "DE", "de-x-DE", "de-1-DE"]),
+    ("*-*-DE", GERMAN + ["en-DE"], ["", "de", "DE", "de-x-DE", "de-1-DE"]),
+    ("de", GERMAN + ["de", "DE", "de-x-DE", "de-1-DE"], ["", "deu", "en-DE", "i-de"]),
+    ("de-*", GERMAN + ["de", "DE", "de-x-DE", "de-1-DE"], ["", "deu", "en-DE", "i-de"]),
+    (
+        "*-CH",
+        ["de-CH", "it-CH", "fr-CH", "rm-CH", "gsw-Latn-CH"],
+        ["", "de", "CH", "de-x-CH", "de-CHE"],
+    ),
+    ("*-Latn", ["sr-Latn", "de-Latn-DE", "gsw-Latn-CH"], ["", "Latn", "de-DE", "sr-x-Latn"]),
+    ("EN-gb", ["en-GB", "EN-GB-oed", "en-Latn-gb"], ["", "en", "en-US", "english-GB", "en-a-GB"]),
+    ("zh-Hans-CN", ["zh-Hans-CN", "zh-cmn-Hans-CN"], ["", "zh-CN-Hans", "zh-Hant-CN", "zh-Hans"]),
+    ("az-x-AZE", ["az-x-AZE", "az-Arab-x-AZE-derbend"], ["", "az-AZE", "az-Arab-a-x-AZE"]),
+    ("az-AZE", ["az-AZE", "az-Arab-AZE"], ["", "az-x-AZE", "az-Arab-x-AZE-derbend"]),
+    ("i-*-klingon", ["i-klingon"], ["", "i", "klingon", "i-x-klingon"]),
+    ("*", GERMAN + ["de", "i-klingon", "x-whine"], [""]),
+    ("", [""], GERMAN + ["de", "i-klingon", "x-whine"]),
+)
+# soupsieve finds nothing by a range that is empty or that ends with `*`.
+ODD_RANGES = re.compile(r"^$|-\*$")
+
+SOUP_LANGUAGES = r"""
+import json, sys
+import soupsieve
+from bs4 import BeautifulSoup
+
+ranges, tags = json.load(sys.stdin)
+answers = []
+for wanted in ranges:
+    selector, found = soupsieve.compile(f':lang("{wanted}")'), []
+    for tag in tags:
+        page = BeautifulSoup("<b></b>", "html.parser")
+        page.b["lang"] = tag
+        if selector.match(page.b):
+            found.append(tag)
+    answers.append(found)
+json.dump(answers, sys.stdout)
+"""
+
+
+def soup_languages(ranges: Sequence[str], tags: Sequence[str]) -> Optional[List[List[str]]]:
+    """The tags that soupsieve finds by each range, or None if it is missing."""
+    if not has_modules(DEBIAN, "soupsieve", "bs4"):
+        return None
+    data, words = json.dumps([ranges, tags]), [DEBIAN, "-c", SOUP_LANGUAGES]
+    made = subprocess.run(words, input=data, stdout=subprocess.PIPE, text=True, check=True)
+    answers: List[List[str]] = json.loads(made.stdout)
+    return answers
+
+
+class Languages(Case):
+    """Which languages are in ranges."""
+
+    tags = sorted({tag for _, found, others in LANGUAGES for tag in found + others})
+    ranges = [wanted for wanted, _, _ in LANGUAGES]
+
+    def ours_in(self, texts: Sequence[str]) -> List[List[str]]:
+        """The tags that the program finds by each text. An element without the attribute has its
+        parent's language, and the root has none."""
+        children: List[Any] = [("b", {"lang": tag}, [("c", {}, [])]) for tag in self.tags]
+        answers = []
+        for text, reply in zip(texts, ours(("a", {}, children), texts)):
+            numbers = found_of(reply)
+            assert isinstance(numbers, list), (text, reply)
+            found = [tag for at, tag in enumerate(self.tags) if 2 * at + 1 in numbers]
+            inherited = [tag for at, tag in enumerate(self.tags) if 2 * at + 2 in numbers]
+            with self.subTest(text=text):
+                self.assertEqual((inherited, 0 in numbers), (found, "" in found))
+            answers.append(found)
+        return answers
+
+    def test_ranges(self) -> None:
+        answers = self.ours_in([f':lang("{wanted}")' for wanted in self.ranges])
+        for (wanted, inside, outside), found in zip(LANGUAGES, answers):
+            for tag in inside + outside:
+                with self.subTest(range=wanted, tag=tag):
+                    self.assertEqual(tag in found, tag in inside)
+
+    def test_two_ranges(self) -> None:
+        both, first, second = self.ours_in(
+            [r":lang(\*-CH, 'en-GB')", r":lang(\*-CH)", ":lang(en-GB)"]
+        )
+        self.assertEqual(both, sorted(first + second))
+
+    def test_soupsieve(self) -> None:
+        theirs = soup_languages(self.ranges, self.tags)
+        if theirs is None:
+            self.skipTest("languages beside soupsieve, which is missing")
+        answers = self.ours_in([f':lang("{wanted}")' for wanted in self.ranges])
+        for wanted, found, other in zip(self.ranges, answers, theirs):
+            if not ODD_RANGES.search(wanted):
+                with self.subTest(range=wanted):
+                    self.assertEqual(found, other)

@@ -1,0 +1,36 @@
+// What the types of the npm package allow, for tests/release.py: it is compiled, and not run.
+import css, { type Declaration, Element, Selector, SelectorError, StyleSheet, Tree, closest, lint, matches, select, styles } from 'simplecss';
+import { load } from 'simplecss/load';
+
+const tree = new Tree([{ name: 'ul', states: ['hover'] }, { name: 'li', attributes: { class: 'a' }, parent: 0 }]);
+const found: Element[] = select(tree, 'ul > .a', { grammar: 'modern' });
+const own: Element | null = closest(found[0]!, 'ul');
+const sheet = new StyleSheet(['a { color: red }', 'b { color: blue }'], { limit: Infinity });
+const winners: Map<Element, Declaration[]> = sheet.styles(tree);
+for (const [element, declarations] of sheet.styles(tree, { media: query => query === 'print' })) {
+  const name: string = element.name, value: string | undefined = declarations[0]?.value;
+  console.log(name, value, own, winners);
+}
+// A DOM, and what parse5 reads.
+const links: HTMLAnchorElement[] = select<HTMLAnchorElement>(document, 'a:link');
+const isLink: boolean = matches(links[0]!, new Selector('a').toString());
+const node = { nodeName: '#document', childNodes: [] };
+const map = styles(node, 'a { b: c }');
+const [finding] = lint('a {');
+const place: [number, number] = [finding!.row, finding!.column];
+await load(fetch('simplecss.wasm'));
+try {
+  css.select(document.body, 'a:');
+} catch (error) {
+  if (error instanceof SelectorError) console.log(error.row, error.column, error.reason, isLink, map, place);
+}
+// @ts-expect-error: there is no such grammar
+select(tree, 'a', { grammar: 'today' });
+// @ts-expect-error: an element has a name
+new Tree([{ attributes: {} }]);
+// @ts-expect-error: a number is no text
+lint(3);
+// @ts-expect-error: a rule cannot be changed
+sheet.rules[0]!.selector = 'b';
+// @ts-expect-error: a state is one of five
+new Tree([{ name: 'a', states: ['checked'] }]);
