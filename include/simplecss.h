@@ -11,6 +11,13 @@
  * count as often, so the rules of a short text may take memory quadratic in its length. Pass
  * SIMPLECSS_NO_LIMIT for texts that you trust.
  *
+ * A call whose answer may be much longer than what is passed has a parameter `most`: the most bytes that
+ * its answer may have. `most` does not depend on the buffer: if the answer is longer than the buffer and not
+ * than `most`, `*len` is still the length that it needs. Lines are as many as elements and each as long as
+ * rules match, so 10,000 rules and 10,000 elements may have an answer of 500 MB; those of simplecss_read have
+ * the group rules that each item is in, up to 64. Pass SIMPLECSS_NO_LIMIT for no limit. The call stops at the
+ * first line that passes the limit, and makes nothing after it.
+ *
  * A tree is three arrays: its elements in document order, the bytes of all its strings one after
  * another, and where each string ends. An element's strings are its name and then, for each
  * attribute, its key and its value; those of the first element come first. A value may be any text:
@@ -36,7 +43,8 @@
  * the declarations: 12 kB may take a hundred milliseconds and the memory of millions of declarations,
  * unless `limit` refuses them. A tree is read in time that grows as its strings. Of each element those
  * rules are tested whose id, class, name or attribute it has; a test takes no longer than the
- * selector's components times (the element's depth + 1).
+ * selector's components times (the element's depth + 1). With `~`, which only modern selectors have,
+ * the earlier siblings of the element and of its ancestors are tested, too.
  */
 #ifndef SIMPLECSS_H
 #define SIMPLECSS_H
@@ -57,11 +65,12 @@ extern "C" {
                                       faults of texts the first in order is reported */
 #define SIMPLECSS_TREE_FAULT 2u    /* the tree has a fault, in `*fault` */
 #define SIMPLECSS_OUT_OF_MEMORY 3u /* an allocation failed */
-#define SIMPLECSS_TOO_MANY_DECLARATIONS 4u /* the rules would hold more declarations than the limit */
+#define SIMPLECSS_TOO_MANY_DECLARATIONS 4u /* the rules would hold more declarations than `limit` */
+#define SIMPLECSS_TOO_LONG 4u      /* the same status: the answer would have more bytes than `most` */
 #define SIMPLECSS_NOT_UTF8 5u      /* a text is not UTF-8, or the strings of a tree are not */
 #define SIMPLECSS_TOO_SMALL 6u     /* the answer is longer than the buffer */
 
-/* A limit that allows any number of declarations. */
+/* A limit that allows any number of declarations, or of bytes. */
 #define SIMPLECSS_NO_LIMIT SIZE_MAX
 
 /* An element of a tree. The depth of a root is 0, and that of any other element is one more than its
@@ -80,10 +89,10 @@ typedef struct simplecss_element {
 #define SIMPLECSS_ACTIVE 8u
 #define SIMPLECSS_FOCUS 16u
 /* No state: the element has a text of its own that is not empty. White space is a text, a comment is none.
- * `:empty` of level 3 tests it. */
+ * `:empty` of modern selectors tests it. */
 #define SIMPLECSS_HAS_TEXT 32u
 
-/* How a document reads the names of selectors of level 3 (HTML Standard, "Case-sensitivity of selectors"). The
+/* How a document reads the names of modern selectors (HTML Standard, "Case-sensitivity of selectors"). The
  * tree of an HTML document has in lower case what is compared without case: names of elements and keys of
  * attributes, the values of the attributes that the standard lists (accept to vlink), and in quirks mode the
  * values of `id` and `class`. At these values the flag `s` of an attribute selector changes nothing. */
@@ -144,7 +153,7 @@ uint32_t simplecss_rules(const uint8_t *texts, size_t texts_len,
 uint32_t simplecss_skipped(const uint8_t *text, size_t text_len,
                            uint8_t *out, size_t out_size, size_t *len);
 
-/* Writes a line of JSON for each item of a style sheet by the grammar of today (CSS Syntax Module Level
+/* Writes a line of JSON for each item of a style sheet by the modern grammar (CSS Syntax Module Level
  * 3). Ranges are offsets into the text, in bytes: of the first byte, and of the byte after the last.
  * Of "a, p::before { b: c }" the line is, here on several lines,
  * {"kind":"rule","start":0,"end":21,"levels":[],"prelude":[0,12],"block":[15,19],"closed":true,
@@ -154,19 +163,27 @@ uint32_t simplecss_skipped(const uint8_t *text, size_t text_len,
  *            "important":false,"closed":true}]}
  * "levels" are the group rules that the item is in, such as @media, from the outermost:
  * {"name":[1,6],"prelude":[7,12],"start":0,"end":30}. "is_read" says whether what is before the
- * pseudo-element is a selector of level 3, by which the library matches elements; if not, "specificity" is null.
+ * pseudo-element is a modern selector, by which the library matches elements; if not, "specificity" is null.
  * "closed" is false if the end of the text closes it.
  * {"kind":"at-rule","start":0,"end":9,"levels":[],"name":[1,7],"prelude":[8,8],"block":null,"closed":true}
  * {"kind":"skipped","start":0,"end":9,"levels":[],"fault":"invalid selector"}
- * Other faults are "broken declaration", "bad string", "bad url", "stray bracket", "too deep" and
- * "no block". A rule with one invalid selector is skipped as a whole. */
-uint32_t simplecss_read(const uint8_t *text, size_t text_len,
+ * Other faults are "broken declaration", "bad string", "bad url", "stray bracket", "too deep",
+ * "nested rule" and "no block". A rule with one invalid selector is skipped as a whole. */
+uint32_t simplecss_read(const uint8_t *text, size_t text_len, size_t most,
                         uint8_t *out, size_t out_size, size_t *len);
 
-/* Writes a line of JSON for each item of a style attribute, or of the contents of a block, as
- * "items" of simplecss_read has them. */
+/* Writes a line of JSON for each item of a style attribute, as "items" of simplecss_read has them. A rule
+ * in it is a broken declaration. */
 uint32_t simplecss_declarations(const uint8_t *text, size_t text_len,
                                 uint8_t *out, size_t out_size, size_t *len);
+
+/* Writes the value of a declaration with what closes it: the end of a string, a url or a comment that the end
+ * of the text left open, and then the brackets that are open. Pass a "value" of simplecss_declarations or
+ * simplecss_read whose "closed" is false; one that is closed is written unchanged. Refused if no more text makes
+ * it a value that is read whole: it begins or ends with a blank or a comment, has a bracket that closes nothing,
+ * or a string with a newline in it; or if more than 64 brackets are open. */
+uint32_t simplecss_close(const uint8_t *value, size_t value_len,
+                         uint8_t *out, size_t out_size, size_t *len);
 
 /* The next five calls match elements. `:first-child` matches an element without a previous sibling, a
  * first root too. `:lang(x)` tests the attribute `lang` of the element or of its nearest ancestor that
@@ -181,16 +198,16 @@ uint32_t simplecss_match(const uint8_t *texts, size_t texts_len,
                          const size_t *ends, size_t ends_count, size_t limit,
                          const simplecss_element *elements, size_t elements_count,
                          const uint8_t *strings, size_t strings_len,
-                         const size_t *string_ends, size_t string_ends_count,
+                         const size_t *string_ends, size_t string_ends_count, size_t most,
                          uint8_t *out, size_t out_size, size_t *len, simplecss_tree_fault *fault);
 
 /* Writes the same of selectors, of which each text is one: a line for each element, with the numbers of
- * the selectors that match it. Refused if a text is no selector that simplecss_selector reads. */
+ * the selectors that match it. Refused if a text is not a selector that simplecss_selector reads. */
 uint32_t simplecss_match_selectors(const uint8_t *texts, size_t texts_len,
                                    const size_t *ends, size_t ends_count,
                                    const simplecss_element *elements, size_t elements_count,
                                    const uint8_t *strings, size_t strings_len,
-                                   const size_t *string_ends, size_t string_ends_count,
+                                   const size_t *string_ends, size_t string_ends_count, size_t most,
                                    uint8_t *out, size_t out_size, size_t *len,
                                    simplecss_tree_fault *fault);
 
@@ -199,7 +216,7 @@ uint32_t simplecss_match_selectors(const uint8_t *texts, size_t texts_len,
 uint32_t simplecss_select(const uint8_t *selectors, size_t selectors_len,
                           const simplecss_element *elements, size_t elements_count,
                           const uint8_t *strings, size_t strings_len,
-                          const size_t *string_ends, size_t string_ends_count,
+                          const size_t *string_ends, size_t string_ends_count, size_t most,
                           uint8_t *out, size_t out_size, size_t *len, simplecss_tree_fault *fault);
 
 /* Writes a line for each element of a tree: its number, a colon, the value of the declaration that
@@ -210,7 +227,7 @@ uint32_t simplecss_style(const uint8_t *texts, size_t texts_len,
                          const simplecss_element *elements, size_t elements_count,
                          const uint8_t *strings, size_t strings_len,
                          const size_t *string_ends, size_t string_ends_count,
-                         const uint8_t *name, size_t name_len,
+                         const uint8_t *name, size_t name_len, size_t most,
                          uint8_t *out, size_t out_size, size_t *len, simplecss_tree_fault *fault);
 
 /* Writes a line of JSON for each element of a tree: an array of the winning declaration of each name,
@@ -220,41 +237,41 @@ uint32_t simplecss_styles(const uint8_t *texts, size_t texts_len,
                           const size_t *ends, size_t ends_count, size_t limit,
                           const simplecss_element *elements, size_t elements_count,
                           const uint8_t *strings, size_t strings_len,
-                          const size_t *string_ends, size_t string_ends_count,
+                          const size_t *string_ends, size_t string_ends_count, size_t most,
                           uint8_t *out, size_t out_size, size_t *len, simplecss_tree_fault *fault);
 
-/* The other calls read selectors of level 3, and of level 4 `:is()`, `:where()`, `:not()` with a list, `:lang()`
- * with a list, `:any-link`, and the flags `i` and `s`. Reading takes time that grows as the text. */
+/* The other calls read modern selectors: Level 3, and of Level 4 `:is()`, `:where()`, `:not()` with a list,
+ * `:lang()` with a list, `:any-link`, and the flags `i` and `s`. Reading takes time that grows as the text. */
 
 /* Writes a line of JSON for each selector of a list with commas between them:
  * {"text":[0,13],"selector":"a > b::before","specificity":[0,0,3],"pseudo_element":"before"}
  * "text" is its range, in bytes of the list; "selector" is printed as CSSOM serializes it; "pseudo_element" is
- * null if it has none. Refused if one of them is no selector. */
+ * null if it has none. Refused if one of them is not a selector. */
 uint32_t simplecss_list_level3(const uint8_t *text, size_t text_len,
                                uint8_t *out, size_t out_size, size_t *len);
 
 /* Writes a line of JSON for the first error of a list of selectors, or nothing where it has none:
- * {"row":1,"column":4,"reason":"`:nth-child(2` is not closed"} */
+ * {"row":1,"column":4,"reason":"`:foo` is no function that is read here"}, of `.a :foo(b)` */
 uint32_t simplecss_refusal_level3(const uint8_t *text, size_t text_len,
                                   uint8_t *out, size_t out_size, size_t *len);
 
-/* Writes what simplecss_match_selectors writes, of selectors of level 3. `reading` says how the document reads
+/* Writes what simplecss_match_selectors writes, of modern selectors. `reading` says how the document reads
  * them, as SIMPLECSS_HTML. A selector with a pseudo-element matches nothing. `:nth-child()` and the like count
- * the roots of a tree as siblings, too; `:root` matches each of them. Refused if a text is no selector, or the
- * reading is another number. A tree of 2^32 elements or more is reported as out of memory. Of each element those
+ * the roots of a tree as siblings, too; `:root` matches each of them. Refused if a text is not a selector, or
+ * the reading is another number. A tree of 2^32 elements or more is reported as out of memory. Of each element those
  * selectors are tested whose id, class, name or attribute it has. */
 uint32_t simplecss_match_level3(const uint8_t *texts, size_t texts_len,
                                 const size_t *ends, size_t ends_count, size_t reading,
                                 const simplecss_element *elements, size_t elements_count,
                                 const uint8_t *strings, size_t strings_len,
-                                const size_t *string_ends, size_t string_ends_count,
+                                const size_t *string_ends, size_t string_ends_count, size_t most,
                                 uint8_t *out, size_t out_size, size_t *len, simplecss_tree_fault *fault);
 
 /* Writes the number of each element of a tree that one of the selectors of a list matches, and a newline. */
 uint32_t simplecss_select_level3(const uint8_t *selectors, size_t selectors_len, size_t reading,
                                  const simplecss_element *elements, size_t elements_count,
                                  const uint8_t *strings, size_t strings_len,
-                                 const size_t *string_ends, size_t string_ends_count,
+                                 const size_t *string_ends, size_t string_ends_count, size_t most,
                                  uint8_t *out, size_t out_size, size_t *len, simplecss_tree_fault *fault);
 
 #ifdef __cplusplus

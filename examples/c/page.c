@@ -35,7 +35,7 @@ int main(void) {
     size_t names_len = put(strings, COUNT(strings), names, name_ends);
 
     /* The first call asks for the length, and the second writes. */
-    uint8_t *out = malloc(1);
+    uint8_t *out = (uint8_t *)malloc(1);
     size_t size = 0;
     size_t len = 0;
     simplecss_tree_fault fault = {0, 0};
@@ -43,13 +43,13 @@ int main(void) {
     while (out != NULL) {
         status = simplecss_match((const uint8_t *)sheet, sheet_len, sheet_ends, COUNT(texts),
                                  SIMPLECSS_NO_LIMIT, elements, COUNT(elements), (const uint8_t *)names, names_len,
-                                 name_ends, COUNT(strings), out, size, &len, &fault);
+                                 name_ends, COUNT(strings), SIMPLECSS_NO_LIMIT, out, size, &len, &fault);
         if (status != SIMPLECSS_TOO_SMALL) {
             break;
         }
         free(out);
         size = len;
-        out = malloc(size);
+        out = (uint8_t *)malloc(size);
     }
     if (out == NULL || status != SIMPLECSS_DONE) {
         fprintf(stderr, "status %u, element %zu\n", (unsigned)status, fault.element);

@@ -56,22 +56,28 @@
 //!
 //! Beyond 0.2.2: [`index`] finds the rules that match without testing each, [`skipped`] lists what a sheet
 //! skips and where, [`limit`] refuses sheets that would store too much, [`tree`] is a tree for programs
-//! that have none, and [`cascade`] says which declarations win.
+//! that have none, [`cascade`] says which declarations win, and with the feature `modern` the module of
+//! this name reads sheets and selectors as browsers do.
 //!
 //! At-rules are skipped, and values are not parsed. A call that needs memory where there is none panics.
-//! With the feature `log`, refused selectors and at-rules are warned of.
+//! With the feature `log`, refused selectors and at-rules are warned of. Targets of 32 bits need the feature
+//! `bits32`: on these a call panics if the text that it reads has more than 2^28 bytes.
 #![no_std]
 #![forbid(unsafe_code)]
 #![warn(missing_docs)]
 
-#[cfg(not(target_pointer_width = "64"))]
-compile_error!("the sources are proved for targets of 64 bits");
+#[cfg(not(any(target_pointer_width = "64", all(target_pointer_width = "32", feature = "bits32"))))]
+compile_error!("the sources are proved for targets of 64 bits; for 32 there is the feature `bits32`");
 
 extern crate alloc;
+#[cfg(feature = "std")]
+extern crate std;
 
 pub mod cascade;
 pub mod index;
 pub mod limit;
+#[cfg(feature = "modern")]
+pub mod modern;
 pub mod skipped;
 pub mod tree;
 
@@ -92,6 +98,14 @@ use core::fmt;
 use erased::simplecss as proved;
 use rattle_log::Process;
 use rattle_std::alloc::Global;
+
+/// Returns a text that is read. On a target of 32 bits it has at most 2^28 bytes.
+#[inline(always)]
+pub(crate) fn within(text: &str) -> &str {
+    #[cfg(target_pointer_width = "32")]
+    assert!(text.len() <= 1 << 28, "a text has more than 2^28 bytes, on a target of 32 bits");
+    text
+}
 
 /// Returns the value, or panics where an allocation failed.
 fn done<T, E>(outcome: Result<T, E>) -> T {

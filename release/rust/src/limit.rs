@@ -23,7 +23,7 @@ impl fmt::Display for TooManyDeclarations {
     }
 }
 
-impl core::error::Error for TooManyDeclarations {}
+impl crate::rattle_std::error::Error for TooManyDeclarations {}
 
 /// Parses a text into the sheet as [`StyleSheet::parse_more`] does, unless its rules would hold more than
 /// `most` declarations: then the sheet is unchanged. A rule set counts its declarations once for each of

@@ -25,7 +25,7 @@ impl fmt::Display for NoElement {
     }
 }
 
-impl core::error::Error for NoElement {}
+impl crate::rattle_std::error::Error for NoElement {}
 
 /// Returns the value, or that there is no such element.
 fn found<T>(outcome: Result<T, proved::TreeError>) -> Result<T, NoElement> {
@@ -39,7 +39,7 @@ fn found<T>(outcome: Result<T, proved::TreeError>) -> Result<T, NoElement> {
 /// A tree: elements in the order in which they were added. Names, attributes and values are slices of the
 /// document's text and are not copied.
 #[derive(Debug)]
-pub struct Tree<'t>(proved::Tree<'t>);
+pub struct Tree<'t>(pub(crate) proved::Tree<'t>);
 
 impl Default for Tree<'_> {
     fn default() -> Self {

@@ -7,7 +7,7 @@ use core::borrow::Borrow;
 pub struct BTreeMap<K, V>(pub Map<K, V>);
 
 impl<K: Ord, V> BTreeMap<K, V> {
-    pub const fn new(_: Global) -> Self {
+    pub fn new(_: Global) -> Self {
         BTreeMap(Map::new())
     }
 
@@ -44,7 +44,7 @@ impl<'a, K, V> IntoIterator for &'a BTreeMap<K, V> {
 pub struct BTreeSet<K>(Set<K>);
 
 impl<K: Ord> BTreeSet<K> {
-    pub const fn new(_: Global) -> Self {
+    pub fn new(_: Global) -> Self {
         BTreeSet(Set::new())
     }
 

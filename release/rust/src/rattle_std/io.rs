@@ -5,6 +5,7 @@ use core::fmt;
 #[derive(Clone, Copy, Debug, PartialEq)]
 pub enum ErrorKind {
     InvalidData,
+    InvalidInput,
     NotFound,
     OutOfMemory,
     WriteZero,
@@ -40,6 +41,11 @@ impl From<AllocError> for Error {
 pub type Result<T> = core::result::Result<T, Error>;
 
 pub trait Write {
+    fn write(&mut self, bytes: &[u8]) -> Result<usize> {
+        self.write_all(bytes)?;
+        Ok(bytes.len())
+    }
+
     fn write_all(&mut self, bytes: &[u8]) -> Result<()>;
 
     fn flush(&mut self) -> Result<()>;

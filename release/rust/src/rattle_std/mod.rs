@@ -4,15 +4,20 @@
 //! maps and in sorting.
 pub use core::{cell, cmp, convert, iter, mem, ops, option, result, slice, str};
 
+pub mod borrow;
 pub mod collections;
 pub mod fmt;
 pub mod io;
+pub mod options;
+pub mod slices;
 pub mod string;
 pub mod vec;
 
 /// What every source has without an import.
 pub mod prelude {
-    pub use super::string::{String, ToString};
+    pub use super::options::IsSomeAnd;
+    pub use super::slices::FirstChunk;
+    pub use super::string::{Lowercase, String, ToString};
     pub use super::vec::Vec;
     pub use core::prelude::rust_2021::*;
 }
@@ -41,7 +46,7 @@ pub mod alloc {
         }
     }
 
-    impl core::error::Error for AllocError {}
+    impl super::error::Error for AllocError {}
 
     /// An allocation failed, and with it what was to be stored.
     #[derive(Debug)]
@@ -55,7 +60,10 @@ pub mod alloc {
 }
 
 pub mod error {
+    #[cfg(not(feature = "std"))]
     pub use core::error::Error;
+    #[cfg(feature = "std")]
+    pub use std::error::Error;
 }
 
 /// Values of proofs, which take no room.

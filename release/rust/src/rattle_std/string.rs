@@ -80,3 +80,31 @@ impl<T: fmt::Display + ?Sized> ToString for T {
         Ok(text)
     }
 }
+
+/// Lower case in a string of its own.
+pub trait Lowercase {
+    fn to_ascii_lowercase_in(&self, _: Global) -> Result<String, AllocError>;
+}
+
+impl Lowercase for str {
+    fn to_ascii_lowercase_in(&self, alloc: Global) -> Result<String, AllocError> {
+        let mut text = String::from_str(alloc, self)?;
+        text.0.make_ascii_lowercase();
+        Ok(text)
+    }
+}
+
+/// Returns the text that the arguments print.
+pub fn printed(alloc: Global, arguments: fmt::Arguments<'_>) -> Result<String, AllocError> {
+    let mut text = String::new(alloc);
+    text.write_fmt(arguments)?;
+    Ok(text)
+}
+
+#[allow(unused_macros)]
+macro_rules! format_in {
+    ($alloc:expr; $($message:tt)*) => {
+        $crate::rattle_std::string::printed($alloc, format_args!($($message)*))
+    };
+}
+pub(crate) use format_in;

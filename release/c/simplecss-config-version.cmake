@@ -1,0 +1,12 @@
+set(PACKAGE_VERSION "@VERSION@")
+set(PACKAGE_VERSION_COMPATIBLE FALSE)
+set(PACKAGE_VERSION_EXACT FALSE)
+# Before 1.0.0 each second number is an interface of its own.
+string(REGEX MATCH "^[0-9]+\\.[0-9]+" simplecss_own "${PACKAGE_VERSION}")
+string(REGEX MATCH "^[0-9]+(\\.[0-9]+)?" simplecss_wanted "${PACKAGE_FIND_VERSION}")
+if("${simplecss_own}." MATCHES "^${simplecss_wanted}\\." AND NOT PACKAGE_VERSION VERSION_LESS PACKAGE_FIND_VERSION)
+  set(PACKAGE_VERSION_COMPATIBLE TRUE)
+endif()
+if(PACKAGE_VERSION VERSION_EQUAL PACKAGE_FIND_VERSION)
+  set(PACKAGE_VERSION_EXACT TRUE)
+endif()

@@ -1,0 +1,379 @@
+// Trees of elements: of a DOM, of parse5, or of a program's own.
+import { NO_LIMIT, TreeError, call, encode, expectText, joined, limited, linesOf, sizes } from './library.mjs';
+import { lower } from './reading.mjs';
+
+// The grammars: that of browsers, and that of the Rust crate.
+export const MODERN = 'modern', PORT = 'simplecss';
+// The states of an element that selectors test, as numbers of the library, and that of one with a text of its own.
+const STATES = { link: 1, visited: 2, hover: 4, active: 8, focus: 16 };
+const HAS_TEXT = 32;
+// How names and values are compared, as the library numbers it.
+const AS_WRITTEN = 0n, HTML = 1n, QUIRKS = 2n;
+// The attributes whose values HTML compares without case (HTML Standard, "Case-sensitivity of selectors").
+const WITHOUT_CASE = new Set((
+  'accept accept-charset align alink axis bgcolor charset checked clear codetype color compact declare defer dir direction'
+  + ' disabled enctype face frame hreflang http-equiv lang language link media method multiple nohref noresize noshade'
+  + ' nowrap readonly rel rev rules scope scrolling selected shape target text type valign valuetype vlink').split(' '));
+const CASELESS = new Map([[HTML, WITHOUT_CASE], [QUIRKS, new Set([...WITHOUT_CASE, 'class', 'id'])]]);
+const SPACE_OF_HTML = 'http://www.w3.org/1999/xhtml', SPACE_OF_SVG = 'http://www.w3.org/2000/svg';
+// Kinds of nodes of a DOM.
+const IS_ELEMENT = 1, IS_TEXT = 3, IS_CDATA = 4, IS_DOCUMENT = 9, IS_FRAGMENT = 11;
+// How many lists of selectors have their answers kept.
+const MOST_ANSWERS = 32;
+
+/** A text is not a selector: `row`, `column` and `reason` say where and why. Columns count characters. */
+export class SelectorError extends Error {
+  name = 'SelectorError';
+
+  constructor(reason, row, column) {
+    super(`${row}:${column}: ${reason}`);
+    Object.assign(this, { reason, row, column });
+  }
+}
+
+/** Returns the name of a grammar, if it is one. */
+export function grammarOf({ grammar = MODERN } = {}) {
+  if (grammar !== MODERN && grammar !== PORT) throw new TypeError(`no grammar: ${grammar}`);
+  return grammar;
+}
+
+/** Returns what a call for a list of selectors writes. A list that is refused is an error. */
+export function selected(name, text, grammar, words, options) {
+  const end = grammar === PORT ? '' : '_level3';
+  const written = call(name + end, words, options);
+  if (written !== null) return written;
+  const [{ reason, row, column } = { reason: 'refused', row: 1, column: 1 }] =
+    linesOf(call(`refusal${end}`, [encode(text)]));
+  throw new SelectorError(reason, row, column);
+}
+
+/** An element of a tree. */
+export class Element {
+  #elements;
+
+  constructor(tree, index, elements) {
+    this.tree = tree;
+    /** Its number in the tree, from 0, in the order of the document. */
+    this.index = index;
+    this.#elements = elements;
+  }
+
+  get name() { return this.#elements.names[this.index]; }
+  get attributes() { return this.#elements.attributes[this.index]; }
+  get states() { return this.#elements.states[this.index]; }
+  get depth() { return this.#elements.depths[this.index]; }
+  /** Where its start tag begins, if that is known. */
+  get row() { return this.#elements.places[this.index]?.row ?? null; }
+  get column() { return this.#elements.places[this.index]?.column ?? null; }
+  /** The node that it was made from. */
+  get node() { return this.#elements.nodes[this.index] ?? null; }
+  get parent() { return this.tree.elements[this.#elements.parents[this.index]] ?? null; }
+  get children() { return this.#elements.childrenOf(this.index).map(index => this.tree.elements[index]); }
+
+  /** Whether one of the selectors matches it. */
+  matches(selectors, options) {
+    return this.#elements.foundSet(selectors, grammarOf(options)).has(this.index);
+  }
+
+  /** Returns it or its nearest ancestor that one of the selectors matches. */
+  closest(selectors, options) {
+    const found = this.#elements.foundSet(selectors, grammarOf(options));
+    let index = this.index;
+    while (index >= 0 && !found.has(index)) index = this.#elements.parents[index];
+    return this.tree.elements[index] ?? null;
+  }
+
+  /** Returns the elements within it that one of the selectors matches, in order. */
+  select(selectors, options) {
+    const end = this.#elements.endOf(this.index);
+    return this.tree.select(selectors, options).filter(each => each.index > this.index && each.index < end);
+  }
+}
+
+/** The elements of a tree in columns, and what selectors match of them. */
+class Elements {
+  names = [];
+  attributes = [];
+  // The indices of the parents, and -1 of an element without one.
+  parents = [];
+  depths = [];
+  states = [];
+  places = [];
+  nodes = [];
+  reading = AS_WRITTEN;
+  #texts = [];
+  #words = new Map();
+  #answers = new Map();
+  #ends;
+  #children;
+
+  add({ name, attributes, parent, states, place, node, hasText }) {
+    this.names.push(name);
+    this.attributes.push(attributes);
+    this.parents.push(parent);
+    this.depths.push(parent < 0 ? 0 : this.depths[parent] + 1);
+    this.states.push(states);
+    this.places.push(place);
+    if (node) this.nodes.push(node);
+    this.#texts.push(hasText);
+    return this.names.length - 1;
+  }
+
+  childrenOf(index) {
+    if (!this.#children) {
+      this.#children = this.names.map(() => []);
+      this.parents.forEach((parent, child) => { if (parent >= 0) this.#children[parent].push(child); });
+    }
+    return this.#children[index];
+  }
+
+  /** Returns the index after the last element within an element. */
+  endOf(index) {
+    if (!this.#ends) {
+      this.#ends = this.names.map((_, at) => at + 1);
+      for (let at = this.names.length - 1; at >= 0; at -= 1) {
+        const parent = this.parents[at];
+        if (parent >= 0) this.#ends[parent] = Math.max(this.#ends[parent], this.#ends[at]);
+      }
+    }
+    return this.#ends[index];
+  }
+
+  /** Returns the indices of the elements that one of the selectors matches, in order. */
+  found(selectors, grammar) {
+    return [...this.foundSet(selectors, grammar)];
+  }
+
+  foundSet(selectors, grammar) {
+    const key = `${grammar} ${selectors}`;
+    if (!this.#answers.has(key)) {
+      if (this.#answers.size >= MOST_ANSWERS) this.#answers.clear();
+      const words = [encode(selectors), ...this.words(grammar), NO_LIMIT];
+      const options = { room: 1024 + 8 * this.names.length, hasTree: true };
+      const numbers = selected('select', selectors, grammar, words, options).split('\n').slice(0, -1);
+      this.#answers.set(key, new Set(numbers.map(number => number - 1)));
+    }
+    return this.#answers.get(key);
+  }
+
+  /**
+   * Returns for each element the numbers of the modern selectors that match it, which begin at 1, with spaces between them.
+   * More numbers than `limit` are an error.
+   */
+  matched(selectors, limit) {
+    const count = this.names.length;
+    // A line is the number of an element, a colon, the numbers with a space before each, and its end.
+    const numbers = limited(limit * (1 + `${selectors.length}`.length));
+    const most = BigInt(count * (2 + `${count}`.length)) + numbers;
+    const written = call('match_level3', [...joined(selectors), ...this.words(MODERN)], {
+      room: 1024 + 32 * count, most: most < NO_LIMIT ? most : NO_LIMIT, hasTree: true,
+    });
+    return written.split('\n').slice(0, -1).map(line => line.slice(line.indexOf(':') + 1));
+  }
+
+  /** Returns the tree as calls of the library for a grammar take it. Those for the modern one are told how it is read. */
+  words(grammar) {
+    if (!this.#words.has(grammar)) this.#words.set(grammar, this.#makeWords(grammar));
+    return this.#words.get(grammar);
+  }
+
+  #makeWords(grammar) {
+    const shapes = [], strings = [];
+    this.names.forEach((name, index) => {
+      const attributes = [...this.#compared(this.attributes[index], grammar)];
+      const states = this.states[index].reduce((sum, state) => sum + STATES[state], this.#texts[index] ? HAS_TEXT : 0);
+      shapes.push(this.depths[index], attributes.length, states);
+      strings.push(this.reading === AS_WRITTEN ? name : lower(name));
+      for (const [key, value] of attributes) strings.push(key, value);
+    });
+    const elements = Object.assign(sizes(shapes), { count: this.names.length });
+    return [...(grammar === PORT ? [] : [this.reading]), elements, ...joined(strings)];
+  }
+
+  /** Returns attributes as they are compared. Of two that have one name then, the first. */
+  #compared(attributes, grammar) {
+    if (this.reading === AS_WRITTEN && grammar === MODERN) return attributes;
+    const caseless = CASELESS.get(this.reading), found = new Map();
+    for (const [name, value] of attributes) {
+      const key = caseless ? lower(name) : name;
+      // By the grammar of the Rust crate, spaces alone part the words of a class.
+      const words = grammar === PORT && key === 'class' ? value.replace(/[\t\n\f\r]/g, ' ') : value;
+      if (!found.has(key)) found.set(key, caseless?.has(key) ? lower(words) : words);
+    }
+    return found;
+  }
+}
+
+/** Elements in the order of the document, which selectors are matched against. */
+export class Tree {
+  #elements = new Elements();
+  #all;
+  #numbers;
+
+  /** Takes elements in the order of the document: a parent comes before its children. */
+  constructor(items = []) {
+    const last = [];
+    for (const item of items) {
+      const { name, attributes = {}, parent, row, column, states = [], text = '' } = item;
+      const index = this.#elements.names.length;
+      const depth = parent == null ? 0 : this.#elements.depths[parent] + 1;
+      if (parent != null && last[depth - 1] !== parent) {
+        throw new TreeError('its parent is not one of the open elements', index);
+      }
+      last.length = depth;
+      last.push(index);
+      if (typeof name !== 'string' || name === '') throw new TreeError('its name is empty', index);
+      this.#elements.add({
+        name, attributes: attributesOf(attributes), parent: parent ?? -1, states: statesOf(states), place: { row, column },
+        hasText: text !== '',
+      });
+    }
+  }
+
+  /** Returns the tree of a document, a fragment or an element of a DOM or of parse5, or the tree itself. */
+  static from(root) {
+    if (root instanceof Tree) return root;
+    return typeof root?.nodeType === 'number' ? Tree.fromDOM(root) : Tree.fromParse5(root);
+  }
+
+  /** Takes the elements of a DOM: of a document, a fragment, or an element. */
+  static fromDOM(root) {
+    if (![IS_ELEMENT, IS_DOCUMENT, IS_FRAGMENT].includes(root?.nodeType)) throw new TypeError('a node of a DOM is expected');
+    const page = root.nodeType === IS_DOCUMENT ? root : root.ownerDocument;
+    const isHTML = (page.contentType ?? 'text/html') === 'text/html';
+    const quirks = page.compatMode === 'BackCompat' ? QUIRKS : HTML;
+    return Tree.#taken(root, isHTML ? quirks : AS_WRITTEN, {
+      isElement: node => node.nodeType === IS_ELEMENT,
+      isText: node => (node.nodeType === IS_TEXT || node.nodeType === IS_CDATA) && node.data !== '',
+      nameOf: node => node.localName,
+      attributesOf: node => isHTML ? Array.from(node.attributes, each => [each.name, each.value]) : localAttributes(node),
+      placeOf: () => undefined,
+    });
+  }
+
+  /** Takes the elements that parse5 has read: of a document, a fragment, or an element. */
+  static fromParse5(root) {
+    if (!Array.isArray(root?.childNodes)) throw new TypeError('a node of a DOM or of parse5, or a tree, is expected');
+    const reading = topOf(root).mode === 'quirks' ? QUIRKS : HTML;
+    return Tree.#taken(root, reading, {
+      isElement: node => node.tagName !== undefined,
+      isText: node => node.nodeName === '#text' && node.value !== '',
+      nameOf: node => node.tagName,
+      attributesOf: node => node.attrs.map(({ prefix, name, value }) => [prefix ? `${prefix}:${name}` : name, value]),
+      placeOf: ({ sourceCodeLocation: place }) => place && { row: place.startLine, column: place.startCol },
+    });
+  }
+
+  /** Takes the elements of nodes. */
+  static #taken(root, reading, { isElement, isText, nameOf, attributesOf, placeOf }) {
+    const tree = new Tree(), elements = tree.#elements;
+    elements.reading = reading;
+    const waiting = [[root, -1]];
+    while (waiting.length > 0) {
+      const [node, parent] = waiting.pop();
+      const children = Array.from(node.childNodes);
+      let index = -1;
+      if (isElement(node)) {
+        const name = nameOf(node), attributes = new Map(attributesOf(node));
+        const states = isLink(name, node.namespaceURI, attributes) ? ['link'] : [];
+        index = elements.add({
+          name, attributes, parent, states, place: placeOf(node), node, hasText: children.some(isText),
+        });
+      }
+      for (const child of children.reverse()) if (isElement(child)) waiting.push([child, index]);
+    }
+    return tree;
+  }
+
+  get length() { return this.#elements.names.length; }
+
+  /** The elements, in the order of the document. */
+  get elements() {
+    this.#all ??= this.#elements.names.map((_, index) => new Element(this, index, this.#elements));
+    return this.#all;
+  }
+
+  [Symbol.iterator]() { return this.elements[Symbol.iterator](); }
+
+  /** Returns the element that was made from a node. */
+  elementOf(node) {
+    this.#numbers ??= new Map(this.#elements.nodes.map((each, index) => [each, index]));
+    return this.elements[this.#numbers.get(node)] ?? null;
+  }
+
+  /** Returns the elements that one of the selectors matches, in order. */
+  select(selectors, options) {
+    return this.#elements.found(selectors, grammarOf(options)).map(index => this.elements[index]);
+  }
+
+  /** Returns the first element that one of the selectors matches, or null. */
+  selectOne(selectors, options) {
+    return this.select(selectors, options)[0] ?? null;
+  }
+
+  /** Returns the elements as the other modules use them. */
+  static elementsOf(tree) {
+    return tree.#elements;
+  }
+}
+
+/** Returns attributes by their names. */
+function attributesOf(attributes) {
+  const found = new Map(typeof attributes[Symbol.iterator] === 'function' ? attributes : Object.entries(attributes));
+  for (const [key, value] of found) {
+    expectText(key);
+    expectText(value);
+  }
+  return found;
+}
+
+function statesOf(names) {
+  const found = [...new Set(names)];
+  for (const name of found) if (!Object.hasOwn(STATES, name)) throw new TypeError(`no state of an element: ${name}`);
+  return found;
+}
+
+/** Returns attributes by local name. One without a namespace comes before one that has one. */
+function localAttributes(node) {
+  const own = Array.from(node.attributes, each => [each.localName, each.value, each.namespaceURI]);
+  const names = new Set(own.filter(each => !each[2]).map(each => each[0]));
+  return own.filter(each => !each[2] || !names.has(each[0]));
+}
+
+function isLink(name, space, attributes) {
+  if (name === 'a') return attributes.has('href') || space === SPACE_OF_SVG && attributes.has('xlink:href');
+  return name === 'area' && space === SPACE_OF_HTML && attributes.has('href');
+}
+
+/** Returns the node without a parent that a node is in. */
+function topOf(node) {
+  let top = node;
+  while (top.parentNode) top = top.parentNode;
+  return top;
+}
+
+/** Returns the element of a tree that a node is, in the tree of all that the node is in. */
+function elementOf(node) {
+  if (node instanceof Element) return node;
+  const found = Tree.from(topOf(node)).elementOf(node);
+  if (!found) throw new TypeError('an element is expected');
+  return found;
+}
+
+/** Returns the elements of a tree or a document, or within an element, that one of the selectors matches, in order. */
+export function select(root, selectors, options) {
+  if (root instanceof Tree || root instanceof Element) return root.select(selectors, options);
+  const isElement = root?.tagName !== undefined;
+  return (isElement ? elementOf(root) : Tree.from(root)).select(selectors, options).map(each => each.node);
+}
+
+/** Whether one of the selectors matches an element. */
+export function matches(element, selectors, options) {
+  return elementOf(element).matches(selectors, options);
+}
+
+/** Returns the element or its nearest ancestor that one of the selectors matches. */
+export function closest(element, selectors, options) {
+  const found = elementOf(element).closest(selectors, options);
+  return element instanceof Element ? found : found?.node ?? null;
+}

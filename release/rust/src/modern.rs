@@ -1,0 +1,332 @@
+//! Modern CSS: style sheets by CSS Syntax 3, and selectors of Level 3 with `:is()`, `:where()` and
+//! `:not()` of Level 4.
+//!
+//! ```
+//! use simplecss::modern::{Document, Sheet};
+//! use simplecss::tree::Tree;
+//!
+//! let mut tree = Tree::new();
+//! let list = tree.push(None, "ul").unwrap();
+//! for _ in 0..3 {
+//!     tree.push(Some(list), "li").unwrap();
+//! }
+//! let document = Document::new(&tree);
+//!
+//! let text = "@media screen { li:nth-child(odd) { color: red } } li { color: blue }";
+//! let sheet = Sheet::read(text, |name, prelude| name == "media" && prelude == "screen");
+//! let color = |index| sheet.winning(&document.node(index).unwrap(), "color").unwrap().value;
+//! assert_eq!([color(1), color(2), color(3)], ["red", "blue", "red"]);
+//! ```
+//!
+//! What is read is `Send` and `Sync`:
+//!
+//! ```
+//! use simplecss::modern::{Declaration, Document, Index, Rule, Selector, Sheet, Walk};
+//!
+//! fn is_shared<T: Send + Sync>() {}
+//! is_shared::<(Sheet, Rule, Index, Walk, Selector, Declaration, Document)>();
+//! is_shared::<(simplecss::StyleSheet, simplecss::tree::Tree)>();
+//! ```
+//!
+//! Elements are of a type of your own, which implements [`Element`], or those of a [`Document`]. A selector
+//! that is valid and not supported, such as `a:has(b)`, matches nothing. Nested rules are not read, and the
+//! order of layers makes no difference.
+use crate::erased::{css_index, css_selectors, css_sheet, css_syntax, css_tree};
+use crate::rattle_std::alloc::Global;
+use crate::{done, tree::Tree, within, TextPos};
+use alloc::string::{String, ToString};
+use alloc::vec::Vec;
+use core::fmt;
+
+pub use crate::erased::css_index::Keyed;
+pub use crate::erased::css_selectors::{Element, Key, Specificity};
+pub use crate::erased::css_syntax::{
+    AtRule, Block, Declaration, Declarations, Fault, Item, ListPart, Prelude, Quality,
+};
+pub use crate::erased::css_tree::languages::is_in_range;
+pub use crate::erased::css_tree::NumberedNode as Node;
+
+/// Why a text is not a list of selectors, and where.
+#[derive(Clone, Debug, PartialEq)]
+pub struct SelectorError {
+    /// The row and the column, from 1 on.
+    pub position: TextPos,
+    /// What is wrong there.
+    pub reason: String,
+}
+
+impl SelectorError {
+    fn new(text: &str, refusal: css_selectors::Refusal<'_>) -> Self {
+        if refusal.why == css_selectors::Why::Memory {
+            panic!("memory allocation failed");
+        }
+        let reason = match refusal.quote() {
+            "" => alloc::format!("a blank or the end of the text {}", refusal.why.words()),
+            quote => alloc::format!("`{quote}` {}", refusal.why.words()),
+        };
+        SelectorError { position: refusal.position_in(text), reason }
+    }
+}
+
+impl fmt::Display for SelectorError {
+    fn fmt(&self, f: &mut fmt::Formatter<'_>) -> fmt::Result {
+        write!(f, "{}: {}", self.position, self.reason)
+    }
+}
+
+impl crate::rattle_std::error::Error for SelectorError {}
+
+/// A selector.
+pub struct Selector<'a>(css_selectors::Selector<'a>);
+
+impl<'a> Selector<'a> {
+    /// Parses one selector.
+    pub fn parse(text: &'a str) -> Result<Self, SelectorError> {
+        css_selectors::Selector::parse(Global, within(text))
+            .map(Selector)
+            .map_err(|refusal| SelectorError::new(text, refusal))
+    }
+
+    /// Parses selectors with commas between them. Fails if one of them is not a selector.
+    pub fn parse_list(text: &'a str) -> Result<Vec<Self>, SelectorError> {
+        match css_selectors::Selector::parse_list(Global, within(text)) {
+            Ok(selectors) => Ok(selectors.0.into_iter().map(Selector).collect()),
+            Err(refusal) => Err(SelectorError::new(text, refusal)),
+        }
+    }
+
+    /// Returns the name of the pseudo-element at the end, if there is one.
+    pub fn pseudo_element(&self) -> Option<&str> {
+        self.0.pseudo_element()
+    }
+
+    /// Returns the specificity.
+    pub fn specificity(&self) -> Specificity {
+        self.0.specificity()
+    }
+
+    /// Whether the selector matches the element. One with a pseudo-element matches none.
+    pub fn matches<E: Element>(&self, element: &E) -> bool {
+        self.0.matches(element)
+    }
+}
+
+impl fmt::Debug for Selector<'_> {
+    fn fmt(&self, f: &mut fmt::Formatter<'_>) -> fmt::Result {
+        fmt::Debug::fmt(&self.0.to_string(), f)
+    }
+}
+
+/// Prints the selector as CSSOM serializes it.
+impl fmt::Display for Selector<'_> {
+    fn fmt(&self, f: &mut fmt::Formatter<'_>) -> fmt::Result {
+        fmt::Display::fmt(&self.0, f)
+    }
+}
+
+/// The rules hold more declarations than the limit.
+#[derive(Clone, Copy, Debug, PartialEq)]
+pub struct TooManyDeclarations;
+
+impl fmt::Display for TooManyDeclarations {
+    fn fmt(&self, f: &mut fmt::Formatter<'_>) -> fmt::Result {
+        f.write_str("the rules hold more declarations than the limit")
+    }
+}
+
+impl crate::rattle_std::error::Error for TooManyDeclarations {}
+
+/// The style rules of a sheet, in the order of the cascade without layers.
+pub struct Sheet<'a>(crate::rattle_std::vec::Vec<css_sheet::SheetRule<'a>>);
+
+impl<'a> Sheet<'a> {
+    /// Reads a sheet. `holds` says whether the condition of a group rule holds, by the name of the rule
+    /// without the `@` and its prelude. Set a limit for texts from untrusted sources
+    /// ([`Sheet::read_limited`]).
+    pub fn read(text: &'a str, holds: impl Fn(&str, &str) -> bool) -> Self {
+        Sheet(done(css_sheet::read_sheet(Global, within(text), usize::MAX, holds)))
+    }
+
+    /// Reads a sheet as [`Sheet::read`] does, unless its rules hold more than `most` declarations.
+    pub fn read_limited(
+        text: &'a str,
+        most: usize,
+        holds: impl Fn(&str, &str) -> bool,
+    ) -> Result<Self, TooManyDeclarations> {
+        match css_sheet::read_sheet(Global, within(text), most, holds) {
+            Err(css_sheet::SheetError::TooManyDeclarations) => Err(TooManyDeclarations),
+            outcome => Ok(Sheet(done(outcome))),
+        }
+    }
+
+    /// Returns the rules, each with one selector.
+    pub fn rules(&self) -> impl ExactSizeIterator<Item = Rule<'_, 'a>> {
+        self.0 .0.iter().map(Rule)
+    }
+
+    /// Returns the declaration of a property that wins on the element: the last of the important ones, or
+    /// the last if none is important. Shorthands are not expanded.
+    pub fn winning<E: Element>(&self, element: &E, property: &str) -> Option<Declaration<'a>> {
+        css_sheet::winning(&self.0, element, property)
+    }
+
+    /// Makes an index of the rules, for single elements.
+    pub fn index(&self) -> Index<'_, 'a> {
+        Index {
+            index: done(css_index::SelectorIndex::new(Global, &self.0)),
+            indices: crate::rattle_std::vec::Vec::new(Global),
+        }
+    }
+
+    /// Makes an index of the rules for a walk along a tree.
+    pub fn walk(&self) -> Walk<'_, 'a> {
+        Walk {
+            walk: done(css_index::SelectorWalk::new(Global, &self.0)),
+            indices: crate::rattle_std::vec::Vec::new(Global),
+        }
+    }
+}
+
+/// A style rule with one selector.
+#[derive(Clone, Copy)]
+pub struct Rule<'s, 'a>(&'s css_sheet::SheetRule<'a>);
+
+impl<'a> Rule<'_, 'a> {
+    /// Returns the text of the selector, with its pseudo-element.
+    pub fn text(&self) -> &'a str {
+        self.0.text
+    }
+
+    /// Returns the name of the pseudo-element, as written, if there is one.
+    pub fn pseudo_element(&self) -> Option<&'a str> {
+        self.0.pseudo_element
+    }
+
+    /// Returns the specificity.
+    pub fn specificity(&self) -> Specificity {
+        self.0.specificity()
+    }
+
+    /// Whether the rule applies to the element. A rule with a pseudo-element applies to none.
+    pub fn matches<E: Element>(&self, element: &E) -> bool {
+        self.0.pseudo_element.is_none() && self.0.selector.matches(element)
+    }
+
+    /// Returns the declarations, with what is skipped between them.
+    pub fn declarations(&self) -> Declarations<'a> {
+        self.0.declarations()
+    }
+}
+
+/// An index of the rules of a sheet: which match an element, without testing each.
+pub struct Index<'s, 'a> {
+    index: css_index::SelectorIndex<'s, 'a>,
+    indices: crate::rattle_std::vec::Vec<usize>,
+}
+
+impl Index<'_, '_> {
+    /// Returns the indices of the rules whose selectors, without pseudo-elements, match the element, in order.
+    pub fn matching<E: Keyed>(&mut self, element: &E) -> &[usize] {
+        done(self.index.matching(element, &mut self.indices));
+        &self.indices
+    }
+}
+
+/// An index of the rules of a sheet for a walk along a tree: it finds what [`Index`] finds, and leaves out the
+/// rules that need an ancestor or a parent which an element lacks. Enter each element before its children, and leave
+/// it after them:
+///
+/// ```
+/// use simplecss::modern::{Document, Sheet};
+/// use simplecss::tree::Tree;
+///
+/// let mut tree = Tree::new();
+/// let list = tree.push(None, "ul").unwrap();
+/// let item = tree.push(Some(list), "li").unwrap();
+/// let document = Document::new(&tree);
+/// let sheet = Sheet::read("li { margin: 0 } ul > li { color: red } ol li { color: blue }", |_, _| false);
+///
+/// let mut walk = sheet.walk();
+/// walk.enter(&document.node(list).unwrap());
+/// assert_eq!(walk.matching(&document.node(item).unwrap()), [0, 1]);
+/// walk.leave();
+/// ```
+pub struct Walk<'s, 'a> {
+    walk: css_index::SelectorWalk<'s, 'a>,
+    indices: crate::rattle_std::vec::Vec<usize>,
+}
+
+impl Walk<'_, '_> {
+    /// Opens an element, whose parent is the one that was opened last.
+    pub fn enter<E: Keyed>(&mut self, element: &E) {
+        done(self.walk.enter(element))
+    }
+
+    /// Closes the element that was opened last, if one is open.
+    pub fn leave(&mut self) {
+        self.walk.leave()
+    }
+
+    /// Returns what [`Index::matching`] returns for an element whose ancestors are the open elements.
+    pub fn matching<E: Keyed>(&mut self, element: &E) -> &[usize] {
+        done(self.walk.matching(element, &mut self.indices));
+        &self.indices
+    }
+}
+
+/// Returns the declarations of a `style` attribute, with what is skipped between them.
+///
+/// ```
+/// use simplecss::modern::{declarations, Item};
+///
+/// let found: Vec<_> = declarations("fill: url(a;b); bad; stroke: red !IMPORTANT")
+///     .filter_map(|part| match part.item {
+///         Item::Declaration(it) => Some((it.name, it.value, it.important)),
+///         _ => None,
+///     })
+///     .collect();
+/// assert_eq!(found, [("fill", "url(a;b)", false), ("stroke", "red", true)]);
+/// ```
+pub fn declarations(text: &str) -> Declarations<'_> {
+    Declarations::new(within(text))
+}
+
+/// Returns the value of a name or a string as it is after escapes.
+pub fn decode(text: &str) -> String {
+    done(css_syntax::decode(Global, within(text))).as_str().to_string()
+}
+
+/// Returns the value of a declaration with what closes it where the end of the text did, unless it is invalid.
+///
+/// ```
+/// use simplecss::modern::closed_value;
+///
+/// assert_eq!(closed_value("url(x").as_deref(), Some("url(x)"));
+/// assert_eq!(closed_value("x)"), None);
+/// ```
+pub fn closed_value(value: &str) -> Option<String> {
+    done(css_syntax::closed_value(Global, within(value))).map(|it| it.as_str().to_string())
+}
+
+/// A tree whose siblings are counted: elements that selectors match.
+pub struct Document<'p, 't>(css_tree::NumberedTree<'p, 't>);
+
+impl<'p, 't> Document<'p, 't> {
+    /// Counts the siblings of a tree. Panics if it has 2^32 elements or more.
+    pub fn new(tree: &'p Tree<'t>) -> Self {
+        match css_tree::NumberedTree::new(Global, &tree.0) {
+            Ok(tree) => Document(tree),
+            Err(_) => panic!("memory allocation failed, or the tree has 2^32 elements or more"),
+        }
+    }
+
+    /// Says that the element at an index has a text that is not empty, which `:empty` tests.
+    pub fn set_text(&mut self, index: usize) {
+        self.0.set_text(index);
+    }
+
+    /// Returns the element at an index, if there is one.
+    pub fn node(&self, index: usize) -> Option<Node<'_, 'p, 't>> {
+        self.0.node(index)
+    }
+}
