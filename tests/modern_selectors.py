@@ -400,7 +400,8 @@ def plain(text: str) -> str:
         letter = chr(int(found[1], 16) % 0x110000) if found[1] else found[2]
         return letter if letter.isalnum() or letter == "-" else "_"
 
-    text = re.sub(r"/\*.*?(\*/|$)", "", text, flags=re.DOTALL)
+    kept = r"""(\\.|"(?:\\.|[^"\\\n])*"|'(?:\\.|[^'\\\n])*')"""
+    text = re.sub(kept + r"|/\*.*?(?:\*/|$)", lambda found: found[1] or "", text, flags=re.DOTALL)
     return re.sub(r"\\(?:([0-9a-fA-F]{1,6})\s?|(.|$))", spelled, text, flags=re.DOTALL)
 
 

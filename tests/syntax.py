@@ -619,9 +619,13 @@ def selectors_of(texts: Sequence[str]) -> Iterator[List[Fields]]:
 
 
 def one_blank(text: str) -> str:
-    """A selector with one blank for several and for comments, since soupsieve refuses two before a
-    combinator; the blank that ends an escape stays."""
-    return re.sub(r"(\\[0-9a-f]+ )|(?: |/\*.*?\*/)+", lambda found: found[1] or " ", text)
+    """A selector with one blank for several, since soupsieve refuses two before a combinator, and
+    without comments; the blank that ends an escape stays."""
+
+    def shortened(found: "re.Match[str]") -> str:
+        return found[1] or re.sub(r"/\*.*?\*/", "", found[0])[:1]
+
+    return re.sub(r"(\\[0-9a-f]+ )|(?: |/\*.*?\*/)+", shortened, text)
 
 
 def compared(what: str, texts: Sequence[str]) -> Iterator[Tuple[Any, Any]]:
