@@ -1040,7 +1040,7 @@ const deep = new Tree(items);
 console.log(deep.select('a b:nth-child(1) > a').length, deep.elements.at(-1).closest(':root').index);
 for (const call of [
   () => new Tree([{ name: '' }]), () => new Tree([{ name: 'a' }, { name: 'b' }, { name: 'c', parent: 0 }]),
-  () => select(halves, 'a,\\n\\u{1F600}:nth-child(2'), () => select({}, 'a'), () => css.lint(3),
+  () => select(halves, 'a,\\n\\u{1F600}:nth-child(2x)'), () => select({}, 'a'), () => css.lint(3),
   () => css.rules('a{b:c}'.repeat(9), { limit: 8 }), () => styles(halves, '*{b:c}a{b:d}', { answerLimit: 1 }),
   () => select(halves, 'a', { grammar: 'today' }),
 ]) {
@@ -1064,7 +1064,7 @@ true null c
 10000 0
 TreeError 0 element 0: its name is empty
 TreeError 2 element 2: its parent is not one of the open elements
-SelectorError 2 2:2: `:nth-child(2` is not closed
+SelectorError 2 2:13: `2x` is no An+B
 TypeError undefined a node of a DOM or of parse5, or a tree, is expected
 TypeError undefined a text is expected, not number
 LimitError undefined the rules would hold more declarations than the limit
