@@ -1,0 +1,68 @@
+-- Worked layers and declarations, computed with the definitions. The names say which text is meant; a
+-- browser gives the same answers to these texts.
+use Rattle.std.specs.Prelude.{◌≡◌, refl, ℕ, List, [], ◌∷◌, codes, map, Bool, true, false}
+use Rattle.css_cascade.specs.Layers.{LayerPart, LayerText, named, anonymous, outermost_layer, with_layer, number_of, place_of}
+use Rattle.css_cascade.specs.Cascade.{Weighed, beats}
+
+abbrev a : LayerPart
+a = named (codes "a")
+
+abbrev b : LayerPart
+b = named (codes "b")
+
+abbrev x : LayerPart
+x = named (codes "x")
+
+abbrev y : LayerPart
+y = named (codes "y")
+
+-- `@layer a.x; @layer b; @layer a.y {..}`: the layers in `a` before what is in `a` itself, then `b`, then
+-- what is in no layer
+abbrev two : List LayerText
+two = with_layer (with_layer (outermost_layer ∷ []) 0 a) 1 x
+
+abbrev four : List LayerText
+four = with_layer (with_layer two 0 b) 1 y
+
+pub siblings :
+    (map (λ (one : LayerText). one.number) four ≡ 2 ∷ 4 ∷ 1 ∷ 3 ∷ 0 ∷ [])
+    × (number_of 1 y four ≡ 4)
+    × (number_of 0 y four ≡ 0)
+    × (place_of 4 four ≡ 1)
+    × (place_of 0 four ≡ 4)
+    × (with_layer four 1 x ≡ four)
+siblings = (refl, refl, refl, refl, refl, refl)
+
+-- `@layer {} @layer {}`: each layer without a name is a new one
+pub anonymous_ones :
+    map (λ (one : LayerText). one.number)
+    (with_layer (with_layer (outermost_layer ∷ []) 0 (anonymous 0)) 0 (anonymous 10))
+    ≡ 1 ∷ 2 ∷ 0 ∷ []
+anonymous_ones = refl
+
+-- a declaration of a rule `p` in the layer with this number
+abbrev plain : Bool → (number : ℕ) → ℕ → Weighed
+plain important number place = record {
+  important = important;
+  layer = place_of number four;
+  specificity = 0 ∷ 0 ∷ 1 ∷ [];
+  place = place ∷ [];
+}
+
+abbrev with_id : Weighed → Weighed
+with_id one = record one { specificity = 1 ∷ 0 ∷ 0 ∷ [] }
+
+pub orders :
+    -- the later place; the greater specificity
+    (beats (plain false 0 2) (plain false 0 1) ≡ true)
+    × (beats (with_id (plain false 0 1)) (plain false 0 2) ≡ true)
+    -- a layer before specificity, and no layer after all
+    × (beats (plain false 3 1) (with_id (plain false 2 2)) ≡ true)
+    × (beats (plain false 0 1) (with_id (plain false 3 2)) ≡ true)
+    × (beats (plain false 1 1) (with_id (plain false 2 2)) ≡ true)
+    -- the same reversed, if they are important
+    × (beats (plain true 2 1) (plain true 1 2) ≡ true)
+    × (beats (plain true 3 1) (plain true 0 2) ≡ true)
+    -- importance before all
+    × (beats (plain true 2 1) (with_id (plain false 0 2)) ≡ true)
+orders = (refl, refl, refl, refl, refl, refl, refl, refl)

@@ -1,0 +1,6 @@
+pub mod CascadeLemmas
+pub mod CascadeVectors
+pub mod LayerLemmas
+pub mod NameLemmas
+pub mod PartLemmas
+pub mod WinnerLemmas

@@ -1,0 +1,51 @@
+-- The order of declarations of one property on one element (CSS Cascading 5, section 6.1), and which
+-- one wins.
+use Rattle.std.specs.Prelude.{◌≡◌, ℕ, Bool, false, if◌then◌else◌, List}
+use Rattle.std.specs.List.{All, Contains}
+use Rattle.std.specs.declared.cmp.Ordering.{Ordering}
+use Rattle.std.specs.Ordering.{is_gt, bool_cmp, nat_cmp, on, then_cmp, flip_args}
+use Rattle.std.specs.Cmp.Lexicographic.{slice_cmp}
+
+-- What the cascade sees of a declaration: whether it is important; the rank of its layer, which is the
+-- greater the later the layer is; the specificity of its rule, of which the first count that differs
+-- decides; and where it stands.
+pub record Weighed : Type 0 where
+  pub important : Bool
+  pub layer : ℕ
+  pub specificity : List ℕ
+  pub place : List ℕ
+
+-- the layer of a declaration that is not important; all that are count alike
+abbrev pub normal_layer : Weighed → ℕ
+normal_layer d = if d.important then 0 else d.layer
+
+-- the layer of an important declaration; all that are not count alike
+abbrev pub important_layer : Weighed → ℕ
+important_layer d = if d.important then d.layer else 0
+
+-- the one with the greater specificity is later, and else the one that stands later
+abbrev pub rule_cmp : Weighed → Weighed → Ordering
+rule_cmp =
+    then_cmp (on (λ (d : Weighed). d.specificity) (slice_cmp nat_cmp))
+    (on (λ (d : Weighed). d.place) (slice_cmp nat_cmp))
+
+-- of those that are not important the one of the later layer is later, and of important ones the one
+-- of the earlier layer is
+abbrev pub layered_cmp : Weighed → Weighed → Ordering
+layered_cmp =
+    then_cmp (on normal_layer nat_cmp)
+    (then_cmp (flip_args (on important_layer nat_cmp)) rule_cmp)
+
+-- The order of the cascade: an important declaration is after all others. Then layers decide, then
+-- specificity, and then the place.
+abbrev pub cascade_cmp : Weighed → Weighed → Ordering
+cascade_cmp = then_cmp (on (λ (d : Weighed). d.important) bool_cmp) layered_cmp
+
+-- the first declaration beats the second
+abbrev pub beats : Weighed → Weighed → Bool
+beats a b = is_gt (cascade_cmp a b)
+
+-- It is one of these, and none of them beats it, where `weight` is what the cascade sees of one.
+pub record Wins {X : Type 0} (weight : X → Weighed) (found : List X) (one : X) : Type 0 where
+  pub found_there : Contains found one
+  pub unbeaten : All (λ (other : X). beats (weight other) (weight one) ≡ false) found

@@ -1,0 +1,75 @@
+//! The order of declarations.
+ghost use Rattle.std.specs.Prelude.{◌≡◌};
+ghost use Rattle.std.specs.Cmp.{IsTotalOrder};
+ghost use Rattle.css_cascade.specs.Cascade.{normal_layer as normal_layer_of, important_layer as important_layer_of};
+ghost use Rattle.css_cascade.specs.Cascade.{beats as beats_of, cascade_cmp as cascade_cmp_of};
+ghost use Rattle.css_cascade.specs.Cascade.{layered_cmp as layered_cmp_of, rule_cmp as rule_cmp_of};
+ghost use Rattle.css_cascade.specs.WeightViews.{weighed};
+
+use std::cmp::Ordering;
+
+/// What the cascade sees of a declaration.
+#[derive(Clone, Copy, Debug, PartialEq)]
+pub struct Weight {
+    /// Whether it is important.
+    pub important: bool,
+    /// The rank of its layer: how many layers are before that one.
+    pub layer: usize,
+    /// The specificity of its rule, of which the first count that differs decides.
+    pub specificity: [u32; 3],
+    /// Where it stands: the place of its rule among all, and its own in the rule.
+    pub place: [usize; 2],
+}
+
+/// The layer of a declaration that is not important.
+fn normal_layer(weight: &Weight) -> usize
+    ensures { result ≡ normal_layer_of (weighed weight.now) }
+{
+    if weight.important { 0 } else { weight.layer }
+}
+
+/// The layer of an important declaration.
+fn important_layer(weight: &Weight) -> usize
+    ensures { result ≡ important_layer_of (weighed weight.now) }
+{
+    if weight.important { weight.layer } else { 0 }
+}
+
+/// Which of two declarations has the greater specificity, or else stands later.
+fn rule_cmp(one: &Weight, other: &Weight) -> Ordering
+    ensures { result ≡ rule_cmp_of (weighed one.now) (weighed other.now) }
+{
+    one.specificity
+        .cmp(&other.specificity)
+        .then(one.place.cmp(&other.place))
+}
+
+/// The same after what is said of layers: the later decides, or of important declarations the earlier.
+fn layered_cmp(one: &Weight, other: &Weight) -> Ordering
+    ensures { result ≡ layered_cmp_of (weighed one.now) (weighed other.now) }
+{
+    let important = important_layer(other).cmp(&important_layer(one));
+    normal_layer(one)
+        .cmp(&normal_layer(other))
+        .then(important.then(rule_cmp(one, other)))
+}
+
+/// Which of two declarations is later in the order of the cascade, which is a total one.
+#[tactic(auto, using(crate::proofs::CascadeLemmas::cascade_total))]
+pub fn cascade_cmp(one: &Weight, other: &Weight) -> Ordering
+    ensures order { result ≡ cascade_cmp_of (weighed one.now) (weighed other.now) }
+    ensures total { IsTotalOrder cascade_cmp_of }
+{
+    one.important
+        .cmp(&other.important)
+        .then(layered_cmp(one, other))
+}
+
+/// Whether the first declaration beats the second (CSS Cascading 5, section 6.1): by importance, by
+/// layers, by specificity, and by where they stand. Of two that are not important the one in the later
+/// layer wins, what is in no layer last; of two important ones the one in the earlier layer.
+pub fn beats(one: &Weight, other: &Weight) -> bool
+    ensures { result ≡ beats_of (weighed one.now) (weighed other.now) }
+{
+    cascade_cmp(one, other).is_gt()
+}
