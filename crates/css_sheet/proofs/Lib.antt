@@ -1,6 +1,8 @@
 pub mod Sizes
 pub mod SheetSteps
 pub mod PlaceLemmas
+pub mod PartSteps
 mod SheetRuleLemmas
-mod HeldLemmas
+mod OpenLemmas
+mod GatherLemmas
 mod WinnerLemmas

@@ -1,8 +1,8 @@
 -- Rules that are gathered one after another, and their order.
 -- Serves `gathering::push_rules` and `sheet_order::{gather, read_sheet}`.
-use Rattle.std.proofs.Common.{◌≡◌, ◌<◌, ℕ, ◌+◌, Bool, true, List, [], ◌∷◌, ◌++◌, Option, None, Some, Result, Err, map, refl, sym, ap, ◌∙◌, subst, arith}
+use Rattle.std.proofs.Common.{◌≡◌, ◌<◌, ℕ, ◌+◌, List, [], ◌∷◌, ◌++◌, Option, None, Some, map, refl, sym, ap, ◌∙◌, arith, append-nil}
 use Rattle.std.specs.Prelude.{option_to_list}
-use Rattle.std.specs.List.{cons_option}
+use Rattle.std.specs.List.{cons_option, fold}
 use Rattle.std.specs.List.Sorted.{IsPermutation, IsSortedBy, IsStableBy}
 use Rattle.std.proofs.lemmas.Cmp.{nat_list_cmp_total}
 use Rattle.std.proofs.lemmas.List.{append_assoc}
@@ -10,13 +10,10 @@ use Rattle.std.proofs.lemmas.List.Sorted.{ranks_by}
 use Rattle.std.proofs.lemmas.List.Sums.{sum_by-append}
 use Rattle.css_text.specs.Ranks.{ordered_by}
 use Rattle.css_text.proofs.order.RankLemmas.{ordered_is, arranges_from_sort, arranges-map}
-use Rattle.css_sheet.specs.declared.gathering.Gathered.{Gathered}
-use Rattle.css_text.specs.declared.sheet_error.SheetError.{SheetError}
-use Rattle.css_text.specs.declared.sheet_error.SheetError.TheVariants.{TooManyDeclarations}
+use Rattle.css_cascade.specs.Layers.{LayerText}
 use Rattle.css_sheet.specs.declared.sheet_rules.SheetRule.{SheetRule}
-use Rattle.css_sheet.specs.SheetItems.{SheetItemText}
-use Rattle.css_sheet.specs.SheetOrder.{SheetRuleText, declaration_count, declarations_in, rule_counts, weight, is_less_specific, all_hold, statement_rules, rules_of_items}
-use Rattle.css_sheet.specs.SheetRuleViews.{sheet_rule_of, GathersAll}
+use Rattle.css_sheet.specs.SheetOrder.{SheetRuleText, declaration_count, declarations_in, rule_key, is_before, ranked}
+use Rattle.css_sheet.specs.SheetRuleViews.{sheet_rule_of}
 
 -- Rules were gathered and others are to come: together they are those before and all others. So it
 -- is with what is left of the limit.
@@ -56,30 +53,35 @@ pub cons-option : {X : Type 0} (o : Option X) (xs : List X)
 cons-option None xs = refl
 cons-option (Some x) xs = refl
 
--- std's stable sort by the counts of the specificity
+-- std's stable sort by the keys
 pub sorted-rules : (rules sorted : List SheetRule) → IsPermutation rules sorted
-    → IsSortedBy (λ a b. is_less_specific (sheet_rule_of a) (sheet_rule_of b)) sorted
-    → IsStableBy (λ a b. is_less_specific (sheet_rule_of a) (sheet_rule_of b)) rules sorted
-    → map sheet_rule_of sorted ≡ ordered_by is_less_specific (map sheet_rule_of rules)
+    → IsSortedBy (λ a b. is_before (sheet_rule_of a) (sheet_rule_of b)) sorted
+    → IsStableBy (λ a b. is_before (sheet_rule_of a) (sheet_rule_of b)) rules sorted
+    → map sheet_rule_of sorted ≡ ordered_by is_before (map sheet_rule_of rules)
 sorted-rules rules sorted moved up stable =
-    sym (ordered_is is_less_specific
-    (ranks_by nat_list_cmp_total (λ rule. weight (rule_counts rule))) _ _
-    (arranges-map sheet_rule_of is_less_specific
-    (ranks_by nat_list_cmp_total (λ rule. weight (rule_counts rule))) _ _
+    sym (ordered_is is_before (ranks_by nat_list_cmp_total (λ rule. rule_key rule)) _ _
+    (arranges-map sheet_rule_of is_before (ranks_by nat_list_cmp_total (λ rule. rule_key rule)) _ _
     (arranges_from_sort _
-    (ranks_by nat_list_cmp_total (λ rule. weight (rule_counts (sheet_rule_of rule)))) _ _ moved up
+    (ranks_by nat_list_cmp_total (λ rule. rule_key (sheet_rule_of rule))) _ _ moved up
     stable)))
 
--- an item whose group rules all hold
-pub held-item : (answers : List ℕ → List ℕ → Bool) (item : SheetItemText)
-    (before after : List SheetItemText) → before ≡ item ∷ after
-    → all_hold answers item.conditions ≡ true
-    → rules_of_items answers before
-    ≡ statement_rules item.part.statement ++ rules_of_items answers after
-held-item answers item before after e h = ap (rules_of_items answers) e ∙ rw h refl
+-- the limit is as far from rules with the ranks of their layers
+ranked-from : (known : List LayerText) (rules : List SheetRuleText) (n : ℕ)
+    → fold (λ (sum : ℕ) (rule : SheetRuleText). sum + declaration_count rule.block) n
+    (map (ranked known) rules)
+    ≡ fold (λ (sum : ℕ) (rule : SheetRuleText). sum + declaration_count rule.block) n rules
+ranked-from known [] n = refl
+ranked-from known (rule ∷ rules) n = ranked-from known rules (n + declaration_count rule.block)
 
--- what stopped at the limit
-pub stopped-all : (most : ℕ) (all : List SheetRuleText) (result : Result Gathered SheetError)
-    (error : SheetError) → result ≡ Err error
-    → (error ≡ TooManyDeclarations → most < declarations_in all) → GathersAll most result all
-stopped-all most all result error e over = subst (λ r. GathersAll most r all) (sym e) over
+pub ranked-declarations : (known : List LayerText) (rules : List SheetRuleText)
+    → declarations_in (map (ranked known) rules) ≡ declarations_in rules
+ranked-declarations known rules = ranked-from known rules 0
+
+-- none is to come
+pub gathering-all : (after : List SheetRuleText) (had left : ℕ) (come all : List SheetRuleText)
+    → Gathering [] after had left come all → come ≡ []
+    → (after ≡ all) × (left + declarations_in all ≡ had)
+gathering-all after had left come all g e =
+    let room = g.room in
+    let none : declarations_in come ≡ 0 = ap (λ (l : List SheetRuleText). declarations_in l) e in
+    (sym (append-nil after) ∙ sym (ap (λ l. after ++ l) e) ∙ g.rules, omega (arith, room, none))

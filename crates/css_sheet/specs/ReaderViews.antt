@@ -137,10 +137,3 @@ moves_left (steps.Found part) r = 0
 moves_left (steps.Entered level) r = suc (size_of r)
 moves_left steps.Left r = suc (size_of r)
 moves_left steps.Ended r = 0
-
--- each step but the last leaves less
-abbrev pub Shrinks : SheetReader → Step → SheetReader → Type 0
-Shrinks before (steps.Found part) after = size_of after < size_of before
-Shrinks before (steps.Entered level) after = size_of after < size_of before
-Shrinks before steps.Left after = size_of after < size_of before
-Shrinks before steps.Ended after = Unit {0}

@@ -6,7 +6,7 @@ use Rattle.css_syntax.specs.SelectorGrammar.{SelectorText, plain, with_element, 
 use Rattle.css_syntax.specs.SelectorLists.{ListedText, selectors, prelude_fault}
 use Rattle.css_selectors.specs.Components.{Selector}
 use Rattle.css_selectors.specs.Readings.{Reading, got, refused}
-use Rattle.css_selectors.specs.Grammar.{selector as selector_grammar}
+use Rattle.css_selectors.specs.Supported.{supported_selector}
 
 -- A selector of a rule set: its text; the selector without its pseudo-element, if it is supported;
 -- and the name of the pseudo-element at its end, if it has one.
@@ -22,7 +22,7 @@ if_read (refused reason rest) = None
 
 -- the selector that the text is by the grammar of modern selectors, if it is one
 abbrev pub selector_of : List ℕ → Option Selector
-selector_of text = if_read (selector_grammar text)
+selector_of text = if_read (supported_selector text)
 
 -- a pseudo-element alone is one of any element
 abbrev pub or_any : List ℕ → List ℕ

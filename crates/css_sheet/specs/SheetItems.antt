@@ -1,6 +1,7 @@
 -- The rule sets of a sheet, and of the blocks of its conditional group rules (CSS Conditional Rules
 -- 3, section 2), in source order, each with the group rules that it is in.
-use Rattle.std.specs.Prelude.{ℕ, zero, suc, ◌+◌, ◌-◌, length, Bool, true, false, ◌||◌, if◌then◌else◌, List, [], ◌∷◌, ◌++◌, codes, Option, Some, None}
+use Rattle.std.specs.Prelude.{ℕ, zero, suc, ◌+◌, ◌-◌, length, Bool, true, false, if◌then◌else◌, List, [], ◌∷◌, ◌++◌, codes, Option, Some, None}
+use Rattle.std.specs.Option.{is_some}
 use Rattle.css_syntax.specs.Tokens.{spells}
 use Rattle.css_syntax.specs.Statements.{BlockText, AtRuleText, StatementText, rule_set, at_rule_statement, skipped_statement, SheetText}
 use Rattle.css_syntax.specs.Placed.{PlacedStatement, placed_statements}
@@ -20,12 +21,20 @@ pub record SheetItemText : Type 0 where
   pub part : SheetText
   pub places : PlacesText
 
+-- The keyword that a name is, of the at-rules whose blocks have statements: in lower case and without
+-- escapes, if it is one of these.
+abbrev pub keyword_if : (keyword name : List ℕ) → (other : Option (List ℕ)) → Option (List ℕ)
+keyword_if keyword name other = if spells keyword name then Some keyword else other
+
+unfoldable pub group_keyword : List ℕ → Option (List ℕ)
+group_keyword name =
+    keyword_if (codes "media") name (keyword_if (codes "supports") name
+    (keyword_if (codes "layer") name (keyword_if (codes "container") name
+    (keyword_if (codes "document") name (keyword_if (codes "-moz-document") name None)))))
+
 -- the at-rules whose blocks have statements, whatever their names mean
 abbrev pub is_group_name : List ℕ → Bool
-is_group_name name =
-    spells (codes "media") name || spells (codes "supports") name || spells (codes "layer") name
-    || spells (codes "container") name || spells (codes "document") name
-    || spells (codes "-moz-document") name
+is_group_name name = is_some (group_keyword name)
 
 -- A group rule: its name, its prelude and the text of its block.
 pub record GroupText : Type 0 where

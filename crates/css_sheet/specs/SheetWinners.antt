@@ -1,7 +1,7 @@
--- Which declaration of a property wins on an element (CSS Cascading 4, section 6), of rules in the
--- order of the cascade.
-use Rattle.std.specs.Prelude.{◌↔◌, ℕ, Bool, true, not, ◌&&◌, if◌then◌else◌, nat_eq, List, [], filter, Option, None, Some, IsTrue}
-use Rattle.std.specs.List.{filter_map, flat_map, last_or}
+-- Which declaration of a property wins on an element (CSS Cascading 5, section 6), of rules as they are
+-- ordered in a sheet.
+use Rattle.std.specs.Prelude.{◌≡◌, ◌↔◌, ℕ, ◌+◌, Bool, true, not, ◌&&◌, if◌then◌else◌, nat_eq, List, [], ◌∷◌, ◌++◌, Option, None, Some, IsTrue}
+use Rattle.std.specs.List.{filter_map}
 use Rattle.std.specs.Option.{is_some}
 use Rattle.std.specs.Cmp.Lexicographic.{pointwise}
 use Rattle.std.specs.Str.{str_eq_ignore_ascii_case}
@@ -9,7 +9,8 @@ use Rattle.css_text.specs.AsciiBytes.{hyphen}
 use Rattle.css_text.specs.Bytes.{starts_two}
 use Rattle.css_syntax.specs.DeclarationLists.{DeclarationText, ListText, ItemText, declared, at_rule_item, skipped_item, items}
 use Rattle.css_selectors.specs.Components.{Selector}
-use Rattle.css_sheet.specs.SheetOrder.{SheetRuleText}
+use Rattle.css_cascade.specs.Cascade.{Weighed, Wins}
+use Rattle.css_sheet.specs.SheetOrder.{SheetRuleText, rule_counts, weight}
 
 -- The name is that of the property: of a custom property as it is, of another in any case of its
 -- ASCII letters.
@@ -34,13 +35,49 @@ rule_states matches property rule =
     if not (is_some rule.pseudo_element) && matches rule.selector
     then stated_in property (items true rule.block) else []
 
--- the same of all rules
-abbrev pub all_states : (Selector → Bool) → List ℕ → List SheetRuleText → List DeclarationText
-all_states matches property rules = flat_map (rule_states matches property) rules
+-- A declaration of the property, with what the cascade sees of it.
+pub record Contender : Type 0 where
+  pub weight : Weighed
+  pub declaration : DeclarationText
 
--- The one that wins: the last that is important, or if none is, the last.
-abbrev pub winner : List DeclarationText → Option DeclarationText
-winner found = last_or (last_or None found) (filter (λ (one : DeclarationText). one.important) found)
+-- a declaration of a rule, where it is one of the rule's declarations of the property, and the rule is
+-- one of all
+abbrev pub contends : (rule_place place : ℕ) → SheetRuleText → DeclarationText → Contender
+contends rule_place place rule one = record {
+  weight = record {
+    important = one.important;
+    layer = rule.layer;
+    specificity = weight (rule_counts rule);
+    place = rule_place ∷ place ∷ [];
+  };
+  declaration = one;
+}
+
+-- declarations of a rule, one after another
+abbrev pub all_contend : (rule_place place : ℕ) → SheetRuleText → List DeclarationText
+    → List Contender
+all_contend rule_place place rule [] = []
+all_contend rule_place place rule (one ∷ more) =
+    contends rule_place place rule one ∷ all_contend rule_place (place + 1) rule more
+
+-- The declarations of the property that rules state of an element, where the first of them has this place
+-- among all.
+abbrev pub contenders_from : (Selector → Bool) → List ℕ → (rule_place : ℕ) → List SheetRuleText
+    → List Contender
+contenders_from matches property rule_place [] = []
+contenders_from matches property rule_place (rule ∷ rules) =
+    all_contend rule_place 0 rule (rule_states matches property rule)
+    ++ contenders_from matches property (rule_place + 1) rules
+
+abbrev pub contenders : (Selector → Bool) → List ℕ → List SheetRuleText → List Contender
+contenders matches property rules = contenders_from matches property 0 rules
+
+-- It is one of these declarations, and none of them beats it; or there is none.
+abbrev pub IsWinner : List Contender → Option DeclarationText → Type 0
+IsWinner found None = found ≡ []
+IsWinner found (Some one) =
+    (winner : Contender)
+    × (Wins (λ (c : Contender). c.weight) found winner × (winner.declaration ≡ one))
 
 -- `matches` says of which selectors this holds
 abbrev pub Decides : (Selector → Bool) → (Selector → Type 0) → Type 0

@@ -1,15 +1,17 @@
-//! Gathers the rules of rule sets.
+//! Gathers the rules of style rules.
 ghost use Rattle.std.specs.Prelude.{◌≡◌, map, option_to_list};
-ghost use Rattle.css_syntax.specs.Views.{item_of, prelude_of, statement_of};
+ghost use Rattle.css_syntax.specs.Views.{item_of, prelude_of};
+ghost use Rattle.css_sheet.specs.PartViews.{nesting_text, part_of};
 ghost use Rattle.css_sheet.specs.RuleViews.{rule_selector_of};
 ghost use Rattle.css_sheet.specs.SheetOrder.{declaration_count, is_declared, rule_with, rules_with};
-ghost use Rattle.css_sheet.specs.SheetOrder.{rule_set_rules, statement_rules};
+ghost use Rattle.css_sheet.specs.SheetOrder.{rule_set_rules, part_rules};
 ghost use Rattle.css_sheet.specs.SheetRuleViews.{Gathers};
 
+use crate::parts::{Nesting, Part};
 use crate::selectors::{RuleSelector, read_selectors};
+use crate::sheet_error::SheetError;
 use crate::sheet_rules::SheetRule;
-use css_syntax::{Declarations, Item, RuleSet, Statement};
-use css_text::SheetError;
+use css_syntax::{Declarations, Item, Prelude};
 use std::alloc::Global;
 
 /// Rules, as they stand in a sheet.
@@ -44,16 +46,17 @@ fn count_declarations(block: &str) -> usize
 }
 
 impl<'a> Gathered<'a> {
-    /// Appends the rule of a selector, if it is supported. Its block has `count` declarations.
+    /// Appends the rule of a selector in this layer, if it is supported. Its block has `count` declarations.
     fn push_rule(
         &mut self,
         one: RuleSelector<'a>,
+        layer: usize,
         block: &'a str,
         count: usize,
     ) -> Result<(), SheetError>
         requires { count ≡ declaration_count block.now }
         ensures { Gathers self.old result self.new
-            (option_to_list (rule_with block.now (rule_selector_of one.entry))) }
+            (option_to_list (rule_with layer block.now (rule_selector_of one.entry))) }
     {
         let RuleSelector {
             text,
@@ -67,6 +70,7 @@ impl<'a> Gathered<'a> {
             return Err(SheetError::TooManyDeclarations);
         }
         self.rules.push(SheetRule {
+            layer,
             text,
             selector,
             pseudo_element,
@@ -76,49 +80,62 @@ impl<'a> Gathered<'a> {
         Ok(())
     }
 
-    /// Appends the rules of selectors with this block, which has `count` declarations.
+    /// Appends the rules of selectors in this layer with this block, which has `count` declarations.
     fn push_rules(
         &mut self,
         selectors: Vec<RuleSelector<'a>>,
+        layer: usize,
         block: &'a str,
         count: usize,
     ) -> Result<(), SheetError>
         requires { count ≡ declaration_count block.now }
         ensures { Gathers self.old result self.new
-            (rules_with block.now (map rule_selector_of selectors.entry.items)) }
+            (rules_with layer block.now (map rule_selector_of selectors.entry.items)) }
     {
         'selectors: for one in selectors {
-            self.push_rule(one, block, count)?;
+            self.push_rule(one, layer, block, count)?;
         }
         Ok(())
     }
 
-    /// Appends the rules of a rule set.
-    fn push_rule_set(&mut self, alloc: Global, rule: &RuleSet<'a>) -> Result<(), SheetError>
-        ensures { Gathers self.old result self.new
-            (rule_set_rules (prelude_of rule.now.prelude) rule.now.block.text.now) }
+    /// Appends the rules of declarations of a style rule with this prelude, in this layer.
+    fn push_stated(
+        &mut self,
+        alloc: Global,
+        layer: usize,
+        prelude: &Prelude<'a>,
+        text: &'a str,
+    ) -> Result<(), SheetError>
+        ensures { Gathers self.old result self.new (rule_set_rules layer (prelude_of prelude.now) text.now) }
     {
-        let count = count_declarations(rule.block.text);
+        let count = count_declarations(text);
         if count == 0 {
             return Ok(());
         }
-        match read_selectors(alloc, &rule.prelude) {
-            Ok(Ok(selectors)) => self.push_rules(selectors, rule.block.text, count),
+        match read_selectors(alloc, prelude) {
+            Ok(Ok(selectors)) => self.push_rules(selectors, layer, text, count),
             Ok(Err(_)) => Ok(()),
             Err(_) => Err(SheetError::Memory),
         }
     }
 
-    /// Appends the rules of a statement.
-    pub(crate) fn push_statement(
+    /// Appends the rules of a part of a sheet, which is in this layer and in this, and applies or not.
+    pub(crate) fn push_part(
         &mut self,
         alloc: Global,
-        statement: &Statement<'a>,
+        part: &Part<'a>,
+        layer: usize,
+        nesting: Nesting<'a>,
+        applies: bool,
     ) -> Result<(), SheetError>
-        ensures { Gathers self.old result self.new (statement_rules (statement_of statement.now)) }
+        ensures { Gathers self.old result self.new
+            (part_rules layer (nesting_text nesting.entry) applies (part_of part.now)) }
     {
-        match statement {
-            Statement::RuleSet(rule) => self.push_rule_set(alloc, rule),
+        match part {
+            Part::States(text) if applies => match nesting {
+                Nesting::Within(prelude) => self.push_stated(alloc, layer, &prelude, *text),
+                _ => Ok(()),
+            },
             _ => Ok(()),
         }
     }

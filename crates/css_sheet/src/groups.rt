@@ -3,6 +3,7 @@ ghost use Rattle.std.specs.Prelude.{◌≡◌, option_map};
 ghost use Rattle.css_syntax.specs.Views.{at_rule_of, statement_of};
 ghost use Rattle.css_sheet.specs.SheetItems.{is_group_name as is_group_name_of, group_with};
 ghost use Rattle.css_sheet.specs.SheetItems.{group_of as group_of_statement};
+ghost use Rattle.css_sheet.specs.SheetItems.{group_keyword as group_keyword_of};
 ghost use Rattle.css_sheet.specs.GroupViews.{group_text};
 
 use css_syntax::texts::spells;
@@ -19,16 +20,33 @@ pub struct Group<'a> {
     pub text: &'a str,
 }
 
+/// The keyword that the name of an at-rule is, if it has statements in its block.
+#[tactic(auto, unfolding(crate::specs::SheetItems::group_keyword))]
+pub(crate) fn group_keyword(name: &str) -> Option<&'static str>
+    ensures { group_keyword_of name.now ≡ option_map (λ keyword. keyword.now) result }
+{
+    if spells("media", name) {
+        Some("media")
+    } else if spells("supports", name) {
+        Some("supports")
+    } else if spells("layer", name) {
+        Some("layer")
+    } else if spells("container", name) {
+        Some("container")
+    } else if spells("document", name) {
+        Some("document")
+    } else if spells("-moz-document", name) {
+        Some("-moz-document")
+    } else {
+        None
+    }
+}
+
 /// Whether an at-rule of this name has statements in its block.
 fn is_group_name(name: &str) -> bool
     ensures { result ≡ is_group_name_of name.now }
 {
-    spells("media", name)
-        || spells("supports", name)
-        || spells("layer", name)
-        || spells("container", name)
-        || spells("document", name)
-        || spells("-moz-document", name)
+    group_keyword(name).is_some()
 }
 
 /// The group rule that an at-rule is, if it is one with a block.

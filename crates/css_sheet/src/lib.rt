@@ -8,15 +8,18 @@
 
 mod gathering;
 mod groups;
+mod open_layers;
+mod parts;
 mod reader;
 mod selectors;
+mod sheet_error;
 mod sheet_order;
 mod sheet_rules;
 mod state;
 mod winners;
 
-pub use css_text::SheetError;
 pub use selectors::{RuleSelector, read_listed, read_selectors};
+pub use sheet_error::SheetError;
 pub use sheet_order::read_sheet;
 pub use sheet_rules::SheetRule;
 pub use state::{Level, Places, SheetReader};

@@ -3,9 +3,7 @@ ghost use Rattle.std.specs.Prelude.{◌≡◌, ◌≤◌, ◌++◌, ◌∷◌, [
 ghost use Rattle.css_sheet.specs.SheetItems.{sheet_items};
 ghost use Rattle.css_sheet.specs.ReaderViews.{level_of, to_come};
 ghost use Rattle.css_sheet.specs.ReaderViews.{conditions_of, condition_at, GivesItem, Leaves, Steps};
-ghost use Rattle.css_sheet.specs.ReaderViews.{end_of, places_now, Shrinks};
-ghost use Rattle.css_sheet.specs.SheetOrder.{all_hold};
-ghost use Rattle.css_sheet.specs.SheetRuleViews.{Answers, StepsWhere};
+ghost use Rattle.css_sheet.specs.ReaderViews.{end_of, places_now};
 ghost use Rattle.css_sheet.specs.Places.{prelude_in, block_length, no_places, places_by, places_of};
 ghost use Rattle.css_syntax.specs.Views.{statement_of};
 
@@ -151,25 +149,6 @@ impl<'a> SheetReader<'a> {
                 self.places = places;
                 Ok(Step::Found(found.part))
             }
-        }
-    }
-
-    /// Takes a step, and leaves at once a group rule that does not hold. Each is asked about once, by
-    /// its name and its prelude.
-    pub(crate) fn step_where<C: Fn(&str, &str) -> bool>(
-        &mut self,
-        holds: &C,
-    ) -> Result<Step<'a>, AllocError>
-        requires { C.IsAlwaysCallable holds.now }
-        ensures size { IfOk result (λ step. Shrinks self.old step self.new) }
-        ensures rules { (answers : List ℕ → List ℕ → Bool) → Answers (C.post holds.now) answers
-            → all_hold answers (conditions_of self.old) ≡ true
-            → IfOk result (λ step. StepsWhere answers self.old step self.new) }
-    {
-        let step = self.step()?;
-        match step {
-            Step::Entered(level) if !holds(level.name, level.prelude) => Ok(self.leave()),
-            _ => Ok(step),
         }
     }
 

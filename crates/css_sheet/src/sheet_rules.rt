@@ -2,7 +2,7 @@
 ghost use Rattle.std.specs.Prelude.{◌≡◌, true};
 ghost use Rattle.css_syntax.specs.ListReaders.{BeginsList};
 ghost use Rattle.css_selectors.specs.SpecificityViews.{counts_of};
-ghost use Rattle.css_sheet.specs.SheetOrder.{rule_counts, weight as weight_of};
+ghost use Rattle.css_sheet.specs.SheetOrder.{rule_counts, rule_key};
 ghost use Rattle.css_sheet.specs.SheetRuleViews.{sheet_rule_of};
 
 use css_index::HasSelector;
@@ -15,6 +15,9 @@ use css_syntax::Declarations;
 /// matches, and of no element itself.
 #[derive(Drop)]
 pub struct SheetRule<'a> {
+    /// The rank of its layer: how many layers of the sheet are before that one in the order of the
+    /// cascade. Rules in no layer have the greatest.
+    pub layer: usize,
     /// The text of the selector, with its pseudo-element.
     pub text: &'a str,
     /// The selector without its pseudo-element.
@@ -47,12 +50,17 @@ impl<'a> SheetRule<'a> {
         }
     }
 
-    /// Returns the counts of the specificity, of which the first that differs decides.
-    pub(crate) fn weight(&self) -> [u32; 3]
-        ensures { result ≡ weight_of (rule_counts (sheet_rule_of self.now)) }
+    /// Returns by what rules are ordered: the rank of the layer, and then the counts of the specificity.
+    pub(crate) fn key(&self) -> [usize; 4]
+        ensures { result ≡ rule_key (sheet_rule_of self.now) }
     {
         let counts = self.specificity();
-        [counts.ids, counts.classes, counts.names]
+        [
+            self.layer,
+            counts.ids as usize,
+            counts.classes as usize,
+            counts.names as usize,
+        ]
     }
 }
 

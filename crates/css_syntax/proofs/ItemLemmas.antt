@@ -48,7 +48,7 @@ past_byte-within c text = length-past_byte c text
 
 -- ---- blocks and at-rules
 
-block-within : (text : List ℕ) → length (block text).1 ≤ length text
+pub block-within : (text : List ℕ) → length (block text).1 ≤ length text
 unfolding block
 block-within text =
     let inside = parts block_ends (past_gap text) in
@@ -59,7 +59,7 @@ block-within text =
       past_gap-within text,
     )
 
-if-within : (n : ℕ) (t : Bool) {A : Type 0} (x y : A × List ℕ) → length x.1 ≤ n → length y.1 ≤ n
+pub if-within : (n : ℕ) (t : Bool) {A : Type 0} (x y : A × List ℕ) → length x.1 ≤ n → length y.1 ≤ n
     → length (if t then x else y).1 ≤ n
 if-within n true x y a b = a
 if-within n false x y a b = b
@@ -111,7 +111,7 @@ rule_set_ended-less : (prelude : Stated) (b : ℕ) (text : List ℕ) → (b == o
 rule_set_ended-less prelude b text e = rw e (block-within text)
 
 -- what ends a prelude and not the block is an opening brace
-opens : (in_block : Bool) (b : ℕ) (text : List ℕ)
+pub opens : (in_block : Bool) (b : ℕ) (text : List ℕ)
     → ends_at (rule_set_ends in_block) (b ∷ text) ≡ true → ends_block in_block (b ∷ text) ≡ false
     → (b == open_brace) ≡ true
 opens in_block b text e f =
@@ -158,7 +158,7 @@ statement-less in_block b text f = by (begins_at_rule (b ∷ text)) refl
     by true e = rw e (at_rule-less in_block b text e)
     by false e = rw e (rule-less in_block b text f)
 
-past_between-within : (in_block : Bool) (text : List ℕ)
+pub past_between-within : (in_block : Bool) (text : List ℕ)
     → length (past_between in_block text) ≤ length text
 past_between-within in_block text =
     each-within (between_part in_block) (between_part-takes in_block) text
@@ -199,12 +199,12 @@ importance-within text =
     )))
     (omega arith)
 
-past_broken-within : (in_block : Bool) (text : List ℕ)
+pub past_broken-within : (in_block : Bool) (text : List ℕ)
     → length (past_broken in_block text) ≤ length text
 past_broken-within in_block text = parts-within (declaration_ends in_block) text
 
 -- at most as much is left after a declaration
-abbrev DeclaredWithin : ℕ → Declared → Type 0
+abbrev pub DeclaredWithin : ℕ → Declared → Type 0
 DeclaredWithin n (Ok found) = length found.1 ≤ n
 DeclaredWithin n (Err fault) = Unit {0}
 
@@ -268,7 +268,7 @@ ident-word b text h = by (b == hyphen) refl
         plain-word (is_letter b) (is_digit b) (b == underscore) (b == hyphen) (nat_le 128 b)
         (begins_escape (b ∷ text)) (rw e at h)
 
-declaration-less : (in_block : Bool) (b : ℕ) (text : List ℕ)
+pub declaration-less : (in_block : Bool) (b : ℕ) (text : List ℕ)
     → DeclaredWithin (length text) (declaration in_block (b ∷ text))
 unfolding declaration
 declaration-less in_block b text = by (starts_ident (b ∷ text)) refl
@@ -298,7 +298,7 @@ rule_ended-less in_block custom fault b text e h =
     (skipped_item NestedRule, (block text).1) h (block-within text))
 
 -- what ends a prelude and no declaration is an opening brace
-opens_rule : (in_block : Bool) (b : ℕ) (text : List ℕ)
+pub opens_rule : (in_block : Bool) (b : ℕ) (text : List ℕ)
     → ends_at (at_rule_ends in_block) (b ∷ text) ≡ true
     → ends_at (declaration_ends in_block) (b ∷ text) ≡ false → (b == open_brace) ≡ true
 opens_rule in_block b text e f =
@@ -359,7 +359,7 @@ item-less in_block b text f = by (begins_at_rule (b ∷ text)) refl
         (declaration-less in_block b text))
 
 -- after separators no semicolon is next
-no_separator : (b : ℕ) (text : List ℕ) → separator_part (b ∷ text) ≡ None
+pub no_separator : (b : ℕ) (text : List ℕ) → separator_part (b ∷ text) ≡ None
     → (b == semicolon) ≡ false
 unfolding separator_part
 no_separator b text e = by (b == semicolon) refl
@@ -368,7 +368,7 @@ no_separator b text e = by (b == semicolon) refl
     by true f = absurd (let wrong = rw f at e in cc)
     by false f = f
 
-ends-not : (in_block : Bool) (b : ℕ) (text : List ℕ) → (b == semicolon) ≡ false
+pub ends-not : (in_block : Bool) (b : ℕ) (text : List ℕ) → (b == semicolon) ≡ false
     → ends_block in_block (b ∷ text) ≡ false
     → ends_at (declaration_ends in_block) (b ∷ text) ≡ false
 ends-not in_block b text s f =
@@ -383,7 +383,7 @@ ends-not in_block b text s f =
     by false false true k g h = rw g refl
     by false false false k g h = rw g refl
 
-past_separators-within : (text : List ℕ) → length (past_separators text) ≤ length text
+pub past_separators-within : (text : List ℕ) → length (past_separators text) ≤ length text
 past_separators-within text = each-within separator_part separator_part-takes text
 
 pub next_item-takes : (in_block : Bool) → Takes (next_item in_block)
@@ -410,7 +410,7 @@ next_item-takes in_block text =
 
 -- ---- ends of the text
 
-block-well : (text : List ℕ) → EndsWell text (block text).1
+pub block-well : (text : List ℕ) → EndsWell text (block text).1
 unfolding block
 block-well text =
     let inside = parts block_ends (past_gap text) in
@@ -418,7 +418,7 @@ block-well text =
     (well-then (past_gap text) inside.1 (block text).1 (parts-well block_ends (past_gap text))
     (well-past_byte close_brace inside.1 (omega arith)))
 
-if-well : (text : List ℕ) (t : Bool) {A : Type 0} (x y : A × List ℕ) → EndsWell text x.1
+pub if-well : (text : List ℕ) (t : Bool) {A : Type 0} (x y : A × List ℕ) → EndsWell text x.1
     → EndsWell text y.1 → EndsWell text (if t then x else y).1
 if-well text true x y a b = a
 if-well text false x y a b = b
@@ -466,7 +466,7 @@ statement-well in_block text =
 pub statement-ends : (in_block : Bool) (text : List ℕ) → Ends text (statement in_block text).1
 statement-ends in_block text = (statement-well in_block text).0
 
-past_broken-well : (in_block : Bool) (text : List ℕ) → EndsWell text (past_broken in_block text)
+pub past_broken-well : (in_block : Bool) (text : List ℕ) → EndsWell text (past_broken in_block text)
 past_broken-well in_block text = parts-well (declaration_ends in_block) text
 
 important_word-well : (from text : List ℕ) → EndsWell from text
@@ -488,7 +488,7 @@ importance-well text =
     (well-same text)
 
 -- what is left after a declaration
-abbrev DeclaredWell : List ℕ → Declared → Type 0
+abbrev pub DeclaredWell : List ℕ → Declared → Type 0
 DeclaredWell start (Ok found) = EndsWell start found.1
 DeclaredWell start (Err fault) = Unit {0}
 
@@ -524,7 +524,7 @@ named-well in_block start name text h =
     (stated_as-well in_block name stated.0 important))
     tt
 
-declaration-well : (in_block : Bool) (text : List ℕ) → DeclaredWell text (declaration in_block text)
+pub declaration-well : (in_block : Bool) (text : List ℕ) → DeclaredWell text (declaration in_block text)
 unfolding declaration
 declaration-well in_block text =
     let word = past_word text in

@@ -4,6 +4,8 @@ pub mod Utf8Ends
 pub mod PartLemmas
 pub mod PartTexts
 pub mod ItemLemmas
+pub mod BlockSteps
+pub mod BlockVectors
 pub mod ListSteps
 pub mod AllCutUp
 pub mod Vectors
@@ -18,6 +20,7 @@ pub mod PartingValues
 pub mod PartingParts
 pub mod PartingNames
 pub mod PrintedAgain
+pub mod PartsAgain
 pub mod PrintedLists
 pub mod GrammarLemmas
 pub mod ListLemmas

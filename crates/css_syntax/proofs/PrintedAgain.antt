@@ -134,7 +134,7 @@ item-read in_block start = by (begins_at_rule start)
 
 -- ---- what follows a name and a value, printed
 
-quiet-byte : (q : ℕ) (more : List ℕ) → past_byte newline (q ∷ more) ≡ q ∷ more
+pub quiet-byte : (q : ℕ) (more : List ℕ) → past_byte newline (q ∷ more) ≡ q ∷ more
     → past_one_space (q ∷ more) ≡ q ∷ more → is_hex_digit q ≡ false → Quiet (q ∷ more)
 quiet-byte q more n s x = record { newline_is = n; space_is = s; hex_is = by }
   where
@@ -142,7 +142,7 @@ quiet-byte q more n s x = record { newline_is = n; space_is = s; hex_is = by }
     by zero = refl
     by (suc n) = rw x refl
 
-no_letter-byte : (q : ℕ) (more : List ℕ) → is_hex_digit q ≡ false → is_name_byte q ≡ false
+pub no_letter-byte : (q : ℕ) (more : List ℕ) → is_hex_digit q ≡ false → is_name_byte q ≡ false
     → (q == backslash) ≡ false → NoLetter (q ∷ more)
 unfolding past_letter
 no_letter-byte q more x n b = record { number = number; letter = letter }
@@ -160,12 +160,12 @@ no_letter-byte q more x n b = record { number = number; letter = letter }
         by false e = rw (e, b) refl
 
 -- no hyphen or mark, in any place
-second-none : (x y : Bool) → (x && y && false) ≡ false
+pub second-none : (x y : Bool) → (x && y && false) ≡ false
 second-none true true = refl
 second-none true false = refl
 second-none false y = refl
 
-third-none : (x y z : Bool) → (x && y && (z && false)) ≡ false
+pub third-none : (x y z : Bool) → (x && y && (z && false)) ≡ false
 third-none true true true = refl
 third-none true true false = refl
 third-none true false z = refl
@@ -261,7 +261,7 @@ importance-read false text = refl
 -- ---- the value again
 
 -- no blank is at the start of the first, and so none at that of the second
-gap-same : (t u : List ℕ) → starts slash u ≡ false → starts asterisk u ≡ false → past_gap u ≡ u
+pub gap-same : (t u : List ℕ) → starts slash u ≡ false → starts asterisk u ≡ false → past_gap u ≡ u
     → (r s : List ℕ) → Parting t u r s → past_gap r ≡ r → past_gap s ≡ s
 gap-same t u x y stays r s at g = stays
 gap-same t u x y stays r s (on b r1 s1 e h) g =

@@ -7,7 +7,9 @@ pub mod Contents
 pub mod DeclarationLists
 pub mod Escapes
 pub mod Placed
+pub mod Blocks
 pub mod Views
+pub mod BlockViews
 pub mod ListReaders
 pub mod internal
 pub mod NothingLost

@@ -155,7 +155,7 @@ fn read_importance(text: &str) -> Importance<'_>
 }
 
 /// Returns the rest after a broken declaration, from where it is broken.
-fn past_broken(text: &str, in_block: bool) -> &str
+pub(crate) fn past_broken(text: &str, in_block: bool) -> &str
     ensures { result.now ≡ past_broken_of in_block text.now }
 {
     read_parts(declaration_ends(in_block), text).rest
@@ -244,7 +244,7 @@ fn read_named<'a>(
 
 /// Reads a declaration.
 #[tactic(auto, using(crate::proofs::PartTexts::word_ends), unfolding(crate::specs::DeclarationLists::declaration))]
-fn read_declaration(text: &str, in_block: bool) -> Result<(Declaration<'_>, &str), Fault>
+pub(crate) fn read_declaration(text: &str, in_block: bool) -> Result<(Declaration<'_>, &str), Fault>
     ensures { declaration in_block text.now ≡ declared_by result }
 {
     if starts_ident(text.as_bytes()) {
@@ -257,7 +257,7 @@ fn read_declaration(text: &str, in_block: bool) -> Result<(Declaration<'_>, &str
 
 /// Whether a declaration of a custom property begins here.
 #[tactic(auto, using(crate::proofs::PartTexts::word_ends))]
-fn begins_custom(text: &str) -> bool
+pub(crate) fn begins_custom(text: &str) -> bool
     ensures { result ≡ begins_custom_of text.now }
 {
     let after = past_word(text);
@@ -366,7 +366,7 @@ fn past_separator_bytes(bytes: &[u8]) -> &[u8]
 }
 
 /// Returns the rest after what is between items.
-fn past_separators(text: &str) -> &str
+pub(crate) fn past_separators(text: &str) -> &str
     ensures { result.now ≡ past_separators_of text.now }
 {
     let rest = past_separator_bytes(text.as_bytes());

@@ -7,6 +7,7 @@
 //! once.
 #![tactic(auto)]
 
+pub mod blocks;
 pub mod closing;
 pub mod component_values;
 pub mod declarations;

@@ -9,7 +9,7 @@ use std::fmt;
 use std::fmt::Display;
 
 /// Whether the text ends in a lone backslash: one that no backslash before it escapes.
-pub(crate) fn ends_lone(bytes: &[u8]) -> bool
+pub fn ends_lone(bytes: &[u8]) -> bool
     ensures { result ≡ ends_lone_of bytes.now }
 {
     let mut rest = bytes;

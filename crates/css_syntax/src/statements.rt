@@ -10,6 +10,7 @@ ghost use Rattle.css_syntax.specs.Statements.{begins_ident as begins_ident_of};
 ghost use Rattle.css_syntax.specs.Statements.{begins_at_rule as begins_at_rule_of};
 ghost use Rattle.css_syntax.specs.Statements.{block as block_read, at_rule as at_rule_read};
 ghost use Rattle.css_syntax.specs.Statements.{at_rule_ends as at_rule_ends_of};
+ghost use Rattle.css_syntax.specs.Statements.{rule_set_ends as rule_set_ends_of};
 ghost use Rattle.css_syntax.specs.Statements.{at_rule_ended, rule_set_ended};
 ghost use Rattle.css_syntax.specs.Statements.{statement as statement_read};
 ghost use Rattle.css_syntax.specs.Statements.{begins_cdc as begins_cdc_of};
@@ -88,13 +89,13 @@ pub struct SheetPart<'a> {
 
 /// A block and the rest after it.
 #[derive(Clone, Copy)]
-pub(crate) struct FoundBlock<'a> {
+pub struct FoundBlock<'a> {
     /// The block.
-    pub(crate) block: Block<'a>,
+    pub block: Block<'a>,
     /// What is left from the contents on.
-    pub(crate) inside: &'a str,
+    pub inside: &'a str,
     /// The rest.
-    pub(crate) rest: &'a str,
+    pub rest: &'a str,
 }
 
 /// An at-rule and the rest after it.
@@ -178,7 +179,7 @@ pub fn begins_at_rule(bytes: &[u8]) -> bool
 }
 
 /// What is before a block.
-fn prelude_from<'a>(parts: &Parts<'a>) -> Prelude<'a>
+pub(crate) fn prelude_from<'a>(parts: &Parts<'a>) -> Prelude<'a>
     ensures { record { text = result.text.now; quality = result.quality } ≡ parts_of parts.now }
 {
     Prelude {
@@ -189,7 +190,7 @@ fn prelude_from<'a>(parts: &Parts<'a>) -> Prelude<'a>
 
 /// Reads a block after its opening brace.
 #[tactic(auto, unfolding(crate::specs::Statements::block))]
-pub(crate) fn read_block(text: &str) -> FoundBlock<'_>
+pub fn read_block(text: &str) -> FoundBlock<'_>
     ensures read { block_read text.now ≡ (block_of result.block, result.rest.now) }
     ensures inside { result.inside.now ≡ past_gap_of text.now }
 {
@@ -268,6 +269,19 @@ pub fn read_at_rule(text: &str, in_block: bool) -> FoundAtRule<'_>
     end_at_rule(name, read_parts(at_rule_ends(in_block), past_gap(after)))
 }
 
+/// What ends the prelude of a rule set.
+pub(crate) fn rule_set_ends(in_block: bool) -> Stops
+    ensures { result ≡ rule_set_ends_of in_block }
+{
+    Stops {
+        semicolon: false,
+        open_brace: true,
+        close_brace: in_block,
+        comma: false,
+        in_value: false,
+    }
+}
+
 /// Ends a rule set by what follows its prelude.
 fn end_rule_set(parts: Parts<'_>) -> FoundStatement<'_>
     ensures read { rule_set_ended (parts_of parts.entry) parts.entry.rest.now
@@ -308,14 +322,7 @@ fn read_statement(text: &str, in_block: bool) -> FoundStatement<'_>
             rest: found.rest,
         };
     }
-    let stops = Stops {
-        semicolon: false,
-        open_brace: true,
-        close_brace: in_block,
-        comma: false,
-        in_value: false,
-    };
-    end_rule_set(read_parts(stops, text))
+    end_rule_set(read_parts(rule_set_ends(in_block), text))
 }
 
 /// Returns the rest after a space byte, a comment or, between the statements of a sheet, a `<!--` or `-->`.
@@ -346,7 +353,7 @@ fn past_between_bytes(bytes: &[u8], in_block: bool) -> &[u8]
 }
 
 /// Returns the rest after what is between statements.
-fn past_between(text: &str, in_block: bool) -> &str
+pub(crate) fn past_between(text: &str, in_block: bool) -> &str
     ensures { result.now ≡ past_between_of in_block text.now }
 {
     let rest = past_between_bytes(text.as_bytes(), in_block);

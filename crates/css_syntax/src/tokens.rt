@@ -449,7 +449,7 @@ pub fn take_letter(bytes: &[u8], low: u8, up: u8) -> Option<&[u8]>
 
 /// Whether the word is the keyword, which is in lower case: each of its characters in either case, as
 /// it is or as an escape.
-pub(crate) fn spells(keyword: &[u8], word: &[u8]) -> bool
+pub fn spells(keyword: &[u8], word: &[u8]) -> bool
     ensures { result ≡ spells_of keyword.now word.now }
 {
     let mut left = keyword;
@@ -500,7 +500,7 @@ fn take_url_name(bytes: &[u8]) -> Option<&[u8]>
 }
 
 /// Whether a url without quotes begins here.
-fn begins_url(bytes: &[u8]) -> bool
+pub fn begins_url(bytes: &[u8]) -> bool
     ensures { result ≡ begins_url_of bytes.now }
 {
     take_url_name(bytes).is_some()

@@ -1,69 +1,48 @@
-use Rattle.std.proofs.Common.{inl, inr, ap, map, subst, rules, List, []}
-use Rattle.css_syntax.specs.Views.{statement_of}
-use Rattle.css_sheet.specs.declared.reader.Step.{Step}
-use Rattle.css_sheet.specs.declared.reader.Step.TheVariants as steps
-use Rattle.css_sheet.specs.SheetOrder.{SheetRuleText, all_hold, statement_rules, rules_of_items, source_rules}
-use Rattle.css_sheet.specs.SheetRuleViews.{sheet_rule_of, gathered_rules, rules_to_come, StepsWhere, GoesOn}
-use Rattle.css_sheet.proofs.SheetRuleLemmas.{Gathering, gathering-none, gathering-more, gathering-over, stopped-all}
+use Rattle.std.proofs.Common.{ap, map, refl, subst, rules, of_calls, Option}
+use Rattle.css_sheet.specs.declared.parts.Part.{Part}
+use Rattle.css_sheet.specs.PartViews.{GivesPart}
+use Rattle.css_sheet.specs.SheetLayers.{with_layers}
+use Rattle.css_sheet.specs.SheetRuleViews.{sheet_rule_of}
+use Rattle.css_sheet.proofs.GatherLemmas.{reads-none, reads-part, reads-over, reads-all, stopped-all}
 use Rattle.css_sheet.proofs.sheet_order.gather.Goals as goal
 
-pub steps-init : goal.steps-init
-steps-init g c = λ answers k. (
-  ap (all_hold answers) c.new-reader.ensures.levels,
-  gathering-none (map sheet_rule_of c.new.result.items) c.args.most
-      (rules_to_come answers c.new-reader.result) (source_rules answers c.args.text.now)
-      (ap (map sheet_rule_of) c.new.ensures.items)
-      (ap (rules_of_items answers) c.new-reader.ensures.items),
-)
+pub parts-init : goal.parts-init
+parts-init g c = λ answers k.
+    reads-none answers c.args.text.now c.args.most
+    (record {
+      gathered = record { rules = c.new.result; left = c.args.most };
+      opened = c.in_ok-opened.opened;
+    }) c.new-reader.result c.in_ok-opened.ensures.known c.in_ok-opened.ensures.numbers
+    c.new-reader.ensures.open (c.new-reader.ensures.parts (with_layers answers))
+    (ap (map sheet_rule_of) c.new.ensures.items) refl
 
-pub steps-preserved-in-Continue-branch-3 : goal.steps-preserved-in-Continue-branch-3
-steps-preserved-in-Continue-branch-3 g c = λ answers k.
-    let before = c.steps.gathered in
-    let part = c.in-Found.part in
-    let now = c.step_where.new.self in
-    let all = source_rules answers c.args.text.now in
-    let so_far = c.steps.invariant answers k in
-    let found : StepsWhere answers c.steps.reader (steps.Found part) now =
-    subst (λ (step : Step). StepsWhere answers c.steps.reader step now) c.in-Found.is
-    (c.in_ok-part.ensures.rules answers k so_far.0) in (
-      found.0,
-      gathering-more [] (gathered_rules before) c.args.most before.left
-          (statement_rules (statement_of part.statement)) (rules_to_come answers now) all
-          (gathered_rules c.push_statement.new.self) c.push_statement.new.self.left
-          c.in_ok-push_statement-in-Found.ensures.0 c.in_ok-push_statement-in-Found.ensures.1
-          (subst (λ (l : List SheetRuleText).
-          Gathering [] (gathered_rules before) c.args.most before.left l all) found.1 so_far.1),
-    )
+pub parts-preserved : goal.parts-preserved
+parts-preserved g c = λ answers k.
+    let before = c.parts.reader in
+    let now = c.next.new.self in
+    let part = c.in-Some.part in
+    let gives = subst (λ (o : Option Part). GivesPart (with_layers answers) before o now) c.in-Some.is
+    (c.in_ok-part.ensures.parts (with_layers answers) (λ n p a w. search (rules, of_calls))) in
+    let pushed = c.in_ok-push_part-in-Some.ensures in
+    reads-part answers c.args.text.now c.args.most c.parts.read c.push_part.new.self before now part
+    (c.parts.invariant answers k) gives pushed.0 pushed.1 pushed.2
 
-pub returns-in_err-push_statement-in-Found : goal.returns-in_err-push_statement-in-Found
-returns-in_err-push_statement-in-Found g c = λ answers k.
-    let before = c.steps.gathered in
-    let part = c.in-Found.part in
-    let now = c.step_where.new.self in
-    let all = source_rules answers c.args.text.now in
-    let so_far = c.steps.invariant answers k in
-    let found : StepsWhere answers c.steps.reader (steps.Found part) now =
-    subst (λ (step : Step). StepsWhere answers c.steps.reader step now) c.in-Found.is
-    (c.in_ok-part.ensures.rules answers k so_far.0) in
-    stopped-all c.args.most all _ _ (search rules)
-    (λ same. gathering-over [] (gathered_rules before) c.args.most before.left
-    (statement_rules (statement_of part.statement)) (rules_to_come answers now) all
-    (c.in_err-push_statement-in-Found.ensures same)
-    (subst (λ (l : List SheetRuleText).
-    Gathering [] (gathered_rules before) c.args.most before.left l all) found.1 so_far.1))
+pub returns-in_err-push_part-in-Some : goal.returns-in_err-push_part-in-Some
+returns-in_err-push_part-in-Some g c = λ answers k.
+    let before = c.parts.reader in
+    let now = c.next.new.self in
+    let part = c.in-Some.part in
+    let gives = subst (λ (o : Option Part). GivesPart (with_layers answers) before o now) c.in-Some.is
+    (c.in_ok-part.ensures.parts (with_layers answers) (λ n p a w. search (rules, of_calls))) in
+    stopped-all c.args.most answers c.args.text.now _ _ (search rules)
+    (λ same. reads-over answers c.args.text.now c.args.most c.parts.read c.push_part.new.self before
+    now part (c.parts.invariant answers k) gives (c.in_err-push_part-in-Some.ensures same).0
+    (c.in_err-push_part-in-Some.ensures same).1)
 
-pub steps-preserved : goal.steps-preserved
-steps-preserved g c = λ answers k.
-    let before = c.steps.gathered in
-    let now = c.step_where.new.self in
-    let all = source_rules answers c.args.text.now in
-    let so_far = c.steps.invariant answers k in
-    let step = c.in_ok-part.ensures.rules answers k so_far.0 in
-    let on : GoesOn answers c.steps.reader now = elim c.in-Entered.is [
-      | inl e ↦ subst (λ (s : Step). StepsWhere answers c.steps.reader s now) e.1 step
-      | inr e ↦ subst (λ (s : Step). StepsWhere answers c.steps.reader s now) e step
-    ] in (
-      on.0,
-      subst (λ (l : List SheetRuleText).
-          Gathering [] (gathered_rules before) c.args.most before.left l all) on.1 so_far.1,
-    )
+pub returns-in-None : goal.returns-in-None
+returns-in-None g c = λ answers k.
+    reads-all answers c.args.text.now c.args.most c.parts.read c.parts.reader
+    (c.parts.invariant answers k)
+    (subst (λ (o : Option Part). GivesPart (with_layers answers) c.parts.reader o c.next.new.self)
+    c.in-None.is
+    (c.in_ok-part.ensures.parts (with_layers answers) (λ n p a w. search (rules, of_calls))))

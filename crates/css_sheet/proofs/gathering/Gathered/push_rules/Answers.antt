@@ -13,14 +13,15 @@ selectors-preserved c =
     let old = c.args.self.now in
     let before = c.selectors.self in
     let block = c.args.block.now in
-    let one = rule_with block (rule_selector_of c.in-Some.one) in
+    let layer = c.args.layer in
+    let one = rule_with layer block (rule_selector_of c.in-Some.one) in
     let left = into_iter_items c.next.new.self in
-    let come = rules_with block (map rule_selector_of left) in
-    let all = rules_with block (map rule_selector_of c.args.selectors.items) in
+    let come = rules_with layer block (map rule_selector_of left) in
+    let all = rules_with layer block (map rule_selector_of c.args.selectors.items) in
     let first : into_iter_items c.selectors.one-iterator ≡ c.in-Some.one ∷ left = search rules in
-    let next : rules_with block (map rule_selector_of (into_iter_items c.selectors.one-iterator))
+    let next : rules_with layer block (map rule_selector_of (into_iter_items c.selectors.one-iterator))
     ≡ option_to_list one ++ come =
-    ap (λ (l : List RuleSelector). rules_with block (map rule_selector_of l)) first
+    ap (λ (l : List RuleSelector). rules_with layer block (map rule_selector_of l)) first
     ∙ cons-option one come in
     gathering-more (gathered_rules old) (gathered_rules before) old.left before.left
     (option_to_list one) come all (gathered_rules c.push_rule.new.self) c.push_rule.new.self.left

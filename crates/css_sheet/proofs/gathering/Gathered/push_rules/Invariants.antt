@@ -9,5 +9,5 @@ use Rattle.css_sheet.proofs.gathering.Gathered.push_rules.Given as goal
 abbrev pub invariant-selectors : goal.invariant-selectors
 invariant-selectors l =
     Gathering (gathered_rules l.fn.self) (gathered_rules l.self) l.fn.self.left l.self.left
-    (rules_with l.block (map rule_selector_of (into_iter_items l.one-iterator)))
-    (rules_with l.block (map rule_selector_of l.fn.selectors.items))
+    (rules_with l.layer l.block (map rule_selector_of (into_iter_items l.one-iterator)))
+    (rules_with l.layer l.block (map rule_selector_of l.fn.selectors.items))

@@ -1,0 +1,99 @@
+-- The layers of a sheet (CSS Cascading 5, section 6.4): those of the `@layer` rules whose group rules
+-- all hold, in order.
+use Rattle.std.specs.Prelude.{ℕ, Bool, if◌then◌else◌, List, [], ◌∷◌, codes, Option, None, Some}
+use Rattle.std.specs.List.{flat_map}
+use Rattle.std.specs.Option.{is_some}
+use Rattle.css_syntax.specs.Tokens.{spells}
+use Rattle.css_syntax.specs.Statements.{BlockText, AtRuleText}
+use Rattle.css_syntax.specs.DeclarationLists.{ItemText, declared, at_rule_item, skipped_item}
+use Rattle.css_cascade.specs.Layers.{LayerPart, LayerText, outermost_layer, number_at, or_outermost, with_name}
+use Rattle.css_cascade.specs.LayerNames.{block_name, layer_names}
+use Rattle.css_sheet.specs.SheetParts.{OpenText, RuleKind, style_rule, group_rule, SheetPart, states, begins, ends, stands, PlacedPart, applies_in, sheet_parts}
+
+abbrev pub is_layer : List ℕ → Bool
+is_layer name = spells (codes "layer") name
+
+-- What is said of group rules, and of `@layer`: that one holds, if its prelude is a name or nothing.
+abbrev pub with_layers : (List ℕ → List ℕ → Bool) → List ℕ → List ℕ → Bool
+with_layers holds keyword prelude =
+    if is_layer keyword then is_some (block_name prelude 0) else holds keyword prelude
+
+abbrev pub or_none : {A : Type 0} → Option (List A) → List A
+or_none None = []
+or_none (Some all) = all
+
+-- ---- the layer that something is in
+
+-- The parts of the name of the layer that a rule is, from the layer that it is in on. A layer without a
+-- name is told from others by how much of the sheet is left at its contents.
+abbrev pub kind_name : RuleKind → (left : ℕ) → List LayerPart
+kind_name (style_rule prelude) left = []
+kind_name (group_rule keyword prelude) left =
+    if is_layer keyword then or_none (block_name prelude left) else []
+
+-- what does not apply is no layer
+abbrev pub open_name : OpenText → List LayerPart
+open_name rule = if rule.applies then kind_name rule.kind rule.left else []
+
+-- the parts of the name of the layer that is innermost in these rules
+abbrev pub layer_parts : List OpenText → List LayerPart
+layer_parts around = flat_map open_name around
+
+-- the number of the layer that is innermost in these rules
+abbrev pub number_in_all : List OpenText → List LayerText → ℕ
+number_in_all around known = or_outermost (number_at 0 (layer_parts around) known)
+
+-- ---- the layers that are mentioned
+
+-- with all of these names in one layer, one after another
+abbrev pub with_names : (outer : ℕ) → List LayerText → List (List LayerPart) → List LayerText
+with_names outer known [] = known
+with_names outer known (name ∷ more) = with_names outer (with_name known outer name) more
+
+-- the layers of a list of names, if it is one
+abbrev pub with_list : (outer : ℕ) → (prelude : List ℕ) → List LayerText → Option BlockText
+    → List LayerText
+with_list outer prelude known None = with_names outer known (or_none (layer_names prelude))
+with_list outer prelude known (Some block) = known
+
+abbrev pub with_rule : (outer : ℕ) → List LayerText → AtRuleText → List LayerText
+with_rule outer known rule =
+    if is_layer rule.name then with_list outer rule.prelude.text known rule.block else known
+
+-- the layers that an item in this layer mentions: those of `@layer` with a list of names
+abbrev pub with_item : (outer : ℕ) → List LayerText → ItemText → List LayerText
+with_item outer known (declared one) = known
+with_item outer known (at_rule_item rule) = with_rule outer known rule
+with_item outer known (skipped_item fault) = known
+
+abbrev pub if_applies : Bool → (outer : ℕ) → List LayerText → ItemText → List LayerText
+if_applies applies outer known item = if applies then with_item outer known item else known
+
+-- A rule that begins mentions the layer that it is, if it is one and applies; an item outside of style
+-- rules mentions others.
+abbrev pub mentioned : List LayerText → List OpenText → SheetPart → List LayerText
+mentioned known around (states text) = known
+mentioned known around (begins kind) = with_name known 0 (layer_parts around)
+mentioned known around ends = known
+mentioned known around (stands item) =
+    if_applies (applies_in around) (number_in_all around known) known item
+
+abbrev pub with_part : List LayerText → PlacedPart → List LayerText
+with_part known placed = mentioned known placed.around placed.part
+
+-- the layers after these parts
+abbrev pub with_parts : List LayerText → List PlacedPart → List LayerText
+with_parts known [] = known
+with_parts known (placed ∷ parts) = with_parts (with_part known placed) parts
+
+-- the layers of these parts alone
+abbrev pub layers_in : List PlacedPart → List LayerText
+layers_in parts = with_parts (outermost_layer ∷ []) parts
+
+-- the parts of a sheet, where `holds` says which group rules hold that are no `@layer`
+abbrev pub layered_parts : (List ℕ → List ℕ → Bool) → List ℕ → List PlacedPart
+layered_parts holds text = sheet_parts (with_layers holds) text
+
+-- the layers of a sheet in order
+abbrev pub sheet_layers : (List ℕ → List ℕ → Bool) → List ℕ → List LayerText
+sheet_layers holds text = layers_in (layered_parts holds text)

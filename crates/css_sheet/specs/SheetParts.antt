@@ -1,0 +1,203 @@
+-- The parts of a sheet, one after another and in place, each with the rules that are open there: the
+-- style rules that it is nested in, and the group rules (CSS Nesting 1; CSS Conditional Rules 3).
+use Rattle.std.specs.Prelude.{ℕ, zero, suc, ◌-◌, Bool, true, false, ◌&&◌, List, [], ◌∷◌, ◌++◌, length, take, slice_get, Option, Some, None}
+use Rattle.css_text.specs.Reading.{each, before}
+use Rattle.css_syntax.specs.Parts.{Stated}
+use Rattle.css_syntax.specs.Statements.{block, BlockText}
+use Rattle.css_syntax.specs.DeclarationLists.{ItemText, at_rule_item, past_separators}
+use Rattle.css_syntax.specs.Blocks.{BlockPart, listed, opens_rule, opens_at_rule, closes, next_block_part, next_rule_part}
+use Rattle.css_sheet.specs.SheetItems.{group_keyword}
+
+-- ---- the rules that are open
+
+-- A rule: a style rule, by what is before its block; or a group rule, by the keyword that its name is
+-- and by its prelude.
+pub data RuleKind : Type 0 where
+  style_rule : (prelude : Stated) → RuleKind
+  group_rule : (keyword prelude : List ℕ) → RuleKind
+
+-- How many style rules something is in: none; one, by what is before its block; or more.
+pub data Nesting : Type 0 where
+  outside : Nesting
+  within : (prelude : Stated) → Nesting
+  nested : Nesting
+
+-- A rule that is open; what its contents are in; whether they apply, since it and all group rules
+-- that it is in hold; and how many bytes are left of the sheet from its contents on, which tells it
+-- from all others.
+pub record OpenText : Type 0 where
+  pub kind : RuleKind
+  pub nesting : Nesting
+  pub applies : Bool
+  pub left : ℕ
+
+abbrev pub nesting_at : Option OpenText → Nesting
+nesting_at None = outside
+nesting_at (Some rule) = rule.nesting
+
+-- what is next is in, where these rules are open, from the outermost
+abbrev pub nesting_of : List OpenText → Nesting
+nesting_of around = nesting_at (slice_get around (length around - 1))
+
+abbrev pub applies_at : Option OpenText → Bool
+applies_at None = true
+applies_at (Some rule) = rule.applies
+
+-- whether what is next applies
+abbrev pub applies_in : List OpenText → Bool
+applies_in around = applies_at (slice_get around (length around - 1))
+
+abbrev pub is_some_open : List OpenText → Bool
+is_some_open [] = false
+is_some_open (rule ∷ around) = true
+
+-- what is in a style rule with this prelude, where the rule is in these
+abbrev pub deeper : Stated → Nesting → Nesting
+deeper prelude outside = within prelude
+deeper prelude (within other) = nested
+deeper prelude nested = nested
+
+abbrev pub nesting_in : RuleKind → Nesting → Nesting
+nesting_in (style_rule prelude) outer = deeper prelude outer
+nesting_in (group_rule keyword prelude) outer = outer
+
+-- whether the rule holds, by what is said of the keyword and the prelude of each group rule
+abbrev pub kind_holds : (List ℕ → List ℕ → Bool) → RuleKind → Bool
+kind_holds holds (style_rule prelude) = true
+kind_holds holds (group_rule keyword prelude) = holds keyword prelude
+
+-- ---- parts
+
+-- A part of a sheet: declarations in a style rule, with what is skipped between them and at-rules
+-- that are no group rules, as they stand there; a rule that begins, and then its contents follow; the
+-- end of the innermost rule; or an item outside of style rules.
+pub data SheetPart : Type 0 where
+  states : (text : List ℕ) → SheetPart
+  begins : RuleKind → SheetPart
+  ends : SheetPart
+  stands : ItemText → SheetPart
+
+-- the rest after a part of a block, if the part is among declarations: a group rule is not, nor is a
+-- nested rule
+abbrev pub after_at_rule : Option (List ℕ) → List ℕ → Option (Unit {0} × List ℕ)
+after_at_rule None rest = Some (tt, (block rest).1)
+after_at_rule (Some keyword) rest = None
+
+abbrev pub among_declarations : Option (BlockPart × List ℕ) → Option (Unit {0} × List ℕ)
+among_declarations None = None
+among_declarations (Some (listed item, rest)) = Some (tt, rest)
+among_declarations (Some (opens_rule prelude, rest)) = None
+among_declarations (Some (opens_at_rule name prelude, rest)) = after_at_rule (group_keyword name) rest
+among_declarations (Some (closes, rest)) = None
+
+unfoldable pub run_part : List ℕ → Option (Unit {0} × List ℕ)
+run_part text = among_declarations (next_block_part text)
+
+-- the rest after all declarations that follow one another from here on
+abbrev pub past_run : List ℕ → List ℕ
+past_run text = (each run_part text).1
+
+-- the declarations from this start on, of which this is left after the first
+abbrev pub stated_from : (start rest : List ℕ) → SheetPart × List ℕ
+stated_from start rest = (states (before start (past_run rest)), past_run rest)
+
+abbrev pub at_rule_in : (start : List ℕ) → Stated → (rest : List ℕ) → Option (List ℕ)
+    → SheetPart × List ℕ
+at_rule_in start prelude rest None = stated_from start (block rest).1
+at_rule_in start prelude rest (Some keyword) = (begins (group_rule keyword prelude.text), rest)
+
+-- a part of the block of a style rule, which begins at this start
+abbrev pub part_inside : (start : List ℕ) → BlockPart × List ℕ → SheetPart × List ℕ
+part_inside start (listed item, rest) = stated_from start rest
+part_inside start (opens_rule prelude, rest) = (begins (style_rule prelude), rest)
+part_inside start (opens_at_rule name prelude, rest) =
+    at_rule_in start prelude rest (group_keyword name)
+part_inside start (closes, rest) = (ends, rest)
+
+abbrev pub option_inside : (start : List ℕ) → Option (BlockPart × List ℕ)
+    → Option (SheetPart × List ℕ)
+option_inside start None = None
+option_inside start (Some found) = Some (part_inside start found)
+
+abbrev pub next_inside : List ℕ → Option (SheetPart × List ℕ)
+next_inside text = option_inside (past_separators text) (next_block_part text)
+
+abbrev pub with_block : (name : List ℕ) → Stated → BlockText × List ℕ → SheetPart × List ℕ
+with_block name prelude found =
+    (stands (at_rule_item (record { name = name; prelude = prelude; block = Some found.0 })), found.1)
+
+abbrev pub at_rule_outside : (name : List ℕ) → Stated → (rest : List ℕ) → Option (List ℕ)
+    → SheetPart × List ℕ
+at_rule_outside name prelude rest None = with_block name prelude (block rest)
+at_rule_outside name prelude rest (Some keyword) = (begins (group_rule keyword prelude.text), rest)
+
+-- a part outside of style rules
+abbrev pub part_outside : BlockPart × List ℕ → SheetPart × List ℕ
+part_outside (listed item, rest) = (stands item, rest)
+part_outside (opens_rule prelude, rest) = (begins (style_rule prelude), rest)
+part_outside (opens_at_rule name prelude, rest) =
+    at_rule_outside name prelude rest (group_keyword name)
+part_outside (closes, rest) = (ends, rest)
+
+abbrev pub option_outside : Option (BlockPart × List ℕ) → Option (SheetPart × List ℕ)
+option_outside None = None
+option_outside (Some found) = Some (part_outside found)
+
+abbrev pub next_outside : Bool → List ℕ → Option (SheetPart × List ℕ)
+next_outside in_block text = option_outside (next_rule_part in_block text)
+
+-- the next part, by the grammar of what it is in
+abbrev pub next_by : Nesting → (in_block : Bool) → List ℕ → Option (SheetPart × List ℕ)
+next_by outside in_block text = next_outside in_block text
+next_by (within prelude) in_block text = next_inside text
+next_by nested in_block text = next_inside text
+
+unfoldable pub next_in : List OpenText → List ℕ → Option (SheetPart × List ℕ)
+next_in around text = next_by (nesting_of around) (is_some_open around) text
+
+-- ---- all parts
+
+-- the rule that begins where these are open, of which so much is left from its contents on
+abbrev pub opened : (List ℕ → List ℕ → Bool) → List OpenText → RuleKind → (left : ℕ) → OpenText
+opened holds around kind left = record {
+  kind = kind;
+  nesting = nesting_in kind (nesting_of around);
+  applies = applies_in around && kind_holds holds kind;
+  left = left;
+}
+
+-- what is open after a part, where so much is left after it
+abbrev pub open_after : (List ℕ → List ℕ → Bool) → List OpenText → SheetPart → (left : ℕ)
+    → List OpenText
+open_after holds around (states text) left = around
+open_after holds around (begins kind) left = around ++ opened holds around kind left ∷ []
+open_after holds around ends left = take (length around - 1) around
+open_after holds around (stands item) left = around
+
+-- A part, and what is open after it, with what it begins.
+pub record PlacedPart : Type 0 where
+  pub part : SheetPart
+  pub around : List OpenText
+
+-- the parts from here on, where these rules are open, by those after the first
+abbrev pub part_then : (List ℕ → List ℕ → Bool) → (List OpenText → List ℕ → List PlacedPart)
+    → List OpenText → Option (SheetPart × List ℕ) → List PlacedPart
+part_then holds more around None = []
+part_then holds more around (Some found) =
+    record { part = found.0; around = open_after holds around found.0 (length found.1) }
+    ∷ more (open_after holds around found.0 (length found.1)) found.1
+
+-- Each part takes a byte or more, so as many as there are bytes are all.
+unfoldable pub parts_from : (List ℕ → List ℕ → Bool) → ℕ → List OpenText → List ℕ
+    → List PlacedPart
+parts_from holds zero around text = []
+parts_from holds (suc n) around text =
+    part_then holds (parts_from holds n) around (next_in around text)
+
+-- the parts from here on, where these rules are open
+abbrev pub parts_in : (List ℕ → List ℕ → Bool) → List OpenText → List ℕ → List PlacedPart
+parts_in holds around text = parts_from holds (length text) around text
+
+-- the parts of a sheet, where a group rule holds as `holds` says of its keyword and its prelude
+abbrev pub sheet_parts : (List ℕ → List ℕ → Bool) → List ℕ → List PlacedPart
+sheet_parts holds text = parts_in holds [] text

@@ -1,0 +1,204 @@
+//! The layers of a sheet as far as it is read, and those that are open.
+ghost use Rattle.std.specs.Prelude.{◌≡◌, ◌∷◌, [], IfErr, IfOk, Some, map};
+ghost use Rattle.css_sheet.specs.declared.sheet_error.SheetError.TheVariants.{TooManyDeclarations};
+ghost use Rattle.css_syntax.specs.Views.{at_rule_of, item_of};
+ghost use Rattle.css_cascade.specs.Layers.{number_at, outermost_layer, with_name};
+ghost use Rattle.css_cascade.specs.LayerViews.{known_of};
+ghost use Rattle.css_cascade.specs.LayerNameViews.{name_of};
+ghost use Rattle.css_sheet.specs.PartViews.{kind_of, open_of, part_of};
+ghost use Rattle.css_sheet.specs.SheetLayers.{is_layer as is_layer_of, kind_name, open_name};
+ghost use Rattle.css_sheet.specs.SheetLayers.{with_names, with_rule, with_item, if_applies};
+ghost use Rattle.css_sheet.specs.SheetParts.{applies_in as applies_in_rules};
+ghost use Rattle.css_sheet.specs.internal.OpenViews.{innermost_of, known_in, numbers_in, Enters, Goes};
+
+use crate::parts::{OpenRule, Part, RuleKind};
+use crate::sheet_error::SheetError;
+use css_cascade::{LayerName, Layers, read_block_name, read_layer_names};
+use css_syntax::texts::spells;
+use css_syntax::{AtRule, Item};
+use std::alloc::{AllocError, Global};
+
+/// The layers that a sheet mentions, as far as it is read, and those that are open.
+#[derive(Drop)]
+pub(crate) struct OpenLayers<'a> {
+    /// The layers that are mentioned.
+    pub(crate) layers: Layers<'a>,
+    /// Of the rules that are open: the number of the layer that is innermost there.
+    pub(crate) numbers: Vec<usize>,
+}
+
+/// Whether an at-rule of this name is about layers.
+pub(crate) fn is_layer(name: &str) -> bool
+    ensures { result ≡ is_layer_of name.now }
+{
+    spells("layer", name)
+}
+
+/// Mentions the layer that a rule is, if it is one, in this layer; so much is left of the sheet at its
+/// contents. Returns the number of the layer that is innermost in the rule.
+fn enter_kind<'a>(
+    alloc: Global,
+    layers: &mut Layers<'a>,
+    outer: usize,
+    kind: &RuleKind<'a>,
+    left: usize,
+) -> Result<usize, SheetError>
+    ensures known { IfOk result (λ _. known_of layers.new
+        ≡ with_name (known_of layers.old) outer (kind_name (kind_of kind.now) left)) }
+    ensures number { IfOk result (λ number. number_at outer
+        (kind_name (kind_of kind.now) left) (known_of layers.new) ≡ Some number) }
+    ensures refused { IfErr result (λ error. error ≡ TooManyDeclarations → ⊥) }
+{
+    match kind {
+        RuleKind::Group(keyword, prelude) if is_layer(*keyword) => {
+            match read_block_name(alloc, *prelude, left)? {
+                Some(name) => Ok(layers.mention(outer, name.parts)?),
+                None => Ok(outer),
+            }
+        }
+        _ => Ok(outer),
+    }
+}
+
+/// The same of a rule that is open, if it applies.
+fn enter_rule<'a>(
+    alloc: Global,
+    layers: &mut Layers<'a>,
+    outer: usize,
+    rule: &OpenRule<'a>,
+) -> Result<usize, SheetError>
+    ensures known { IfOk result (λ _. known_of layers.new
+        ≡ with_name (known_of layers.old) outer (open_name (open_of rule.now))) }
+    ensures number { IfOk result (λ number. number_at outer
+        (open_name (open_of rule.now)) (known_of layers.new) ≡ Some number) }
+    ensures refused { IfErr result (λ error. error ≡ TooManyDeclarations → ⊥) }
+{
+    if rule.applies {
+        enter_kind(alloc, layers, outer, &rule.kind, rule.left)
+    } else {
+        Ok(outer)
+    }
+}
+
+/// Mentions the layers of a list in this layer.
+fn mention_names<'a>(
+    layers: &mut Layers<'a>,
+    outer: usize,
+    names: Vec<LayerName<'a>>,
+) -> Result<(), SheetError>
+    ensures refused { IfErr result (λ error. error ≡ TooManyDeclarations → ⊥) }
+    ensures known { IfOk result (λ _. known_of layers.new
+        ≡ with_names outer (known_of layers.old) (map name_of names.entry.items)) }
+{
+    'names: for name in names {
+        layers.mention(outer, name.parts)?;
+    }
+    Ok(())
+}
+
+/// Mentions the layers of an at-rule in this layer, if it is a list of them.
+fn mention_rule<'a>(
+    alloc: Global,
+    layers: &mut Layers<'a>,
+    outer: usize,
+    rule: &AtRule<'a>,
+) -> Result<(), SheetError>
+    ensures refused { IfErr result (λ error. error ≡ TooManyDeclarations → ⊥) }
+    ensures known { IfOk result (λ _. known_of layers.new
+        ≡ with_rule outer (known_of layers.old) (at_rule_of rule.now)) }
+{
+    if !is_layer(rule.name) || rule.block.is_some() {
+        return Ok(());
+    }
+    match read_layer_names(alloc, rule.prelude.text)? {
+        Some(names) => mention_names(layers, outer, names),
+        None => Ok(()),
+    }
+}
+
+/// Mentions the layers of an item in this layer, if it applies.
+fn mention_item<'a>(
+    alloc: Global,
+    layers: &mut Layers<'a>,
+    outer: usize,
+    item: &Item<'a>,
+    applies: bool,
+) -> Result<(), SheetError>
+    ensures refused { IfErr result (λ error. error ≡ TooManyDeclarations → ⊥) }
+    ensures known { IfOk result (λ _. known_of layers.new
+        ≡ if_applies applies outer (known_of layers.old) (item_of item.now)) }
+{
+    match item {
+        Item::AtRule(rule) if applies => mention_rule(alloc, layers, outer, rule),
+        _ => Ok(()),
+    }
+}
+
+impl<'a> OpenLayers<'a> {
+    /// Returns the outermost layer alone.
+    pub(crate) fn new(alloc: Global) -> Result<OpenLayers<'a>, AllocError>
+        ensures known { IfOk result (λ layers. known_in layers ≡ outermost_layer ∷ []) }
+        ensures numbers { IfOk result (λ layers. numbers_in layers ≡ []) }
+    {
+        match Layers::new(alloc) {
+            Ok(layers) => Ok(OpenLayers {
+                layers,
+                numbers: Vec::new(alloc),
+            }),
+            Err(error) => Err(error),
+        }
+    }
+
+    /// Returns the number of the layer that is innermost.
+    pub(crate) fn innermost(&self) -> usize
+        ensures { result ≡ innermost_of 0 (numbers_in self.now) }
+    {
+        match self.numbers.last() {
+            Some(number) => *number,
+            None => 0,
+        }
+    }
+
+    /// Enters a rule, and mentions the layer that it is, if it is one.
+    fn enter(&mut self, alloc: Global, rule: &OpenRule<'a>) -> Result<(), SheetError>
+        ensures refused { IfErr result (λ error. error ≡ TooManyDeclarations → ⊥) }
+        ensures enters { IfOk result (λ _. Enters (known_in self.old) (numbers_in self.old)
+            (open_of rule.now) (known_in self.new) (numbers_in self.new)) }
+    {
+        let outer = self.innermost();
+        let number = enter_rule(alloc, &mut self.layers, outer, rule)?;
+        self.numbers.push(number)?;
+        Ok(())
+    }
+
+    /// Enters what a part begins, leaves what it ends, and mentions the layers of an item. These rules
+    /// are open then.
+    pub(crate) fn go_through(
+        &mut self,
+        alloc: Global,
+        part: &Part<'a>,
+        around: &[OpenRule<'a>],
+        applies: bool,
+    ) -> Result<(), SheetError>
+        requires { applies ≡ applies_in_rules (map open_of around.now) }
+        ensures refused { IfErr result (λ error. error ≡ TooManyDeclarations → ⊥) }
+        ensures goes { IfOk result (λ _. Goes (known_in self.old) (numbers_in self.old)
+            (part_of part.now) (map open_of around.now) (known_in self.new) (numbers_in self.new)) }
+    {
+        match part {
+            Part::States(_) => Ok(()),
+            Part::Begins(_) => match around.last() {
+                Some(rule) => self.enter(alloc, rule),
+                None => Ok(()),
+            },
+            Part::Ends => {
+                self.numbers.pop();
+                Ok(())
+            }
+            Part::Stands(item) => {
+                let outer = self.innermost();
+                mention_item(alloc, &mut self.layers, outer, item, applies)
+            }
+        }
+    }
+}

@@ -1,0 +1,402 @@
+//! The parts of a sheet, one after another and in place: declarations, and rules that begin and end.
+ghost use Rattle.std.specs.Prelude.{◌≡◌, ◌++◌, ◌∷◌, [], ℕ, Bool, List, true, map, IfOk, option_map, length};
+ghost use Rattle.css_text.specs.Reading.{Ends};
+ghost use Rattle.css_syntax.specs.DeclarationLists.{past_separators};
+ghost use Rattle.css_syntax.specs.Views.{prelude_of};
+ghost use Rattle.css_syntax.specs.BlockViews.{block_part_of};
+ghost use Rattle.css_sheet.specs.SheetItems.{group_keyword as group_keyword_of};
+ghost use Rattle.css_sheet.specs.SheetParts.{nesting_of as nesting_of_rules, applies_in as applies_in_rules};
+ghost use Rattle.css_sheet.specs.SheetParts.{nesting_in as nesting_in_kind, kind_holds as kind_holds_by};
+ghost use Rattle.css_sheet.specs.SheetParts.{after_at_rule, run_part as run_part_of, past_run as past_run_of};
+ghost use Rattle.css_sheet.specs.SheetParts.{stated_from, at_rule_in, part_inside as inside_of};
+ghost use Rattle.css_sheet.specs.SheetParts.{at_rule_outside, part_outside as outside_of, next_inside, next_outside};
+ghost use Rattle.css_sheet.specs.SheetParts.{next_in, opened, open_after, sheet_parts};
+ghost use Rattle.css_sheet.specs.PartViews.{kind_of, nesting_text, open_of, part_of, open_in, left_in};
+ghost use Rattle.css_sheet.specs.PartViews.{parts_to_come, GivesPart, PartShrinks};
+ghost use Rattle.css_sheet.specs.SheetRuleViews.{Answers};
+
+use crate::groups::group_keyword;
+use css_syntax::blocks::{BlockPart, FoundBlockPart, read_next_block_part, read_next_rule_part};
+use css_syntax::statements::read_block;
+use css_syntax::texts::front;
+use css_syntax::{AtRule, Item, Prelude};
+use std::alloc::{AllocError, Global};
+
+/// A rule.
+#[derive(Clone, Copy)]
+pub(crate) enum RuleKind<'a> {
+    /// A style rule, by what is before its block.
+    Style(Prelude<'a>),
+    /// A group rule, by the keyword that its name is and by its prelude.
+    Group(&'static str, &'a str),
+}
+
+/// How many style rules something is in.
+#[derive(Clone, Copy)]
+pub(crate) enum Nesting<'a> {
+    /// None.
+    Outside,
+    /// One, by what is before its block.
+    Within(Prelude<'a>),
+    /// More.
+    Nested,
+}
+
+/// A rule that is open.
+#[derive(Clone, Copy)]
+pub(crate) struct OpenRule<'a> {
+    /// The rule.
+    pub(crate) kind: RuleKind<'a>,
+    /// What its contents are in.
+    pub(crate) nesting: Nesting<'a>,
+    /// Whether they apply, since it and all group rules that it is in hold.
+    pub(crate) applies: bool,
+    /// How many bytes are left of the sheet from its contents on.
+    pub(crate) left: usize,
+}
+
+/// A part of a sheet.
+#[derive(Clone, Copy)]
+pub(crate) enum Part<'a> {
+    /// Declarations in a style rule, with what is skipped between them, as they stand there.
+    States(&'a str),
+    /// A rule begins, and its contents follow.
+    Begins(RuleKind<'a>),
+    /// The innermost rule ends.
+    Ends,
+    /// An item outside of style rules.
+    Stands(Item<'a>),
+}
+
+/// A part and the rest after it.
+#[derive(Clone, Copy)]
+struct FoundPart<'a> {
+    part: Part<'a>,
+    rest: &'a str,
+}
+
+/// Reads the parts of a sheet.
+#[derive(Drop)]
+pub(crate) struct SheetParts<'a> {
+    /// The rules that are open, from the outermost.
+    pub(crate) around: Vec<OpenRule<'a>>,
+    /// What is left of the sheet.
+    pub(crate) rest: &'a str,
+}
+
+/// Returns what the next part is in.
+fn nesting_of<'a>(around: &[OpenRule<'a>]) -> Nesting<'a>
+    ensures { nesting_text result ≡ nesting_of_rules (map open_of around.now) }
+{
+    match around.last() {
+        Some(rule) => rule.nesting,
+        None => Nesting::Outside,
+    }
+}
+
+/// Whether the next part applies.
+fn applies_in(around: &[OpenRule<'_>]) -> bool
+    ensures { result ≡ applies_in_rules (map open_of around.now) }
+{
+    match around.last() {
+        Some(rule) => rule.applies,
+        None => true,
+    }
+}
+
+/// Returns what is in a rule that is in this.
+fn nesting_in<'a>(kind: &RuleKind<'a>, outer: Nesting<'a>) -> Nesting<'a>
+    ensures { nesting_text result ≡ nesting_in_kind (kind_of kind.now) (nesting_text outer.entry) }
+{
+    match kind {
+        RuleKind::Style(prelude) => match outer {
+            Nesting::Outside => Nesting::Within(*prelude),
+            _ => Nesting::Nested,
+        },
+        RuleKind::Group(_, _) => outer,
+    }
+}
+
+/// Whether a rule holds. A group rule is asked about.
+fn kind_holds<C: Fn(&str, &str) -> bool>(kind: &RuleKind<'_>, holds: &C) -> bool
+    requires { C.IsAlwaysCallable holds.now }
+    ensures { (answers : List ℕ → List ℕ → Bool) → Answers (C.post holds.now) answers
+        → result ≡ kind_holds_by answers (kind_of kind.now) }
+{
+    match kind {
+        RuleKind::Style(_) => true,
+        RuleKind::Group(keyword, prelude) => holds(*keyword, *prelude),
+    }
+}
+
+/// Returns the rest after an at-rule among declarations, from its contents on. A group rule is not
+/// among them.
+fn past_at_rule<'a>(name: &str, rest: &'a str) -> Option<&'a str>
+    ensures { after_at_rule (group_keyword_of name.now) rest.now
+        ≡ option_map (λ after. (tt, after.now)) result }
+{
+    match group_keyword(name) {
+        None => Some(read_block(rest).rest),
+        Some(_) => None,
+    }
+}
+
+/// Returns the rest after the next part of a block, if it is among declarations.
+#[tactic(auto, unfolding(crate::specs::SheetParts::run_part))]
+fn run_part(text: &str) -> Option<&str>
+    ensures { run_part_of text.now ≡ option_map (λ after. (tt, after.now)) result }
+{
+    match read_next_block_part(text) {
+        None => None,
+        Some(found) => match found.part {
+            BlockPart::Listed(_) => Some(found.rest),
+            BlockPart::OpensAtRule(name, _) => past_at_rule(name, found.rest),
+            BlockPart::OpensRule(_) => None,
+            BlockPart::Closes => None,
+        },
+    }
+}
+
+/// Returns the rest after all declarations that follow one another.
+fn past_run(text: &str) -> &str
+    ensures { result.now ≡ past_run_of text.now }
+{
+    let mut rest = text;
+    'parts: while let Some(after) = run_part(rest) {
+        rest = after;
+    }
+    rest
+}
+
+/// Reads the declarations from this start on, of which this is left after the first.
+fn state_from<'a>(start: &'a str, rest: &'a str) -> FoundPart<'a>
+    requires { Ends start.now rest.now }
+    ensures { stated_from start.now rest.now ≡ (part_of result.part, result.rest.now) }
+{
+    let after = past_run(rest);
+    FoundPart {
+        part: Part::States(front(start, after)),
+        rest: after,
+    }
+}
+
+/// Begins a group rule in a style rule, or reads declarations from another at-rule on.
+fn begin_inside<'a>(
+    start: &'a str,
+    name: &'a str,
+    prelude: Prelude<'a>,
+    rest: &'a str,
+) -> FoundPart<'a>
+    requires { Ends start.now rest.now }
+    ensures { at_rule_in start.now (prelude_of prelude.entry) rest.now (group_keyword_of name.now)
+        ≡ (part_of result.part, result.rest.now) }
+{
+    match group_keyword(name) {
+        None => state_from(start, read_block(rest).rest),
+        Some(keyword) => FoundPart {
+            part: Part::Begins(RuleKind::Group(keyword, prelude.text)),
+            rest,
+        },
+    }
+}
+
+/// Goes on from a part of the block of a style rule.
+fn go_on_inside(found: FoundBlockPart<'_>) -> FoundPart<'_>
+    requires { Ends found.from.now found.rest.now }
+    ensures { inside_of found.entry.from.now (block_part_of found.entry.part, found.entry.rest.now)
+        ≡ (part_of result.part, result.rest.now) }
+{
+    match found.part {
+        BlockPart::Listed(_) => state_from(found.from, found.rest),
+        BlockPart::OpensRule(prelude) => FoundPart {
+            part: Part::Begins(RuleKind::Style(prelude)),
+            rest: found.rest,
+        },
+        BlockPart::OpensAtRule(name, prelude) => {
+            begin_inside(found.from, name, prelude, found.rest)
+        }
+        BlockPart::Closes => FoundPart {
+            part: Part::Ends,
+            rest: found.rest,
+        },
+    }
+}
+
+/// Reads the next part of the block of a style rule.
+fn read_inside(text: &str) -> Option<FoundPart<'_>>
+    ensures { next_inside text.now
+        ≡ option_map (λ found. (part_of found.part, found.rest.now)) result }
+{
+    match read_next_block_part(text) {
+        None => None,
+        Some(found) => Some(go_on_inside(found)),
+    }
+}
+
+/// Begins a group rule outside of style rules, or reads another at-rule.
+fn begin_outside<'a>(name: &'a str, prelude: Prelude<'a>, rest: &'a str) -> FoundPart<'a>
+    ensures { at_rule_outside name.now (prelude_of prelude.entry) rest.now (group_keyword_of name.now)
+        ≡ (part_of result.part, result.rest.now) }
+{
+    match group_keyword(name) {
+        None => {
+            let found = read_block(rest);
+            FoundPart {
+                part: Part::Stands(Item::AtRule(AtRule {
+                    name,
+                    prelude,
+                    block: Some(found.block),
+                })),
+                rest: found.rest,
+            }
+        }
+        Some(keyword) => FoundPart {
+            part: Part::Begins(RuleKind::Group(keyword, prelude.text)),
+            rest,
+        },
+    }
+}
+
+/// Goes on from a part outside of style rules.
+fn go_on_outside(found: FoundBlockPart<'_>) -> FoundPart<'_>
+    ensures { outside_of (block_part_of found.entry.part, found.entry.rest.now)
+        ≡ (part_of result.part, result.rest.now) }
+{
+    match found.part {
+        BlockPart::Listed(item) => FoundPart {
+            part: Part::Stands(item),
+            rest: found.rest,
+        },
+        BlockPart::OpensRule(prelude) => FoundPart {
+            part: Part::Begins(RuleKind::Style(prelude)),
+            rest: found.rest,
+        },
+        BlockPart::OpensAtRule(name, prelude) => begin_outside(name, prelude, found.rest),
+        BlockPart::Closes => FoundPart {
+            part: Part::Ends,
+            rest: found.rest,
+        },
+    }
+}
+
+/// Reads the next part outside of style rules.
+fn read_outside(text: &str, in_block: bool) -> Option<FoundPart<'_>>
+    ensures { next_outside in_block text.now
+        ≡ option_map (λ found. (part_of found.part, found.rest.now)) result }
+{
+    match read_next_rule_part(text, in_block) {
+        None => None,
+        Some(found) => Some(go_on_outside(found)),
+    }
+}
+
+/// Reads the next part, by the grammar of what it is in.
+#[tactic(auto, unfolding(crate::specs::SheetParts::next_in))]
+fn read_next_in<'a>(around: &[OpenRule<'_>], text: &'a str) -> Option<FoundPart<'a>>
+    ensures { next_in (map open_of around.now) text.now
+        ≡ option_map (λ found. (part_of found.part, found.rest.now)) result }
+{
+    match nesting_of(around) {
+        Nesting::Outside => read_outside(text, !around.is_empty()),
+        Nesting::Within(_) => read_inside(text),
+        Nesting::Nested => read_inside(text),
+    }
+}
+
+impl<'a> SheetParts<'a> {
+    /// Returns a reader at the start of a sheet. Allocates nothing.
+    pub(crate) fn new(alloc: Global, text: &'a str) -> SheetParts<'a>
+        ensures open { open_in result ≡ [] }
+        ensures parts { (answers : List ℕ → List ℕ → Bool)
+            → parts_to_come answers result ≡ sheet_parts answers text.now }
+    {
+        SheetParts {
+            around: Vec::new(alloc),
+            rest: text,
+        }
+    }
+
+    /// Returns what the part that was read last is in, or what it begins.
+    pub(crate) fn nesting(&self) -> Nesting<'a>
+        ensures { nesting_text result ≡ nesting_of_rules (open_in self.now) }
+    {
+        nesting_of(&self.around)
+    }
+
+    /// Whether the part that was read last applies.
+    pub(crate) fn applies(&self) -> bool
+        ensures { result ≡ applies_in_rules (open_in self.now) }
+    {
+        applies_in(&self.around)
+    }
+
+    /// Opens a rule, from whose contents on so much is left. A group rule is asked about, if all that
+    /// it is in hold.
+    fn begin<C: Fn(&str, &str) -> bool>(
+        &mut self,
+        kind: RuleKind<'a>,
+        left: usize,
+        holds: &C,
+    ) -> Result<(), AllocError>
+        requires { C.IsAlwaysCallable holds.now }
+        ensures rest { left_in self.new ≡ left_in self.old }
+        ensures around { (answers : List ℕ → List ℕ → Bool) → Answers (C.post holds.now) answers
+            → IfOk result (λ _. open_in self.new
+            ≡ open_in self.old ++ opened answers (open_in self.old) (kind_of kind.entry) left ∷ []) }
+    {
+        let nesting = nesting_in(&kind, nesting_of(&self.around));
+        let applies = applies_in(&self.around) && kind_holds(&kind, holds);
+        self.around.push(OpenRule {
+            kind,
+            nesting,
+            applies,
+            left,
+        })?;
+        Ok(())
+    }
+
+    /// Opens or closes what a part does, after which so much is left.
+    fn go_through<C: Fn(&str, &str) -> bool>(
+        &mut self,
+        part: &Part<'a>,
+        left: usize,
+        holds: &C,
+    ) -> Result<(), AllocError>
+        requires { C.IsAlwaysCallable holds.now }
+        ensures rest { left_in self.new ≡ left_in self.old }
+        ensures around { (answers : List ℕ → List ℕ → Bool) → Answers (C.post holds.now) answers
+            → IfOk result (λ _. open_in self.new
+            ≡ open_after answers (open_in self.old) (part_of part.now) left) }
+    {
+        match part {
+            Part::Begins(kind) => self.begin(*kind, left, holds),
+            Part::Ends => {
+                self.around.pop();
+                Ok(())
+            }
+            Part::States(_) => Ok(()),
+            Part::Stands(_) => Ok(()),
+        }
+    }
+
+    /// Returns the next part. What it begins is open then; what it ends is not. Each group rule is
+    /// asked about once, by its keyword and its prelude, if all that it is in hold.
+    pub(crate) fn next<C: Fn(&str, &str) -> bool>(
+        &mut self,
+        holds: &C,
+    ) -> Result<Option<Part<'a>>, AllocError>
+        requires { C.IsAlwaysCallable holds.now }
+        ensures size { IfOk result (λ part. PartShrinks self.old part self.new) }
+        ensures parts { (answers : List ℕ → List ℕ → Bool) → Answers (C.post holds.now) answers
+            → IfOk result (λ part. GivesPart answers self.old part self.new) }
+    {
+        match read_next_in(&self.around, self.rest) {
+            None => Ok(None),
+            Some(found) => {
+                self.go_through(&found.part, found.rest.len(), holds)?;
+                self.rest = found.rest;
+                Ok(Some(found.part))
+            }
+        }
+    }
+}
