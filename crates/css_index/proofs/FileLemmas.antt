@@ -17,7 +17,8 @@ use Rattle.css_selectors.specs.Keys.Key.{by_id, by_class, by_name, by_attribute,
 use Rattle.css_selectors.specs.KeyViews.{key_of}
 use Rattle.css_index.specs.declared.entry.Entry.{Entry}
 use Rattle.css_index.specs.KeyNumbers.{number_from, number_of, is_same}
-use Rattle.css_index.specs.internal.Filed.{place_by, place_of, entry_of, with_index, filed_keys, entries_from, entries_of, entries_at, AreFiled, is_found_by, found_by}
+use Rattle.css_index.specs.Tested.{filed_keys}
+use Rattle.css_index.specs.internal.Filed.{place_by, place_of, entry_of, with_index, entries_from, entries_of, entries_at, AreFiled, is_found_by, found_by}
 
 entries_from-push : (n : ℕ) (ss : List Selector) (s : Selector)
     → entries_from n (ss ++ s ∷ [])

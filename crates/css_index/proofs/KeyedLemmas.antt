@@ -18,9 +18,9 @@ use Rattle.css_selectors.specs.Keys.{Key}
 use Rattle.css_selectors.specs.Keys.Key.{by_id, by_class, by_name, by_attribute, by_nothing}
 use Rattle.css_selectors.specs.Meanings.{satisfies}
 use Rattle.css_index.specs.Reported.{Reported, reports_key}
-use Rattle.css_index.specs.internal.Candidates.{IsKeyedAt}
+use Rattle.css_index.specs.Tested.{IsKeyedAt, filed_keys}
 use Rattle.css_index.specs.KeyNumbers.{is_same}
-use Rattle.css_index.specs.internal.Filed.{is_found_by, filed_keys, with_index, entries_from, entries_of, found_by, found_by_any, id_keys, AreClasses, AreReported}
+use Rattle.css_index.specs.internal.Filed.{is_found_by, with_index, entries_from, entries_of, found_by, found_by_any, id_keys, AreClasses, AreReported}
 use Rattle.css_index.proofs.KeptLemmas.{contains_none, contains_cons}
 use Rattle.css_index.proofs.TruthLemmas.{or_second}
 

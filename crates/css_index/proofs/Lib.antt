@@ -6,5 +6,6 @@ mod WordLemmas
 mod DistinctLemmas
 mod FileLemmas
 mod MatchLemmas
+mod TestLemmas
 pub mod WalkLemmas
 mod OpenLemmas

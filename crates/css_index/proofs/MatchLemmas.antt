@@ -12,8 +12,8 @@ use Rattle.css_selectors.proofs.AncestorKeyLemmas.{only_matches, only_exact}
 use Rattle.css_selectors.proofs.KeyLemmas.{matched_has}
 use Rattle.css_index.specs.Found.{MatchesAt}
 use Rattle.css_index.specs.Reported.{Reported, reports_key, ReportsKeys}
-use Rattle.css_index.specs.internal.Candidates.{IsKeyedAt, PassesAt}
-use Rattle.css_index.specs.internal.Filed.{filed_keys}
+use Rattle.css_index.specs.Tested.{IsKeyedAt, filed_keys}
+use Rattle.css_index.specs.internal.Candidates.{PassesAt}
 use Rattle.css_index.proofs.FoundLemmas.{some_same}
 use Rattle.css_index.proofs.KeyedLemmas.{any_from, any_to}
 use Rattle.css_index.proofs.TruthLemmas.{and_first, and_second, or_cases, or_first, or_second}

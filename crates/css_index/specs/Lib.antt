@@ -2,4 +2,5 @@ pub mod Reported
 pub mod KeyNumbers
 pub mod Found
 pub mod Walks
+pub mod Tested
 pub mod internal

@@ -1,8 +1,11 @@
 //! What an index keeps of a selector.
-ghost use Rattle.std.specs.Prelude.{◌≡◌};
+ghost use Rattle.std.specs.Prelude.{◌≡◌, ◌⊎◌, ◌+◌, ◌≤◌, ◌↔◌, Some, IsTrue};
 ghost use Rattle.css_selectors.specs.AncestorKeys.{is_only_keys as requires_only_keys};
+ghost use Rattle.css_selectors.specs.Meanings.{Matches};
+ghost use Rattle.css_index.specs.Tested.{least_of, most_of};
 
-use css_selectors::Selector;
+use crate::Keyed;
+use css_selectors::{Selector, Tests};
 
 /// A selector, and whether it has to be tested.
 #[derive(Clone, Copy)]
@@ -24,5 +27,18 @@ impl<'s, 'a> Kept<'s, 'a> {
             selector,
             is_only_keys: selector.is_only_keys(),
         }
+    }
+
+    /// Whether the selector requires nothing but its keys, or matches the element. It is tested only if it
+    /// requires more.
+    #[inline(always)]
+    pub(crate) fn passes<E: Keyed>(&self, element: &E, tests: &mut Tests) -> bool
+        ensures answer { IsTrue result ↔ (IsTrue (requires_only_keys self.now.selector.now)
+            ⊎ Matches E.document self.now.selector.now (E.node element.now)) }
+        ensures at_least { tests.old + least_of (Some self.now.selector.now) ≤ tests.new }
+        ensures at_most { tests.new
+            ≤ tests.old + most_of E.document (E.node element.now) (Some self.now.selector.now) }
+    {
+        self.is_only_keys || self.selector.matches_counted(element, tests)
     }
 }

@@ -1,13 +1,14 @@
 //! An index of rules by the keys of their selectors.
-ghost use Rattle.std.specs.Prelude.{◌≡◌, ◌↔◌, ◌++◌, ◌∷◌, ℕ, List, [], Contains, IsTrue, IfOk, OnOk, OnErr, map};
+ghost use Rattle.std.specs.Prelude.{◌≡◌, ◌+◌, ◌≤◌, ◌↔◌, ◌++◌, ◌∷◌, ℕ, List, [], Contains, IsTrue, IfOk, OnOk, OnErr, map};
 ghost use Rattle.std.specs.List.Sorted.{IsStrictlyIncreasing};
 ghost use Rattle.css_index.specs.Found.{AreMatches};
-ghost use Rattle.css_index.specs.internal.Candidates.{IsKeyedAt, PassesAt};
+ghost use Rattle.css_index.specs.Tested.{IsKeyedAt, least_tests, most_tests_at};
+ghost use Rattle.css_index.specs.internal.Candidates.{PassesAt};
 
 use crate::kept::Kept;
 use crate::table::{Table, filed};
 use crate::{HasSelector, Keyed};
-use css_selectors::Selector;
+use css_selectors::{Selector, Tests};
 use std::alloc::{AllocError, Global};
 use std::marker::Model;
 
@@ -118,12 +119,15 @@ impl<'s, 'a> SelectorIndex<'s, 'a> {
     }
 
     /// Whether there is a rule at the index, and it requires nothing but its keys or matches the
-    /// element.
-    pub(crate) fn passes_at<E: Keyed>(&self, index: usize, element: &E) -> bool
-        ensures { IsTrue result ↔ PassesAt E.document (E.node element.now) self.now index }
+    /// element. It is tested only if it requires more than its keys.
+    pub(crate) fn passes_at<E: Keyed>(&self, index: usize, element: &E, tests: &mut Tests) -> bool
+        ensures answer { IsTrue result ↔ PassesAt E.document (E.node element.now) self.now index }
+        ensures at_least { tests.old + least_tests self.now index ≤ tests.new }
+        ensures at_most { tests.new
+            ≤ tests.old + most_tests_at E.document (E.node element.now) self.now index }
     {
         match self.rules.get(index) {
-            Some(rule) => rule.is_only_keys || rule.selector.matches(element),
+            Some(rule) => rule.passes(element, tests),
             None => false,
         }
     }
@@ -169,7 +173,7 @@ impl<'s, 'a> SelectorIndex<'s, 'a> {
     {
         self.gather(element, indices)?;
         sort_once(indices);
-        indices.retain(|index| self.passes_at(*index, element));
+        indices.retain(|index| self.passes_at(*index, element, &mut Tests::new()));
         Ok(())
     }
 }

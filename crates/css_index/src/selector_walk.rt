@@ -1,19 +1,21 @@
 //! A walk along a page.
-ghost use Rattle.std.specs.Prelude.{◌≡◌, ◌↔◌, List, [], Some, Contains, IsTrue, IfOk, OnOk, OnErr, map};
-ghost use Rattle.std.specs.List.{All};
+ghost use Rattle.std.specs.Prelude.{◌≡◌, ◌+◌, ◌≤◌, ◌↔◌, ◌++◌, ◌∷◌, if◌then◌else◌, ℕ, List, [], Some, Contains, IsTrue, IfOk, OnOk, OnErr, map};
+ghost use Rattle.std.specs.List.{All, sum_by};
+ghost use Rattle.std.specs.List.Sorted.{IsStrictlyIncreasing};
 ghost use Rattle.css_open_elements.specs.Opened.{IsOpen, IsOfLast, all_but_last};
 ghost use Rattle.css_selectors.specs.AncestorKeys.{ancestor_keys, parent_keys};
 ghost use Rattle.css_index.specs.Found.{AreAll, AreMatches};
 ghost use Rattle.css_index.specs.Walks.{AreNumbered, AreNumbersOf, AreNeeds, IsMore, IsKeptAt};
 ghost use Rattle.css_index.specs.Walks.{IsOpenTo};
 ghost use Rattle.css_index.specs.internal.Candidates.{PassesAt};
-ghost use Rattle.css_index.specs.internal.Walking.{need_of as need_view, IsTriedAt};
+ghost use Rattle.css_index.specs.Tested.{IsTriedAt, AreTried, least_tests, most_tests_at};
+ghost use Rattle.css_index.specs.internal.Walking.{need_of as need_view};
 
 use crate::selector_index::{SelectorIndex, selectors_of, sort_once};
 use crate::table::Table;
 use crate::{HasSelector, Keyed};
 use css_open_elements::OpenElements;
-use css_selectors::{Key, Selector};
+use css_selectors::{Key, Selector, Tests};
 use std::alloc::{AllocError, Global};
 use std::marker::Model;
 
@@ -97,11 +99,23 @@ fn are_of_last(numbers: &[usize], path: &OpenElements) -> bool
     true
 }
 
+/// Appends the index, if it is wanted.
+#[inline(always)]
+fn push_if(indices: &mut Vec<usize>, index: usize, is_wanted: bool) -> Result<(), AllocError>
+    ensures { OnOk result (indices.new.items
+        ≡ indices.old.items ++ (if is_wanted then index ∷ [] else [])) }
+{
+    if is_wanted {
+        indices.push(index)?;
+    }
+    Ok(())
+}
+
 /// An index of selectors, and the elements that are open while a page is walked in order: those of
 /// which a descendant is matched next.
 ///
 /// ```text
-/// walk.matching(&element, &mut indices)?;
+/// walk.matching(&element, &mut tried, &mut indices, &mut Tests::new())?;
 /// walk.enter(&element)?;
 /// for child in children { .. }
 /// walk.leave();
@@ -204,12 +218,31 @@ impl<'s, 'a> SelectorWalk<'s, 'a> {
         }
     }
 
-    /// Whether there is a selector at the index, and it requires nothing but its keys or matches.
-    fn passes_at<E: Keyed>(&self, index: usize, element: &E) -> bool
-        ensures { IsTrue result
-            ↔ PassesAt E.document (E.node element.now) self.now.selectors index }
+    /// Appends the indices of those selectors that require nothing but their keys or match. Of the others
+    /// each is tested.
+    fn push_passing<E: Keyed>(
+        &self,
+        element: &E,
+        tried: &[usize],
+        indices: &mut Vec<usize>,
+        tests: &mut Tests,
+    ) -> Result<(), AllocError>
+        requires none { indices.old.items ≡ [] }
+        requires ascending { IsStrictlyIncreasing tried.now }
+        ensures ascending { OnOk result (IsStrictlyIncreasing indices.new.items) }
+        ensures exactly { OnOk result ((index : ℕ) → Contains indices.new.items index
+            ↔ (Contains tried.now index
+            × PassesAt E.document (E.node element.now) self.now.selectors index)) }
+        ensures at_least { OnOk result
+            (tests.old + sum_by (least_tests self.now.selectors) tried.now ≤ tests.new) }
+        ensures at_most { OnOk result (tests.new ≤ tests.old
+            + sum_by (most_tests_at E.document (E.node element.now) self.now.selectors) tried.now) }
     {
-        self.index.passes_at(index, element)
+        for index in tried {
+            let passes = self.index.passes_at(*index, element, tests);
+            push_if(indices, *index, passes)?;
+        }
+        Ok(())
     }
 
     /// Returns how many selectors there are, and says that their numbers are known.
@@ -221,7 +254,7 @@ impl<'s, 'a> SelectorWalk<'s, 'a> {
 
     /// Finds the indices of the selectors that are tried, in order: those of which the element reports
     /// a key, and of which open elements report all that they need above an element.
-    pub fn tried<E: Keyed>(&self, element: &E, indices: &mut Vec<usize>) -> Result<(), AllocError>
+    fn tried<E: Keyed>(&self, element: &E, indices: &mut Vec<usize>) -> Result<(), AllocError>
         ensures tried { OnOk result (AreAll (IsTriedAt E.document (E.node element.now)
             (E.reported element.now) self.now) indices.new.items) }
         ensures err { OnErr result (indices.new.items ≡ []) }
@@ -233,22 +266,32 @@ impl<'s, 'a> SelectorWalk<'s, 'a> {
     }
 
     /// Does what [`SelectorIndex::matching`] does for an element whose ancestors are the open
-    /// elements. Only a selector is tested of which open elements report all keys that it needs of
-    /// ancestors, and the parent those that it needs of the parent.
+    /// elements, and counts the tests. It leaves in `tried` the indices of the selectors that are tried:
+    /// those of which the element reports a key, and of which open elements report all keys that they need
+    /// of ancestors and of the parent. Of these each is tested that requires more than its keys, and no
+    /// other.
     pub fn matching<E: Keyed>(
         &self,
         element: &E,
+        tried: &mut Vec<usize>,
         indices: &mut Vec<usize>,
+        tests: &mut Tests,
     ) -> Result<(), AllocError>
         requires { IsOpenTo E.document E.node E.reported self.now
             (E.document.parent (E.node element.now)) }
         ensures matches { OnOk result
             (AreMatches E.document (E.node element.now) self.now.selectors indices.new.items) }
+        ensures tried { OnOk result (AreTried E.document (E.node element.now) (E.reported element.now)
+            self.now tried.new.items tests.old tests.new) }
         ensures err { OnErr result (indices.new.items ≡ []) }
     {
         let _count = self.count();
-        self.tried(element, indices)?;
-        indices.retain(|index| self.passes_at(*index, element));
+        indices.clear();
+        self.tried(element, tried)?;
+        if let Err(error) = self.push_passing(element, tried.as_slice(), indices, tests) {
+            indices.clear();
+            return Err(error);
+        }
         Ok(())
     }
 }

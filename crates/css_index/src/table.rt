@@ -9,7 +9,7 @@ ghost use Rattle.css_selectors.specs.KeyViews.{key_of};
 ghost use Rattle.css_index.specs.KeyNumbers.{is_same as is_same_key};
 ghost use Rattle.css_index.specs.internal.Filed.{place_by, entry_of, is_found_by};
 ghost use Rattle.css_index.specs.internal.Filed.{with_index, AreFiledAt, AreFiled};
-ghost use Rattle.css_index.specs.internal.Filed.{filed_keys};
+ghost use Rattle.css_index.specs.Tested.{filed_keys};
 ghost use Rattle.css_index.specs.KeyNumbers.{number_of as number_of_key};
 ghost use Rattle.css_index.specs.internal.Filed.{entries_of as entries_of_selectors};
 ghost use Rattle.css_index.specs.Walks.{HasNumber, AreNumbered, AreNumbersOf, IsMore};

@@ -1,7 +1,7 @@
 -- What the tests of a search cost, step by step.
 -- Serves the contract of `matches`.
-use Rattle.std.proofs.Common.{◌≡◌, ℕ, ◌+◌, ◌*◌, ◌<◌, ◌≤◌, Option, Some, sym, subst, arith}
-use Rattle.std.proofs.Math.Nat.{mul-le-mul_left, mul-le-mul_right}
+use Rattle.std.proofs.Common.{◌≡◌, ℕ, ◌+◌, ◌*◌, ◌≤◌, Some, sym, subst, arith}
+use Rattle.std.proofs.Math.Nat.{mul-le-mul_right}
 use Rattle.css_matching.specs.Trees.{Tree, IsMonotone}
 use Rattle.css_matching.specs.Placements.{IsBeyond}
 use Rattle.css_matching.specs.Placements.IsBeyond.{is_next, is_further}

@@ -1,15 +1,15 @@
-//! A list of numbers that tells of each number whether it is in the list's end.
+//! A list of numbers that reports whether a number is in its last part.
 ghost use Rattle.std.specs.Prelude.{◌≡◌, ◌<◌, ◌++◌, ◌∷◌, ◌↔◌, [], IfOk, OnOk, OnErr, take, drop, length, All};
 ghost use Rattle.std.specs.Prelude.{Contains, IsTrue};
 
 use std::alloc::{AllocError, Global};
 use std::marker::Model;
 
-/// Numbers in the order in which they were added. Whether a number is among those after a place is one
-/// look, however many there are.
+/// Numbers in the order in which they were added. Whether one is after a place in the list is found in
+/// constant time.
 #[derive(Drop)]
 pub(crate) struct Numbers {
-    /// For each number, the place after that of its last occurrence, or 0.
+    /// For each number, the index after that of its last occurrence, or 0.
     lasts: Vec<usize>,
     /// The numbers, each with what `lasts` had for it before.
     listed: Vec<(usize, usize)>,
@@ -27,7 +27,7 @@ impl Model for Numbers {
 }
 
 impl Numbers {
-    /// No number is listed, of so many.
+    /// Returns an empty list of numbers below `size`.
     pub(crate) fn new(alloc: Global, size: usize) -> Result<Numbers, AllocError>
         ensures size { IfOk result (λ numbers. numbers.size ≡ size) }
         ensures none { IfOk result (λ numbers. numbers.listed ≡ []) }
@@ -39,14 +39,14 @@ impl Numbers {
         })
     }
 
-    /// How many numbers are listed. A later `close_to` comes back to here.
+    /// Returns how many numbers are listed. Pass it to `close_to` to return to this state.
     pub(crate) fn len(&self) -> usize
         ensures { result ≡ length self.now.listed }
     {
         self.listed.len()
     }
 
-    /// Lists a number once more.
+    /// Appends a number.
     pub(crate) fn add(&mut self, number: usize) -> Result<(), AllocError>
         requires { number < self.old.size }
         ensures listed { OnOk result (self.new.listed ≡ self.old.listed ++ number ∷ []) }
@@ -59,7 +59,7 @@ impl Numbers {
         Ok(())
     }
 
-    /// Takes off the numbers that were listed since so many were.
+    /// Removes the numbers after the first `len`.
     pub(crate) fn close_to(&mut self, len: usize)
         ensures closed { self.new.listed ≡ take len self.old.listed }
         ensures size { self.new.size ≡ self.old.size }
@@ -71,7 +71,7 @@ impl Numbers {
         }
     }
 
-    /// Lists each of the numbers once more, or none.
+    /// Appends each of the numbers, or none after an `Err`.
     pub(crate) fn add_all(&mut self, numbers: &[usize]) -> Result<(), AllocError>
         requires { All (λ number. number < self.old.size) numbers.now }
         ensures listed { OnOk result (self.new.listed ≡ self.old.listed ++ numbers.now) }
@@ -88,7 +88,7 @@ impl Numbers {
         Ok(())
     }
 
-    /// Whether a number was listed since so many were.
+    /// Whether a number is after the first `len`.
     #[inline(always)]
     pub(crate) fn is_since(&self, number: usize, len: usize) -> bool
         ensures { IsTrue result ↔ Contains (drop len self.now.listed) number }

@@ -31,7 +31,7 @@ impl Model for OpenElements {
 }
 
 impl OpenElements {
-    /// No element is open, and so many keys have numbers.
+    /// Returns a path with no open element; keys have numbers below `size`.
     pub fn new(alloc: Global, size: usize) -> Result<OpenElements, AllocError>
         ensures size { IfOk result (λ path. path.size ≡ size) }
         ensures none { IfOk result (λ path. path.opened ≡ []) }

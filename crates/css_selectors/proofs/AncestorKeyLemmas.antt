@@ -22,8 +22,8 @@ use Rattle.css_selectors.specs.declared.components.Complex.{Complex, out-Complex
 use Rattle.css_selectors.specs.Views.{condition_of, part_of, complex_of}
 use Rattle.css_selectors.specs.Documents.{Document, shape}
 use Rattle.css_selectors.specs.declared.components.Condition.{Condition as ConditionOf}
-use Rattle.css_selectors.specs.Components.{Simple, Condition, Conditions, Parts, Selectors, conditions_from, parts_from, Part, Selector}
-use Rattle.css_selectors.specs.Components.Simple.{universal, type_name, id, class, has_attribute, attribute, structure, language, state}
+use Rattle.css_selectors.specs.Components.{Simple, Condition, Conditions, Parts, Selectors, conditions_from, parts_from, Part, PseudoElement, Selector}
+use Rattle.css_selectors.specs.Components.Simple.{universal, type_name, id, class, has_attribute, attribute, structure, language, state, function, named_element}
 use Rattle.css_selectors.specs.Components.Condition.{simple, negation, any_of, where_any}
 use Rattle.css_selectors.specs.Components.Conditions.{end_of_compound, with_condition}
 use Rattle.css_selectors.specs.Components.Parts.{end_of_selector, with_part}
@@ -182,6 +182,8 @@ exact_key (attribute name comparison text ignores) h = absurd (cc)
 exact_key (structure s) h = absurd (cc)
 exact_key (language ranges) h = absurd (cc)
 exact_key (state name) h = absurd (cc)
+exact_key (function name argument) h = absurd (cc)
+exact_key (named_element name argument) h = absurd (cc)
 
 exact_compound : (c : Conditions) → IsTrue (is_one_id_or_class c)
     → IsTrue (is_exact_key (compound_key c)) × (3 ≤ rank (compound_key c))
@@ -237,6 +239,8 @@ keys_are (simple (attribute name comparison text ignores)) h = absurd (cc)
 keys_are (simple (structure s)) h = absurd (cc)
 keys_are (simple (language ranges)) h = absurd (cc)
 keys_are (simple (state name)) h = absurd (cc)
+keys_are (simple (function name argument)) h = absurd (cc)
+keys_are (simple (named_element name argument)) h = absurd (cc)
 keys_are (negation selectors) h = absurd (cc)
 keys_are (any_of selectors) h = list_keys selectors h
 keys_are (where_any selectors) h = list_keys selectors h
@@ -251,6 +255,8 @@ whole_key (attribute name comparison text ignores) h = absurd (cc)
 whole_key (structure s) h = absurd (cc)
 whole_key (language ranges) h = absurd (cc)
 whole_key (state name) h = absurd (cc)
+whole_key (function name argument) h = absurd (cc)
+whole_key (named_element name argument) h = absurd (cc)
 
 exact_condition : (c : Condition) → IsTrue (is_only_key c)
     → IsTrue (list_all is_exact_key (condition_keys c))
@@ -287,6 +293,8 @@ exact_whole (attribute name comparison text ignores) h = absurd (cc)
 exact_whole (structure s) h = absurd (cc)
 exact_whole (language ranges) h = absurd (cc)
 exact_whole (state name) h = absurd (cc)
+exact_whole (function name argument) h = absurd (cc)
+exact_whole (named_element name argument) h = absurd (cc)
 
 module _ {Node : Type 0} (d : Document Node) (n : Node) where
   whole_holds : (s : Simple) → IsTrue (is_whole s) → has_key d n (simple_key s) ≡ holds d n s
@@ -299,6 +307,8 @@ module _ {Node : Type 0} (d : Document Node) (n : Node) where
   whole_holds (structure s) h = absurd (cc)
   whole_holds (language ranges) h = absurd (cc)
   whole_holds (state name) h = absurd (cc)
+  whole_holds (function name argument) h = absurd (cc)
+  whole_holds (named_element name argument) h = absurd (cc)
 
   compound_met : (c : Conditions) → IsTrue (is_one_id_or_class c)
       → IsTrue (has_key d n (compound_key c)) → AreMet d c n
@@ -364,7 +374,7 @@ module _ {Node : Type 0} (d : Document Node) (n : Node) where
       lone_placed p.combinator (conditions_from p.conditions) (conditions_met p.conditions h k)
   part_met (p ∷ q ∷ parts) h k = absurd (cc)
 
-  none_at_end : (o : Option (List ℕ)) → IsTrue (is_none o) → o ≡ None
+  none_at_end : (o : Option PseudoElement) → IsTrue (is_none o) → o ≡ None
   none_at_end None h = refl
   none_at_end (Some name) h = absurd (cc)
 

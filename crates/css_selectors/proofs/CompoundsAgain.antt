@@ -12,7 +12,7 @@ use Rattle.css_matching.specs.declared.Combinator.TheVariants.{Descendant, Child
 use Rattle.css_selectors.specs.declared.components.ListKind.{ListKind}
 use Rattle.css_selectors.specs.declared.components.ListKind.TheVariants.{Not, Is, Where}
 use Rattle.css_selectors.specs.Components.{Simple, Condition, Selectors, Part, selectors_from}
-use Rattle.css_selectors.specs.Components.Simple.{universal, type_name, id, class, has_attribute, attribute, structure, language, state}
+use Rattle.css_selectors.specs.Components.Simple.{universal, type_name, id, class, has_attribute, attribute, structure, language, state, function, named_element}
 use Rattle.css_selectors.specs.Components.Condition.{simple, negation, any_of, where_any}
 use Rattle.css_selectors.specs.Readings.{Reading, got, refused, follow, give, ◌>>=◌, ◌>>◌, Step, item, none, stop, as_item, with_first, items}
 use Rattle.css_selectors.specs.Grammar.{gap, begins_compound, closing, one_more, list_kind, function_named, with_argument, type_selector, next_simple, after_type, some_of, Finder, ListReader, compound, after_gap, listed, begins_pseudo_class, simple_item, condition_here, condition_by, too_deep, next_condition, deepest, after_type_name, some_or_element, conditions, CompoundReader, sign_combinator, first_sign, joined_by, by_sign, part_after, joined_compound, next_part_in, complex, next_complex, complex_list, may_join}
@@ -97,6 +97,8 @@ first_kind n (simple (attribute name c v ignores)) rest w h = inr w
 first_kind n (simple (structure s)) rest w h = inr w
 first_kind n (simple (language ranges)) rest w h = inr w
 first_kind n (simple (state name)) rest w h = inr w
+first_kind n (simple (function name argument)) rest w h = inr w
+first_kind n (simple (named_element name argument)) rest w h = absurd w
 first_kind n (negation _) rest w h = inr w
 first_kind n (any_of _) rest w h = inr w
 first_kind n (where_any _) rest w h = inr w
@@ -452,8 +454,8 @@ module _ (n : ℕ) (list : ListReader) (reads : ReadsLists n list) where
       ≡ item (listed kind (selectors_in selectors)) rest
   list-again name rest kind selectors some is w =
       call-again list name argument rest (listed kind (selectors_in selectors)) some (λ opened.
-      ap (λ k. with_argument list opened k (function_named name) argument) is
-      ∙ ap (with_argument list opened (Some kind) (function_named name))
+      ap (λ k. with_argument list opened name k (function_named name) argument) is
+      ∙ ap (with_argument list opened name (Some kind) (function_named name))
       (append_assoc (selectors_text selectors) (close_parenthesis ∷ []) rest)
       ∙ ap (λ r. follow r (λ all. give (listed kind all))) (reads opened rest selectors w))
     where

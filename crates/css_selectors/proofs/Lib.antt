@@ -13,6 +13,8 @@ pub mod AncestorKeyLemmas
 pub mod ListTexts
 pub mod NestLemmas
 pub mod OccurrenceLemmas
+mod ReadingLemmas
+mod ArgumentLemmas
 mod SpelledAgain
 mod NumbersAgain
 mod NestedLists

@@ -20,27 +20,15 @@ use Rattle.css_selectors.specs.declared.components.Function.{Function}
 use Rattle.css_selectors.specs.declared.components.Function.TheVariants.{Numbered, Language}
 use Rattle.css_selectors.specs.Components.{Comparison, Signed, Progression, Structure, Simple}
 use Rattle.css_selectors.specs.Components.Structure.{root, empty, first_child, last_child, only_child, first_of_type, last_of_type, only_of_type}
-use Rattle.css_selectors.specs.Components.Simple.{universal, type_name, id, class, has_attribute, attribute, structure, language, state}
-use Rattle.css_selectors.specs.Readings.{Reading, got, refused, Reader, follow, give, ◌>>=◌, ◌>>◌, Step, item, none, stop, step_after, as_item, with_first, go_on, items, items_up_to}
-use Rattle.css_selectors.specs.declared.refusal.Why.TheVariants.{NoName, NoProgression}
-use Rattle.css_selectors.specs.Grammar.{gap, past_comments, ident_sequence, name, begins_name, begins_plain_name, begins_word, value, comparison, flag, compared, by_comparison, attribute_selector, closing, progression, digits, with_digit, sign, is_sign, is_n, signed, stepping, offset_after, offset_or_none, with_offset, is_number, subtracted, by_tail, n_word, numbered, is_lone_plus, unsigned, odd_or_even, word_progression, one_more, is_word, plain_structure, plain_pseudo, numbered_by, next_range, language_ranges, functional, is_old_element, named_pseudo, type_selector, next_simple}
-use Rattle.css_selectors.specs.WellFormed.{IsName, IsSize, IsProgression, IsStructure, IsFurther, IsFirst}
+use Rattle.css_selectors.specs.Components.Simple.{universal, type_name, id, class, has_attribute, attribute, structure, language, state, function, named_element}
+use Rattle.css_selectors.specs.Readings.{Reading, got, refused, follow, give, ◌>>=◌, ◌>>◌, Step, item, none, stop, step_after, as_item, with_first, go_on, items, items_up_to}
+use Rattle.css_selectors.specs.declared.refusal.Why.TheVariants.{NoName, NoProgression, UnknownFunction}
+use Rattle.css_selectors.specs.Grammar.{gap, past_comments, ident_sequence, name, begins_name, begins_plain_name, begins_word, value, comparison, flag, compared, by_comparison, attribute_selector, closing, progression, digits, with_digit, sign, is_sign, is_n, signed, stepping, offset_after, offset_or_none, with_offset, is_number, subtracted, by_tail, n_word, numbered, is_lone_plus, unsigned, odd_or_even, word_progression, one_more, is_word, plain_structure, plain_pseudo, numbered_by, next_range, language_ranges, list_kind, function_named, argument, takes_none, argument_of, functional, is_old_element, named_pseudo, type_selector, next_simple}
+use Rattle.css_selectors.specs.WellFormed.{IsName, IsArgumentOf, IsSize, IsProgression, IsStructure, IsFurther, IsFirst}
+use Rattle.css_selectors.proofs.ArgumentLemmas.{argument-again}
+use Rattle.css_selectors.proofs.ReadingLemmas.{followed}
 
 -- ---- readers
-
--- what is read after another was read after it
-pub record Followed {A B : Type 0} (r : Reading A) (next : A
-    → Reader B) (y : B) (rest : List ℕ) : Type 0 where
-  pub value : A
-  pub middle : List ℕ
-  pub first : r ≡ got value middle
-  pub second : next value middle ≡ got y rest
-
-pub followed : {A B : Type 0} (r : Reading A) (next : A → Reader B) (y : B) (rest : List ℕ)
-    → follow r next ≡ got y rest → Followed r next y rest
-followed (got x mid) next y rest h =
-    record { value = x; middle = mid; first = refl; second = h }
-followed (refused why mid) next y rest h = absurd (cc)
 
 -- an item that is found after a value was found after it
 pub record FoundAfter {A B : Type 0} (r : Reading A) (next : A → List ℕ → Step B) (y : B)
@@ -399,14 +387,30 @@ ranges_well text ranges rest h =
     closed_well (λ (l : List (List ℕ)). 0 < length l) close_parenthesis i.value ranges
     i.middle rest i.second (some_first g.value (items next_range g.middle) i.value i.middle all)
 
-pub functional_well : (opened text : List ℕ) (kind : Option Function) (s : Simple) (rest : List ℕ)
-    → functional opened kind text ≡ got s rest → IsFurther s
-functional_well opened text None s rest h = absurd (cc)
-functional_well opened text (Some Language) s rest h =
+-- an argument that is kept
+pub argument_of_well : (opened n text a rest : List ℕ) → argument_of opened n text ≡ got a rest
+    → IsArgumentOf n a
+argument_of_well opened n text a rest h = by (takes_none n) refl h
+  where
+    by : (t : Bool) → takes_none n ≡ t
+        → (if t then refused UnknownFunction opened else argument text) ≡ got a rest
+        → IsArgumentOf n a
+    by true e k = absurd (cc)
+    by false e k = (e, argument-again text a rest k [])
+
+pub functional_well : (opened n text : List ℕ) (kind : Option Function) (s : Simple)
+    (rest : List ℕ) → IsName n → list_kind n ≡ None → function_named n ≡ kind
+    → functional opened n kind text ≡ got s rest → IsFurther s
+functional_well opened n text None s rest some no_list no_kind h =
+    let f = followed (argument_of opened n text) (λ a. give (function n a)) s rest h in
+    let is : function n f.value ≡ s = (let e = f.second in cc) in
+    subst IsFurther is
+    (some, no_list, no_kind, argument_of_well opened n text f.value f.middle f.first)
+functional_well opened n text (Some Language) s rest some no_list is_kind h =
     let f = followed (language_ranges text) (λ ranges. give (language ranges)) s rest h in
     let is : language f.value ≡ s = (let e = f.second in cc) in
     subst IsFurther is (ranges_well text f.value f.middle f.first)
-functional_well opened text (Some (Numbered kind)) s rest h =
+functional_well opened n text (Some (Numbered kind)) s rest some no_list is_kind h =
     let f = followed (gap text) (λ x. progression >>= λ p. gap >>
     (closing close_parenthesis >> give (structure (numbered_by kind p)))) s rest h in
     let g = followed (progression f.middle) (λ p. gap >>
@@ -519,3 +523,5 @@ first_of_further (attribute n c v ignores) w = w
 first_of_further (structure s) w = w
 first_of_further (language ranges) w = w
 first_of_further (state n) w = w
+first_of_further (function n a) w = w
+first_of_further (named_element n a) w = absurd w

@@ -2,7 +2,7 @@
 -- Serves `printing_laws::printing_law`.
 use Rattle.std.proofs.Common.{◌≡◌, ℕ, zero, suc, ◌⊎◌, inl, inr, ◌&&◌, eqb-true, Bool, true, false, List, [], ◌∷◌, Option, None, Some, length, arith, refl, sym, ap, ◌∙◌, subst}
 use Rattle.std.specs.Prelude.{if◌then◌else◌}
-use Rattle.std.specs.Option.{is_some}
+use Rattle.std.specs.Option.{is_some, ForSome}
 use Rattle.std.proofs.lemmas.List.Elements.{All-cons, All-head, All-tail}
 use Rattle.css_text.specs.AsciiBytes.{comma, close_parenthesis, colon, open_parenthesis}
 use Rattle.css_text.specs.Bytes.{starts_by, starts, past_one}
@@ -11,16 +11,20 @@ use Rattle.css_matching.specs.declared.Combinator.{Combinator}
 use Rattle.css_matching.specs.declared.Combinator.TheVariants.{Descendant}
 use Rattle.css_selectors.specs.declared.components.ListKind.{ListKind}
 use Rattle.css_selectors.specs.declared.components.ListKind.TheVariants.{Not, Is, Where}
-use Rattle.css_selectors.specs.Components.{Simple, Condition, selectors_from, Part, Selector}
+use Rattle.css_selectors.specs.declared.components.Function.{Function}
+use Rattle.css_selectors.specs.declared.components.Function.TheVariants.{Numbered, Language}
+use Rattle.css_selectors.specs.Components.{Structure, Simple, Condition, selectors_from, Part, PseudoElement, Placed, Selector}
+use Rattle.css_selectors.specs.Components.Simple.{universal, type_name, id, class, has_attribute, attribute, structure, language, state, function, named_element}
 use Rattle.css_selectors.specs.Components.Condition.{simple, negation, any_of, where_any}
 use Rattle.css_selectors.specs.Readings.{Reading, got, refused, follow, give, ◌>>=◌, ◌>>◌, Step, item, none, stop, step_after, as_item, go_on, items, items_up_to, with_first}
-use Rattle.css_selectors.specs.Grammar.{gap, comments, past_comments, past_colon, condition_here, name, begins_compound, closing, one_more, list_kind, function_named, functional, named_pseudo, type_selector, next_simple, some_of, Finder, compound, after_gap, listed, ListReader, begins_pseudo_class, simple_item, with_argument, pseudo_condition, condition_by, deepest, too_deep, next_condition, some_or_element, conditions, first_sign, joined_by, signed_part, by_sign, part_after, next_part, pseudo_element, selector_with, at_end, parts, listed_selector, selector, CompoundReader, joined_compound, next_part_in, complex, comma_complex, next_complex, complex_list, may_join}
-use Rattle.css_selectors.specs.WellFormed.{IsName, IsFurther, IsFurtherCondition, IsFirstCondition, IsList, AreConditions, is_last, AreParts, BeginsPlain, IsWellFormed}
+use Rattle.css_selectors.specs.Grammar.{gap, past_comments, past_colon, condition_here, name, begins_compound, closing, one_more, progression, numbered_by, language_ranges, plain_structure, plain_pseudo, is_old_element, list_kind, function_named, argument_of, functional, named_pseudo, type_selector, next_simple, some_of, Finder, compound, after_gap, listed, ListReader, begins_pseudo_class, simple_item, with_argument, pseudo_condition, condition_by, deepest, too_deep, next_condition, some_or_element, conditions, first_sign, joined_by, signed_part, by_sign, part_after, next_part, element_argument, element_name, element_named, named_condition, class_or_element, after_element, with_after, pseudo_element, at_end, parts, placed_as, placed, placed_selector, selector, CompoundReader, joined_compound, next_part_in, complex, comma_complex, next_complex, complex_list, may_join}
+use Rattle.css_selectors.specs.WellFormed.{IsName, IsArgumentOf, IsElementName, is_pseudo_class, IsAfterElement, IsPseudoElement, IsFurther, IsFurtherCondition, IsFirstCondition, IsList, AreConditions, is_last, AreParts, BeginsPlain, IsWellFormed}
 use Rattle.css_text.proofs.bytes.GapLemmas.{no_gap-byte}
 use Rattle.css_selectors.proofs.NestedLists.{IsRow, IsLink, IsChain, AreChains, chains_in}
 use Rattle.css_selectors.proofs.CompoundsAgain.{Accept, row_after, some_after, some_or_element_after, no_part_at}
 use Rattle.css_selectors.proofs.GapLemmas.{no_comments}
-use Rattle.css_selectors.proofs.ReadSimples.{followed, found_after, made, all_items, nothing_read, first_of_all, name_well, closed_well, functional_well, named_pseudo_well, next_simple_well, type_well, first_of_further}
+use Rattle.css_selectors.proofs.ReadingLemmas.{followed}
+use Rattle.css_selectors.proofs.ReadSimples.{found_after, made, all_items, nothing_read, first_of_all, name_well, closed_well, argument_of_well, functional_well, named_pseudo_well, next_simple_well, type_well, first_of_further}
 
 -- ---- compound selectors, at a depth
 
@@ -222,15 +226,17 @@ module _ (n : ℕ) (well : FurtherWell n) where
 module _ (n : ℕ) (list : ListReader) (well : (opened text : List ℕ) (ss : List (List Part))
     (rest : List ℕ) → list opened text ≡ got ss rest → IsList n (selectors_from ss)) where
   argument_well : (opened name text : List ℕ) (kind : Option ListKind) (c : Condition)
-      (rest : List ℕ) → with_argument list opened kind (function_named name) text ≡ got c rest
+      (rest : List ℕ) → IsName name → list_kind name ≡ kind
+      → with_argument list opened name kind (function_named name) text ≡ got c rest
       → IsFurtherCondition n c
-  argument_well opened name text None c rest h =
-      let f = followed (functional opened (function_named name) text) (λ s. give (simple s)) c rest
-      h in
+  argument_well opened name text None c rest some no_list h =
+      let f = followed (functional opened name (function_named name) text)
+      (λ s. give (simple s)) c rest h in
       let is : simple f.value ≡ c = (let e = f.second in cc) in
       subst (IsFurtherCondition n) is
-      (functional_well opened text (function_named name) f.value f.middle f.first)
-  argument_well opened name text (Some kind) c rest h =
+      (functional_well opened name text (function_named name) f.value f.middle some no_list refl
+      f.first)
+  argument_well opened name text (Some kind) c rest some is_list h =
       let f = followed (list opened text) (λ all. give (listed kind all)) c rest h in
       let is : listed kind f.value ≡ c = (let e = f.second in cc) in
       subst (IsFurtherCondition n) is (by kind f.value (well opened text f.value f.middle f.first))
@@ -255,13 +261,13 @@ module _ (n : ℕ) (list : ListReader) (well : (opened text : List ℕ) (ss : Li
 
       after : (m t : List ℕ) → IsName m → (o : Bool) → (if o
           then as_item (λ c. c)
-          (with_argument list text (list_kind m) (function_named m) (past_one t))
+          (with_argument list text m (list_kind m) (function_named m) (past_one t))
           else simple_item (named_pseudo m t)) ≡ item c rest → IsFurtherCondition n c
       after m t some true k =
           let f = made (λ x. x)
-          (with_argument list text (list_kind m) (function_named m) (past_one t)) c rest k in
+          (with_argument list text m (list_kind m) (function_named m) (past_one t)) c rest k in
           subst (IsFurtherCondition n) f.is
-          (argument_well text m (past_one t) (list_kind m) f.value rest f.first)
+          (argument_well text m (past_one t) (list_kind m) f.value rest some refl f.first)
       after m t some false k =
           further (named_pseudo m t) (λ s u e. named_pseudo_well m t s u some e) k
 
@@ -403,32 +409,203 @@ parts_well text ps end h =
     first_parts (joined_by Descendant g.value) g.middle ps end refl
     (conditions_well f.middle g.value g.middle g.first) g.second
 
--- the pseudo-element, if there is one
-record ElementWell (text : List ℕ) (element : Option (List ℕ)) : Type 0 where
-  pub there : starts colon text ≡ is_some element
-  pub named : (n : List ℕ) → element ≡ Some n → IsName n
+-- ---- pseudo-elements
 
-element_well : (text : List ℕ) (element : Option (List ℕ)) (rest : List ℕ)
+element_argument_well : (n text : List ℕ) (a : Option (List ℕ)) (rest : List ℕ)
+    → element_argument n text ≡ got a rest → ForSome a (IsArgumentOf n)
+unfolding element_argument
+element_argument_well n text a rest h = by (starts open_parenthesis text) h
+  where
+    by : (t : Bool) → (if t then follow (argument_of text n (past_one text)) (λ b. give (Some b))
+        else got None text) ≡ got a rest → ForSome a (IsArgumentOf n)
+    by false k =
+        let is : None ≡ a = cc in
+        subst (λ (o : Option (List ℕ)). ForSome o (IsArgumentOf n)) is (λ b same. absurd (cc))
+    by true k =
+        let f = followed (argument_of text n (past_one text)) (λ b. give (Some b)) a rest k in
+        let is : Some f.value ≡ a = (let e = f.second in cc) in
+        let well = argument_of_well text n (past_one text) f.value f.middle f.first in
+        subst (λ (o : Option (List ℕ)). ForSome o (IsArgumentOf n)) is
+        (λ b same. let own : f.value ≡ b = cc in subst (IsArgumentOf n) own well)
+
+abbrev NamedElement : Type 0
+NamedElement = List ℕ × Option (List ℕ)
+
+element_name_well : (text : List ℕ) (e : NamedElement) (rest : List ℕ)
+    → element_name text ≡ got e rest → IsElementName e.0 e.1
+unfolding element_name
+element_name_well text e rest h =
+    let named : List ℕ = past_colon (past_comments text) in
+    let f = followed (name named) (λ n. element_argument n >>= λ a. give (n, a)) e rest h in
+    let g = followed (element_argument f.value f.middle) (λ a. give (f.value, a)) e rest f.second in
+    let is : (f.value, g.value) ≡ e = (let k = g.second in cc) in
+    subst (λ (x : NamedElement). IsElementName x.0 x.1) is (
+      name_well named f.value f.middle f.first,
+      element_argument_well f.value f.middle g.value g.middle g.first,
+    )
+
+-- what is read from a colon on is no other simple selector
+abbrev IsClass : Condition → Type 0
+IsClass (simple s) = is_pseudo_class s ≡ true
+IsClass c = Unit {0}
+
+class_of_functional : (opened n text : List ℕ) (kind : Option Function) (s : Simple)
+    (rest : List ℕ) → functional opened n kind text ≡ got s rest → is_pseudo_class s ≡ true
+class_of_functional opened n text None s rest h =
+    let f = followed (argument_of opened n text) (λ a. give (function n a)) s rest h in
+    let is : function n f.value ≡ s = (let e = f.second in cc) in
+    subst (λ (x : Simple). is_pseudo_class x ≡ true) is refl
+class_of_functional opened n text (Some Language) s rest h =
+    let f = followed (language_ranges text) (λ ranges. give (language ranges)) s rest h in
+    let is : language f.value ≡ s = (let e = f.second in cc) in
+    subst (λ (x : Simple). is_pseudo_class x ≡ true) is refl
+class_of_functional opened n text (Some (Numbered kind)) s rest h =
+    let f = followed (gap text) (λ x. progression >>= λ p. gap >>
+    (closing close_parenthesis >> give (structure (numbered_by kind p)))) s rest h in
+    let g = followed (progression f.middle) (λ p. gap >>
+    (closing close_parenthesis >> give (structure (numbered_by kind p)))) s rest f.second in
+    closed_well (λ (x : Simple). is_pseudo_class x ≡ true) close_parenthesis
+    (structure (numbered_by kind g.value)) s g.middle rest g.second refl
+
+class_of_name : (n text : List ℕ) (c : Condition) (rest : List ℕ)
+    → simple_item (named_pseudo n text) ≡ item c rest → IsClass c
+class_of_name n text c rest h = by (is_old_element n) (plain_structure n) h
+  where
+    by : (t : Bool) (o : Option Structure)
+        → simple_item (if t then none else item (plain_pseudo n o) text) ≡ item c rest → IsClass c
+    by true o k = absurd (cc)
+    by false None k = let is : simple (state n) ≡ c = cc in subst IsClass is refl
+    by false (Some s) k = let is : simple (structure s) ≡ c = cc in subst IsClass is refl
+
+class_of_argument : (list : ListReader) (opened n text : List ℕ) (kind : Option ListKind)
+    (c : Condition) (rest : List ℕ)
+    → with_argument list opened n kind (function_named n) text ≡ got c rest → IsClass c
+class_of_argument list opened n text None c rest h =
+    let f = followed (functional opened n (function_named n) text) (λ s. give (simple s)) c rest h in
+    let is : simple f.value ≡ c = (let e = f.second in cc) in
+    subst IsClass is
+    (class_of_functional opened n text (function_named n) f.value f.middle f.first)
+class_of_argument list opened n text (Some kind) c rest h =
+    let f = followed (list opened text) (λ all. give (listed kind all)) c rest h in
+    let is : listed kind f.value ≡ c = (let e = f.second in cc) in
+    subst IsClass is (by kind f.value)
+  where
+    by : (k : ListKind) (ss : List (List Part)) → IsClass (listed k ss)
+    by Not ss = tt
+    by Is ss = tt
+    by Where ss = tt
+
+class_here : (list : ListReader) (text : List ℕ) (c : Condition) (rest : List ℕ)
+    → condition_here list (colon ∷ text) ≡ item c rest → IsClass c
+unfolding next_simple
+class_here list text c rest h = by (begins_pseudo_class (colon ∷ text)) h
+  where
+    named : List ℕ
+    named = past_comments text
+
+    after : (m t : List ℕ) (o : Bool) → (if o
+        then as_item (λ c. c)
+        (with_argument list (colon ∷ text) m (list_kind m) (function_named m) (past_one t))
+        else simple_item (named_pseudo m t)) ≡ item c rest → IsClass c
+    after m t true k =
+        let f = made (λ x. x)
+        (with_argument list (colon ∷ text) m (list_kind m) (function_named m) (past_one t)) c rest
+        k in
+        subst IsClass f.is
+        (class_of_argument list (colon ∷ text) m (past_one t) (list_kind m) f.value rest f.first)
+    after m t false k = class_of_name m t c rest k
+
+    by : (t : Bool) → (if t then step_after (name named) (pseudo_condition list (colon ∷ text))
+        else simple_item (next_simple (colon ∷ text))) ≡ item c rest → IsClass c
+    by false k = absurd (cc)
+    by true k =
+        let f = found_after (name named) (pseudo_condition list (colon ∷ text)) c rest k in
+        after f.value f.middle (starts open_parenthesis f.middle) f.second
+
+next_class : (text : List ℕ) (c : Condition) (rest : List ℕ) → starts colon text ≡ true
+    → next_condition deepest text ≡ item c rest → IsClass c
+unfolding next_condition
+next_class [] c rest h k = absurd (cc)
+next_class (b ∷ text) c rest h k =
+    let is : b ≡ colon = eqb-true b colon h in
+    let list : ListReader = complex_list (may_join 31) (next_condition 31) in
+    let here : condition_by list (colon ∷ text) ≡ item c rest =
+    subst (λ (d : ℕ). condition_by list (d ∷ text) ≡ item c rest) is k in
+    class_here list text c rest
+    (sym (ap (condition_here list) (no_comments (colon ∷ text) refl)) ∙ here)
+
+class_after : (c : Condition) → IsClass c → IsFurtherCondition deepest c → IsAfterElement c
+class_after (simple universal) k w = absurd w
+class_after (simple (type_name n)) k w = absurd w
+class_after (simple (id n)) k w = (k, w)
+class_after (simple (class n)) k w = (k, w)
+class_after (simple (has_attribute n)) k w = (k, w)
+class_after (simple (attribute n c v ignores)) k w = (k, w)
+class_after (simple (structure s)) k w = (k, w)
+class_after (simple (language ranges)) k w = (k, w)
+class_after (simple (state n)) k w = (k, w)
+class_after (simple (function n a)) k w = (k, w)
+class_after (simple (named_element n a)) k w = absurd w
+class_after (negation selectors) k w = w
+class_after (any_of selectors) k w = w
+class_after (where_any selectors) k w = w
+
+-- what follows a pseudo-element
+after_element_well : (text : List ℕ) (c : Condition) (rest : List ℕ)
+    → after_element text ≡ item c rest → IsAfterElement c
+unfolding after_element
+after_element_well text c rest h = by (starts colon here) refl h
+  where
+    here : List ℕ
+    here = past_comments text
+
+    kind : starts colon here ≡ true → (step : Step Condition) → next_condition deepest here ≡ step
+        → class_or_element here step ≡ item c rest → IsAfterElement c
+    kind s (item d t) e k =
+        let is : d ≡ c = cc in
+        subst IsAfterElement is
+        (class_after d (next_class here d t s e) (next_condition_well deepest here d t e))
+    kind s none e k =
+        let f = made named_condition (element_name (past_one here)) c rest k in
+        subst IsAfterElement f.is (element_name_well (past_one here) f.value rest f.first)
+    kind s (stop why t) e k = absurd (cc)
+
+    by : (t : Bool) → starts colon here ≡ t
+        → (if t then class_or_element here (next_condition deepest here) else none) ≡ item c rest
+        → IsAfterElement c
+    by false s k = absurd (cc)
+    by true s k = kind s (next_condition deepest here) refl k
+
+-- the pseudo-element, if there is one
+record ElementWell (text : List ℕ) (element : Option PseudoElement) : Type 0 where
+  pub there : starts colon text ≡ is_some element
+  pub well : ForSome element IsPseudoElement
+
+element_well : (text : List ℕ) (element : Option PseudoElement) (rest : List ℕ)
     → pseudo_element text ≡ got element rest → ElementWell text element
 unfolding pseudo_element
 element_well text element rest h = by (starts colon text) refl h
   where
-    named : List ℕ
-    named = past_colon (past_comments (past_one text))
-
     by : (t : Bool) → starts colon text ≡ t
-        → (if t then follow (name named) (λ n. give (Some n)) else got None text)
+        → (if t then follow (element_name (past_one text)) with_after else got None text)
         ≡ got element rest → ElementWell text element
     by false e k =
         let is : None ≡ element = cc in
-        subst (ElementWell text) is (record { there = e; named = λ n same. absurd (cc) })
+        subst (ElementWell text) is (record { there = e; well = λ n same. absurd (cc) })
     by true e k =
-        let f = followed (name named) (λ n. give (Some n)) element rest k in
-        let is : Some f.value ≡ element = (let g = f.second in cc) in
-        let well = name_well named f.value f.middle f.first in
+        let f = followed (element_name (past_one text)) with_after element rest k in
+        let g = followed (items after_element f.middle)
+        (λ cs. give (Some (element_named f.value.0 f.value.1 cs))) element rest f.second in
+        let is : Some (element_named f.value.0 f.value.1 g.value) ≡ element =
+        (let l = g.second in cc) in
+        let named = element_name_well (past_one text) f.value f.middle f.first in
+        let all = all_items after_element IsAfterElement after_element_well f.middle g.value
+        g.middle g.first in
         subst (ElementWell text) is (record {
           there = e;
-          named = λ n same. let own : f.value ≡ n = cc in subst IsName own well;
+          well = λ n same.
+              let own : element_named f.value.0 f.value.1 g.value ≡ n = cc in
+              subst IsPseudoElement own (named, all);
         })
 
 -- what is before a pseudo-element may be before comments and one
@@ -453,24 +630,34 @@ before_comments text ps false e w =
     parts_stay (starts colon (past_comments text)) ps
     (subst (λ (t : Bool). AreParts t ps) e w)
 
+placed_well : (text : List ℕ) (p : Placed) (rest : List ℕ) → placed text ≡ got p rest
+    → IsWellFormed p.selector
+unfolding placed
+placed_well text p rest h =
+    let a = followed (gap text) _ p rest h in
+    let b = followed (parts a.middle) _ p rest a.second in
+    let c = followed (pseudo_element (past_comments b.middle)) _ p rest b.second in
+    let d = followed (gap c.middle) _ p rest c.second in
+    let is : placed_as b.value c.value a.middle b.middle (past_comments b.middle) c.middle ≡ p =
+    (let e = d.second in cc) in
+    let w = parts_well a.middle b.value b.middle b.first in
+    let e = element_well (past_comments b.middle) c.value c.middle c.first in
+    subst (λ (q : Placed). IsWellFormed q.selector) is (
+      w.plain,
+      subst (λ (t : Bool). AreParts t b.value) e.there
+          (before_comments b.middle b.value (starts colon b.middle) refl w.are),
+      e.well,
+    )
+
 pub selector-well : (text : List ℕ) (s : Selector) (rest : List ℕ) → selector text ≡ got s rest
     → IsWellFormed s
-unfolding selector listed_selector
+unfolding selector placed_selector
 selector-well text s rest h =
-    let f = followed (listed_selector text) (λ x. at_end >> give x) s rest h in
-    let end = followed (at_end f.middle) (λ x. give f.value) s rest f.second in
-    let g = followed (parts text) (λ all. comments >> (pseudo_element >>= λ e. gap >> give
-    (selector_with all e))) f.value f.middle f.first in
-    let i = followed (pseudo_element (past_comments g.middle)) (λ e. gap >> give (selector_with g.value e)) f.value
-    f.middle g.second in
-    let k = followed (gap i.middle) (λ x. give (selector_with g.value i.value)) f.value f.middle
-    i.second in
-    let is : selector_with g.value i.value ≡ s = (let e = k.second in let d = end.second in cc) in
-    let p = parts_well text g.value g.middle g.first in
-    let e = element_well (past_comments g.middle) i.value i.middle i.first in
-    subst IsWellFormed {x = selector_with g.value i.value} is (
-      p.plain,
-      subst (λ (t : Bool). AreParts t g.value) e.there
-          (before_comments g.middle g.value (starts colon g.middle) refl p.are),
-      e.named,
-    )
+    let f = followed (placed_selector text) (λ p. give p.selector) s rest h in
+    let g = followed (placed text) (λ p. at_end >> give p) f.value f.middle f.first in
+    let k = followed (at_end g.middle) (λ x. give g.value) f.value f.middle g.second in
+    let same : g.value ≡ f.value = (let e = k.second in cc) in
+    let is : f.value.selector ≡ s = (let e = f.second in cc) in
+    subst IsWellFormed is
+    (subst (λ (q : Placed). IsWellFormed q.selector) same
+    (placed_well text g.value g.middle g.first))

@@ -1,23 +1,28 @@
 -- A printed selector reads back.
 -- Serves `printing_laws::printing_law`.
-use Rattle.std.proofs.Common.{◌≡◌, ℕ, ◌&&◌, Bool, true, false, List, [], ◌∷◌, ◌++◌, Option, None, Some, flat_map, append_assoc, append-nil, refl, sym, ap, ◌∙◌, subst}
-use Rattle.std.specs.Option.{is_some}
-use Rattle.css_text.specs.AsciiBytes.{colon, slash}
+use Rattle.std.proofs.Common.{◌≡◌, ℕ, ◌≤◌, ◌&&◌, Bool, true, false, List, [], ◌∷◌, ◌++◌, Option, None, Some, All, length, flat_map, append_assoc, append-nil, arith, refl, sym, ap, ◌∙◌, subst, eqb-true}
+use Rattle.std.specs.Option.{is_some, ForSome}
+use Rattle.std.proofs.lemmas.List.Elements.{All-head, All-tail}
+use Rattle.css_text.specs.AsciiBytes.{close_parenthesis, colon, open_parenthesis, slash}
+use Rattle.css_text.specs.Bytes.{starts}
 use Rattle.css_text.specs.Comments.{blank_part, opens_comment}
 use Rattle.css_text.proofs.bytes.GapLemmas.{NoGap, no_gap-byte}
 use Rattle.css_text.proofs.reading.EachLemmas.{each-none}
 use Rattle.css_matching.specs.declared.Combinator.{Combinator}
 use Rattle.css_matching.specs.declared.Combinator.TheVariants.{Descendant, Child, Adjacent, Sibling}
-use Rattle.css_selectors.specs.Components.{Condition, Part, Selector}
-use Rattle.css_selectors.specs.Readings.{got, follow, give, ◌>>=◌, ◌>>◌, item, none, with_first, items}
-use Rattle.css_selectors.specs.Grammar.{gap, comments, past_comments, past_colon, name, begins_pseudo_class, next_condition, next_simple, deepest, conditions, joined_by, part_after, next_part, one_more, pseudo_element, selector_with, at_end, parts, listed_selector, selector}
-use Rattle.css_selectors.specs.Printing.{identifier_text, condition_text, combinator_text, part_text, parts_text, pseudo_element_text, selector_text}
-use Rattle.css_selectors.specs.WellFormed.{IsName, AreConditions, is_last, AreParts, BeginsPlain, IsWellFormed}
+use Rattle.css_selectors.specs.Components.{Structure, Condition, Part, PseudoElement, Selector}
+use Rattle.css_selectors.specs.Components.Structure.{root, empty, first_child, last_child, only_child, first_of_type, last_of_type, only_of_type, nth_child, nth_last_child, nth_of_type, nth_last_of_type}
+use Rattle.css_selectors.specs.Components.Simple.{universal, type_name, id, class, has_attribute, attribute, structure, language, state, function, named_element}
+use Rattle.css_selectors.specs.Components.Condition.{simple, negation, any_of, where_any}
+use Rattle.css_selectors.specs.Readings.{got, follow, give, ◌>>=◌, item, none, as_item, with_first, items}
+use Rattle.css_selectors.specs.Grammar.{gap, past_comments, past_colon, name, begins_pseudo_class, next_condition, next_simple, deepest, conditions, joined_by, part_after, next_part, one_more, element_argument, element_name, element_named, named_condition, class_or_element, after_element_here, after_element, with_after, pseudo_element, selector_with, parts, placed, placed_selector, selector}
+use Rattle.css_selectors.specs.Printing.{identifier_text, argument_text, structure_text, simple_text, condition_text, combinator_text, part_text, parts_text, pseudo_element_text, selector_text}
+use Rattle.css_selectors.specs.WellFormed.{IsArgumentOf, IsElementName, IsAfterElement, IsPseudoElement, IsFurtherCondition, AreConditions, is_last, AreParts, BeginsPlain, IsWellFormed}
 use Rattle.css_selectors.proofs.GapLemmas.{no_comments}
-use Rattle.css_selectors.proofs.SpelledAgain.{name-again}
+use Rattle.css_selectors.proofs.SpelledAgain.{EndsName, name-again, begins-again}
 use Rattle.css_selectors.proofs.NumbersAgain.{no_gap}
-use Rattle.css_selectors.proofs.SimplesAgain.{EachReads, items-again, ends, begins_solid, name_other, named_text, no_comment_here}
-use Rattle.css_selectors.proofs.CompoundsAgain.{none_read, Follows, conditions-again, conditions_begin, part-again, part_some, no_part_at}
+use Rattle.css_selectors.proofs.SimplesAgain.{EachReads, items-again, ends, ends_name, opens_none, begins_solid, name_other, no_comment_here, call_end, argument_of-again}
+use Rattle.css_selectors.proofs.CompoundsAgain.{none_read, condition-again, Follows, conditions-again, conditions_begin, part-again, part_some, no_part_at}
 
 -- a compound selector after another
 part_joined : (e : Bool) (c : Combinator) (cs : List Condition) (rest : List ℕ)
@@ -71,21 +76,19 @@ part_follows c text = record {
     last_by Adjacent = last_read _ refl refl refl
     last_by Sibling = last_read _ refl refl refl
 
-end_follows : (element : Option (List ℕ)) → Follows (is_some element) (pseudo_element_text element)
+end_follows : (element : Option PseudoElement) → Follows (is_some element) (pseudo_element_text element)
 end_follows None = nothing_follows
-end_follows (Some n) = element_follows true (identifier_text n)
+end_follows (Some e) = element_follows true _
 
 nil_solid : NoGap []
 nil_solid = record { none = each-none blank_part [] refl; closed = refl }
 
-no_part : (element : Option (List ℕ)) → next_part (pseudo_element_text element) ≡ none
+no_part : (element : Option PseudoElement) → next_part (pseudo_element_text element) ≡ none
 unfolding next_part
 no_part None = ap (part_after conditions) (no_gap [] nil_solid)
-no_part (Some n) =
-    no_part_at conditions colon (colon ∷ identifier_text n)
-    (no_gap-byte colon (colon ∷ identifier_text n) refl refl) refl
+no_part (Some e) = no_part_at conditions colon _ (no_gap-byte colon _ refl refl) refl
 
-module _ (element : Option (List ℕ)) where
+module _ (element : Option PseudoElement) where
   end : List ℕ
   end = pseudo_element_text element
 
@@ -94,9 +97,9 @@ module _ (element : Option (List ℕ)) where
   unfolding end
   parts_follow [] = by element
     where
-      by : (o : Option (List ℕ)) → Follows (is_some o && true) (pseudo_element_text o)
+      by : (o : Option PseudoElement) → Follows (is_some o && true) (pseudo_element_text o)
       by None = end_follows None
-      by (Some n) = end_follows (Some n)
+      by (Some e) = end_follows (Some e)
   parts_follow (p ∷ ps) = by (is_some element)
     where
       others : List ℕ
@@ -146,29 +149,202 @@ module _ (element : Option (List ℕ)) where
       ∙ ap (λ c. got (joined_by c p.conditions ∷ ps) end) (sym plain)
 
 -- no comment is before it
-no_element_comments : (element : Option (List ℕ))
+no_element_comments : (element : Option PseudoElement)
     → past_comments (pseudo_element_text element) ≡ pseudo_element_text element
 no_element_comments None = no_comments [] refl
-no_element_comments (Some n) = no_comments (colon ∷ colon ∷ identifier_text n) refl
+no_element_comments (Some e) = no_comments (colon ∷ colon ∷ _) refl
+
+-- ---- pseudo-elements
+
+-- its argument
+element_argument-again : (n : List ℕ) (a : Option (List ℕ)) (rest : List ℕ)
+    → ForSome a (IsArgumentOf n) → ends rest ≡ true
+    → element_argument n (argument_text a ++ rest) ≡ got a rest
+unfolding element_argument
+element_argument-again n None rest w h = rw (opens_none rest h) refl
+element_argument-again n (Some a) rest w h =
+    ap (λ l. element_argument n (open_parenthesis ∷ l))
+    (append_assoc a (close_parenthesis ∷ []) rest)
+    ∙ ap (λ r. follow r (λ b. give (Some b)))
+    (argument_of-again (open_parenthesis ∷ (a ++ (close_parenthesis ∷ rest))) n a rest (w a refl))
+
+argument_follows : (a : Option (List ℕ)) (rest : List ℕ) → ends rest ≡ true
+    → EndsName (argument_text a ++ rest)
+argument_follows None rest h = ends_name rest h
+argument_follows (Some a) rest h = call_end _
+
+-- its name, and its argument
+element_name-again : (n : List ℕ) (a : Option (List ℕ)) (rest : List ℕ) → IsElementName n a
+    → ends rest ≡ true
+    → element_name (colon ∷ ((identifier_text n ++ argument_text a) ++ rest)) ≡ got (n, a) rest
+unfolding element_name
+element_name-again n a rest w h =
+    let q : List ℕ = argument_text a ++ rest in
+    let e = argument_follows a rest h in
+    let text : List ℕ = identifier_text n ++ q in
+    let begins = begins-again n q w.0 e in
+    ap (λ l. element_name (colon ∷ l))
+    (append_assoc (identifier_text n) (argument_text a) rest)
+    ∙ ap (λ l. follow (name (past_colon l)) (λ m. element_argument m >>= λ b. give (m, b)))
+    (no_comments (colon ∷ text) refl)
+    ∙ ap (λ l. follow (name l) (λ m. element_argument m >>= λ b. give (m, b)))
+    (no_comments text (no_comment_here text (name_other slash text begins refl)))
+    ∙ ap (λ r. follow r (λ m. element_argument m >>= λ b. give (m, b)))
+    (name-again n q w.0 e)
+    ∙ ap (λ r. follow r (λ b. give (n, b))) (element_argument-again n a rest w.1 h)
+
+-- ---- what follows a pseudo-element
+
+structure_colon : (s : Structure) → starts colon (structure_text s) ≡ true
+structure_colon root = refl
+structure_colon empty = refl
+structure_colon first_child = refl
+structure_colon last_child = refl
+structure_colon only_child = refl
+structure_colon first_of_type = refl
+structure_colon last_of_type = refl
+structure_colon only_of_type = refl
+structure_colon (nth_child p) = refl
+structure_colon (nth_last_child p) = refl
+structure_colon (nth_of_type p) = refl
+structure_colon (nth_last_of_type p) = refl
+
+after_colon : (c : Condition) → IsAfterElement c → starts colon (condition_text c) ≡ true
+after_colon (simple universal) w = absurd (let k = w.0 in cc)
+after_colon (simple (type_name n)) w = absurd (let k = w.0 in cc)
+after_colon (simple (id n)) w = absurd (let k = w.0 in cc)
+after_colon (simple (class n)) w = absurd (let k = w.0 in cc)
+after_colon (simple (has_attribute n)) w = absurd (let k = w.0 in cc)
+after_colon (simple (attribute n c v ignores)) w = absurd (let k = w.0 in cc)
+after_colon (simple (structure s)) w = structure_colon s
+after_colon (simple (language ranges)) w = refl
+after_colon (simple (state n)) w = refl
+after_colon (simple (function n a)) w = refl
+after_colon (simple (named_element n a)) w = refl
+after_colon (negation selectors) w = refl
+after_colon (any_of selectors) w = refl
+after_colon (where_any selectors) w = refl
+
+colon_front : (text rest : List ℕ) → starts colon text ≡ true → starts colon (text ++ rest) ≡ true
+colon_front [] rest h = absurd (cc)
+colon_front (b ∷ text) rest h = h
+
+colon_ends : (text : List ℕ) → starts colon text ≡ true → ends text ≡ true
+colon_ends [] h = refl
+colon_ends (b ∷ text) h =
+    subst (λ (d : ℕ). ends (d ∷ text) ≡ true) (sym (eqb-true b colon h)) refl
+
+colon_comments : (text : List ℕ) → starts colon text ≡ true → past_comments text ≡ text
+colon_comments [] h = no_comments [] refl
+colon_comments (b ∷ text) h =
+    no_comments (b ∷ text)
+    (subst (λ (d : ℕ). opens_comment (d ∷ text) ≡ false) (sym (eqb-true b colon h)) refl)
+
+colon_some : (text : List ℕ) → starts colon text ≡ true → 1 ≤ length text
+colon_some [] h = absurd (cc)
+colon_some (b ∷ text) h = omega arith
+
+after_ends : (cs : List Condition) → All IsAfterElement cs
+    → ends (flat_map condition_text cs ++ []) ≡ true
+after_ends [] w = refl
+after_ends (c ∷ cs) w =
+    let is = after_colon c (All-head IsAfterElement c cs w) in
+    colon_ends ((condition_text c ++ flat_map condition_text cs) ++ [])
+    (colon_front (condition_text c ++ flat_map condition_text cs) []
+    (colon_front (condition_text c) (flat_map condition_text cs) is))
+
+-- a pseudo-class
+class-again : (c : Condition) (rest : List ℕ) → IsFurtherCondition deepest c
+    → starts colon (condition_text c) ≡ true → ends rest ≡ true
+    → after_element (condition_text c ++ rest) ≡ item c rest
+unfolding after_element
+class-again c rest w is h =
+    let text : List ℕ = condition_text c ++ rest in
+    let here : starts colon text ≡ true = colon_front (condition_text c) rest is in
+    ap after_element_here (colon_comments text here)
+    ∙ rw (here, condition-again deepest c rest w h) refl
+
+-- a further pseudo-element
+further_element-again : (n : List ℕ) (a : Option (List ℕ)) (rest : List ℕ) → IsElementName n a
+    → ends rest ≡ true
+    → after_element (simple_text (named_element n a) ++ rest)
+    ≡ item (simple (named_element n a)) rest
+unfolding after_element
+further_element-again n a rest w h =
+    let more : List ℕ = (identifier_text n ++ argument_text a) ++ rest in
+    ap after_element_here (no_comments (colon ∷ colon ∷ more) refl)
+    ∙ ap (class_or_element (colon ∷ colon ∷ more)) (element_follows false more).last
+    ∙ ap (as_item named_condition) (element_name-again n a rest w h)
+
+after-again : (c : Condition) (rest : List ℕ) → IsAfterElement c → ends rest ≡ true
+    → after_element (condition_text c ++ rest) ≡ item c rest
+after-again (simple universal) rest w h = absurd (let k = w.0 in cc)
+after-again (simple (type_name n)) rest w h = absurd (let k = w.0 in cc)
+after-again (simple (id n)) rest w h = absurd (let k = w.0 in cc)
+after-again (simple (class n)) rest w h = absurd (let k = w.0 in cc)
+after-again (simple (has_attribute n)) rest w h = absurd (let k = w.0 in cc)
+after-again (simple (attribute n c v ignores)) rest w h = absurd (let k = w.0 in cc)
+after-again (simple (structure s)) rest w h =
+    class-again (simple (structure s)) rest w.1 (structure_colon s) h
+after-again (simple (language ranges)) rest w h =
+    class-again (simple (language ranges)) rest w.1 refl h
+after-again (simple (state n)) rest w h = class-again (simple (state n)) rest w.1 refl h
+after-again (simple (function n a)) rest w h = class-again (simple (function n a)) rest w.1 refl h
+after-again (simple (named_element n a)) rest w h = further_element-again n a rest w h
+after-again (negation selectors) rest w h = class-again (negation selectors) rest w refl h
+after-again (any_of selectors) rest w h = class-again (any_of selectors) rest w refl h
+after-again (where_any selectors) rest w h = class-again (where_any selectors) rest w refl h
+
+nothing_after : after_element [] ≡ none
+unfolding after_element
+nothing_after = ap after_element_here (no_comments [] refl)
+
+each_after : (cs : List Condition) → All IsAfterElement cs
+    → EachReads after_element condition_text cs []
+each_after [] w = nothing_after
+each_after (c ∷ cs) w =
+    let one = All-head IsAfterElement c cs w in
+    let others = All-tail IsAfterElement c cs w in (
+      colon_some (condition_text c) (after_colon c one),
+      after-again c (flat_map condition_text cs ++ []) one (after_ends cs others),
+      each_after cs others,
+    )
 
 -- the pseudo-element at the end of a text
-element-again : (element : Option (List ℕ)) → ((n : List ℕ) → element ≡ Some n → IsName n)
+element-again : (element : Option PseudoElement) → ForSome element IsPseudoElement
     → pseudo_element (pseudo_element_text element) ≡ got element []
 unfolding pseudo_element
 element-again None w = refl
-element-again (Some n) w =
-    ap (λ l. follow (name (past_colon l)) (λ m. give (Some m)))
-    (no_comments (colon ∷ identifier_text n) refl)
-    ∙ ap (λ l. follow (name l) (λ m. give (Some m)))
-    (no_comments (identifier_text n) (subst (λ l. opens_comment l ≡ false) (append-nil (identifier_text n))
-    (no_comment_here (identifier_text n ++ []) (name_other slash (identifier_text n ++ [])
-    (named_text n [] (w n refl) refl) refl)))
-    ∙ sym (append-nil (identifier_text n)))
-    ∙ ap (λ r. follow r (λ m. give (Some m)))
-    (name-again n [] (w n refl) (record { bare = refl; calm = refl; apart = refl }))
+element-again (Some e) w =
+    let well = w e refl in
+    let after : List ℕ = flat_map condition_text e.after in
+    let more : List ℕ = (identifier_text e.name ++ argument_text e.argument) ++ after in
+    let stops : ends after ≡ true =
+    subst (λ (l : List ℕ). ends l ≡ true) (append-nil after) (after_ends e.after well.1) in
+    ap (λ r. follow r with_after) (element_name-again e.name e.argument after well.0 stops)
+    ∙ ap (λ l. follow (items after_element l) (λ cs. give (Some (element_named e.name e.argument cs))))
+    (sym (append-nil after))
+    ∙ ap (λ r. follow r (λ cs. give (Some (element_named e.name e.argument cs))))
+    (items-again after_element condition_text e.after [] (each_after e.after well.1))
+
+-- no gap is at the start of a printed selector
+starts_solid : (element : Option PseudoElement) (p : Part) (ps : List Part)
+    → AreParts (is_some element) (p ∷ ps)
+    → gap (parts_text (p ∷ ps) ++ pseudo_element_text element)
+    ≡ got false (parts_text (p ∷ ps) ++ pseudo_element_text element)
+unfolding end
+starts_solid element p ps w =
+    let others : List ℕ = flat_map part_text ps ++ pseudo_element_text element in
+    let e : Bool = is_some element && is_last ps in
+    let text : List ℕ = flat_map condition_text p.conditions ++ others in
+    let joined = append_assoc (flat_map condition_text p.conditions) (flat_map part_text ps)
+    (pseudo_element_text element) in
+    subst (λ (l : List ℕ). gap l ≡ got false l) (sym joined)
+    (no_gap text (begins_solid text (conditions_begin e p.conditions others w.0
+    (parts_follow element ps))))
 
 pub selector-again : (s : Selector) → IsWellFormed s → selector (selector_text s) ≡ got s []
-unfolding selector listed_selector end
+unfolding selector placed_selector placed end
 selector-again s w = by s.parts w.0 w.1
   where
     by : (ps : List Part) → BeginsPlain ps → AreParts (is_some s.pseudo_element) ps
@@ -176,12 +352,9 @@ selector-again s w = by s.parts w.0 w.1
         ≡ got (selector_with ps s.pseudo_element) []
     by [] plain all = absurd plain
     by (p ∷ ps) plain all =
-        ap (λ r. follow (follow r (λ all. comments >> (pseudo_element >>= λ e. gap >> give
-        (selector_with all e))))
-        (λ s. at_end >> give s)) (parts-again s.pseudo_element p ps plain all)
-        ∙ ap (λ l. follow (follow (pseudo_element l) (λ e. gap >> give (selector_with (p ∷ ps) e)))
-        (λ s. at_end >> give s)) (no_element_comments s.pseudo_element)
-        ∙ ap (λ r. follow (follow r (λ e. gap >> give (selector_with (p ∷ ps) e)))
-        (λ s. at_end >> give s)) (element-again s.pseudo_element w.2)
-        ∙ ap (λ r. follow (follow r (λ x. give (selector_with (p ∷ ps) s.pseudo_element)))
-        (λ s. at_end >> give s)) (no_gap [] nil_solid)
+        let solid = starts_solid s.pseudo_element p ps all in
+        let reads = parts-again s.pseudo_element p ps plain all in
+        let plain_end = no_element_comments s.pseudo_element in
+        let element = element-again s.pseudo_element w.2 in
+        let nothing = no_gap [] nil_solid in
+        rw (solid, reads, plain_end, element, nothing) refl

@@ -13,12 +13,13 @@ use Rattle.css_selectors.specs.declared.components.Function.TheVariants.{Numbere
 use Rattle.css_selectors.specs.Components.{Comparison, Progression, Structure, Simple, Condition}
 use Rattle.css_selectors.specs.Components.Comparison.{equals, has_word, has_subtag, starts as starts_with, ends as ends_with, contains}
 use Rattle.css_selectors.specs.Components.Structure.{root, empty, first_child, last_child, only_child, first_of_type, last_of_type, only_of_type, nth_child, nth_last_child, nth_of_type, nth_last_of_type}
-use Rattle.css_selectors.specs.Components.Simple.{universal, type_name, id, class, has_attribute, attribute, structure, language, state}
+use Rattle.css_selectors.specs.Components.Simple.{universal, type_name, id, class, has_attribute, attribute, structure, language, state, function, named_element}
 use Rattle.css_selectors.specs.Components.Condition.{simple}
 use Rattle.css_selectors.specs.Readings.{got, follow, give, ◌>>=◌, ◌>>◌, Step, item, none, as_item, with_first, go_on, items, items_up_to}
-use Rattle.css_selectors.specs.Grammar.{gap, past_comments, name, begins_name, begins_word, begins_compound, value, comparison, flag, flag_named, compared, by_comparison, attribute_selector, closing, progression, one_more, plain_structure, plain_pseudo, list_kind, function_named, numbered_by, next_range, range_after, language_ranges, functional, is_old_element, next_simple, simple_item, ListReader, with_argument, pseudo_condition, condition_here, condition_by}
+use Rattle.css_selectors.specs.Grammar.{gap, past_comments, name, begins_name, begins_word, begins_compound, value, comparison, flag, flag_named, compared, by_comparison, attribute_selector, closing, progression, one_more, plain_structure, plain_pseudo, list_kind, function_named, numbered_by, next_range, range_after, language_ranges, argument_of, functional, is_old_element, next_simple, simple_item, ListReader, with_argument, pseudo_condition, condition_here, condition_by}
 use Rattle.css_selectors.specs.Printing.{identifier_text, string_text, progression_text, comparison_text, flag_text, structure_text, further_text, list_text, simple_text}
-use Rattle.css_selectors.specs.WellFormed.{IsName, IsProgression, IsStructure, IsFurther}
+use Rattle.css_selectors.specs.WellFormed.{IsName, IsArgumentOf, IsProgression, IsStructure, IsFurther}
+use Rattle.css_selectors.proofs.ArgumentLemmas.{argument-again}
 use Rattle.css_selectors.proofs.GapLemmas.{no_comments}
 use Rattle.css_selectors.proofs.SpelledAgain.{EndsName, ident-again, name-again, begins-again, value-again, all_below, passes, either_fails}
 use Rattle.css_selectors.proofs.NumbersAgain.{no_gap, one_blank, progression-again, progression_calm}
@@ -118,7 +119,7 @@ pub no_comment_here : (text : List ℕ) → starts slash text ≡ false → open
 no_comment_here [] h = refl
 no_comment_here (b ∷ text) h = rw h refl
 
-opens_none : (text : List ℕ) → ends text ≡ true → starts open_parenthesis text ≡ false
+pub opens_none : (text : List ℕ) → ends text ≡ true → starts open_parenthesis text ≡ false
 opens_none [] h = refl
 opens_none (b ∷ text) h = end_fails (λ k. k == open_parenthesis) refl b h
 
@@ -295,10 +296,10 @@ attribute-again n v rest c ignores some =
 -- ---- arguments of pseudo-classes
 
 -- the argument of a pseudo-class with `An+B`
-numbered_argument : (opened rest : List ℕ) (kind : Numbering) (p : Progression) → IsProgression p
-    → functional opened (Some (Numbered kind)) (progression_text p ++ (close_parenthesis ∷ rest))
+numbered_argument : (opened n rest : List ℕ) (kind : Numbering) (p : Progression) → IsProgression p
+    → functional opened n (Some (Numbered kind)) (progression_text p ++ (close_parenthesis ∷ rest))
     ≡ got (structure (numbered_by kind p)) rest
-numbered_argument opened rest kind p w =
+numbered_argument opened n rest kind p w =
     ap (λ r. follow r (λ x. progression >>= λ q. gap >>
     (closing close_parenthesis >> give (structure (numbered_by kind q)))))
     (no_gap _ (progression_calm p (close_parenthesis ∷ rest) w.0 w.1))
@@ -354,10 +355,10 @@ ranges-again rest (range ∷ ranges) some =
     ∙ ap (λ r. follow r (λ x. closing close_parenthesis >> give (range ∷ ranges)))
     (no_gap end (no_gap-byte close_parenthesis rest refl refl))
 
-language_argument : (opened rest : List ℕ) (ranges : List (List ℕ)) → 0 < length ranges
-    → functional opened (Some Language) (list_text string_text ranges ++ (close_parenthesis ∷ rest))
+language_argument : (opened n rest : List ℕ) (ranges : List (List ℕ)) → 0 < length ranges
+    → functional opened n (Some Language) (list_text string_text ranges ++ (close_parenthesis ∷ rest))
     ≡ got (language ranges) rest
-language_argument opened rest ranges some =
+language_argument opened n rest ranges some =
     ap (λ r. follow r (λ all. give (language all))) (ranges-again rest ranges some)
 
 -- ---- pseudo-classes without a list
@@ -404,6 +405,8 @@ further_starts (structure s) w = by s
     by (nth_last_of_type p) = refl
 further_starts (language ranges) w = refl
 further_starts (state n) w = refl
+further_starts (function n a) w = refl
+further_starts (named_element n a) w = absurd w
 
 pub call_end : (argument : List ℕ) → EndsName (open_parenthesis ∷ argument)
 call_end argument = record { bare = refl; calm = refl; apart = refl }
@@ -411,6 +414,20 @@ call_end argument = record { bare = refl; calm = refl; apart = refl }
 attribute_assoc : (a b c d e f : List ℕ)
     → (((((a ++ b) ++ c) ++ d) ++ e)) ++ f ≡ a ++ (b ++ (c ++ (d ++ (e ++ f))))
 attribute_assoc a b c d e f = simp append_assoc
+
+-- a name and an argument in parentheses, before more
+pub call_assoc : (n a rest : List ℕ)
+    → (n ++ (open_parenthesis ∷ (a ++ (close_parenthesis ∷ [])))) ++ rest
+    ≡ n ++ (open_parenthesis ∷ (a ++ (close_parenthesis ∷ rest)))
+call_assoc n a rest =
+    append_assoc n (open_parenthesis ∷ (a ++ (close_parenthesis ∷ []))) rest
+    ∙ ap (λ l. n ++ (open_parenthesis ∷ l)) (append_assoc a (close_parenthesis ∷ []) rest)
+
+-- the argument of what has this name
+pub argument_of-again : (opened n a rest : List ℕ) → IsArgumentOf n a
+    → argument_of opened n (a ++ (close_parenthesis ∷ rest)) ≡ got a rest
+argument_of-again opened n a rest w =
+    rw w.0 (argument-again (a ++ (close_parenthesis ∷ [])) a [] w.1 rest)
 
 module _ (list : ListReader) where
   -- a pseudo-class is read by its name
@@ -439,7 +456,7 @@ module _ (list : ListReader) where
   -- a functional pseudo-class, by what its argument is read as
   pub call-again : (n argument rest : List ℕ) (c : Condition) → IsName n
       → ((opened : List ℕ)
-      → with_argument list opened (list_kind n) (function_named n) argument ≡ got c rest)
+      → with_argument list opened n (list_kind n) (function_named n) argument ≡ got c rest)
       → condition_by list (colon ∷ (identifier_text n ++ (open_parenthesis ∷ argument)))
       ≡ item c rest
   call-again n argument rest c some reads =
@@ -458,14 +475,14 @@ module _ (list : ListReader) where
       argument = (progression_text p ++ (close_parenthesis ∷ [])) ++ rest
 
       reads : (opened : List ℕ)
-          → with_argument list opened (list_kind n) (function_named n) argument
+          → with_argument list opened n (list_kind n) (function_named n) argument
           ≡ got (simple (structure (numbered_by kind p))) rest
       reads opened =
-          ap (λ k. with_argument list opened k (function_named n) argument) no_list
-          ∙ ap (λ f. with_argument list opened None f argument) is
-          ∙ ap (with_argument list opened None (Some (Numbered kind)))
+          ap (λ k. with_argument list opened n k (function_named n) argument) no_list
+          ∙ ap (λ f. with_argument list opened n None f argument) is
+          ∙ ap (with_argument list opened n None (Some (Numbered kind)))
           (append_assoc (progression_text p) (close_parenthesis ∷ []) rest)
-          ∙ ap (λ r. follow r (λ s. give (simple s))) (numbered_argument opened rest kind p w)
+          ∙ ap (λ r. follow r (λ s. give (simple s))) (numbered_argument opened n rest kind p w)
 
   structure-again : (s : Structure) (rest : List ℕ) → IsStructure s → ends rest ≡ true
       → condition_by list (structure_text s ++ rest) ≡ item (simple (structure s)) rest
@@ -498,9 +515,23 @@ module _ (list : ListReader) where
   language-again ranges rest some =
       call-again (codes "lang") ((list_text string_text ranges ++ (close_parenthesis ∷ [])) ++ rest)
       rest (simple (language ranges)) (omega arith) (λ opened.
-      ap (with_argument list opened None (Some Language))
+      ap (with_argument list opened (codes "lang") None (Some Language))
       (append_assoc (list_text string_text ranges) (close_parenthesis ∷ []) rest)
-      ∙ ap (λ r. follow r (λ s. give (simple s))) (language_argument opened rest ranges some))
+      ∙ ap (λ r. follow r (λ s. give (simple s))) (language_argument opened (codes "lang") rest ranges some))
+
+  -- one that has no meaning here
+  called-again : (n a rest : List ℕ) → IsFurther (function n a)
+      → condition_by list (simple_text (function n a) ++ rest) ≡ item (simple (function n a)) rest
+  called-again n a rest w =
+      ap (λ l. condition_by list (colon ∷ l)) (call_assoc (identifier_text n) a rest)
+      ∙ call-again n (a ++ (close_parenthesis ∷ rest)) rest (simple (function n a)) w.0 reads
+    where
+      reads : (opened : List ℕ)
+          → with_argument list opened n (list_kind n) (function_named n)
+          (a ++ (close_parenthesis ∷ rest)) ≡ got (simple (function n a)) rest
+      reads opened =
+          rw (w.1, w.2) (ap (λ r. follow (follow r (λ b. give (function n b)))
+          (λ s. give (simple s))) (argument_of-again opened n a rest w.3))
 
   -- a simple selector that is no type
   pub further-again : (s : Simple) (rest : List ℕ) → IsFurther s → ends rest ≡ true
@@ -533,3 +564,5 @@ module _ (list : ListReader) where
   further-again (language ranges) rest w h = language-again ranges rest w
   further-again (state n) rest w h =
       plain-again n rest (state n) w.0 w.2 h (ap (plain_pseudo n) w.1)
+  further-again (function n a) rest w h = called-again n a rest w
+  further-again (named_element n a) rest w h = absurd w

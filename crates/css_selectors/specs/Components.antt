@@ -56,8 +56,12 @@ pub data Simple : Type 0 where
   structure : Structure → Simple
   -- `:lang(..)`, with its language ranges
   language : List (List ℕ) → Simple
-  -- any other pseudo-class, with its name
+  -- any other pseudo-class without an argument, with its name
   state : List ℕ → Simple
+  -- any other pseudo-class with an argument, as it is written: it has no meaning here
+  function : (name argument : List ℕ) → Simple
+  -- `::name` or `::name(..)`: a pseudo-element, which no element is
+  named_element : (name : List ℕ) (argument : Option (List ℕ)) → Simple
 
 mutual
   -- a simple selector, or a pseudo-class with a list of complex selectors
@@ -106,7 +110,22 @@ abbrev pub selectors_from : List (List Part) → Selectors
 selectors_from [] = end_of_list
 selectors_from (s ∷ selectors) = with_selector (parts_from s) (selectors_from selectors)
 
+-- a pseudo-element at the end of a selector: its name and its argument, and what follows it, which are
+-- pseudo-classes and further pseudo-elements
+pub record PseudoElement : Type 0 where
+  pub name : List ℕ
+  pub argument : Option (List ℕ)
+  pub after : List Condition
+
 -- a selector: its parts from left to right, and the pseudo-element at its end, if it has one
 pub record Selector : Type 0 where
   pub parts : List Part
-  pub pseudo_element : Option (List ℕ)
+  pub pseudo_element : Option PseudoElement
+
+-- A selector of a list, and what is left of the text where it begins, where its pseudo-element does,
+-- and where it ends. Without a pseudo-element the last two are the same.
+pub record Placed : Type 0 where
+  pub selector : Selector
+  pub from : List ℕ
+  pub element : List ℕ
+  pub to : List ℕ

@@ -1,6 +1,6 @@
 -- The grammar of selectors (Selectors 3, section 10).
 use Rattle.std.specs.Prelude.{ℕ, zero, suc, ◌+◌, ◌-◌, ◌*◌, Bool, true, false, not, ◌&&◌, ◌||◌, ◌==◌, min, if◌then◌else◌, List, [], ◌∷◌, codes, Option, Some, None, nat_le}
-use Rattle.std.specs.Option.{option_map}
+use Rattle.std.specs.Option.{option_map, is_some}
 use Rattle.std.specs.Str.{str_eq_ignore_ascii_case}
 use Rattle.css_text.specs.AsciiBytes.{asterisk, backslash, close_bracket, close_parenthesis, colon, comma, equals_sign, full_stop, greater_than_sign, hyphen, number_sign, open_bracket, open_parenthesis, plus_sign, tilde, underscore, vertical_bar}
 use Rattle.css_text.specs.Bytes.{past_one, past_byte, starts, starts_by, is_digit}
@@ -8,7 +8,11 @@ use Rattle.css_text.specs.Characters.{is_letter}
 use Rattle.css_text.specs.Comments.{gap as gap_before, opens_comment}
 use Rattle.css_text.specs.Reading.{each, before, Reading as TextReading, got as text_got, fails as text_fails}
 use Rattle.css_text.specs.Strings.{is_quote}
-use Rattle.css_syntax.specs.Tokens.{begins_escape, past_comment, past_word, past_string_parts}
+use Rattle.css_syntax.specs.declared.parts.Stops.{Stops}
+use Rattle.css_syntax.specs.Parts.{Stated, parts as parts_stated}
+use Rattle.css_syntax.specs.Printing.{ends_lone}
+use Rattle.css_syntax.specs.Qualities.{is_whole}
+use Rattle.css_syntax.specs.Tokens.{begins_escape, past_comment, past_gap, past_word, past_string_parts}
 use Rattle.css_syntax.specs.Escapes.{decoded, decoded_string}
 use Rattle.css_syntax.specs.Statements.{begins_cdc}
 use Rattle.css_matching.specs.declared.Combinator.{Combinator}
@@ -20,16 +24,16 @@ use Rattle.css_selectors.specs.declared.components.Function.TheVariants.{Numbere
 use Rattle.css_selectors.specs.declared.components.ListKind.{ListKind}
 use Rattle.css_selectors.specs.declared.components.ListKind.TheVariants.{Not, Is, Where}
 use Rattle.css_selectors.specs.declared.refusal.Why.TheVariants.{NoSelector, NoName, BrokenString, NoOperator, NoValue, UnknownFlag, NoProgression, UnknownFunction, TooDeep, Unexpected}
-use Rattle.css_selectors.specs.Components.{Comparison, Signed, Progression, Structure, Simple, Condition, Part, Selector, selectors_from}
+use Rattle.css_selectors.specs.Components.{Comparison, Signed, Progression, Structure, Simple, Condition, Part, PseudoElement, Placed, Selector, selectors_from}
 use Rattle.css_selectors.specs.Components.Comparison.{equals, has_word, has_subtag, starts as starts_with, ends as ends_with, contains}
 use Rattle.css_selectors.specs.Components.Structure.{root, empty, first_child, last_child, only_child, first_of_type, last_of_type, only_of_type, nth_child, nth_last_child, nth_of_type, nth_last_of_type}
-use Rattle.css_selectors.specs.Components.Simple.{universal, type_name, id, class, has_attribute, attribute, structure, language, state}
+use Rattle.css_selectors.specs.Components.Simple.{universal, type_name, id, class, has_attribute, attribute, structure, language, state, function, named_element}
 use Rattle.css_selectors.specs.Components.Condition.{simple, negation, any_of, where_any}
 use Rattle.css_selectors.specs.Readings.{Reading, got, refused, Reader, follow, ◌>>=◌, ◌>>◌, give, Step, item, none, stop, step_after, as_item, with_first, items}
 
 -- ---- gaps, names, strings
 
--- a gap, which a comment that the end of the text closes also is: nothing is left after that one
+-- A gap. It may end in a comment that only the end of the text closes: then nothing is left.
 abbrev pub closed_gap : TextReading Bool → Reading Bool
 closed_gap (text_got spaced rest) = got spaced rest
 closed_gap (text_fails fault rest) = got false []
@@ -42,7 +46,7 @@ gap text = closed_gap (gap_before text)
 abbrev pub comment_part : List ℕ → Option (Unit {0} × List ℕ)
 comment_part text = if opens_comment text then Some (tt, past_comment text) else None
 
--- The rest after comments. No token is made of them (CSS Syntax 3, section 4.3.2), so they may be
+-- The rest after comments. They make no tokens (CSS Syntax 3, section 4.3.2), so they may appear
 -- between any two tokens.
 abbrev pub past_comments : List ℕ → List ℕ
 past_comments text = (each comment_part text).1
@@ -78,7 +82,7 @@ ident_sequence text = if begins_name text then word_here text else refused NoNam
 unfoldable pub name : Reader (List ℕ)
 name text = if begins_cdc text then refused NoName text else ident_sequence text
 
--- the quote after what is in a string, which the end of the text closes, too; `opened` begins with it
+-- the end of a string: its quote, or the end of the text; `opened` is the text from the first quote on
 abbrev pub closed_string : List ℕ → ℕ → List ℕ → List ℕ → Reading (List ℕ)
 closed_string opened quote value [] = got value []
 closed_string opened quote value (b ∷ rest) =
@@ -170,7 +174,7 @@ attribute_selector = do
 
 -- ---- An+B (CSS Syntax 3, section 6.2)
 
--- a digit more, up to the greatest `u32`
+-- one more digit, up to the greatest `u32`
 abbrev pub with_digit : ℕ → ℕ → ℕ
 with_digit so_far b = min (10 * so_far + (b - 48)) 4294967295
 
@@ -355,21 +359,63 @@ language_ranges = do
   closing close_parenthesis
   give ranges
 
-abbrev pub functional : List ℕ → Option Function → Reader Simple
-functional opened None = λ text. refused UnknownFunction opened
-functional opened (Some Language) = language_ranges >>= λ ranges. give (language ranges)
-functional opened (Some (Numbered kind)) = do
-  gap
-  p ← progression
-  gap
-  closing close_parenthesis
-  give (structure (numbered_by kind p))
+-- what ends an argument that is kept as it is written
+abbrev pub argument_ends : Stops
+argument_ends = record {
+  semicolon = false;
+  open_brace = false;
+  close_brace = false;
+  comma = false;
+  in_value = true;
+}
+
+-- It has something in it, brackets are closed, and no lone backslash is at its end.
+abbrev pub is_argument : Stated → Bool
+is_argument stated =
+    is_whole stated.quality && not (is_empty_text stated.text) && not (ends_lone stated.text)
+
+-- component values (CSS Syntax 3, section 5.4.7)
+abbrev pub values_read : List ℕ → Stated × List ℕ → Reading (List ℕ)
+values_read text read =
+    if is_argument read.0 then got read.0.text read.1 else refused Unexpected text
+
+-- the parenthesis after it, which the end of the text is not
+abbrev pub parenthesis : Reader (Unit {0})
+parenthesis text =
+    if starts close_parenthesis text then got tt (past_one text) else refused Unexpected text
+
+-- an argument that is kept as it is written, from after its parenthesis: component values, without
+-- the blanks round them
+unfoldable pub argument : Reader (List ℕ)
+argument text =
+    follow (values_read (past_gap text) (parts_stated argument_ends (past_gap text)))
+    (λ a. parenthesis >> give a)
 
 -- one of the four pseudo-elements that may have one colon (section 7)
 abbrev pub is_old_element : List ℕ → Bool
 is_old_element n =
     is_word (codes "before") n || is_word (codes "after") n
     || is_word (codes "first-line") n || is_word (codes "first-letter") n
+
+-- Such a pseudo-element takes no argument, and before a parenthesis `url` begins a url token (CSS
+-- Syntax 3, section 4.3.4).
+abbrev pub takes_none : List ℕ → Bool
+takes_none n = is_word (codes "url") n || is_old_element n
+
+-- the argument of what has this name; `opened` is where a refusal of it begins
+abbrev pub argument_of : List ℕ → List ℕ → Reader (List ℕ)
+argument_of opened n text = if takes_none n then refused UnknownFunction opened else argument text
+
+-- the argument of a pseudo-class with this name
+abbrev pub functional : List ℕ → List ℕ → Option Function → Reader Simple
+functional opened n None = argument_of opened n >>= λ a. give (function n a)
+functional opened n (Some Language) = language_ranges >>= λ ranges. give (language ranges)
+functional opened n (Some (Numbered kind)) = do
+  gap
+  p ← progression
+  gap
+  closing close_parenthesis
+  give (structure (numbered_by kind p))
 
 -- a pseudo-class that is only a name; a pseudo-element is none
 abbrev pub named_pseudo : List ℕ → List ℕ → Step Simple
@@ -392,7 +438,7 @@ next_simple (b ∷ text) =
     else (if b == number_sign then as_item id (ident_sequence text)
     else (if b == open_bracket then as_item (λ s. s) (attribute_selector text) else none))
 
--- there is one
+-- at least one item
 abbrev pub some_of : {A : Type 0} → List ℕ → Reading (List A) → Reading (List A)
 some_of text (got [] rest) = refused NoSelector text
 some_of text (got (x ∷ xs) rest) = got (x ∷ xs) rest
@@ -449,7 +495,7 @@ abbrev pub part_after : CompoundReader → Reading Bool → Step Part
 part_after one (refused why rest) = stop why rest
 part_after one (got spaced rest) = by_sign one spaced rest (first_sign rest)
 
--- a compound selector after a combinator in a list, where combinators may stand or not
+-- a compound selector after a combinator in a list, which may have combinators or not
 unfoldable pub joined_compound : Bool → Finder → CompoundReader
 joined_compound true next text = compound next text
 joined_compound false next text = refused TooDeep text
@@ -481,8 +527,8 @@ listed Not selectors = negation (selectors_from selectors)
 listed Is selectors = any_of (selectors_from selectors)
 listed Where selectors = where_any (selectors_from selectors)
 
--- The list of a pseudo-class, from after its parenthesis, by whether combinators may stand in it and
--- what finds a condition; `opened` is the text from the colon of the pseudo-class on.
+-- The list of a pseudo-class, from after its parenthesis, by whether it may have combinators and what
+-- finds a condition; `opened` is the text from the colon of the pseudo-class on.
 unfoldable pub complex_list : Bool → Finder → List ℕ → Reader (List (List Part))
 complex_list joins next opened = do
   gap
@@ -508,9 +554,9 @@ simple_item (stop why rest) = stop why rest
 
 -- the argument of a functional pseudo-class, from after its parenthesis, by what reads a list
 abbrev pub with_argument
-    : ListReader → List ℕ → Option ListKind → Option Function → Reader Condition
-with_argument list opened None kind = functional opened kind >>= λ s. give (simple s)
-with_argument list opened (Some kind) other =
+    : ListReader → List ℕ → List ℕ → Option ListKind → Option Function → Reader Condition
+with_argument list opened n None kind = functional opened n kind >>= λ s. give (simple s)
+with_argument list opened n (Some kind) other =
     list opened >>= λ selectors. give (listed kind selectors)
 
 -- after the name of a pseudo-class
@@ -518,7 +564,7 @@ abbrev pub pseudo_condition : ListReader → List ℕ → List ℕ → List ℕ 
 pseudo_condition list opened n text =
     if starts open_parenthesis text
     then as_item (λ c. c)
-    (with_argument list opened (list_kind n) (function_named n) (past_one text))
+    (with_argument list opened n (list_kind n) (function_named n) (past_one text))
     else simple_item (named_pseudo n text)
 
 -- the condition that begins here, by what reads a list
@@ -536,15 +582,15 @@ condition_by list text = condition_here list (past_comments text)
 abbrev pub deepest : ℕ
 deepest = 32
 
--- How many lists may be open where a combinator stands. (Selectors 4 has no limit.)
+-- How many lists may be open at a combinator. (Selectors 4 has no limit.)
 abbrev pub deepest_joined : ℕ
 deepest_joined = 1
 
--- whether a combinator may stand where so many lists more may be opened
+-- whether a combinator may appear where `n` more lists may be opened
 abbrev pub may_join : ℕ → Bool
 may_join n = nat_le (deepest - deepest_joined) n
 
--- a list more: its pseudo-class is refused
+-- one list too many: its pseudo-class is refused
 abbrev pub too_deep : ListReader
 too_deep opened text = refused TooDeep opened
 
@@ -558,8 +604,7 @@ abbrev pub list_within : ℕ → ListReader
 list_within zero = too_deep
 list_within (suc n) = complex_list (may_join n) (next_condition n)
 
--- A compound selector may be empty before a pseudo-element, which a colon begins that begins no
--- condition.
+-- A compound selector may be empty before a pseudo-element: before a colon that begins no condition.
 abbrev pub some_or_element : List ℕ → Reading (List Condition) → Reading (List Condition)
 some_or_element text reading = if starts colon text then reading else some_of text reading
 
@@ -582,19 +627,53 @@ next_part text = part_after conditions (gap text)
 abbrev pub past_colon : List ℕ → List ℕ
 past_colon text = past_comments (past_byte colon text)
 
--- The pseudo-element after the compound selectors, if there is one: its name after two colons, or
--- after the one of which no condition was read.
-unfoldable pub pseudo_element : Reader (Option (List ℕ))
-pseudo_element text =
-    if starts colon text
-    then follow (name (past_colon (past_comments (past_one text)))) (λ n. give (Some n))
+abbrev pub element_named : List ℕ → Option (List ℕ) → List Condition → PseudoElement
+element_named n a after = record { name = n; argument = a; after = after }
+
+-- its argument, if it has one
+unfoldable pub element_argument : List ℕ → Reader (Option (List ℕ))
+element_argument n text =
+    if starts open_parenthesis text
+    then follow (argument_of text n (past_one text)) (λ a. give (Some a))
     else got None text
+
+-- the name of a pseudo-element after its first colon, and its argument
+unfoldable pub element_name : Reader (List ℕ × Option (List ℕ))
+element_name text =
+    follow (name (past_colon (past_comments text)))
+    (λ n. element_argument n >>= λ a. give (n, a))
+
+abbrev pub named_condition : List ℕ × Option (List ℕ) → Condition
+named_condition e = simple (named_element e.0 e.1)
+
+-- a pseudo-class, or a pseudo-element, from its colon on
+abbrev pub class_or_element : List ℕ → Step Condition → Step Condition
+class_or_element text (item c rest) = item c rest
+class_or_element text none = as_item named_condition (element_name (past_one text))
+class_or_element text (stop why rest) = stop why rest
+
+abbrev pub after_element_here : List ℕ → Step Condition
+after_element_here text =
+    if starts colon text then class_or_element text (next_condition deepest text) else none
+
+-- what may follow a pseudo-element: a pseudo-class or a further pseudo-element
+unfoldable pub after_element : Finder
+after_element text = after_element_here (past_comments text)
+
+abbrev pub with_after : List ℕ × Option (List ℕ) → Reader (Option PseudoElement)
+with_after e = items after_element >>= λ after. give (Some (element_named e.0 e.1 after))
+
+-- The pseudo-element after the compound selectors, if there is one: its name after two colons, or
+-- after the one of which no condition was read, and what follows it.
+unfoldable pub pseudo_element : Reader (Option PseudoElement)
+pseudo_element text =
+    if starts colon text then follow (element_name (past_one text)) with_after else got None text
 
 abbrev pub at_end : Reader (Unit {0})
 at_end [] = got tt []
 at_end (b ∷ text) = refused Unexpected (b ∷ text)
 
-abbrev pub selector_with : List Part → Option (List ℕ) → Selector
+abbrev pub selector_with : List Part → Option PseudoElement → Selector
 selector_with parts element = record { parts = parts; pseudo_element = element }
 
 -- the compound selectors of a selector
@@ -604,32 +683,55 @@ parts = do
   first ← conditions
   one_more (joined_by Descendant first) (items next_part)
 
--- a selector and the gap after it
-unfoldable pub listed_selector : Reader Selector
-listed_selector = do
-  all ← parts
-  comments
-  element ← pseudo_element
-  gap
-  give (selector_with all element)
+-- what is left
+abbrev pub here : Reader (List ℕ)
+here text = got text text
 
--- a text that is a selector
-unfoldable pub selector : Reader Selector
-selector = do
-  s ← listed_selector
+-- A selector that begins at `from`; its compound selectors end at `end`, the pseudo-element begins at
+-- `at`, if there is one, and ends at `after`.
+abbrev pub placed_as : List Part → Option PseudoElement → (from end at after : List ℕ) → Placed
+placed_as parts element from end at after = record {
+  selector = selector_with parts element;
+  from = from;
+  element = if is_some element then at else end;
+  to = if is_some element then after else end;
+}
+
+-- a selector and the gaps round it
+unfoldable pub placed : Reader Placed
+placed = do
+  gap
+  from ← here
+  all ← parts
+  end ← here
+  comments
+  at ← here
+  element ← pseudo_element
+  after ← here
+  gap
+  give (placed_as all element from end at after)
+
+-- a text that is a selector, with where it is in the text
+unfoldable pub placed_selector : Reader Placed
+placed_selector = do
+  p ← placed
   at_end
-  give s
+  give p
 
 -- a comma and a further selector, if there is a comma
-unfoldable pub next_selector : List ℕ → Step Selector
-next_selector text =
-    if starts comma text then as_item (λ s. s) (listed_selector (past_one text)) else none
+unfoldable pub next_placed : List ℕ → Step Placed
+next_placed text =
+    if starts comma text then as_item (λ p. p) (placed (past_one text)) else none
 
 -- a text that is a list of selectors with commas between them (section 5): if one of them is
 -- refused, the list is
-unfoldable pub selector_list : Reader (List Selector)
-selector_list = do
-  first ← listed_selector
-  all ← one_more first (items next_selector)
+unfoldable pub placed_list : Reader (List Placed)
+placed_list = do
+  first ← placed
+  all ← one_more first (items next_placed)
   at_end
   give all
+
+-- a text that is a selector
+unfoldable pub selector : Reader Selector
+selector = placed_selector >>= λ p. give p.selector

@@ -19,6 +19,7 @@ pub mod Readings
 pub mod Reads
 pub mod RefusalWords
 pub mod Specificities
+pub mod Supported
 pub mod SpecificityViews
 pub mod Runs
 pub mod TestBounds

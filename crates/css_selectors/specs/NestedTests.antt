@@ -1,4 +1,4 @@
--- How many tests matching makes at most, by how combinators stand in lists within lists.
+-- How many tests matching makes at most, by which lists within lists have combinators.
 use Rattle.std.specs.Prelude.{ℕ, zero, suc, ◌+◌, ◌*◌, ◌<◌}
 use Rattle.css_selectors.specs.Components.{Condition, Conditions, Parts, Selectors}
 use Rattle.css_selectors.specs.Components.Condition.{simple, negation, any_of, where_any}
@@ -8,7 +8,7 @@ use Rattle.css_selectors.specs.Components.Selectors.{end_of_list, with_selector}
 use Rattle.css_selectors.specs.Costs.{IsPlainList}
 use Rattle.css_selectors.specs.Meanings.{part_count}
 
--- how many compound selectors there are, those within lists, too
+-- how many compound selectors there are, including those within lists
 abbrev mutual
   pub condition_size : Condition → ℕ
   condition_size (simple s) = 0
@@ -28,7 +28,7 @@ abbrev mutual
   selectors_size end_of_list = 0
   selectors_size (with_selector parts selectors) = parts_size parts + selectors_size selectors
 
--- combinators stand within at most `k` lists, one within another
+-- each combinator is within at most `k` lists, one within another
 abbrev mutual
   pub JoinsWithin : ℕ → Condition → Type 0
   JoinsWithin k (simple s) = Unit {0}
@@ -52,13 +52,13 @@ abbrev mutual
   ListJoinsWithin (suc k) (with_selector parts selectors) =
       (0 < part_count parts) × PartsJoinWithin k parts × ListJoinsWithin (suc k) selectors
 
--- the most tests of a search for so many compound selectors, by the number of the element's ancestors
--- and itself, and that of their earlier siblings
+-- the most tests of a search for `parts` compound selectors: `above` is the number of the element and
+-- its ancestors, `before` that of their earlier siblings
 abbrev pub searches : ℕ → ℕ → ℕ → ℕ
 searches parts above before = parts * (above + parts * before)
 
--- the most tests of searches in searches, so many one within another, of which each alone makes
--- `one`: each test makes those of the next search besides itself
+-- the most tests of searches within searches, as deep as the first number, where each makes `one`
+-- tests of its own: each test makes those of the next search besides itself
 abbrev pub nested_tests : ℕ → ℕ → ℕ
 nested_tests zero one = 0
 nested_tests (suc k) one = one * (nested_tests k one + 1)

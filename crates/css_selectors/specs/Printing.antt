@@ -10,10 +10,10 @@ use Rattle.css_text.specs.Bytes.{is_digit, is_within, past_one, starts}
 use Rattle.css_syntax.specs.Tokens.{is_name_byte}
 use Rattle.css_matching.specs.declared.Combinator.{Combinator}
 use Rattle.css_matching.specs.declared.Combinator.TheVariants.{Descendant, Child, Adjacent, Sibling}
-use Rattle.css_selectors.specs.Components.{Comparison, Signed, Progression, Structure, Simple, Condition, Conditions, Parts, Selectors, Part, Selector}
+use Rattle.css_selectors.specs.Components.{Comparison, Signed, Progression, Structure, Simple, Condition, Conditions, Parts, Selectors, Part, PseudoElement, Selector}
 use Rattle.css_selectors.specs.Components.Comparison.{equals, has_word, has_subtag, starts as starts_with, ends as ends_with, contains}
 use Rattle.css_selectors.specs.Components.Structure.{root, empty, first_child, last_child, only_child, first_of_type, last_of_type, only_of_type, nth_child, nth_last_child, nth_of_type, nth_last_of_type}
-use Rattle.css_selectors.specs.Components.Simple.{universal, type_name, id, class, has_attribute, attribute, structure, language, state}
+use Rattle.css_selectors.specs.Components.Simple.{universal, type_name, id, class, has_attribute, attribute, structure, language, state, function, named_element}
 use Rattle.css_selectors.specs.Components.Condition.{simple, negation, any_of, where_any}
 use Rattle.css_selectors.specs.Components.Conditions.{end_of_compound, with_condition}
 use Rattle.css_selectors.specs.Components.Parts.{end_of_selector, with_part}
@@ -135,6 +135,11 @@ abbrev pub list_text : {A : Type 0} → (A → List ℕ) → List A → List ℕ
 list_text text_of [] = []
 list_text text_of (x ∷ xs) = text_of x ++ flat_map (further_text text_of) xs
 
+-- an argument in its parentheses, as it is written
+abbrev pub argument_text : Option (List ℕ) → List ℕ
+argument_text None = []
+argument_text (Some argument) = codes "(" ++ argument ++ codes ")"
+
 -- "serialize a simple selector"
 abbrev pub simple_text : Simple → List ℕ
 simple_text universal = codes "*"
@@ -148,6 +153,10 @@ simple_text (attribute name comparison value ignores_case) =
 simple_text (structure s) = structure_text s
 simple_text (language ranges) = function_text (codes ":lang(") (list_text string_text ranges)
 simple_text (state name) = codes ":" ++ identifier_text name
+simple_text (function name argument) =
+    codes ":" ++ identifier_text name ++ argument_text (Some argument)
+simple_text (named_element name argument) =
+    codes "::" ++ identifier_text name ++ argument_text argument
 
 abbrev pub combinator_text : Combinator → List ℕ
 combinator_text Descendant = codes " "
@@ -199,9 +208,11 @@ abbrev pub parts_text : List Part → List ℕ
 parts_text [] = []
 parts_text (part ∷ parts) = flat_map condition_text part.conditions ++ flat_map part_text parts
 
-abbrev pub pseudo_element_text : Option (List ℕ) → List ℕ
+-- a pseudo-element and what follows it
+abbrev pub pseudo_element_text : Option PseudoElement → List ℕ
 pseudo_element_text None = []
-pseudo_element_text (Some name) = codes "::" ++ identifier_text name
+pseudo_element_text (Some e) =
+    simple_text (named_element e.name e.argument) ++ flat_map condition_text e.after
 
 -- "serialize a selector"
 abbrev pub selector_text : Selector → List ℕ

@@ -1,7 +1,7 @@
 -- Specificity (section 9; Selectors 4, section 17, for lists). Each count stops at 4,294,967,295.
-use Rattle.std.specs.Prelude.{ℕ, ◌+◌, Bool, ◌&&◌, ◌||◌, ◌==◌, nat_lt, min, if◌then◌else◌, List, Option, None, Some}
-use Rattle.css_selectors.specs.Components.{Simple, Condition, Conditions, Parts, Selectors, parts_from, Selector}
-use Rattle.css_selectors.specs.Components.Simple.{universal, type_name, id, class, has_attribute, attribute, structure, language, state}
+use Rattle.std.specs.Prelude.{ℕ, ◌+◌, Bool, ◌&&◌, ◌||◌, ◌==◌, nat_lt, min, if◌then◌else◌, Option, None, Some}
+use Rattle.css_selectors.specs.Components.{Simple, Condition, Conditions, Parts, Selectors, conditions_from, parts_from, PseudoElement, Selector}
+use Rattle.css_selectors.specs.Components.Simple.{universal, type_name, id, class, has_attribute, attribute, structure, language, state, function, named_element}
 use Rattle.css_selectors.specs.Components.Condition.{simple, negation, any_of, where_any}
 use Rattle.css_selectors.specs.Components.Conditions.{end_of_compound, with_condition}
 use Rattle.css_selectors.specs.Components.Parts.{end_of_selector, with_part}
@@ -56,6 +56,8 @@ of_simple (attribute name comparison text ignores) = one_class
 of_simple (structure s) = one_class
 of_simple (language ranges) = one_class
 of_simple (state name) = one_class
+of_simple (function name argument) = one_class
+of_simple (named_element name argument) = one_name
 
 abbrev mutual
   -- `:not()` and `:is()` count as the greatest of their lists, `:where()` counts nothing
@@ -82,9 +84,10 @@ abbrev mutual
   greatest so_far (with_selector s selectors) =
       greatest (greater so_far (of_parts nothing s)) selectors
 
-abbrev pub of_pseudo_element : Option (List ℕ) → Counts
+-- a pseudo-element with what follows it
+abbrev pub of_pseudo_element : Option PseudoElement → Counts
 of_pseudo_element None = nothing
-of_pseudo_element (Some name) = one_name
+of_pseudo_element (Some e) = of_compound one_name (conditions_from e.after)
 
 abbrev pub specificity : Selector → Counts
 specificity s = plus (of_parts nothing (parts_from s.parts)) (of_pseudo_element s.pseudo_element)

@@ -1,5 +1,6 @@
 -- What contracts see of the parts of a selector: their kinds, and the bytes of their names.
-use Rattle.std.specs.Prelude.{List, map}
+use Rattle.std.specs.Prelude.{ℕ, List, Option, map}
+use Rattle.std.specs.Option.{option_map}
 use Rattle.std.specs.Cow.{cow_str_bytes}
 use Rattle.css_selectors.specs.declared.components.Comparison.{Comparison as ComparisonOf}
 use Rattle.css_selectors.specs.declared.components.Comparison.TheVariants.{Equals, HasWord, HasSubtag, Starts, Ends, Contains}
@@ -8,15 +9,17 @@ use Rattle.css_selectors.specs.declared.components.Progression.{Progression as P
 use Rattle.css_selectors.specs.declared.components.Structure.{Structure as StructureOf}
 use Rattle.css_selectors.specs.declared.components.Structure.TheVariants.{Root, Empty, FirstChild, LastChild, OnlyChild, FirstOfType, LastOfType, OnlyOfType, NthChild, NthLastChild, NthOfType, NthLastOfType}
 use Rattle.css_selectors.specs.declared.components.Simple.{Simple as SimpleOf}
-use Rattle.css_selectors.specs.declared.components.Simple.TheVariants.{Universal, TypeName, Id, Class, HasAttribute, Attribute, Structure as StructureIs, Language, State}
+use Rattle.css_selectors.specs.declared.components.Simple.TheVariants.{Universal, TypeName, Id, Class, HasAttribute, Attribute, Structure as StructureIs, Language, State, Function, Element}
 use Rattle.css_selectors.specs.declared.components.Complex.{Complex, out-Complex}
 use Rattle.css_selectors.specs.declared.components.Condition.{Condition as ConditionOf, fold-Condition}
 use Rattle.css_selectors.specs.declared.components.Condition.TheOpen.{Condition-F, Complex-F, Part-F}
 use Rattle.css_selectors.specs.declared.components.Part.{Part as PartOf}
-use Rattle.css_selectors.specs.Components.{Comparison, Signed, Progression, Structure, Simple, Condition, selectors_from, Part}
+use Rattle.css_selectors.specs.declared.components.ElementName.{ElementName}
+use Rattle.css_selectors.specs.declared.components.PseudoElement.{PseudoElement as PseudoElementOf}
+use Rattle.css_selectors.specs.Components.{Comparison, Signed, Progression, Structure, Simple, Condition, selectors_from, Part, PseudoElement}
 use Rattle.css_selectors.specs.Components.Comparison.{equals, has_word, has_subtag, starts, ends, contains}
 use Rattle.css_selectors.specs.Components.Structure.{root, empty, first_child, last_child, only_child, first_of_type, last_of_type, only_of_type, nth_child, nth_last_child, nth_of_type, nth_last_of_type}
-use Rattle.css_selectors.specs.Components.Simple.{universal, type_name, id, class, has_attribute, attribute, structure, language, state}
+use Rattle.css_selectors.specs.Components.Simple.{universal, type_name, id, class, has_attribute, attribute, structure, language, state, function, named_element}
 use Rattle.css_selectors.specs.Components.Condition.{simple, negation, any_of, where_any}
 
 abbrev pub comparison_of : ComparisonOf → Comparison
@@ -59,6 +62,8 @@ simple_of (Attribute test) =
 simple_of (StructureIs s) = structure (structure_of s)
 simple_of (Language ranges) = language (map cow_str_bytes ranges.items)
 simple_of (State name) = state (cow_str_bytes name)
+simple_of (Function call) = function (cow_str_bytes call.name) (cow_str_bytes call.argument)
+simple_of (Element e) = named_element (cow_str_bytes e.name) (option_map cow_str_bytes e.argument)
 
 -- one level, with what is within its lists already seen as the definitions see it
 abbrev pub condition_step : Condition-F Condition (List Part) Part → Condition
@@ -81,3 +86,14 @@ part_of p = record { combinator = p.combinator; conditions = map condition_of p.
 
 abbrev pub complex_of : Complex → List Part
 complex_of s = map part_of (out-Complex s).parts.items
+
+-- its name and its argument
+abbrev pub element_name_of : ElementName → List ℕ × Option (List ℕ)
+element_name_of e = (cow_str_bytes e.name, option_map cow_str_bytes e.argument)
+
+abbrev pub pseudo_element_of : PseudoElementOf → PseudoElement
+pseudo_element_of e = record {
+  name = cow_str_bytes e.element.name;
+  argument = option_map cow_str_bytes e.element.argument;
+  after = map condition_of e.after.items;
+}

@@ -1,15 +1,16 @@
 -- Selectors that some text reads as.
-use Rattle.std.specs.Prelude.{◌≡◌, ◌<◌, ◌≤◌, ◌&&◌, ℕ, zero, suc, Bool, true, false, List, [], ◌∷◌, length, All, None}
+use Rattle.std.specs.Prelude.{◌≡◌, ◌<◌, ◌≤◌, ◌&&◌, ℕ, zero, suc, Bool, true, false, List, [], ◌∷◌, ◌++◌, codes, length, All, Option, None}
 use Rattle.std.specs.Option.{ForSome, is_some}
 use Rattle.css_matching.specs.declared.Combinator.TheVariants.{Descendant}
-use Rattle.css_selectors.specs.Components.{Signed, Progression, Structure, Simple, Condition, Conditions, Parts, Selectors, Part, Selector}
+use Rattle.css_selectors.specs.Components.{Signed, Progression, Structure, Simple, Condition, Conditions, Parts, Selectors, Part, PseudoElement, Selector}
 use Rattle.css_selectors.specs.Components.Structure.{nth_child, nth_last_child, nth_of_type, nth_last_of_type}
-use Rattle.css_selectors.specs.Components.Simple.{universal, type_name, id, class, has_attribute, attribute, structure, language, state}
+use Rattle.css_selectors.specs.Components.Simple.{universal, type_name, id, class, has_attribute, attribute, structure, language, state, function, named_element}
 use Rattle.css_selectors.specs.Components.Condition.{simple, negation, any_of, where_any}
 use Rattle.css_selectors.specs.Components.Conditions.{end_of_compound, with_condition}
 use Rattle.css_selectors.specs.Components.Parts.{end_of_selector, with_part}
 use Rattle.css_selectors.specs.Components.Selectors.{end_of_list, with_selector}
-use Rattle.css_selectors.specs.Grammar.{plain_structure, is_old_element, deepest, may_join}
+use Rattle.css_selectors.specs.Readings.{got}
+use Rattle.css_selectors.specs.Grammar.{argument, takes_none, plain_structure, is_old_element, list_kind, function_named, deepest, may_join}
 
 -- a name is not empty
 abbrev pub IsName : List ℕ → Type 0
@@ -29,9 +30,17 @@ IsStructure (nth_of_type p) = IsProgression p
 IsStructure (nth_last_of_type p) = IsProgression p
 IsStructure s = Unit {0}
 
--- A simple selector that may follow others. `*` and a type may not. A pseudo-class that is a
--- structural one by its name is no other, and none has the name of a pseudo-element that may have
--- one colon.
+-- an argument that is kept as it is written: before a parenthesis it is read as itself
+abbrev pub IsArgument : List ℕ → Type 0
+IsArgument a = argument (a ++ codes ")") ≡ got a []
+
+-- the same of what has this name
+abbrev pub IsArgumentOf : List ℕ → List ℕ → Type 0
+IsArgumentOf name a = (takes_none name ≡ false) × IsArgument a
+
+-- A simple selector that may follow others. `*`, a type and a pseudo-element may not. A pseudo-class
+-- that is a structural one by its name is no other, and none has the name of a pseudo-element that
+-- may have one colon.
 abbrev pub IsFurther : Simple → Type 0
 IsFurther universal = ⊥
 IsFurther (type_name name) = ⊥
@@ -43,6 +52,9 @@ IsFurther (structure s) = IsStructure s
 IsFurther (language ranges) = 0 < length ranges
 IsFurther (state name) =
     IsName name × (plain_structure name ≡ None) × (is_old_element name ≡ false)
+IsFurther (function name a) =
+    IsName name × (list_kind name ≡ None) × (function_named name ≡ None) × IsArgumentOf name a
+IsFurther (named_element name a) = ⊥
 
 -- a simple selector that may be the first
 abbrev pub IsFirst : Simple → Type 0
@@ -116,8 +128,29 @@ abbrev pub BeginsPlain : List Part → Type 0
 BeginsPlain [] = ⊥
 BeginsPlain (part ∷ parts) = part.combinator ≡ Descendant
 
+-- a pseudo-class
+abbrev pub is_pseudo_class : Simple → Bool
+is_pseudo_class (structure s) = true
+is_pseudo_class (language ranges) = true
+is_pseudo_class (state name) = true
+is_pseudo_class (function name a) = true
+is_pseudo_class s = false
+
+-- the name of a pseudo-element, and its argument
+abbrev pub IsElementName : List ℕ → Option (List ℕ) → Type 0
+IsElementName name a = IsName name × ForSome a (IsArgumentOf name)
+
+-- what may follow a pseudo-element
+abbrev pub IsAfterElement : Condition → Type 0
+IsAfterElement (simple (named_element name a)) = IsElementName name a
+IsAfterElement (simple s) = (is_pseudo_class s ≡ true) × IsFurther s
+IsAfterElement c = IsFurtherCondition deepest c
+
+abbrev pub IsPseudoElement : PseudoElement → Type 0
+IsPseudoElement e = IsElementName e.name e.argument × All IsAfterElement e.after
+
 -- A selector that some text reads as.
 abbrev pub IsWellFormed : Selector → Type 0
 IsWellFormed s =
     BeginsPlain s.parts × AreParts (is_some s.pseudo_element) s.parts
-    × ForSome s.pseudo_element IsName
+    × ForSome s.pseudo_element IsPseudoElement

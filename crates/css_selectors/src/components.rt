@@ -112,6 +112,24 @@ pub struct AttributeTest<'a> {
     pub ignores_case: bool,
 }
 
+/// A pseudo-class with an argument that has no meaning here.
+#[derive(Drop)]
+pub struct FunctionCall<'a> {
+    /// The name of the pseudo-class.
+    pub name: CowStr<'a>,
+    /// What is in its parentheses, as written, without blanks at either end.
+    pub argument: CowStr<'a>,
+}
+
+/// The name of a pseudo-element.
+#[derive(Drop)]
+pub struct ElementName<'a> {
+    /// The name.
+    pub name: CowStr<'a>,
+    /// What is in its parentheses, if it has any, as written, without blanks at either end.
+    pub argument: Option<CowStr<'a>>,
+}
+
 /// A simple selector that has no other selectors in it.
 #[derive(Drop)]
 pub enum Simple<'a> {
@@ -131,8 +149,12 @@ pub enum Simple<'a> {
     Structure(Structure),
     /// `:lang(..)`, with its language ranges.
     Language(Vec<CowStr<'a>>),
-    /// Any other pseudo-class, by its name.
+    /// Any other pseudo-class without an argument, by its name.
     State(CowStr<'a>),
+    /// Any other pseudo-class with an argument. No element satisfies it.
+    Function(FunctionCall<'a>),
+    /// A pseudo-element after another one. No element satisfies it.
+    Element(ElementName<'a>),
 }
 
 /// A simple selector, or a pseudo-class with a list of complex selectors.
@@ -165,4 +187,13 @@ pub struct Part<'a> {
 pub struct Complex<'a> {
     /// The compound selectors, from left to right. A selector of none matches nothing.
     pub parts: Vec<Part<'a>>,
+}
+
+/// A pseudo-element at the end of a selector.
+#[derive(Drop)]
+pub struct PseudoElement<'a> {
+    /// Its name.
+    pub element: ElementName<'a>,
+    /// What follows it: pseudo-classes and further pseudo-elements.
+    pub after: Vec<Condition<'a>>,
 }

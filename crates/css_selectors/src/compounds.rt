@@ -1,9 +1,10 @@
 //! Reads compound selectors and lists of them.
-ghost use Rattle.std.specs.Prelude.{◌≡◌, ◌∷◌, [], map, option_map, option_to_list};
+ghost use Rattle.std.specs.Prelude.{◌≡◌, ◌∷◌, [], ℕ, List, map, option_map, option_to_list};
 ghost use Rattle.css_selectors.specs.Grammar.{type_selector, next_simple as next_simple_of, compound as compound_of_text};
 ghost use Rattle.css_selectors.specs.Grammar.{next_part_in as next_part_of, complex as complex_of_text};
 ghost use Rattle.css_selectors.specs.Grammar.{next_complex as next_complex_of, listed as listed_as};
-ghost use Rattle.css_selectors.specs.Grammar.{joined_compound, may_join};
+ghost use Rattle.css_selectors.specs.Grammar.{joined_compound, may_join, list_kind as list_kind_of, function_named as function_of};
+ghost use Rattle.std.specs.Cow.{cow_str_bytes};
 ghost use Rattle.css_selectors.specs.Grammar.{name as name_of, list_within, with_argument, pseudo_condition, begins_pseudo_class as begins_pseudo_class_of};
 ghost use Rattle.css_selectors.specs.Grammar.{next_condition as next_condition_of, conditions as conditions_of};
 ghost use Rattle.css_selectors.specs.Components.Condition.{simple};
@@ -13,7 +14,7 @@ ghost use Rattle.css_selectors.specs.Views.{simple_of, condition_of, part_of, co
 
 use crate::Combinator;
 use crate::attribute_selectors::read_attribute;
-use crate::components::{Complex, Condition, Function, ListKind, Part, Simple};
+use crate::components::{Complex, Condition, ListKind, Part, Simple};
 use crate::joins::{begins_compound, take_sign};
 use crate::pseudo_classes::{
     function_named, is_old_element, list_kind, plain_pseudo, read_functional,
@@ -26,9 +27,10 @@ use crate::words::{
 use css_syntax::texts::past_ascii;
 use css_text::readers;
 use std::alloc::Global;
+use std::borrow::CowStr;
 
 /// How many lists may be open at once.
-const DEEPEST: usize = 32;
+pub(crate) const DEEPEST: usize = 32;
 
 /// How many lists may be open where a combinator stands. A search within a search takes the product
 /// of their times.
@@ -280,26 +282,28 @@ fn read_list<'a>(
     Ok((selectors, rest))
 }
 
-/// Reads the argument of a functional pseudo-class. `opened` is the text from its colon on.
+/// Reads the argument of a functional pseudo-class of this name. `opened` is the text from its colon
+/// on.
 #[cycle(lists)]
 fn read_argument<'a>(
     alloc: Global,
     depth: usize,
     opened: &'a str,
-    kind: Option<ListKind>,
-    function: Option<Function>,
+    name: CowStr<'a>,
     text: &'a str,
 ) -> Result<(Condition<'a>, &'a str), Refusal<'a>>
     ensures { Reads condition_of result
-        (with_argument (list_within depth) opened.now kind function text.now) }
+        (let n : List ℕ = cow_str_bytes name.entry in
+        with_argument (list_within depth) opened.now n (list_kind_of n) (function_of n) text.now) }
 {
-    match kind {
+    match list_kind(name.as_str()) {
         Some(kind) => {
             let (selectors, rest) = read_list(alloc, depth, opened, text)?;
             Ok((listed(kind, selectors), rest))
         }
         None => {
-            let (simple, rest) = read_functional(alloc, opened, function, text)?;
+            let function = function_named(name.as_str());
+            let (simple, rest) = read_functional(alloc, opened, name, function, text)?;
             Ok((Condition::Simple(simple), rest))
         }
     }
@@ -319,8 +323,7 @@ fn read_pseudo_condition<'a>(
 {
     let (name, rest) = read_name(alloc, text)?;
     if let Some((b'(', after)) = split_ascii(rest) {
-        let (kind, function) = (list_kind(name.as_str()), function_named(name.as_str()));
-        return Ok(Some(read_argument(alloc, depth, opened, kind, function, after)?));
+        return Ok(Some(read_argument(alloc, depth, opened, name, after)?));
     }
     if is_old_element(name.as_str()) {
         return Ok(None);
@@ -331,7 +334,7 @@ fn read_pseudo_condition<'a>(
 /// Reads the next condition of a compound selector, if there is one, in which lists may nest `depth`
 /// deep.
 #[cycle(lists)]
-fn next_condition<'a>(
+pub(crate) fn next_condition<'a>(
     alloc: Global,
     depth: usize,
     text: &'a str,

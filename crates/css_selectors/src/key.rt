@@ -52,8 +52,12 @@ fn key_of_simple<'s>(simple: &'s Simple<'_>) -> Key<'s>
         Simple::Class(class) => Key::Class(class.as_str()),
         Simple::HasAttribute(name) => Key::Attribute(name.as_str()),
         Simple::Attribute(test) => Key::Attribute(test.name.as_str()),
-        Simple::Universal | Simple::Structure(_) | Simple::Language(_) | Simple::State(_) =>
-            Key::Any,
+        Simple::Universal
+        | Simple::Structure(_)
+        | Simple::Language(_)
+        | Simple::State(_)
+        | Simple::Function(_)
+        | Simple::Element(_) => Key::Any,
     }
 }
 

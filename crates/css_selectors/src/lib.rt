@@ -9,6 +9,11 @@
 //! section 7). A selector can also be made of its components. It prints as CSSOM serializes it, a
 //! pseudo-element with two colons, and one that was read reads back from that text.
 //!
+//! A pseudo-element may have an argument, and pseudo-classes and further pseudo-elements after it. Its
+//! argument, and that of a pseudo-class that has no meaning here, is kept as it is written. A selector
+//! with one of these, or with `:host`, is unsupported: `parse` refuses it as such, and `read_list`
+//! reads it.
+//!
 //! A selector has a specificity, and `matches` is true exactly if there is a placement: an element for
 //! each compound selector, related as the combinators say. An element is any type with the trait
 //! `Element`.
@@ -18,6 +23,7 @@
 #![tactic(auto)]
 
 mod ancestor_keys;
+mod arguments;
 mod attribute_selectors;
 mod attributes;
 mod components;
@@ -36,6 +42,7 @@ mod printing;
 mod printing_laws;
 mod progression;
 mod pseudo_classes;
+mod pseudo_elements;
 mod read;
 mod reading;
 mod refusal;
@@ -43,15 +50,17 @@ mod refusal_words;
 mod selector;
 mod specificity;
 mod spelling;
+mod support;
 mod texts;
 mod words;
 
 pub use components::{
-    AttributeTest, Comparison, Complex, Condition, Part, Progression, Signed, Simple, Structure,
+    AttributeTest, Comparison, Complex, Condition, ElementName, FunctionCall, Part, Progression,
+    PseudoElement, Signed, Simple, Structure,
 };
 pub use css_matching::{Combinator, Tests};
 pub use element::Element;
 pub use key::Key;
 pub use refusal::{Refusal, Why};
-pub use selector::Selector;
+pub use selector::{Listed, Selector};
 pub use specificity::Specificity;

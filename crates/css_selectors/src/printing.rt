@@ -1,5 +1,5 @@
 //! Prints selectors. No option of the formatter changes the text.
-ghost use Rattle.std.specs.Prelude.{◌≡◌, ◌++◌, codes, decimal, map};
+ghost use Rattle.std.specs.Prelude.{◌≡◌, ◌++◌, Some, codes, decimal, map};
 ghost use Rattle.std.specs.Cow.{cow_str_bytes};
 ghost use Rattle.std.specs.Fmt.{WritesStyledOnOk};
 ghost use Rattle.std.specs.Fmt.InlineText.{AppendsIfIntact};
@@ -7,13 +7,15 @@ ghost use Rattle.std.specs.List.{flat_map};
 ghost use Rattle.std.specs.Option.{option_map};
 ghost use Rattle.std.specs.Result.{IsOk};
 ghost use Rattle.css_selectors.specs.Printing.{minus_text, signed_text, is_zero as is_zero_number, size_text, plus_text, offset_text, progression_text};
-ghost use Rattle.css_selectors.specs.Printing.{comparison_text, flag_text, function_text, structure_text, list_text, further_text, string_text, identifier_text};
+ghost use Rattle.css_selectors.specs.Printing.{comparison_text, flag_text, function_text, structure_text, list_text, further_text, string_text, identifier_text, argument_text};
 ghost use Rattle.css_selectors.specs.Printing.{simple_text, condition_text, combinator_text, part_text, parts_text};
 ghost use Rattle.css_selectors.specs.Printing.{pseudo_element_text, selector_text};
-ghost use Rattle.css_selectors.specs.Views.{comparison_of, signed_of, progression_of, structure_of, simple_of, complex_of, condition_of, part_of};
+ghost use Rattle.css_selectors.specs.Views.{comparison_of, signed_of, progression_of, structure_of, simple_of, complex_of, condition_of, part_of, pseudo_element_of};
+ghost use Rattle.css_selectors.specs.declared.components.Simple.TheVariants.{Function, Element};
 
 use crate::components::{
-    AttributeTest, Comparison, Complex, Condition, Part, Progression, Signed, Simple, Structure,
+    AttributeTest, Comparison, Complex, Condition, ElementName, FunctionCall, Part, Progression,
+    PseudoElement, Signed, Simple, Structure,
 };
 use crate::spelling::{write_identifier, write_string};
 use crate::{Combinator, Selector};
@@ -244,6 +246,48 @@ fn write_lang<W: fmt::Write>(f: &mut fmt::Formatter<W>, ranges: &[CowStr]) -> fm
     f.write_str(")")
 }
 
+/// Writes an argument as it is written, in parentheses.
+fn write_argument<W: fmt::Write>(f: &mut fmt::Formatter<W>, argument: &str) -> fmt::Result
+    ensures { WritesStyledOnOk W.write_str_gives f.old result
+        (argument_text (Some argument.now)) f.new }
+{
+    f.write_str("(")?;
+    f.write_str(argument)?;
+    f.write_str(")")
+}
+
+/// Writes an argument in parentheses, if there is one.
+fn write_any_argument<W: fmt::Write>(
+    f: &mut fmt::Formatter<W>,
+    argument: &Option<CowStr>,
+) -> fmt::Result
+    ensures { WritesStyledOnOk W.write_str_gives f.old result
+        (argument_text (option_map cow_str_bytes argument.now)) f.new }
+{
+    match argument {
+        Some(argument) => write_argument(f, argument.as_str()),
+        None => Ok(()),
+    }
+}
+
+/// Writes a pseudo-class with an argument.
+fn write_call<W: fmt::Write>(f: &mut fmt::Formatter<W>, call: &FunctionCall) -> fmt::Result
+    ensures { WritesStyledOnOk W.write_str_gives f.old result
+        (simple_text (simple_of (Function call.now))) f.new }
+{
+    write_named(f, ":", call.name.as_str())?;
+    write_argument(f, call.argument.as_str())
+}
+
+/// Writes the name of a pseudo-element, and its argument.
+fn write_element<W: fmt::Write>(f: &mut fmt::Formatter<W>, element: &ElementName) -> fmt::Result
+    ensures { WritesStyledOnOk W.write_str_gives f.old result
+        (simple_text (simple_of (Element element.now))) f.new }
+{
+    write_named(f, "::", element.name.as_str())?;
+    write_any_argument(f, &element.argument)
+}
+
 /// Writes a simple selector.
 fn write_simple<W: fmt::Write>(f: &mut fmt::Formatter<W>, simple: &Simple) -> fmt::Result
     ensures { WritesStyledOnOk W.write_str_gives f.old result
@@ -259,6 +303,8 @@ fn write_simple<W: fmt::Write>(f: &mut fmt::Formatter<W>, simple: &Simple) -> fm
         Simple::Structure(structure) => write_structure(f, *structure),
         Simple::Language(ranges) => write_lang(f, ranges.as_slice()),
         Simple::State(name) => write_named(f, ":", name.as_str()),
+        Simple::Function(call) => write_call(f, call),
+        Simple::Element(element) => write_element(f, element),
     }
 }
 
@@ -360,13 +406,26 @@ fn write_parts<W: fmt::Write>(f: &mut fmt::Formatter<W>, parts: &[Part]) -> fmt:
     write_more(f, rest)
 }
 
-/// Writes a pseudo-element, if there is one.
-fn write_pseudo_element<W: fmt::Write>(f: &mut fmt::Formatter<W>, name: Option<&str>) -> fmt::Result
+/// Writes a pseudo-element and what follows it.
+fn write_at_end<W: fmt::Write>(f: &mut fmt::Formatter<W>, element: &PseudoElement) -> fmt::Result
     ensures { WritesStyledOnOk W.write_str_gives f.old result
-        (pseudo_element_text (option_map (λ n. n.now) name.entry)) f.new }
+        (pseudo_element_text (Some (pseudo_element_of element.now))) f.new }
 {
-    match name {
-        Some(name) => write_named(f, "::", name),
+    write_element(f, &element.element)?;
+    write_conditions(f, element.after.as_slice())
+}
+
+/// Writes a pseudo-element, if there is one.
+fn write_pseudo_element<W: fmt::Write>(
+    f: &mut fmt::Formatter<W>,
+    pseudo_element: Option<&PseudoElement>,
+) -> fmt::Result
+    ensures { WritesStyledOnOk W.write_str_gives f.old result
+        (pseudo_element_text (option_map (λ e. pseudo_element_of e.now) pseudo_element.entry))
+        f.new }
+{
+    match pseudo_element {
+        Some(pseudo_element) => write_at_end(f, pseudo_element),
         None => Ok(()),
     }
 }

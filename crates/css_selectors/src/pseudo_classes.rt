@@ -1,14 +1,17 @@
 //! Reads pseudo-classes.
-ghost use Rattle.std.specs.Prelude.{◌≡◌, option_map};
+ghost use Rattle.std.specs.Prelude.{◌≡◌, None, option_map};
 ghost use Rattle.css_selectors.specs.Grammar.{plain_structure, numbering as numbering_of, numbered_by as numbered_by_of};
 ghost use Rattle.css_selectors.specs.Grammar.{list_kind as list_kind_of, functional};
-ghost use Rattle.css_selectors.specs.Grammar.{is_old_element as is_old_element_of};
+ghost use Rattle.css_selectors.specs.Grammar.{is_old_element as is_old_element_of, takes_none as takes_none_of, argument_of};
 ghost use Rattle.css_selectors.specs.Reads.{Reads};
 ghost use Rattle.std.specs.Cow.{cow_str_bytes};
 ghost use Rattle.css_selectors.specs.Grammar.{function_named as function_named_of, plain_pseudo as plain_pseudo_of};
 ghost use Rattle.css_selectors.specs.Views.{structure_of, progression_of, simple_of};
 
-use crate::components::{Function, ListKind, Numbering, Progression, Simple, Structure};
+use crate::arguments::read_kept;
+use crate::components::{
+    Function, FunctionCall, ListKind, Numbering, Progression, Simple, Structure,
+};
 use crate::languages::read_ranges;
 use crate::numbers::read_progression;
 use crate::refusal::{Refusal, Why};
@@ -105,6 +108,29 @@ pub(crate) fn is_old_element(name: &str) -> bool
         || name.eq_ignore_ascii_case("first-letter")
 }
 
+/// Whether what has this name takes no argument: one of these pseudo-elements, or `url`, since before a
+/// parenthesis that begins a url token.
+fn takes_none(name: &str) -> bool
+    ensures { result ≡ takes_none_of name.now }
+{
+    name.eq_ignore_ascii_case("url") || is_old_element(name)
+}
+
+/// Reads the argument of what has this name, which is kept as it is written. `opened` is where a
+/// refusal of it begins.
+pub(crate) fn read_argument_of<'a>(
+    opened: &'a str,
+    name: &str,
+    text: &'a str,
+) -> Result<(CowStr<'a>, &'a str), Refusal<'a>>
+    ensures { Reads cow_str_bytes result (argument_of opened.now name.now text.now) }
+{
+    if takes_none(name) {
+        return Err(Refusal::new(Why::UnknownFunction, opened));
+    }
+    read_kept(text)
+}
+
 /// Returns the pseudo-class without an argument of this name.
 pub(crate) fn plain_pseudo<'a>(name: CowStr<'a>) -> Simple<'a>
     ensures { simple_of result
@@ -116,17 +142,33 @@ pub(crate) fn plain_pseudo<'a>(name: CowStr<'a>) -> Simple<'a>
     }
 }
 
+/// Reads the argument of a functional pseudo-class of this name that has no meaning here.
+fn read_call<'a>(
+    alloc: Global,
+    opened: &'a str,
+    name: CowStr<'a>,
+    text: &'a str,
+) -> Result<(Simple<'a>, &'a str), Refusal<'a>>
+    ensures { Reads simple_of result
+        (functional opened.now (cow_str_bytes name.entry) None text.now) }
+{
+    let (argument, rest) = read_argument_of(opened, name.as_str(), text)?;
+    Ok((Simple::Function(FunctionCall { name, argument }), rest))
+}
+
 /// Reads the argument of a functional pseudo-class. `opened` is the text from its colon on.
 pub(crate) fn read_functional<'a>(
     alloc: Global,
     opened: &'a str,
+    name: CowStr<'a>,
     function: Option<Function>,
     text: &'a str,
 ) -> Result<(Simple<'a>, &'a str), Refusal<'a>>
-    ensures { Reads simple_of result (functional opened.now function text.now) }
+    ensures { Reads simple_of result
+        (functional opened.now (cow_str_bytes name.entry) function text.now) }
 {
     let numbering = match function {
-        None => return Err(Refusal::new(Why::UnknownFunction, opened)),
+        None => return read_call(alloc, opened, name, text),
         Some(Function::Language) => {
             let (ranges, rest) = read_ranges(alloc, text)?;
             return Ok((Simple::Language(ranges), rest));

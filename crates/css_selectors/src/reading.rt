@@ -1,26 +1,25 @@
 //! Reads selectors.
-ghost use Rattle.std.specs.Prelude.{◌≡◌, ◌<◌, ◌∷◌, [], IfOk, length, map, option_map};
+ghost use Rattle.std.specs.Prelude.{◌≡◌, ◌<◌, ◌∷◌, [], IfErr, IfOk, length, map, option_map};
 ghost use Rattle.css_selectors.specs.Grammar.{next_part as next_part_of, parts as parts_of};
-ghost use Rattle.css_selectors.specs.Grammar.{pseudo_element as pseudo_element_of, sign_combinator as sign_combinator_of, begins_compound as begins_compound_of, first_sign, past_colon as past_colon_of};
-ghost use Rattle.css_text.specs.Bytes.{starts_by, past_one, past_byte};
-ghost use Rattle.css_text.specs.AsciiBytes.{colon};
 ghost use Rattle.css_selectors.specs.Readings.{items, found_before};
 ghost use Rattle.css_selectors.specs.Reads.{Reads, Finds};
-ghost use Rattle.std.specs.Cow.{cow_str_bytes};
 ghost use Rattle.css_selectors.specs.Views.{part_of};
-ghost use Rattle.css_selectors.specs.Grammar.{listed_selector, next_selector as next_selector_of};
-ghost use Rattle.css_selectors.specs.ReadViews.{read_of};
+ghost use Rattle.css_selectors.specs.Grammar.{placed, next_placed as next_placed_of};
+ghost use Rattle.css_selectors.specs.ReadSelectors.{ParsesList};
+ghost use Rattle.css_selectors.specs.ReadViews.{read_of, placed_of};
+ghost use Rattle.css_selectors.specs.Supported.{first_unsupported as first_unsupported_of, if_all};
+ghost use Rattle.css_selectors.specs.declared.refusal.Why.TheVariants.{Memory};
 
 use crate::components::Part;
 use crate::compounds::read_conditions;
 use crate::joins::{begins_compound, take_sign};
+use crate::pseudo_elements::read_pseudo_element;
 use crate::read::Read;
 use crate::refusal::{Refusal, Why};
 use crate::texts::split_ascii;
-use crate::words::{past_comments, read_gap, read_name};
-use crate::{Combinator, Selector};
+use crate::words::{past_comments, read_gap};
+use crate::{Combinator, Listed, Selector};
 use std::alloc::Global;
-use std::borrow::CowStr;
 
 /// Reads a combinator and the compound selector after it, if there is one.
 #[tactic(auto, unfolding(crate::specs::Grammar::next_part))]
@@ -90,84 +89,71 @@ fn read_parts<'a>(alloc: Global, text: &'a str) -> Result<(Vec<Part<'a>>, &'a st
     read_more(alloc, first, rest)
 }
 
-/// Skips a second colon, if there is one, and comments.
-fn past_colon(text: &str) -> &str
-    ensures { result.now ≡ past_colon_of text.now }
+/// Reads a selector and the gaps round it.
+#[tactic(auto, unfolding(crate::specs::Grammar::placed))]
+fn read_placed<'a>(alloc: Global, text: &'a str) -> Result<(Read<'a>, &'a str), Refusal<'a>>
+    ensures { Reads read_of result (placed text.now) }
 {
-    match split_ascii(text) {
-        Some((b':', rest)) => past_comments(rest),
-        _ => past_comments(text),
-    }
-}
-
-/// Reads the pseudo-element after the compound selectors, if there is one.
-#[tactic(auto, unfolding(crate::specs::Grammar::pseudo_element))]
-fn read_pseudo_element<'a>(
-    alloc: Global,
-    text: &'a str,
-) -> Result<(Option<CowStr<'a>>, &'a str), Refusal<'a>>
-    ensures { Reads (λ name. option_map cow_str_bytes name) result (pseudo_element_of text.now) }
-{
-    let Some((b':', rest)) = split_ascii(text) else {
-        return Ok((None, text));
+    let (_, from) = read_gap(text);
+    let (parts, end) = read_parts(alloc, from)?;
+    let at = past_comments(end);
+    let (pseudo_element, after) = read_pseudo_element(alloc, at)?;
+    let (_, rest) = read_gap(after);
+    let (element, to) = if pseudo_element.is_some() {
+        (at, after)
+    } else {
+        (end, end)
     };
-    let (name, rest) = read_name(alloc, past_colon(past_comments(rest)))?;
-    Ok((Some(name), rest))
-}
-
-/// Reads a selector and the gap after it.
-#[tactic(auto, unfolding(crate::specs::Grammar::listed_selector))]
-fn read_selector<'a>(alloc: Global, text: &'a str) -> Result<(Read<'a>, &'a str), Refusal<'a>>
-    ensures { Reads read_of result (listed_selector text.now) }
-{
-    let (parts, rest) = read_parts(alloc, text)?;
-    let (pseudo_element, rest) = read_pseudo_element(alloc, past_comments(rest))?;
-    let (_, rest) = read_gap(rest);
     let read = Read {
         parts,
         pseudo_element,
+        from,
+        element,
+        to,
     };
     Ok((read, rest))
 }
 
-/// Returns the selector that was read.
-fn selector_of<'a>(read: Read<'a>) -> Selector<'a>
-    ensures { result ≡ read_of read.entry }
+/// Returns the selector that was read, with where it is.
+fn listed_of<'a>(read: Read<'a>) -> Listed<'a>
+    ensures { placed_of result ≡ read_of read.entry }
 {
-    Selector::new(read.parts, read.pseudo_element)
+    Listed {
+        selector: Selector::new(read.parts, read.pseudo_element),
+        from: read.from,
+        element: read.element,
+        to: read.to,
+    }
 }
 
 /// Reads a comma and a further selector, if there is a comma.
-#[tactic(auto, unfolding(crate::specs::Grammar::next_selector))]
-fn next_selector<'a>(
-    alloc: Global,
-    text: &'a str,
-) -> Result<Option<(Read<'a>, &'a str)>, Refusal<'a>>
-    ensures { Finds read_of result (next_selector_of text.now) }
+#[tactic(auto, unfolding(crate::specs::Grammar::next_placed))]
+fn next_placed<'a>(alloc: Global, text: &'a str) -> Result<Option<(Read<'a>, &'a str)>, Refusal<'a>>
+    ensures { Finds read_of result (next_placed_of text.now) }
 {
     let Some((b',', rest)) = split_ascii(text) else {
         return Ok(None);
     };
-    Ok(Some(read_selector(alloc, rest)?))
+    Ok(Some(read_placed(alloc, rest)?))
 }
 
-/// Reads the selectors after the first of a list.
+/// Reads the selectors after the first.
 fn read_others<'a>(
     alloc: Global,
     first: Read<'a>,
     text: &'a str,
-) -> Result<(Vec<Selector<'a>>, &'a str), Refusal<'a>>
-    ensures { Reads (λ v. v.items) result
-        (found_before (read_of first.entry ∷ []) (items next_selector_of text.now)) }
+) -> Result<(Vec<Listed<'a>>, &'a str), Refusal<'a>>
+    ensures { Reads (λ v. map placed_of v.items) result
+        (found_before (read_of first.entry ∷ []) (items next_placed_of text.now)) }
 {
     let mut selectors = Vec::new(alloc);
-    selectors.push(selector_of(first))?;
+    selectors.push(listed_of(first))?;
     let mut rest = text;
     let mut left = text.len();
     'selectors: while left > 0 {
-        match next_selector(alloc, rest)? {
+        match next_placed(alloc, rest)? {
             Some((read, after)) => {
-                selectors.push(selector_of(read))?;
+                selectors.push(listed_of(read))?;
                 rest = after;
             }
             None => return Ok((selectors, rest)),
@@ -177,32 +163,89 @@ fn read_others<'a>(
     Ok((selectors, rest))
 }
 
-impl<'a> Selector<'a> {
-    ghost use Rattle.css_selectors.specs.Grammar.{selector, selector_list};
-    ghost use Rattle.css_selectors.specs.ReadSelectors.{Parses, ParsesList};
+/// Returns what is left of the text where the first selector begins that is unsupported.
+fn first_unsupported<'a>(list: &[Listed<'a>]) -> Option<&'a str>
+    ensures { option_map (λ from. from.now) result
+        ≡ first_unsupported_of (map placed_of list.now) }
+{
+    let mut rest = list;
+    'selectors: while let [listed, after @ ..] = rest {
+        if !listed.selector.is_supported() {
+            return Some(listed.from);
+        }
+        rest = after;
+    }
+    None
+}
 
-    /// Reads a text that is a selector.
-    #[tactic(auto, unfolding(crate::specs::Grammar::selector))]
+/// Returns the selectors of a list.
+fn selectors_of<'a>(alloc: Global, list: Vec<Listed<'a>>) -> Result<Vec<Selector<'a>>, Refusal<'a>>
+    ensures all { IfOk result (λ all. all.items
+        ≡ map (λ p. p.selector) (map placed_of list.entry.items)) }
+    ensures memory { IfErr result (λ refusal. refusal.why ≡ Memory) }
+{
+    let mut selectors = Vec::new(alloc);
+    'selectors: for listed in list {
+        selectors.push(listed.selector)?;
+    }
+    Ok(selectors)
+}
+
+/// Returns the selectors of a list, if all are supported.
+fn all_supported<'a>(alloc: Global, list: Vec<Listed<'a>>) -> Result<Vec<Selector<'a>>, Refusal<'a>>
+    ensures { ParsesList result (if_all (map placed_of list.entry.items) []
+        (first_unsupported_of (map placed_of list.entry.items))) }
+{
+    match first_unsupported(list.as_slice()) {
+        Some(from) => Err(Refusal::new(Why::Unsupported, from)),
+        None => selectors_of(alloc, list),
+    }
+}
+
+impl<'a> Selector<'a> {
+    ghost use Rattle.css_selectors.specs.Grammar.{placed_list};
+    ghost use Rattle.css_selectors.specs.Supported.{supported_selector, supported_list};
+    ghost use Rattle.css_selectors.specs.ReadSelectors.{Parses, ParsesList, ParsesPlaced};
+
+    /// Reads a text that is a selector. One that is unsupported is refused.
+    #[tactic(auto, unfolding(crate::specs::Grammar::placed_selector))]
     pub fn parse(alloc: Global, text: &'a str) -> Result<Selector<'a>, Refusal<'a>>
-        ensures { Parses result (selector text.now) }
+        ensures { Parses result (supported_selector text.now) }
     {
-        let (read, rest) = read_selector(alloc, text)?;
+        let (read, rest) = read_placed(alloc, text)?;
         if !rest.is_empty() {
             return Err(Refusal::new(Why::Unexpected, rest));
         }
-        Ok(selector_of(read))
+        let from = read.from;
+        let selector = Selector::new(read.parts, read.pseudo_element);
+        if !selector.is_supported() {
+            return Err(Refusal::new(Why::Unsupported, from));
+        }
+        Ok(selector)
     }
 
-    /// Reads a text that is a list of selectors with commas between them. A list of which one selector
-    /// is refused is refused.
-    #[tactic(auto, unfolding(crate::specs::Grammar::selector_list))]
-    pub fn parse_list(alloc: Global, text: &'a str) -> Result<Vec<Selector<'a>>, Refusal<'a>>
-        ensures { ParsesList result (selector_list text.now) }
+    /// Reads a text that is a list of selectors with commas between them, each with where it is. A
+    /// list of which one selector is refused is refused. Unsupported ones are not: what has no meaning
+    /// in them is satisfied by no element, and so `:not(:has(a))` by each.
+    #[tactic(auto, unfolding(crate::specs::Grammar::placed_list))]
+    pub fn read_list(alloc: Global, text: &'a str) -> Result<Vec<Listed<'a>>, Refusal<'a>>
+        ensures { ParsesPlaced result (placed_list text.now) }
     {
-        let (first, rest) = read_selector(alloc, text)?;
+        let (first, rest) = read_placed(alloc, text)?;
         match read_others(alloc, first, rest) {
             Ok((selectors, rest)) if rest.is_empty() => Ok(selectors),
             Ok((_, rest)) => Err(Refusal::new(Why::Unexpected, rest)),
+            Err(refusal) => Err(refusal),
+        }
+    }
+
+    /// Reads a text that is a list of selectors with commas between them. A list of which one selector
+    /// is refused or unsupported is refused.
+    pub fn parse_list(alloc: Global, text: &'a str) -> Result<Vec<Selector<'a>>, Refusal<'a>>
+        ensures { ParsesList result (supported_list text.now) }
+    {
+        match Selector::read_list(alloc, text) {
+            Ok(list) => all_supported(alloc, list),
             Err(refusal) => Err(refusal),
         }
     }

@@ -22,8 +22,10 @@ pub enum Why {
     UnknownFlag,
     /// There is no `An+B`, `odd` or `even` here.
     NoProgression,
-    /// There is no functional pseudo-class of this name, or none that is read here.
+    /// There is no functional pseudo-class or pseudo-element of this name.
     UnknownFunction,
+    /// This is a selector, but it has no meaning here.
+    Unsupported,
     /// More lists would be open at once than may be: this pseudo-class has one too many.
     TooDeep,
     /// This does not continue the selector.

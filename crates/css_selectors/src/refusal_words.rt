@@ -47,7 +47,7 @@ fn quoted_by(why: Why, text: &str) -> Quoted
     ensures { result ≡ quoted_by_of why text.now }
 {
     match why {
-        Why::BrokenString => Quoted::Line,
+        Why::BrokenString | Why::Unsupported => Quoted::Line,
         _ => word_or_signs(text),
     }
 }
@@ -85,7 +85,8 @@ impl Why {
             Why::NoValue => "is no value",
             Why::UnknownFlag => "is no flag",
             Why::NoProgression => "is no An+B",
-            Why::UnknownFunction => "is no function that is read here",
+            Why::UnknownFunction => "is no function",
+            Why::Unsupported => "is unsupported",
             Why::TooDeep => "is nested too deep",
             Why::Unexpected => "is not expected here",
         }

@@ -1,6 +1,5 @@
 //! Selectors.
-use crate::Part;
-use std::borrow::CowStr;
+use crate::{Part, PseudoElement};
 use std::marker::Model;
 
 /// A selector: compound selectors joined by combinators, and a pseudo-element at the end if it has one.
@@ -8,17 +7,30 @@ use std::marker::Model;
 pub struct Selector<'a> {
     /// The compound selectors, from left to right. There is at least one.
     pub(crate) parts: Vec<Part<'a>>,
-    /// The name of the pseudo-element.
-    pub(crate) pseudo_element: Option<CowStr<'a>>,
+    /// The pseudo-element.
+    pub(crate) pseudo_element: Option<PseudoElement<'a>>,
+}
+
+/// A selector of a list, and where it is in the text that was read.
+#[derive(Drop)]
+pub struct Listed<'a> {
+    /// The selector.
+    pub selector: Selector<'a>,
+    /// What is left of the text where it begins.
+    pub from: &'a str,
+    /// What is left where its pseudo-element begins, from the first colon on. Without one it is what is
+    /// left where the selector ends.
+    pub element: &'a str,
+    /// What is left where it ends.
+    pub to: &'a str,
 }
 
 impl<'a> Model for Selector<'a> {
     ghost use Rattle.std.specs.Prelude.{◌<◌, length, map, option_map};
-    ghost use Rattle.std.specs.Cow.{cow_str_bytes};
     ghost use Rattle.std.specs.Coded.{Coded, codes};
     ghost use Rattle.css_selectors.specs.Codes.{condition_code};
     ghost use Rattle.css_selectors.specs.Components.{Simple, Selector};
-    ghost use Rattle.css_selectors.specs.Views.{part_of};
+    ghost use Rattle.css_selectors.specs.Views.{part_of, pseudo_element_of};
 
     ghost Value = { Selector };
 
@@ -27,7 +39,7 @@ impl<'a> Model for Selector<'a> {
 
     ghost view = { λ s. record {
       parts = map part_of s.parts.items;
-      pseudo_element = option_map cow_str_bytes s.pseudo_element;
+      pseudo_element = option_map pseudo_element_of s.pseudo_element;
     } };
 
     ghost invariant = { λ s. 0 < length s.parts.items };
@@ -35,16 +47,15 @@ impl<'a> Model for Selector<'a> {
 
 impl<'a> Selector<'a> {
     ghost use Rattle.std.specs.Prelude.{◌≡◌, ◌<◌, length, map, option_map};
-    ghost use Rattle.std.specs.Cow.{cow_str_bytes};
-    ghost use Rattle.css_selectors.specs.Views.{part_of};
+    ghost use Rattle.css_selectors.specs.Views.{part_of, pseudo_element_of};
 
     /// Returns the selector of these compound selectors, of which there is one at least, and of the
     /// pseudo-element at its end, if it has one.
-    pub fn new(parts: Vec<Part<'a>>, pseudo_element: Option<CowStr<'a>>) -> Selector<'a>
+    pub fn new(parts: Vec<Part<'a>>, pseudo_element: Option<PseudoElement<'a>>) -> Selector<'a>
         requires { 0 < length parts.items }
         ensures parts { result.parts ≡ map part_of parts.entry.items }
         ensures pseudo_element { result.pseudo_element
-            ≡ option_map cow_str_bytes pseudo_element.entry }
+            ≡ option_map pseudo_element_of pseudo_element.entry }
     {
         Selector {
             parts,
@@ -60,13 +71,10 @@ impl<'a> Selector<'a> {
         self.parts.as_slice()
     }
 
-    /// Returns the name of the pseudo-element at the end, if there is one.
-    pub fn pseudo_element(&self) -> Option<&str>
-        ensures { option_map (λ name. name.now) result ≡ self.now.pseudo_element }
+    /// Returns the pseudo-element at the end, if there is one.
+    pub fn pseudo_element(&self) -> Option<&PseudoElement<'a>>
+        ensures { option_map (λ e. pseudo_element_of e.now) result ≡ self.now.pseudo_element }
     {
-        match &self.pseudo_element {
-            Some(name) => Some(name.as_str()),
-            None => None,
-        }
+        self.pseudo_element.as_ref()
     }
 }

@@ -1,15 +1,15 @@
 //! Specificity.
-ghost use Rattle.std.specs.Prelude.{◌≡◌, map};
+ghost use Rattle.std.specs.Prelude.{◌≡◌, map, option_map};
 ghost use Rattle.css_selectors.specs.Specificities.{Counts, nothing, one_id, one_class, one_name};
 ghost use Rattle.css_selectors.specs.Specificities.{plus as sum_of, greater as greater_of, is_less};
-ghost use Rattle.css_selectors.specs.Specificities.{of_simple as counts_of_simple};
+ghost use Rattle.css_selectors.specs.Specificities.{of_simple as counts_of_simple, of_pseudo_element as counts_of_element};
 ghost use Rattle.css_selectors.specs.Specificities.{greatest as greatest_of};
 ghost use Rattle.css_selectors.specs.Specificities.{of_condition as counts_of_condition, of_compound, of_parts as counts_of_parts};
 ghost use Rattle.css_selectors.specs.Components.{conditions_from, parts_from, selectors_from};
 ghost use Rattle.css_selectors.specs.SpecificityViews.{counts_of};
-ghost use Rattle.css_selectors.specs.Views.{simple_of, complex_of, condition_of, part_of};
+ghost use Rattle.css_selectors.specs.Views.{simple_of, complex_of, condition_of, part_of, pseudo_element_of};
 
-use crate::{Complex, Condition, Part, Selector, Simple};
+use crate::{Complex, Condition, Part, PseudoElement, Selector, Simple};
 
 /// How specific a selector is: ids count more than classes, and these more than names.
 #[derive(Clone, Copy, Debug, PartialEq, Eq, PartialOrd, Ord)]
@@ -67,7 +67,7 @@ fn of_simple(simple: &Simple<'_>) -> Specificity
 {
     match simple {
         Simple::Universal => NOTHING,
-        Simple::TypeName(_) => Specificity {
+        Simple::TypeName(_) | Simple::Element(_) => Specificity {
             names: 1,
             ..NOTHING
         },
@@ -77,7 +77,8 @@ fn of_simple(simple: &Simple<'_>) -> Specificity
         | Simple::Attribute(_)
         | Simple::Structure(_)
         | Simple::Language(_)
-        | Simple::State(_) => Specificity {
+        | Simple::State(_)
+        | Simple::Function(_) => Specificity {
             classes: 1,
             ..NOTHING
         },
@@ -134,6 +135,21 @@ fn of_parts(parts: &[Part<'_>]) -> Specificity
     counted
 }
 
+/// Returns what a pseudo-element counts, with what follows it.
+fn of_pseudo_element(pseudo_element: Option<&PseudoElement<'_>>) -> Specificity
+    ensures { counts_of result
+        ≡ counts_of_element (option_map (λ e. pseudo_element_of e.now) pseudo_element.entry) }
+{
+    let Some(pseudo_element) = pseudo_element else {
+        return NOTHING;
+    };
+    let one = Specificity {
+        names: 1,
+        ..NOTHING
+    };
+    with_each(one, pseudo_element.after.as_slice())
+}
+
 impl<'a> Selector<'a> {
     ghost use Rattle.css_selectors.specs.Specificities.{specificity as specificity_of};
     ghost use Rattle.css_selectors.specs.SpecificityViews.{counts_of};
@@ -143,13 +159,9 @@ impl<'a> Selector<'a> {
     pub fn specificity(&self) -> Specificity
         ensures { counts_of result ≡ specificity_of self.now }
     {
-        let pseudo_element = match &self.pseudo_element {
-            Some(_) => Specificity {
-                names: 1,
-                ..NOTHING
-            },
-            None => NOTHING,
-        };
-        plus(of_parts(self.parts.as_slice()), pseudo_element)
+        plus(
+            of_parts(self.parts.as_slice()),
+            of_pseudo_element(self.pseudo_element.as_ref()),
+        )
     }
 }

@@ -4,8 +4,9 @@
 use Rattle.std.specs.Prelude.{ℕ, Bool, ◌||◌, List, [], ◌∷◌, map, bytes_eq, codes}
 use Rattle.std.specs.Char.{to_ascii_lowercase}
 use Rattle.std.specs.List.{list_any}
-use Rattle.css_selectors.specs.Components.{Simple, Condition, Conditions, Parts, Selectors, Part, Selector}
-use Rattle.css_selectors.specs.Components.Simple.{universal, type_name, id, class, has_attribute, attribute, structure, language, state}
+use Rattle.css_selectors.specs.Components.{Simple, Condition, Conditions, Parts, Selectors, Part, PseudoElement, Selector}
+use Rattle.std.specs.Option.{option_map}
+use Rattle.css_selectors.specs.Components.Simple.{universal, type_name, id, class, has_attribute, attribute, structure, language, state, function, named_element}
 use Rattle.css_selectors.specs.Components.Condition.{simple, negation, any_of, where_any}
 use Rattle.css_selectors.specs.Components.Conditions.{end_of_compound, with_condition}
 use Rattle.css_selectors.specs.Components.Parts.{end_of_selector, with_part}
@@ -59,6 +60,8 @@ simple_in mode (attribute name comparison text ignores) =
 simple_in mode (structure s) = structure s
 simple_in mode (language ranges) = language ranges
 simple_in mode (state name) = state name
+simple_in mode (function name argument) = function name argument
+simple_in mode (named_element name argument) = named_element name argument
 
 abbrev mutual
   pub condition_in : HtmlMode → Condition → Condition
@@ -91,9 +94,16 @@ part_in mode p = record {
   conditions = map (condition_in mode) p.conditions;
 }
 
+abbrev pub pseudo_element_in : HtmlMode → PseudoElement → PseudoElement
+pseudo_element_in mode e = record {
+  name = e.name;
+  argument = e.argument;
+  after = map (condition_in mode) e.after;
+}
+
 -- the selector as an HTML document in this mode reads it
 abbrev pub html_selector : HtmlMode → Selector → Selector
 html_selector mode s = record {
   parts = map (part_in mode) s.parts;
-  pseudo_element = s.pseudo_element;
+  pseudo_element = option_map (pseudo_element_in mode) s.pseudo_element;
 }

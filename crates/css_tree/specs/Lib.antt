@@ -8,4 +8,3 @@ pub mod Messages
 pub mod Pages
 pub mod Reports
 pub mod Walks
-pub mod internal

@@ -7,14 +7,17 @@ ghost use Rattle.std.specs.Prelude.{◌≡◌, ◌<◌, IfOk, length, map, optio
 ghost use Rattle.std.specs.List.{list_any};
 ghost use Rattle.std.specs.Char.{is_ascii_uppercase};
 ghost use Rattle.std.specs.Cow.{cow_str_bytes};
-ghost use Rattle.css_selectors.specs.Views.{simple_of, complex_of, condition_of, part_of};
-ghost use Rattle.css_selectors.specs.declared.components.Simple.TheVariants.{Attribute};
+ghost use Rattle.css_selectors.specs.Views.{simple_of, complex_of, condition_of, part_of, element_name_of, pseudo_element_of};
+ghost use Rattle.css_selectors.specs.declared.components.Simple.TheVariants.{Attribute, Function};
 ghost use Rattle.css_tree.specs.Html.{caseless_attributes, quirks_attributes, is_among};
 ghost use Rattle.css_tree.specs.Html.{is_caseless};
 ghost use Rattle.css_tree.specs.Html.{lower_case, word_in, simple_in};
-ghost use Rattle.css_tree.specs.Html.{condition_in, part_in, html_selector};
+ghost use Rattle.css_tree.specs.Html.{condition_in, part_in, pseudo_element_in, html_selector};
 
-use css_selectors::{AttributeTest, Complex, Condition, Part, Selector, Simple};
+use css_selectors::{
+    AttributeTest, Complex, Condition, ElementName, FunctionCall, Part, PseudoElement, Selector,
+    Simple,
+};
 use std::alloc::{AllocError, Global};
 use std::borrow::CowStr;
 
@@ -162,6 +165,36 @@ fn ranges_in<'s>(alloc: Global, ranges: &'s [CowStr<'_>]) -> Result<Vec<CowStr<'
     Ok(same)
 }
 
+/// Returns the same pseudo-class with an argument, which is not copied.
+fn same_call<'s>(call: &'s FunctionCall<'_>) -> FunctionCall<'s>
+    ensures { simple_of (Function result) ≡ simple_of (Function call.now) }
+{
+    FunctionCall {
+        name: CowStr::Borrowed(call.name.as_str()),
+        argument: CowStr::Borrowed(call.argument.as_str()),
+    }
+}
+
+/// Returns the same argument, which is not copied.
+fn same_argument<'s>(argument: &'s Option<CowStr<'_>>) -> Option<CowStr<'s>>
+    ensures { option_map cow_str_bytes result ≡ option_map cow_str_bytes argument.now }
+{
+    match argument {
+        Some(argument) => Some(CowStr::Borrowed(argument.as_str())),
+        None => None,
+    }
+}
+
+/// Returns the same name of a pseudo-element, which is not copied.
+fn same_element<'s>(element: &'s ElementName<'_>) -> ElementName<'s>
+    ensures { element_name_of result ≡ element_name_of element.now }
+{
+    ElementName {
+        name: CowStr::Borrowed(element.name.as_str()),
+        argument: same_argument(&element.argument),
+    }
+}
+
 /// Returns a simple selector as a document reads it.
 fn simple_in<'s>(
     alloc: Global,
@@ -180,6 +213,8 @@ fn simple_in<'s>(
         Simple::Structure(structure) => Ok(Simple::Structure(*structure)),
         Simple::Language(ranges) => Ok(Simple::Language(ranges_in(alloc, ranges)?)),
         Simple::State(name) => Ok(Simple::State(CowStr::Borrowed(name.as_str()))),
+        Simple::Function(call) => Ok(Simple::Function(same_call(call))),
+        Simple::Element(element) => Ok(Simple::Element(same_element(element))),
     }
 }
 
@@ -264,6 +299,38 @@ fn parts_in<'s>(
     Ok(read)
 }
 
+/// Returns a pseudo-element as a document reads it.
+fn pseudo_element_in<'s>(
+    alloc: Global,
+    mode: HtmlMode,
+    element: &'s PseudoElement<'_>,
+) -> Result<PseudoElement<'s>, AllocError>
+    ensures { IfOk result (λ read. pseudo_element_of read
+        ≡ pseudo_element_in mode (pseudo_element_of element.now)) }
+{
+    let after = conditions_in(alloc, mode, element.after.as_slice())?;
+    Ok(PseudoElement {
+        element: same_element(&element.element),
+        after,
+    })
+}
+
+/// Returns a pseudo-element as a document reads it, if there is one.
+fn element_in<'s>(
+    alloc: Global,
+    mode: HtmlMode,
+    element: Option<&'s PseudoElement<'_>>,
+) -> Result<Option<PseudoElement<'s>>, AllocError>
+    ensures { IfOk result (λ read. option_map pseudo_element_of read
+        ≡ option_map (pseudo_element_in mode)
+        (option_map (λ e. pseudo_element_of e.now) element.entry)) }
+{
+    match element {
+        Some(element) => Ok(Some(pseudo_element_in(alloc, mode, element)?)),
+        None => Ok(None),
+    }
+}
+
 /// Returns a selector as an HTML document in this mode reads it.
 pub fn html_selector<'s>(
     alloc: Global,
@@ -273,9 +340,6 @@ pub fn html_selector<'s>(
     ensures { IfOk result (λ read. read ≡ html_selector mode selector.now) }
 {
     let parts = parts_in(alloc, mode, selector.parts())?;
-    let pseudo_element = match selector.pseudo_element() {
-        Some(name) => Some(CowStr::Borrowed(name)),
-        None => None,
-    };
+    let pseudo_element = element_in(alloc, mode, selector.pseudo_element())?;
     Ok(Selector::new(parts, pseudo_element))
 }

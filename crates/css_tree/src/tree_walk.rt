@@ -1,14 +1,17 @@
 //! Walks over the elements of a tree whose siblings are counted.
-ghost use Rattle.std.specs.Prelude.{◌≡◌, ◌<◌, ◌≤◌, List, [], None, Some, IfOk, OnOk, OnErr, IfSome, MatchOption, length, map, reverse, nat_eq};
+ghost use Rattle.std.specs.Prelude.{◌≡◌, ◌<◌, ◌≤◌, ℕ, List, [], None, Some, IfOk, OnOk, OnErr, IfSome, MatchOption, length, map, reverse, nat_eq};
 ghost use Rattle.std.specs.Option.{option_eq};
 ghost use Rattle.css_matching.specs.ListTrees.{spot};
 ghost use Rattle.css_index.specs.Found.{AreMatches};
 ghost use Rattle.css_tree.specs.Pages.{Page, page_document, parent_index};
+ghost use Rattle.css_index.specs.Tested.{AreTried};
+ghost use Rattle.css_tree.specs.Reports.{reported_of};
 ghost use Rattle.css_tree.specs.Walks.{IsOpenAt};
-ghost use Rattle.css_tree.specs.internal.{LeadsTo};
+ghost use Rattle.simplecss_tree.specs.internal.{LeadsTo};
 
 use crate::NumberedTree;
 use css_index::{HasSelector, SelectorWalk};
+use css_selectors::Tests;
 use std::alloc::{AllocError, Global};
 use std::marker::Model;
 
@@ -114,7 +117,7 @@ impl<'s, 'a> Opened<'s, 'a> {
 /// ```text
 /// let mut walk = TreeWalk::new(alloc, rules)?;
 /// for element in 0..page.len() {
-///     walk.matching(&page, element, &mut indices)?;
+///     walk.matching(&page, element, &mut indices, &mut Tests::new())?;
 /// }
 /// ```
 #[derive(Drop)]
@@ -158,19 +161,25 @@ impl<'s, 'a> TreeWalk<'s, 'a> {
         })
     }
 
-    /// Finds the indices of the rules that match the element at an index, in order. A walk is of one page
-    /// alone. The previous items of `indices` are dropped. Fails only if an allocation fails; then no items
-    /// are left, and the walk goes on.
+    /// Finds the indices of the rules that match the element at an index, in order, and counts the tests:
+    /// only a rule is tested of which the element reports a key and open elements report all that it needs
+    /// above the element, and only if it requires more than its keys. A walk is of one page alone. The
+    /// previous items of `indices` are dropped. Fails only if an allocation fails; then no items are left,
+    /// and the walk goes on.
     pub fn matching(
         &mut self,
         page: &NumberedTree<'_, '_>,
         element: usize,
         indices: &mut Vec<usize>,
+        tests: &mut Tests,
     ) -> Result<(), AllocError>
         requires element { element < length page.now.rows }
         requires opened { IsOpenAt page.now self.old.walk self.old.place }
         ensures matches { OnOk result (AreMatches page_document (spot page.now element)
             self.old.walk.selectors indices.new.items) }
+        ensures tests { OnOk result ((tried : List ℕ)
+            × AreTried page_document (spot page.now element) (reported_of (spot page.now element))
+            self.new.walk tried tests.old tests.new) }
         ensures opened { IsOpenAt page.now self.new.walk self.new.place }
         ensures selectors { self.new.walk.selectors ≡ self.old.walk.selectors }
         ensures err { OnErr result (indices.new.items ≡ []) }
@@ -181,6 +190,8 @@ impl<'s, 'a> TreeWalk<'s, 'a> {
         self.opened.close_for(page, parent, &mut self.between)?;
         self.opened.open_all(page, parent, &mut self.between)?;
         let node = page.node(element).unwrap();
-        self.opened.walk.matching(&node, indices)
+        self.opened
+            .walk
+            .matching(&node, &mut self.between, indices, tests)
     }
 }

@@ -1,17 +1,18 @@
 -- Keys of selectors, filed by a number of each.
-use Rattle.std.specs.Prelude.{◌≡◌, ℕ, ◌+◌, ◌*◌, ◌/◌, ◌%◌, ◌^◌, ◌<◌, ◌↔◌, ◌==◌, if◌then◌else◌, is_none, Bool, false, List, [], ◌∷◌, ◌++◌, map, length, Option, None, Some, Contains, IsTrue, filter}
+use Rattle.std.specs.Prelude.{◌≡◌, ℕ, ◌+◌, ◌*◌, ◌/◌, ◌%◌, ◌^◌, ◌<◌, ◌↔◌, ◌==◌, Bool, false, List, [], ◌∷◌, ◌++◌, map, length, Option, None, Some, Contains, IsTrue, filter}
 use Rattle.std.specs.List.{slice_get, flat_map, list_any}
 use Rattle.std.specs.Global.{Vec}
 use Rattle.css_selectors.specs.AttributeTests.{is_satisfied}
 use Rattle.css_selectors.specs.Components.{Selector}
 use Rattle.css_selectors.specs.Components.Comparison.{has_word}
 use Rattle.css_selectors.specs.Documents.{Document}
-use Rattle.css_selectors.specs.Keys.{Key, keys_of}
+use Rattle.css_selectors.specs.Keys.{Key}
 use Rattle.css_selectors.specs.Keys.Key.{by_id}
 use Rattle.css_selectors.specs.Meanings.{satisfies}
 use Rattle.css_selectors.specs.KeyViews.{key_of}
 use Rattle.css_index.specs.KeyNumbers.{number_of, is_same}
 use Rattle.css_index.specs.Reported.{Reported, reports_key}
+use Rattle.css_index.specs.Tested.{filed_keys}
 use Rattle.css_index.specs.declared.entry.Entry.{Entry}
 
 -- the place of a key with this number among so many, by the upper half of a multiple of the number
@@ -29,10 +30,6 @@ entry_of e = (key_of e.key, e.rule)
 -- the keys, each with the index
 abbrev pub with_index : ℕ → List Key → List (Key × ℕ)
 with_index index keys = map (λ key. (key, index)) keys
-
--- the keys by which a selector is filed: none if it has a pseudo-element, since it matches no element
-abbrev pub filed_keys : Selector → List Key
-filed_keys s = if is_none s.pseudo_element then keys_of s else []
 
 -- the keys of selectors, each with the index of its selector, counted from a number
 abbrev pub entries_from : ℕ → List Selector → List (Key × ℕ)

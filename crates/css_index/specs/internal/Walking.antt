@@ -1,10 +1,7 @@
 -- What a walk keeps.
 use Rattle.std.specs.Prelude.{◌≡◌, ℕ, List, length}
 use Rattle.css_selectors.specs.Components.{Selector}
-use Rattle.css_selectors.specs.Documents.{Document}
-use Rattle.css_index.specs.Reported.{Reported}
-use Rattle.css_index.specs.internal.Candidates.{IsKeyedAt}
-use Rattle.css_index.specs.Walks.{Numbered, AreNumbered, AreNeeds, Walk, IsKeptAt}
+use Rattle.css_index.specs.Walks.{Numbered, AreNumbered, AreNeeds}
 use Rattle.css_index.specs.declared.selector_walk.Need.{Need}
 
 -- what contracts see of a need: the numbers of ancestors and of the parent
@@ -17,8 +14,3 @@ pub record IsWalk (selectors : List Selector) (needed : Numbered) (needs : List 
   pub size_is : size ≡ length needed
   pub numbered : AreNumbered needed
   pub are : AreNeeds needed selectors needs
-
--- the selector at the index is tried: a key of it is reported, and it is kept
-abbrev pub IsTriedAt : {Node : Type 0} → Document Node → Node → Reported → Walk → ℕ → Type 0
-IsTriedAt document n reported walk index =
-    IsKeyedAt document n reported walk.selectors index × IsKeptAt walk index

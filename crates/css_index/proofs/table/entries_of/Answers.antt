@@ -1,5 +1,6 @@
 use Rattle.std.proofs.Common.{◌++◌, sym, ap, ◌∙◌}
-use Rattle.css_index.specs.internal.Filed.{with_index, filed_keys}
+use Rattle.css_index.specs.Tested.{filed_keys}
+use Rattle.css_index.specs.internal.Filed.{with_index}
 use Rattle.css_index.proofs.FileLemmas.{entries_more}
 use Rattle.css_index.proofs.table.entries_of.Goals as goal
 

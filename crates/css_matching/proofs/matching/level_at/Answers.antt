@@ -4,6 +4,9 @@ use Rattle.css_matching.proofs.Steps.{beyond_less, count_less, level_begun, leve
 use Rattle.css_matching.specs.Placements.IsBeyond.{is_next}
 use Rattle.css_matching.proofs.Charging.{charged_more, beyond_cheaper, further_cheaper}
 use Rattle.css_matching.proofs.Counting.{level_first, level_more, level_last}
+use Rattle.css_matching.specs.Charges.{IsCharged}
+use Rattle.css_matching.proofs.matching.level_at.Given.{Over}
+use Rattle.css_matching.proofs.matching.level_at.Goals.{After-run_at-in-loop-candidate}
 use Rattle.css_matching.proofs.matching.level_at.Goals as goal
 
 up_to : (a b : ℕ) → a < b → a ≤ b
@@ -17,6 +20,35 @@ plus a b x h = omega (arith, h)
 
 one_less_here : (a b : ℕ) → a ≡ b + 1 → b < a
 one_less_here a b h = omega (arith, h)
+
+-- what the tests have cost after one more run
+charged_here : (g : Over) (c : After-run_at-in-loop-candidate g)
+    → IsCharged (g.E.Candidate.cost c.args.parts.now (g.E.Candidate.node c.args.lowest.now))
+    c.args.tests.now c.args.total.now c.run_at-in-loop-candidate.new.tests
+    c.run_at-in-loop-candidate.new.total
+charged_here g c =
+    let cost = g.E.Candidate.cost c.args.parts.now in
+    charged_more (cost (g.E.Candidate.node c.args.lowest.now))
+    (cost (g.E.Candidate.node c.loop-candidate.candidate)) c.args.tests.now c.args.total.now
+    c.loop-candidate.tests c.loop-candidate.total c.run_at-in-loop-candidate.new.tests
+    c.run_at-in-loop-candidate.new.total c.loop-candidate.invariant.cheaper
+    c.loop-candidate.invariant.charged c.run_at-in-loop-candidate.ensures.inner
+
+-- how many tests there were when the level ends with this run
+bounded_here : (g : Over) (c : After-run_at-in-loop-candidate g)
+    → let k = g.P.Parts.combinator_at c.args.parts.now in
+    c.run_at-in-loop-candidate.new.tests ≤ c.args.tests.now + run_length k c.args.last
+    + longest_free k c.args.last
+    * g.E.Candidate.tree.earlier (g.E.Candidate.node c.args.lowest.now)
+bounded_here g c =
+    let k = g.P.Parts.combinator_at c.args.parts.now in
+    let i = c.loop-candidate.invariant in
+    level_last (longest_free k c.args.last)
+    (g.E.Candidate.tree.earlier (g.E.Candidate.node c.loop-candidate.candidate))
+    c.loop-candidate.tests c.run_at-in-loop-candidate.new.tests (run_length k c.loop-candidate.low)
+    (c.args.tests.now + run_length k c.args.last)
+    (longest_free k c.args.last * g.E.Candidate.tree.earlier (g.E.Candidate.node c.args.lowest.now))
+    i.state.bounded c.run_at-in-loop-candidate.ensures.bounded i.spent
 
 pub returns-in-Mismatch-clause-finds : goal.returns-in-Mismatch-clause-finds
 returns-in-Mismatch-clause-finds g c =
@@ -63,39 +95,15 @@ loop-candidate-init g c =
 
 pub returns-in-NoNode-clause-bounded : goal.returns-in-NoNode-clause-bounded
 returns-in-NoNode-clause-bounded g c =
-    let k = g.P.Parts.combinator_at c.args.parts.now in
-    let i = c.loop-candidate.invariant in
-    level_last (longest_free k c.args.last)
-    (g.E.Candidate.tree.earlier (g.E.Candidate.node c.loop-candidate.candidate)) c.loop-candidate.tests
-    c.run_at-in-loop-candidate.new.tests (run_length k c.loop-candidate.low)
-    (c.args.tests.now + run_length k c.args.last)
-    (longest_free k c.args.last * g.E.Candidate.tree.earlier (g.E.Candidate.node c.args.lowest.now))
-    i.state.bounded
-    c.in-NoNode.ensures.bounded i.spent
+    bounded_here g (goal.at.returns-in-NoNode-clause-bounded g c).After-run_at-in-loop-candidate
 
 pub returns-in-Complete-run_at-clause-bounded : goal.returns-in-Complete-run_at-clause-bounded
 returns-in-Complete-run_at-clause-bounded g c =
-    let k = g.P.Parts.combinator_at c.args.parts.now in
-    let i = c.loop-candidate.invariant in
-    level_last (longest_free k c.args.last)
-    (g.E.Candidate.tree.earlier (g.E.Candidate.node c.loop-candidate.candidate)) c.loop-candidate.tests
-    c.run_at-in-loop-candidate.new.tests (run_length k c.loop-candidate.low)
-    (c.args.tests.now + run_length k c.args.last)
-    (longest_free k c.args.last * g.E.Candidate.tree.earlier (g.E.Candidate.node c.args.lowest.now))
-    i.state.bounded
-    c.in-Complete-run_at.ensures.bounded i.spent
+    bounded_here g (goal.at.returns-in-Complete-run_at-clause-bounded g c).After-run_at-in-loop-candidate
 
 pub returns-in-None-clause-bounded : goal.returns-in-None-clause-bounded
 returns-in-None-clause-bounded g c =
-    let k = g.P.Parts.combinator_at c.args.parts.now in
-    let i = c.loop-candidate.invariant in
-    level_last (longest_free k c.args.last)
-    (g.E.Candidate.tree.earlier (g.E.Candidate.node c.loop-candidate.candidate)) c.loop-candidate.tests
-    c.run_at-in-loop-candidate.new.tests (run_length k c.loop-candidate.low)
-    (c.args.tests.now + run_length k c.args.last)
-    (longest_free k c.args.last * g.E.Candidate.tree.earlier (g.E.Candidate.node c.args.lowest.now))
-    i.state.bounded
-    c.in-Mismatch-run_at.ensures.bounded i.spent
+    bounded_here g (goal.at.returns-in-None-clause-bounded g c).After-run_at-in-loop-candidate
 
 pub returns-in-Complete-run_at-clause-finds : goal.returns-in-Complete-run_at-clause-finds
 returns-in-Complete-run_at-clause-finds g c =
@@ -123,11 +131,7 @@ loop-candidate-preserved-in-Some g c =
           c.args.last c.loop-candidate.low (g.E.Candidate.node c.args.lowest.now) v w i.state
           c.in-Mismatch-run_at.ensures.finds (sym c.in-Some.ensures);
       tested = omega (arith, i.tested, c.in-Mismatch-run_at.ensures.tested);
-      charged = charged_more (g.E.Candidate.cost c.args.parts.now (g.E.Candidate.node c.args.lowest.now))
-          (g.E.Candidate.cost c.args.parts.now (g.E.Candidate.node c.loop-candidate.candidate))
-          c.args.tests.now c.args.total.now c.loop-candidate.tests c.loop-candidate.total
-          c.run_at-in-loop-candidate.new.tests c.run_at-in-loop-candidate.new.total
-          c.loop-candidate.invariant.cheaper c.loop-candidate.invariant.charged c.run_at-in-loop-candidate.ensures.inner;
+      charged = charged_here g (goal.at.loop-candidate-preserved-in-Some g c).After-run_at-in-loop-candidate;
       cheaper = further_cheaper tree (g.E.Candidate.cost c.args.parts.now) (g.met.E.Candidate.cost_law c.args.parts.now) w v
           (g.E.Candidate.node c.args.lowest.now) (is_next (sym c.in-Some.ensures)) i.cheaper;
       spent = level_more (longest_free k c.args.last) (tree.earlier w) (tree.earlier v)
@@ -159,11 +163,7 @@ loop-candidate-preserved g c =
           c.loop-candidate.low c.in-Continues-run_at.rest (g.E.Candidate.node c.args.lowest.now) v w
           i.state f.0 f.1;
       tested = omega (arith, i.tested, c.in-Continues-run_at.ensures.tested);
-      charged = charged_more (g.E.Candidate.cost c.args.parts.now (g.E.Candidate.node c.args.lowest.now))
-          (g.E.Candidate.cost c.args.parts.now (g.E.Candidate.node c.loop-candidate.candidate))
-          c.args.tests.now c.args.total.now c.loop-candidate.tests c.loop-candidate.total
-          c.run_at-in-loop-candidate.new.tests c.run_at-in-loop-candidate.new.total
-          c.loop-candidate.invariant.cheaper c.loop-candidate.invariant.charged c.run_at-in-loop-candidate.ensures.inner;
+      charged = charged_here g (goal.at.loop-candidate-preserved g c).After-run_at-in-loop-candidate;
       cheaper = further_cheaper tree (g.E.Candidate.cost c.args.parts.now) (g.met.E.Candidate.cost_law c.args.parts.now) w v
           (g.E.Candidate.node c.args.lowest.now) (f.0.beyond) i.cheaper;
       spent = level_more (longest_free k c.args.last) (tree.earlier w) (tree.earlier v)
@@ -201,24 +201,12 @@ returns-in-None-clause-tested g c =
 
 pub returns-in-NoNode-clause-inner : goal.returns-in-NoNode-clause-inner
 returns-in-NoNode-clause-inner g c =
-    charged_more (g.E.Candidate.cost c.args.parts.now (g.E.Candidate.node c.args.lowest.now))
-    (g.E.Candidate.cost c.args.parts.now (g.E.Candidate.node c.loop-candidate.candidate))
-    c.args.tests.now c.args.total.now c.loop-candidate.tests c.loop-candidate.total
-    c.run_at-in-loop-candidate.new.tests c.run_at-in-loop-candidate.new.total
-    c.loop-candidate.invariant.cheaper c.loop-candidate.invariant.charged c.run_at-in-loop-candidate.ensures.inner
+    charged_here g (goal.at.returns-in-NoNode-clause-inner g c).After-run_at-in-loop-candidate
 
 pub returns-in-Complete-run_at-clause-inner : goal.returns-in-Complete-run_at-clause-inner
 returns-in-Complete-run_at-clause-inner g c =
-    charged_more (g.E.Candidate.cost c.args.parts.now (g.E.Candidate.node c.args.lowest.now))
-    (g.E.Candidate.cost c.args.parts.now (g.E.Candidate.node c.loop-candidate.candidate))
-    c.args.tests.now c.args.total.now c.loop-candidate.tests c.loop-candidate.total
-    c.run_at-in-loop-candidate.new.tests c.run_at-in-loop-candidate.new.total
-    c.loop-candidate.invariant.cheaper c.loop-candidate.invariant.charged c.run_at-in-loop-candidate.ensures.inner
+    charged_here g (goal.at.returns-in-Complete-run_at-clause-inner g c).After-run_at-in-loop-candidate
 
 pub returns-in-None-clause-inner : goal.returns-in-None-clause-inner
 returns-in-None-clause-inner g c =
-    charged_more (g.E.Candidate.cost c.args.parts.now (g.E.Candidate.node c.args.lowest.now))
-    (g.E.Candidate.cost c.args.parts.now (g.E.Candidate.node c.loop-candidate.candidate))
-    c.args.tests.now c.args.total.now c.loop-candidate.tests c.loop-candidate.total
-    c.run_at-in-loop-candidate.new.tests c.run_at-in-loop-candidate.new.total
-    c.loop-candidate.invariant.cheaper c.loop-candidate.invariant.charged c.run_at-in-loop-candidate.ensures.inner
+    charged_here g (goal.at.returns-in-None-clause-inner g c).After-run_at-in-loop-candidate

@@ -7,6 +7,9 @@ use Rattle.css_matching.specs.Bounds.{longest_free, run_length, fixed_length, ab
 use Rattle.css_matching.proofs.Steps.{borrowed, next_at, descendant_of, stretch_start, stretch_step, stretch_none, stretch_continues}
 use Rattle.css_matching.proofs.Charging.{charged_none, charged_more, along_up_cheaper}
 use Rattle.css_matching.proofs.Counting.{longest_free-below, run_fixed, above_length-child, level_count-child, width-once, width-parent, stretch_last, stretch_more}
+use Rattle.css_matching.specs.Charges.{IsCharged}
+use Rattle.css_matching.proofs.matching.stretch_at.Given.{Over}
+use Rattle.css_matching.proofs.matching.stretch_at.Goals.{After-level_at}
 use Rattle.css_matching.proofs.matching.stretch_at.Goals as goal
 
 some_of : (a : ℕ) → (a ≡ 0 → ⊥) → 0 < a
@@ -55,6 +58,42 @@ went_on tree k last index rest x u w n now after begun e le levels fixed up spen
 fixed_on : (a r b c : ℕ) → a ≡ r + b → b ≡ c → a ≡ r + c
 fixed_on a r b c e f = cc
 
+-- what the node that is tried is
+node_is : (g : Over) (c : After-level_at g)
+    → g.E.Candidate.node c.unwrap_or-node.result.now
+    ≡ option_map_or g.E.Candidate.node c.steps.top (g.E.Candidate.node c.args.lowest.now)
+node_is g c =
+    borrowed g.E.Candidate.node c.as_ref.result c.steps.top c.args.lowest c.unwrap_or-node.result
+    c.as_ref.ensures.value c.unwrap_or-node.ensures
+
+-- what the tests have cost after one more level
+charged_here : (g : Over) (c : After-level_at g)
+    → IsCharged (g.E.Candidate.cost c.args.parts.now (g.E.Candidate.node c.args.lowest.now))
+    c.args.tests.now c.args.total.now c.level_at.new.tests c.level_at.new.total
+charged_here g c =
+    let node = g.E.Candidate.node in
+    let cost = g.E.Candidate.cost c.args.parts.now in
+    charged_more (cost (node c.args.lowest.now)) (cost (node c.unwrap_or-node.result.now))
+    c.args.tests.now c.args.total.now c.steps.tests c.steps.total c.level_at.new.tests
+    c.level_at.new.total
+    (along_up_cheaper g.E.Candidate.tree cost (g.met.E.Candidate.cost_law c.args.parts.now)
+    (node c.unwrap_or-node.result.now) (option_map_or node c.steps.top (node c.args.lowest.now))
+    (node c.args.lowest.now) (node_is g c) c.steps.invariant.state.along)
+    c.steps.invariant.charged c.level_at.ensures.inner
+
+-- how many tests there were when the stretch ends with this level
+bounded_here : (g : Over) (c : After-level_at g)
+    → let k = g.P.Parts.combinator_at c.args.parts.now in
+    c.level_at.new.tests ≤ c.args.tests.now + fixed_length k c.args.last
+    + longest_free k c.args.last
+    * width g.E.Candidate.tree (level_count k c.args.last) (g.E.Candidate.node c.args.lowest.now)
+bounded_here g c =
+    let node = g.E.Candidate.node in
+    ended g.E.Candidate.tree (g.P.Parts.combinator_at c.args.parts.now) c.args.last c.steps.index
+    (node c.unwrap_or-node.result.now) (option_map_or node c.steps.top (node c.args.lowest.now))
+    (node c.args.lowest.now) c.steps.tests c.level_at.new.tests c.args.tests.now (node_is g c)
+    c.steps.invariant.state.within c.level_at.ensures.bounded c.steps.invariant.spent
+
 pub steps-init : goal.steps-init
 steps-init g c =
     record {
@@ -67,34 +106,15 @@ steps-init g c =
 
 pub returns-in_default-clause-bounded : goal.returns-in_default-clause-bounded
 returns-in_default-clause-bounded g c =
-    let node = g.E.Candidate.node in
-    ended g.E.Candidate.tree (g.P.Parts.combinator_at c.args.parts.now) c.args.last c.steps.index
-    (node c.unwrap_or-node.result.now) (option_map_or node c.steps.top (node c.args.lowest.now))
-    (node c.args.lowest.now) c.steps.tests c.level_at.new.tests c.args.tests.now
-    (borrowed node c.as_ref.result c.steps.top c.args.lowest c.unwrap_or-node.result
-    c.as_ref.ensures.value c.unwrap_or-node.ensures)
-    c.steps.invariant.state.within c.in_default.ensures.bounded c.steps.invariant.spent
+    bounded_here g (goal.at.returns-in_default-clause-bounded g c).After-level_at
 
 pub returns-then-first-eq0-clause-bounded : goal.returns-then-first-eq0-clause-bounded
 returns-then-first-eq0-clause-bounded g c =
-    let node = g.E.Candidate.node in
-    ended g.E.Candidate.tree (g.P.Parts.combinator_at c.args.parts.now) c.args.last c.steps.index
-    (node c.unwrap_or-node.result.now) (option_map_or node c.steps.top (node c.args.lowest.now))
-    (node c.args.lowest.now) c.steps.tests c.level_at.new.tests c.args.tests.now
-    (borrowed node c.as_ref.result c.steps.top c.args.lowest c.unwrap_or-node.result
-    c.as_ref.ensures.value c.unwrap_or-node.ensures)
-    c.steps.invariant.state.within c.in-Some.ensures.bounded c.steps.invariant.spent
+    bounded_here g (goal.at.returns-then-first-eq0-clause-bounded g c).After-level_at
 
-pub returns-in_default-parent_element-clause-bounded :
-    goal.returns-in_default-parent_element-clause-bounded
+pub returns-in_default-parent_element-clause-bounded : goal.returns-in_default-parent_element-clause-bounded
 returns-in_default-parent_element-clause-bounded g c =
-    let node = g.E.Candidate.node in
-    ended g.E.Candidate.tree (g.P.Parts.combinator_at c.args.parts.now) c.args.last c.steps.index
-    (node c.unwrap_or-node.result.now) (option_map_or node c.steps.top (node c.args.lowest.now))
-    (node c.args.lowest.now) c.steps.tests c.level_at.new.tests c.args.tests.now
-    (borrowed node c.as_ref.result c.steps.top c.args.lowest c.unwrap_or-node.result
-    c.as_ref.ensures.value c.unwrap_or-node.ensures)
-    c.steps.invariant.state.within c.in-Some.ensures.bounded c.steps.invariant.spent
+    bounded_here g (goal.at.returns-in_default-parent_element-clause-bounded g c).After-level_at
 
 pub returns-in_default-parent_element-clause-finds :
     goal.returns-in_default-parent_element-clause-finds
@@ -104,8 +124,8 @@ returns-in_default-parent_element-clause-finds g c =
     let k = g.P.Parts.combinator_at c.args.parts.now in
     let meets = g.E.Candidate.Meets c.args.parts.now in
     let u = option_map_or node c.steps.top (node c.args.lowest.now) in
-    let e = borrowed node c.as_ref.result c.steps.top c.args.lowest c.unwrap_or-node.result
-    c.as_ref.ensures.value c.unwrap_or-node.ensures in
+    let tried = (goal.at.returns-in_default-parent_element-clause-finds g c).After-level_at in
+    let e = node_is g tried in
     stretch_none tree k meets c.args.last c.steps.index c.in-Some.first (node c.args.lowest.now) u
     c.steps.invariant.state
     (subst (Level tree k meets c.in-Some.first c.steps.index) e c.in-Some.ensures.finds)
@@ -119,10 +139,10 @@ steps-preserved g c =
     let tree = g.E.Candidate.tree in
     let k = g.P.Parts.combinator_at c.args.parts.now in
     let meets = g.E.Candidate.Meets c.args.parts.now in
+    let tried = (goal.at.steps-preserved g c).After-level_at in
     let u = option_map_or node c.steps.top (node c.args.lowest.now) in
     let w = node c.in-Some-parent_element.above in
-    let e = borrowed node c.as_ref.result c.steps.top c.args.lowest c.unwrap_or-node.result
-    c.as_ref.ensures.value c.unwrap_or-node.ensures in
+    let e = node_is g tried in
     let some = some_of c.in-Some.first c.if-first-eq0.false in
     let up = next_at tree.parent (node c.unwrap_or-node.result.now) u (Some w) e
     c.in-Some-parent_element.ensures in
@@ -133,17 +153,7 @@ steps-preserved g c =
           (subst (Level tree k meets c.in-Some.first c.steps.index) e c.in-Some.ensures.finds)
           some child up;
       tested = omega (arith, c.steps.invariant.tested, c.in-Some.ensures.tested, some);
-      charged = charged_more (g.E.Candidate.cost c.args.parts.now (node c.args.lowest.now))
-          (g.E.Candidate.cost c.args.parts.now (node c.unwrap_or-node.result.now))
-          c.args.tests.now c.args.total.now c.steps.tests c.steps.total
-          c.level_at.new.tests c.level_at.new.total
-          (along_up_cheaper g.E.Candidate.tree (g.E.Candidate.cost c.args.parts.now) (g.met.E.Candidate.cost_law c.args.parts.now)
-          (node c.unwrap_or-node.result.now)
-          (option_map_or node c.steps.top (node c.args.lowest.now)) (node c.args.lowest.now)
-          (borrowed node c.as_ref.result c.steps.top c.args.lowest c.unwrap_or-node.result
-          c.as_ref.ensures.value c.unwrap_or-node.ensures)
-          c.steps.invariant.state.along)
-          c.steps.invariant.charged c.level_at.ensures.inner;
+      charged = charged_here g tried;
       spent = went_on tree k c.args.last c.steps.index (c.in-Some.first - 1)
           (node c.unwrap_or-node.result.now) u w (node c.args.lowest.now) c.steps.tests
           c.level_at.new.tests c.args.tests.now e c.steps.invariant.state.within
@@ -161,10 +171,10 @@ returns-in-Descendant g c =
     let tree = g.E.Candidate.tree in
     let k = g.P.Parts.combinator_at c.args.parts.now in
     let meets = g.E.Candidate.Meets c.args.parts.now in
+    let tried = (goal.at.returns-in-Descendant g c).After-level_at in
     let u = option_map_or node c.steps.top (node c.args.lowest.now) in
     let w = node c.in-Some-parent_element.above in
-    let e = borrowed node c.as_ref.result c.steps.top c.args.lowest c.unwrap_or-node.result
-    c.as_ref.ensures.value c.unwrap_or-node.ensures in
+    let e = node_is g tried in
     let some = some_of c.in-Some.first c.if-first-eq0.false in
     record {
       finds = stretch_continues tree k meets c.args.last c.steps.index c.in-Some.first
@@ -176,20 +186,8 @@ returns-in-Descendant g c =
           (next_at tree.parent (node c.unwrap_or-node.result.now) u (Some w) e
           c.in-Some-parent_element.ensures);
       tested = omega (arith, c.steps.invariant.tested, c.in-Some.ensures.tested, some);
-      inner = charged_more (g.E.Candidate.cost c.args.parts.now (node c.args.lowest.now))
-          (g.E.Candidate.cost c.args.parts.now (node c.unwrap_or-node.result.now))
-          c.args.tests.now c.args.total.now c.steps.tests c.steps.total
-          c.level_at.new.tests c.level_at.new.total
-          (along_up_cheaper g.E.Candidate.tree (g.E.Candidate.cost c.args.parts.now) (g.met.E.Candidate.cost_law c.args.parts.now)
-          (node c.unwrap_or-node.result.now)
-          (option_map_or node c.steps.top (node c.args.lowest.now)) (node c.args.lowest.now)
-          (borrowed node c.as_ref.result c.steps.top c.args.lowest c.unwrap_or-node.result
-          c.as_ref.ensures.value c.unwrap_or-node.ensures)
-          c.steps.invariant.state.along)
-          c.steps.invariant.charged c.level_at.ensures.inner;
-      bounded = ended tree k c.args.last c.steps.index (node c.unwrap_or-node.result.now) u
-          (node c.args.lowest.now) c.steps.tests c.level_at.new.tests c.args.tests.now e
-          c.steps.invariant.state.within c.in-Some.ensures.bounded c.steps.invariant.spent;
+      inner = charged_here g tried;
+      bounded = bounded_here g tried;
     }
 
 pub returns-in_default-clause-tested : goal.returns-in_default-clause-tested
@@ -213,45 +211,12 @@ returns-in_default-parent_element-clause-tested g c =
 
 pub returns-in_default-clause-inner : goal.returns-in_default-clause-inner
 returns-in_default-clause-inner g c =
-    let node = g.E.Candidate.node in
-    charged_more (g.E.Candidate.cost c.args.parts.now (node c.args.lowest.now))
-    (g.E.Candidate.cost c.args.parts.now (node c.unwrap_or-node.result.now))
-    c.args.tests.now c.args.total.now c.steps.tests c.steps.total
-    c.level_at.new.tests c.level_at.new.total
-    (along_up_cheaper g.E.Candidate.tree (g.E.Candidate.cost c.args.parts.now) (g.met.E.Candidate.cost_law c.args.parts.now)
-    (node c.unwrap_or-node.result.now)
-    (option_map_or node c.steps.top (node c.args.lowest.now)) (node c.args.lowest.now)
-    (borrowed node c.as_ref.result c.steps.top c.args.lowest c.unwrap_or-node.result
-    c.as_ref.ensures.value c.unwrap_or-node.ensures)
-    c.steps.invariant.state.along)
-    c.steps.invariant.charged c.level_at.ensures.inner
+    charged_here g (goal.at.returns-in_default-clause-inner g c).After-level_at
 
 pub returns-then-first-eq0-clause-inner : goal.returns-then-first-eq0-clause-inner
 returns-then-first-eq0-clause-inner g c =
-    let node = g.E.Candidate.node in
-    charged_more (g.E.Candidate.cost c.args.parts.now (node c.args.lowest.now))
-    (g.E.Candidate.cost c.args.parts.now (node c.unwrap_or-node.result.now))
-    c.args.tests.now c.args.total.now c.steps.tests c.steps.total
-    c.level_at.new.tests c.level_at.new.total
-    (along_up_cheaper g.E.Candidate.tree (g.E.Candidate.cost c.args.parts.now) (g.met.E.Candidate.cost_law c.args.parts.now)
-    (node c.unwrap_or-node.result.now)
-    (option_map_or node c.steps.top (node c.args.lowest.now)) (node c.args.lowest.now)
-    (borrowed node c.as_ref.result c.steps.top c.args.lowest c.unwrap_or-node.result
-    c.as_ref.ensures.value c.unwrap_or-node.ensures)
-    c.steps.invariant.state.along)
-    c.steps.invariant.charged c.level_at.ensures.inner
+    charged_here g (goal.at.returns-then-first-eq0-clause-inner g c).After-level_at
 
 pub returns-in_default-parent_element-clause-inner : goal.returns-in_default-parent_element-clause-inner
 returns-in_default-parent_element-clause-inner g c =
-    let node = g.E.Candidate.node in
-    charged_more (g.E.Candidate.cost c.args.parts.now (node c.args.lowest.now))
-    (g.E.Candidate.cost c.args.parts.now (node c.unwrap_or-node.result.now))
-    c.args.tests.now c.args.total.now c.steps.tests c.steps.total
-    c.level_at.new.tests c.level_at.new.total
-    (along_up_cheaper g.E.Candidate.tree (g.E.Candidate.cost c.args.parts.now) (g.met.E.Candidate.cost_law c.args.parts.now)
-    (node c.unwrap_or-node.result.now)
-    (option_map_or node c.steps.top (node c.args.lowest.now)) (node c.args.lowest.now)
-    (borrowed node c.as_ref.result c.steps.top c.args.lowest c.unwrap_or-node.result
-    c.as_ref.ensures.value c.unwrap_or-node.ensures)
-    c.steps.invariant.state.along)
-    c.steps.invariant.charged c.level_at.ensures.inner
+    charged_here g (goal.at.returns-in_default-parent_element-clause-inner g c).After-level_at

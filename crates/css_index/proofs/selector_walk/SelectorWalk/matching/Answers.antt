@@ -1,7 +1,7 @@
-use Rattle.std.proofs.Common.{rules}
+use Rattle.std.proofs.Common.{◌↔◌, ℕ, subst}
+use Rattle.std.specs.List.{Contains}
 use Rattle.css_index.specs.internal.Candidates.{PassesAt}
 use Rattle.css_index.proofs.MatchLemmas.{match_keyed, matched_passes, passed_matches}
-use Rattle.css_index.proofs.KeptLemmas.{ascending_kept, kept_exactly}
 use Rattle.css_index.proofs.OpenLemmas.{match_kept}
 use Rattle.css_index.proofs.selector_walk.SelectorWalk.matching.Goals as goal
 
@@ -13,21 +13,19 @@ returns-clause-matches g c =
     let reported = g.E.Keyed.reported element in
     let walk = c.args.self.now in
     let selectors = walk.selectors in
-    let found = c.tried.new.indices.items in
-    let kept = c.retain.new.self.items in
     let tried = c.in_ok-tried.ensures.tried in
     let needs = c.count-count.ensures.needs in
     let law = g.met.E.Keyed.reported_law in
-    let exactly = kept_exactly _ (PassesAt document n selectors) _ (λ x b f k. search rules) found
-    kept c.retain.ensures.filtered in
+    let passing = subst (λ xs. (index : ℕ) → Contains c.push_passing.new.indices.items index
+    ↔ (Contains xs index × PassesAt document n selectors index)) c.as_slice.ensures.value
+    c.in_default.ensures.exactly in
     record {
-      ascending = ascending_kept _ (PassesAt document n selectors) _ (λ x b f k. search rules)
-          found kept c.retain.ensures.filtered tried.ascending;
+      ascending = c.in_default.ensures.ascending;
       exactly = λ index. (
-        λ h. (let k = (exactly index).0 h in
+        λ h. (let k = (passing index).0 h in
             passed_matches document n reported selectors index
             ((tried.exactly index).0 k.0).0 k.1),
-        λ m. (exactly index).1 (
+        λ m. (passing index).1 (
           (tried.exactly index).1 (
             match_keyed document n reported selectors index (law element) m,
             match_kept document g.E.Element.node g.E.Keyed.reported law

@@ -1,7 +1,7 @@
 use Rattle.std.proofs.Common.{rules, subst, ◌↔◌, ℕ}
 use Rattle.std.specs.List.{Contains}
 use Rattle.css_index.specs.Walks.{IsKeptAt}
-use Rattle.css_index.specs.internal.Candidates.{IsKeyedAt}
+use Rattle.css_index.specs.Tested.{IsKeyedAt}
 use Rattle.css_index.proofs.KeptLemmas.{kept_exactly}
 use Rattle.css_index.proofs.selector_walk.SelectorWalk.tried.Goals as goal
 

@@ -1,6 +1,6 @@
 use Rattle.std.proofs.Common.{◌<◌, IfSome, length, reverse, refl, sym, ◌∙◌, subst, arith}
-use Rattle.css_tree.specs.internal.{LeadsTo}
-use Rattle.css_tree.proofs.Walking.{leads_push, nearer, higher, inside, same_place}
+use Rattle.simplecss_tree.specs.internal.{LeadsTo}
+use Rattle.simplecss_tree.proofs.Walking.{leads_push, nearer, higher, inside, same_place}
 use Rattle.css_tree.proofs.tree_walk.Opened.close_for.Goals as goal
 
 pub climb-init : goal.climb-init

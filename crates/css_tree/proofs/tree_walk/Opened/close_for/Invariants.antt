@@ -1,7 +1,7 @@
 use Rattle.std.proofs.Common.{◌≡◌, ◌+◌, ◌<◌, length, reverse, IfSome}
 use Rattle.css_tree.specs.Walks.{IsOpenAt}
-use Rattle.css_tree.specs.internal.{LeadsTo}
-use Rattle.css_tree.proofs.Walking.{past}
+use Rattle.simplecss_tree.specs.internal.{LeadsTo}
+use Rattle.simplecss_tree.proofs.Walking.{past}
 use Rattle.css_tree.proofs.tree_walk.Opened.close_for.Given as goal
 
 -- the walk is open, and the elements so far lead to the element

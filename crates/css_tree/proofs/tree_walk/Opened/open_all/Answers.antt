@@ -1,17 +1,18 @@
-use Rattle.std.proofs.Common.{Some, ℕ, reverse, sym, ◌∙◌, subst, arith}
+use Rattle.std.proofs.Common.{Some, ℕ, length, reverse, sym, ◌∙◌, subst, arith}
 use Rattle.css_index.specs.Walks.{IsOpenTo}
 use Rattle.css_tree.specs.Pages.{Page, page_document}
 use Rattle.css_tree.specs.Walks.{IsOpenAt}
 use Rattle.css_tree.specs.Reports.{reported_of}
-use Rattle.css_tree.specs.internal.{LeadsTo}
-use Rattle.css_tree.proofs.Walking.{leads_pop, none_left, node_is, node_there, open_above}
+use Rattle.simplecss_tree.specs.internal.{LeadsTo}
+use Rattle.simplecss_tree.proofs.Walking.{leads_pop, none_left, node_is, node_there}
+use Rattle.css_tree.proofs.Walking.{open_above}
 use Rattle.css_tree.proofs.tree_walk.Opened.open_all.Goals as goal
 
 pub unwrap-node-requires : goal.unwrap-node-requires
 unwrap-node-requires c =
     let pop = leads_pop c.args.page.now.rows c.opens.between.items c.pop.new.self.items c.in-Some.index
     c.opens.self.place c.args.element c.in-Some.ensures.items c.opens.invariant.leads in
-    node_there c.args.page.now c.in-Some.index c.node.result pop.0 c.node.ensures
+    node_there c.args.page.now (length c.args.page.now.rows) c.in-Some.index c.node.result pop.0 c.node.ensures
 
 pub opens-preserved : goal.opens-preserved
 opens-preserved c =
@@ -19,7 +20,7 @@ opens-preserved c =
     let index = c.in-Some.index in
     let pop = leads_pop page.rows c.opens.between.items c.pop.new.self.items index
     c.opens.self.place c.args.element c.in-Some.ensures.items c.opens.invariant.leads in
-    let node = node_is page index c.node.result c.unwrap-node.result c.unwrap-node.ensures
+    let node = node_is page (length page.rows) index c.node.result c.unwrap-node.result c.unwrap-node.ensures
     c.node.ensures in
     let opened = c.in_ok-enter.ensures.opened (open_above page c.opens.self.walk c.opens.self.place
     index c.unwrap-node.result c.opens.invariant.opened (sym pop.1) node) in

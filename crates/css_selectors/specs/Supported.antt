@@ -1,0 +1,88 @@
+-- Selectors that have a meaning here. A text may be a selector and have none: it is unsupported.
+use Rattle.std.specs.Prelude.{◌&&◌, ℕ, Bool, true, false, not, if◌then◌else◌, List, [], ◌∷◌, map, codes, Option, None, Some, is_none}
+use Rattle.css_selectors.specs.declared.refusal.Why.TheVariants.{Unsupported}
+use Rattle.css_selectors.specs.Components.{Simple, Condition, Conditions, Parts, Selectors, parts_from, PseudoElement, Selector, Placed}
+use Rattle.css_selectors.specs.Components.Simple.{state, function, named_element}
+use Rattle.css_selectors.specs.Components.Condition.{simple, negation, any_of, where_any}
+use Rattle.css_selectors.specs.Components.Conditions.{end_of_compound, with_condition}
+use Rattle.css_selectors.specs.Components.Parts.{end_of_selector, with_part}
+use Rattle.css_selectors.specs.Components.Selectors.{end_of_list, with_selector}
+use Rattle.css_selectors.specs.Grammar.{is_word, placed_selector, placed_list}
+use Rattle.css_selectors.specs.Readings.{Reading, got, refused, Reader}
+
+-- What has an argument that is kept as it is written has no meaning, nor has `:host`, which is an
+-- element outside of the tree.
+abbrev pub is_supported_simple : Simple → Bool
+is_supported_simple (state name) = not (is_word (codes "host") name)
+is_supported_simple (function name argument) = false
+is_supported_simple (named_element name argument) = false
+is_supported_simple s = true
+
+abbrev mutual
+  -- a condition has a meaning, if all in its list has
+  pub is_supported : Condition → Bool
+  is_supported (simple s) = is_supported_simple s
+  is_supported (negation selectors) = are_supported true selectors
+  is_supported (any_of selectors) = are_supported true selectors
+  is_supported (where_any selectors) = are_supported true selectors
+
+  -- what was found so far has a meaning, and the conditions of a compound selector have
+  pub have_meaning : Bool → Conditions → Bool
+  have_meaning so_far end_of_compound = so_far
+  have_meaning so_far (with_condition c conditions) =
+      have_meaning (so_far && is_supported c) conditions
+
+  -- and the compound selectors of a complex selector
+  pub parts_supported : Bool → Parts → Bool
+  parts_supported so_far end_of_selector = so_far
+  parts_supported so_far (with_part k c parts) = parts_supported (have_meaning so_far c) parts
+
+  -- and the complex selectors of a list
+  pub are_supported : Bool → Selectors → Bool
+  are_supported so_far end_of_list = so_far
+  are_supported so_far (with_selector s selectors) =
+      are_supported (parts_supported so_far s) selectors
+
+-- nothing follows
+abbrev pub is_last_condition : List Condition → Bool
+is_last_condition [] = true
+is_last_condition (c ∷ conditions) = false
+
+-- a pseudo-element without an argument, which nothing follows
+abbrev pub is_plain_element : Option PseudoElement → Bool
+is_plain_element None = true
+is_plain_element (Some e) = is_none e.argument && is_last_condition e.after
+
+-- the selector has a meaning
+abbrev pub is_supported_selector : Selector → Bool
+is_supported_selector s =
+    parts_supported true (parts_from s.parts) && is_plain_element s.pseudo_element
+
+-- the first of them has none: what is left from it on
+abbrev pub first_unsupported : List Placed → Option (List ℕ)
+first_unsupported [] = None
+first_unsupported (p ∷ all) =
+    if is_supported_selector p.selector then first_unsupported all else Some p.from
+
+-- the selector, if it has a meaning
+abbrev pub supported_reading : Reading Placed → Reading Selector
+supported_reading (got p rest) =
+    if is_supported_selector p.selector then got p.selector rest else refused Unsupported p.from
+supported_reading (refused why rest) = refused why rest
+
+-- the text is a selector, and has a meaning
+abbrev pub supported_selector : Reader Selector
+supported_selector text = supported_reading (placed_selector text)
+
+abbrev pub if_all : List Placed → List ℕ → Option (List ℕ) → Reading (List Selector)
+if_all all rest None = got (map (λ p. p.selector) all) rest
+if_all all rest (Some from) = refused Unsupported from
+
+-- the selectors, if all have a meaning
+abbrev pub supported_readings : Reading (List Placed) → Reading (List Selector)
+supported_readings (got all rest) = if_all all rest (first_unsupported all)
+supported_readings (refused why rest) = refused why rest
+
+-- the text is a list of selectors, and all have a meaning
+abbrev pub supported_list : Reader (List Selector)
+supported_list text = supported_readings (placed_list text)

@@ -1,0 +1,110 @@
+//! Whether a selector has a meaning here.
+ghost use Rattle.std.specs.Prelude.{◌≡◌, ◌&&◌, true, map, option_map};
+ghost use Rattle.css_selectors.specs.Components.{conditions_from, parts_from, selectors_from};
+ghost use Rattle.css_selectors.specs.Supported.{is_supported_simple as is_supported_simple_of, is_supported as is_supported_condition};
+ghost use Rattle.css_selectors.specs.Supported.{have_meaning as have_meaning_of, parts_supported as parts_supported_of, are_supported as are_supported_of};
+ghost use Rattle.css_selectors.specs.Supported.{is_plain_element as is_plain_element_of};
+ghost use Rattle.css_selectors.specs.Views.{simple_of, complex_of, condition_of, part_of, pseudo_element_of};
+
+use crate::{Complex, Condition, Part, PseudoElement, Selector, Simple};
+
+/// Whether the simple selector has a meaning.
+fn is_supported_simple(simple: &Simple<'_>) -> bool
+    ensures { result ≡ is_supported_simple_of (simple_of simple.now) }
+{
+    match simple {
+        Simple::State(name) => !name.as_str().eq_ignore_ascii_case("host"),
+        Simple::Function(_) | Simple::Element(_) => false,
+        Simple::Universal
+        | Simple::TypeName(_)
+        | Simple::Id(_)
+        | Simple::Class(_)
+        | Simple::HasAttribute(_)
+        | Simple::Attribute(_)
+        | Simple::Structure(_)
+        | Simple::Language(_) => true,
+    }
+}
+
+/// Whether both hold.
+fn both(one: bool, other: bool) -> bool
+    ensures { result ≡ one && other }
+{
+    one && other
+}
+
+/// Whether all complex selectors of a list have a meaning.
+#[cycle(supporting)]
+fn are_supported(selectors: &[Complex<'_>]) -> bool
+    ensures { result ≡ are_supported_of true (selectors_from (map complex_of selectors.now)) }
+{
+    let mut all = true;
+    for selector in selectors {
+        all = parts_supported(all, selector.parts.as_slice());
+    }
+    all
+}
+
+/// Whether the condition has a meaning.
+#[cycle(supporting)]
+fn is_supported(condition: &Condition<'_>) -> bool
+    ensures { result ≡ is_supported_condition (condition_of condition.now) }
+{
+    match condition {
+        Condition::Simple(simple) => is_supported_simple(simple),
+        Condition::Not(selectors) | Condition::Is(selectors) | Condition::Where(selectors) => {
+            are_supported(selectors.as_slice())
+        }
+    }
+}
+
+/// Whether this holds, and the conditions have a meaning.
+#[cycle(supporting)]
+fn have_meaning(so_far: bool, conditions: &[Condition<'_>]) -> bool
+    ensures { result
+        ≡ have_meaning_of so_far (conditions_from (map condition_of conditions.now)) }
+{
+    let mut all = so_far;
+    for condition in conditions {
+        all = both(all, is_supported(condition));
+    }
+    all
+}
+
+/// Whether this holds, and the parts have a meaning.
+#[cycle(supporting)]
+fn parts_supported(so_far: bool, parts: &[Part<'_>]) -> bool
+    ensures { result ≡ parts_supported_of so_far (parts_from (map part_of parts.now)) }
+{
+    let mut all = so_far;
+    for part in parts {
+        all = have_meaning(all, part.conditions.as_slice());
+    }
+    all
+}
+
+/// Whether it is a pseudo-element without an argument, which nothing follows, or none.
+fn is_plain_element(element: Option<&PseudoElement<'_>>) -> bool
+    ensures { result
+        ≡ is_plain_element_of (option_map (λ e. pseudo_element_of e.now) element.entry) }
+{
+    match element {
+        Some(element) => element.element.argument.is_none() && element.after.is_empty(),
+        None => true,
+    }
+}
+
+impl<'a> Selector<'a> {
+    ghost use Rattle.css_selectors.specs.Supported.{is_supported_selector};
+
+    /// Whether the selector has a meaning here. A pseudo-class or a pseudo-element with an argument that
+    /// is kept as it is written has none, nor has `:host`, nor what follows a pseudo-element.
+    pub fn is_supported(&self) -> bool
+        ensures { result ≡ is_supported_selector self.now }
+    {
+        both(
+            parts_supported(true, self.parts.as_slice()),
+            is_plain_element(self.pseudo_element.as_ref()),
+        )
+    }
+}
