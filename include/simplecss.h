@@ -109,6 +109,28 @@ typedef struct simplecss_element {
                                      elements: there are strings, or bytes, that no element has */
 #define SIMPLECSS_REPEATED_KEY 4u /* two attributes have one key */
 
+/* A device, which media queries ask about. */
+typedef struct simplecss_device {
+    uint32_t width;          /* in pixels */
+    uint32_t height;         /* in pixels */
+    uint32_t resolution;     /* in thousandths of a dot for each pixel: 1000 is 96 dpi */
+    uint32_t medium;         /* its type, as SIMPLECSS_SCREEN */
+    uint32_t pointer;        /* as SIMPLECSS_FINE */
+    uint32_t hover;          /* not 0: its pointer can hover */
+    uint32_t dark;           /* not 0: its user prefers dark colours */
+    uint32_t reduced_motion; /* not 0: its user prefers less motion */
+} simplecss_device;
+
+/* The types of devices. */
+#define SIMPLECSS_SCREEN 0u
+#define SIMPLECSS_PRINT 1u
+#define SIMPLECSS_SPEECH 2u
+
+/* The pointers of devices. */
+#define SIMPLECSS_NO_POINTER 0u
+#define SIMPLECSS_COARSE 1u /* a finger */
+#define SIMPLECSS_FINE 2u   /* a mouse */
+
 /* A fault of a tree: the first fault of its first faulty element, in the order of these numbers
  * but for the name, which is tested after the strings. Set at SIMPLECSS_TREE_FAULT only. Elements are
  * numbered from 1. */
@@ -251,7 +273,7 @@ uint32_t simplecss_list_level3(const uint8_t *text, size_t text_len,
                                uint8_t *out, size_t out_size, size_t *len);
 
 /* Writes a line of JSON for the first error of a list of selectors, or nothing where it has none:
- * {"row":1,"column":4,"reason":"`:foo` is no function that is read here"}, of `.a :foo(b)` */
+ * {"row":1,"column":4,"reason":"`>` begins no selector"}, of `.a >> b` */
 uint32_t simplecss_refusal_level3(const uint8_t *text, size_t text_len,
                                   uint8_t *out, size_t out_size, size_t *len);
 
@@ -273,6 +295,22 @@ uint32_t simplecss_select_level3(const uint8_t *selectors, size_t selectors_len,
                                  const uint8_t *strings, size_t strings_len,
                                  const size_t *string_ends, size_t string_ends_count, size_t most,
                                  uint8_t *out, size_t out_size, size_t *len, simplecss_tree_fault *fault);
+
+/* Writes what a list of media queries says on a device (Media Queries 4): `true`, `false` or `unknown`. It
+ * holds if that is `true`. Known are the types, `width`, `height`, `resolution`, `orientation`,
+ * `prefers-color-scheme`, `prefers-reduced-motion`, `hover`, `any-hover`, `pointer` and `any-pointer`. Refused
+ * if the device's type or pointer is another number. */
+uint32_t simplecss_media(const uint8_t *text, size_t text_len, const simplecss_device *device,
+                         uint8_t *out, size_t out_size, size_t *len);
+
+/* Writes whether a condition of `@supports` holds (CSS Conditional Rules 4), as `true` or `false`. Supported are
+ * declarations whose properties have these names, given in lower case, whatever the values, those of custom
+ * properties, and `selector(..)` of what is a modern selector. It takes time that grows as the text times the
+ * names. */
+uint32_t simplecss_supports(const uint8_t *text, size_t text_len,
+                            const uint8_t *properties, size_t properties_len,
+                            const size_t *ends, size_t ends_count,
+                            uint8_t *out, size_t out_size, size_t *len);
 
 #ifdef __cplusplus
 }

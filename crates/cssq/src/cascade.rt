@@ -256,6 +256,23 @@ pub fn winners<'a, E: Element>(
     winners_of::<E>(alloc, &stated)
 }
 
+/// Returns what [`winners`] returns for an element of a tree, by the indices of the rules that match it,
+/// as an index or a walk finds them. `E` is the type of the tree's elements.
+pub fn winners_among<'a, E: Element>(
+    alloc: Global,
+    rules: &[Rule<'a>],
+    indices: &[usize],
+) -> Result<Vec<Declaration<'a>>, AllocError>
+    requires { All (λ index. index < length rules.now) indices.now }
+    ensures { IfOk result (λ all. (element : E.Node)
+        → AreMatches E.tree element (map (λ rule. rule.selector) rules.now) indices.now
+        → ListsInOrder (WinsForItsName E.tree element (rules_of rules.now))
+        (declarations_of all.items)) }
+{
+    let stated = stated_at::<E>(alloc, rules, indices)?;
+    winners_of::<E>(alloc, &stated)
+}
+
 /// Finds the declarations that win on each element of a page, by an index of the rules that is made
 /// once.
 ///

@@ -1,19 +1,31 @@
 //! Warnings on standard error: a line each, with the name of the text, the row and the column.
 use crate::visible::{Visible, visible_stderr};
 use simplecss::{
-    HintKind, Kept, Place, Refusal, Report, Selector, Skipped, SkippedLines, Why, refused_pos,
-    rest_of_open_value,
+    HintKind, Kept, Place, Refusal, Report, Selector, Skipped, Why, refused_pos, rest_of_open_value,
 };
 use std::alloc::AllocError;
+use std::fmt::Display;
 use std::io;
 use std::io::{BufWriter, Stderr, Write};
 
-/// A reporter that writes a line for each part of the files' texts that is skipped, and for a byte
-/// order mark at the start of one and each value that leaves a parenthesis open.
+/// A reporter that writes a line for each part of the files' texts that is skipped, for a byte order
+/// mark at the start of one, and for each value that leaves a parenthesis open.
+///
+/// After an error of the writer nothing more is written.
 #[derive(Debug, Drop)]
 pub(crate) struct SheetWarnings<'n, 'a, W: Write> {
-    /// Writes the lines.
-    lines: SkippedLines<'n, 'a, W>,
+    /// Where the lines are written.
+    out: W,
+    /// The names of the texts, in order.
+    names: &'n [&'n str],
+    /// How many texts were begun.
+    begun: usize,
+    /// The text that is read.
+    text: &'a str,
+    /// The last place of it that a line names.
+    place: Place,
+    /// The first error of the writer.
+    outcome: io::Result<()>,
 }
 
 impl<'n, 'a> SheetWarnings<'n, 'a, Visible<BufWriter<Stderr>>> {
@@ -21,16 +33,43 @@ impl<'n, 'a> SheetWarnings<'n, 'a, Visible<BufWriter<Stderr>>> {
     pub(crate) fn new(rt: &HostRuntime, names: &'n [&'n str]) -> io::Result<Self> {
         let out = BufWriter::new(rt.alloc(), rt.stderr())?;
         Ok(SheetWarnings {
-            lines: SkippedLines::new(Visible::new(out), names),
+            out: Visible::new(out),
+            names,
+            begun: 0,
+            text: "",
+            place: Place::START,
+            outcome: Ok(()),
         })
     }
 }
 
 impl<'n, 'a, W: Write + Drop> SheetWarnings<'n, 'a, W> {
-    /// Writes what is in the writer's buffers.
+    /// Writes what is in the writer's buffers. Fails if this does, or if a line could not be
+    /// written.
     pub(crate) fn finish(self) -> io::Result<()> {
-        let SheetWarnings { lines } = self;
-        lines.finish()
+        let SheetWarnings {
+            mut out,
+            outcome,
+            ..
+        } = self;
+        outcome?;
+        out.flush()
+    }
+}
+
+impl<'n, 'a, W: Write> SheetWarnings<'n, 'a, W> {
+    /// Writes a line: the name of the text that is read, the row and the column where this rest of
+    /// it begins, and the words, as `page.css:3:1: 'a < b': invalid ident`.
+    fn write_line<D: Display>(&mut self, rest: &'a str, words: &D) {
+        self.place = self.place.find(self.text, rest);
+        let name = match self.names.get(self.begun.saturating_sub(1)) {
+            Some(name) => *name,
+            None => "",
+        };
+        let pos = self.place.pos;
+        if self.outcome.is_ok() {
+            self.outcome = writeln!(self.out, "{name}:{pos}: {words}");
+        }
     }
 }
 
@@ -44,22 +83,24 @@ impl<'n, 'a, W: Write> Report<'a> for SheetWarnings<'n, 'a, W> {
     ghost begun = { λ _ _. tt };
 
     fn begin(&mut self, text: &'a str) {
-        self.lines.begin(text);
+        self.text = text;
+        self.place = Place::START;
+        self.begun = self.begun.saturating_add(1);
         if text.starts_with('\u{feff}') {
-            self.lines.write_line(text, &HintKind::ByteOrderMark);
+            self.write_line(text, &HintKind::ByteOrderMark);
         }
     }
 
     #[inline(always)]
     fn declared(&mut self, from: &'a str, value: &'a str) {
         if let Some(stated) = rest_of_open_value(from, value) {
-            self.lines
-                .write_line(stated, &HintKind::OpenParenthesis(value));
+            self.write_line(stated, &HintKind::OpenParenthesis(value));
         }
     }
 
     fn report(&mut self, skipped: Skipped<'a>) -> Result<(), AllocError> {
-        self.lines.report(skipped)
+        self.write_line(skipped.from, &skipped);
+        Ok(())
     }
 }
 

@@ -19,7 +19,6 @@ mod index;
 pub mod laws;
 mod place;
 mod sheet;
-mod skipped_lines;
 
 pub use css_text::{Error, SheetError, TextPos, stream};
 pub use has_selector::HasSelector;
@@ -33,4 +32,3 @@ pub use simplecss_selector::{
     AttributeOperator, Element, Exact, Key, Keyed, ListRefusal, PseudoClass, Selector,
     SelectorToken, SelectorTokenizer, Tests, Warnings, refused_pos,
 };
-pub use skipped_lines::SkippedLines;

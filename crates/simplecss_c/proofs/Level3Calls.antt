@@ -8,7 +8,7 @@ use Rattle.std.specs.Str.{IsUtf8}
 use Rattle.css_syntax.specs.PlacedSelectors.{placed_selectors}
 use Rattle.css_sheet.specs.RuleSelectors.{selector_of}
 use Rattle.css_selectors.specs.Components.{Selector}
-use Rattle.css_selectors.specs.Grammar.{selector_list}
+use Rattle.css_selectors.specs.Supported.{supported_list}
 use Rattle.css_tree.specs.Pages.{Page}
 use Rattle.simplecss_tree.specs.Rows.{Row}
 use Rattle.simplecss_c.specs.declared.answer.CallError.{CallError}
@@ -99,11 +99,11 @@ listed-due text read same utf8 (Err error) due =
 -- the line of a refusal, of a text that was read
 pub refusal-due : {Z : Type 0} (text read : List ℕ) → read ≡ text → IsUtf8 text
     → (r : Result (String Z) CallError)
-    → MatchResult r (λ line. IsRefusalLine read (selector_list read) (string_bytes line))
+    → MatchResult r (λ line. IsRefusalLine read (supported_list read) (string_bytes line))
     (λ error. error ≡ Memory)
     → IsRefusalLevel3Call text (outcome_of r)
 refusal-due text read same utf8 (Ok line) due =
-    (utf8, subst (λ t. IsRefusalLine t (selector_list t) (string_bytes line)) same due)
+    (utf8, subst (λ t. IsRefusalLine t (supported_list t) (string_bytes line)) same due)
 refusal-due text read same utf8 (Err error) due =
     subst (λ e. IsRefusalLevel3Call text (Err e)) (sym due) tt
 

@@ -16,3 +16,4 @@ pub mod PageLines
 pub mod Level3Pages
 pub mod Level3Lists
 pub mod Level3Calls
+pub mod Utf8Tests

@@ -1,6 +1,6 @@
 -- What the lines of all elements are once they are written, and why they are not written before.
 -- Serves `pages::{lines, winner_lines, winners_lines}`, `level3::pages::lines_by` and `today::sheet_lines`.
-use Rattle.std.proofs.Common.{◌≡◌, ℕ, ◌≤◌, ◌<◌, List, ◌++◌, length, None, Some, sym, ap, ◌∙◌, subst, arith}
+use Rattle.std.proofs.Common.{◌≡◌, ℕ, ◌≤◌, ◌<◌, List, [], ◌++◌, length, None, Some, sym, ap, ◌∙◌, subst, arith}
 use Rattle.std.specs.Prelude.{Result, Ok, Err, MatchResult}
 use Rattle.std.specs.Result.{IsErrAnd}
 use Rattle.std.specs.List.{AllZip, range_with_len}
@@ -16,6 +16,14 @@ pub record LinesWithin (most : ℕ) (IsLine : ℕ → List ℕ → Type 0) (inde
     : Type 0 where
   pub so_far : LinesSoFar IsLine index text
   pub short : length text ≤ most
+
+-- before the first index nothing is written
+pub lines_none : (most : ℕ) (IsLine : ℕ → List ℕ → Type 0) (text : List ℕ) → text ≡ []
+    → LinesWithin most IsLine 0 text
+lines_none most IsLine text is = record {
+  so_far = record { lines = []; are = tt; whole = is };
+  short = (let none : length text ≡ 0 = ap length is in omega (arith, none));
+}
 
 -- the lines of all indices
 pub lines_done : (most : ℕ) (IsLine : ℕ → List ℕ → Type 0) (index count : ℕ) (text : List ℕ)

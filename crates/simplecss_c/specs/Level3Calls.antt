@@ -4,7 +4,7 @@ use Rattle.std.specs.Str.{IsUtf8}
 use Rattle.css_syntax.specs.PlacedSelectors.{placed_selectors}
 use Rattle.css_sheet.specs.RuleSelectors.{selector_of}
 use Rattle.css_selectors.specs.Components.{Selector}
-use Rattle.css_selectors.specs.Grammar.{selector_list}
+use Rattle.css_selectors.specs.Supported.{supported_list}
 use Rattle.simplecss_tree.specs.Rows.{Row}
 use Rattle.simplecss_c.specs.declared.answer.CallError.{CallError}
 use Rattle.simplecss_c.specs.declared.level3.reading.Reading.{Reading}
@@ -23,7 +23,7 @@ IsListLevel3Call text (Err error) =
 
 -- the line of why a text is no list of selectors, or nothing where it is one
 abbrev pub IsRefusalLevel3Call : List ℕ → Result (List ℕ) CallError → Type 0
-IsRefusalLevel3Call text (Ok bytes) = IsUtf8 text × IsRefusalLine text (selector_list text) bytes
+IsRefusalLevel3Call text (Ok bytes) = IsUtf8 text × IsRefusalLine text (supported_list text) bytes
 IsRefusalLevel3Call text (Err error) = FailsFor ⊥ (λ fault. ⊥) (¬ (IsUtf8 text)) error
 
 -- which elements of a tree the selectors match, as a document with the reading of this number reads

@@ -6,7 +6,8 @@ use Rattle.css_text.specs.Reading.{rest_offset}
 use Rattle.css_text.specs.declared.TextPos.{TextPos}
 use Rattle.css_syntax.specs.PlacedSelectors.{PlacedSelector, placed_selectors}
 use Rattle.css_sheet.specs.RuleSelectors.{selector_of}
-use Rattle.css_selectors.specs.Components.{Selector}
+use Rattle.std.specs.Option.{option_map}
+use Rattle.css_selectors.specs.Components.{PseudoElement, Selector}
 use Rattle.css_selectors.specs.Printing.{selector_text}
 use Rattle.css_selectors.specs.Readings.{Reading, got, refused}
 use Rattle.css_selectors.specs.RefusalWords.{quote, why_words}
@@ -31,6 +32,10 @@ abbrev pub string_or_null : Option (List ℕ) → List ℕ
 string_or_null None = codes "null"
 string_or_null (Some text) = string text
 
+-- the name of a pseudo-element
+abbrev pub element_name : Option PseudoElement → Option (List ℕ)
+element_name element = option_map (λ e. e.name) element
+
 -- the line of a selector of a list whose text ends at this offset
 abbrev pub listed_line : (end : ℕ) → PlacedSelector → Selector → List ℕ
 listed_line end placed s =
@@ -38,7 +43,7 @@ listed_line end placed s =
     (member (codes "text") (extent (end - length placed.from) (length placed.listed.text))
     ∷ member (codes "selector") (string (selector_text s))
     ∷ member (codes "specificity") (counts_array (specificity s))
-    ∷ member (codes "pseudo_element") (string_or_null s.pseudo_element)
+    ∷ member (codes "pseudo_element") (string_or_null (element_name s.pseudo_element))
     ∷ []))
 
 -- the lines of selectors, in order, each of which is read

@@ -13,3 +13,4 @@ pub mod Calls
 pub mod Readings
 pub mod Level3Lines
 pub mod Level3Calls
+pub mod Conditions

@@ -1,7 +1,7 @@
 -- How a document reads the names of selectors, and which selectors of level 3 texts are.
 use Rattle.std.specs.Prelude.{ℕ, Bool, true, false, ◌==◌, if◌then◌else◌, List, Option, None, Some}
 use Rattle.css_selectors.specs.Components.{Selector}
-use Rattle.css_selectors.specs.Grammar.{selector_list}
+use Rattle.css_selectors.specs.Supported.{supported_list}
 use Rattle.css_selectors.specs.Readings.{Reading as Reads, got, refused}
 use Rattle.css_selectors.specs.declared.refusal.Why.{Why}
 use Rattle.css_selectors.specs.declared.refusal.Why.TheVariants.{Memory as NoMemory}
@@ -32,7 +32,7 @@ if_read (refused why rest) = None
 
 -- the selectors that the text is a list of, if it is one
 abbrev pub selectors_of : List ℕ → Option (List Selector)
-selectors_of text = if_read (selector_list text)
+selectors_of text = if_read (supported_list text)
 
 -- an allocation failed
 abbrev pub is_memory : Why → Bool

@@ -3,10 +3,11 @@
 ghost use Rattle.std.specs.Prelude.{◌≡◌, ◌<◌, ◌≤◌, Ok, Err, MatchResult, length};
 ghost use Rattle.std.specs.Prelude.{string_bytes};
 ghost use Rattle.simplecss_c.specs.Answers.{status_of, failure_of, IsHandedOver, Answers, IsFaultSet};
-ghost use Rattle.simplecss_c.specs.Outcomes.{outcome_of};
+ghost use Rattle.simplecss_c.specs.Outcomes.{outcome_of, truth_outcome};
 ghost use Rattle.simplecss_c.specs.declared.answer.CallError.TheVariants.{Memory, AnswerTooLong};
 
 use crate::elements::ElementFault;
+use css_conditions::Truth;
 use simplecss::SheetError;
 use simplecss_tree::TreeError;
 use std::alloc::{AllocError, AllocFailed};
@@ -115,6 +116,21 @@ pub fn copy_whole(bytes: &[u8], out: &mut [u8], len: &mut usize) -> u32
     }
     out[..bytes.len()].copy_from_slice(bytes);
     DONE
+}
+
+/// Hands over whether a condition holds, as a word, and returns the status of the call.
+pub fn hand_over_truth(outcome: Result<Truth, CallError>, out: &mut [u8], len: &mut usize) -> u32
+    ensures { Answers (truth_outcome outcome) result out.old out.new len.new }
+{
+    match outcome {
+        Ok(Truth::True) => copy_whole(b"true", out, len),
+        Ok(Truth::False) => copy_whole(b"false", out, len),
+        Ok(Truth::Unknown) => copy_whole(b"unknown", out, len),
+        Err(failure) => {
+            *len = 0;
+            failure.status()
+        }
+    }
 }
 
 /// Hands over the answer of a call, and returns its status.

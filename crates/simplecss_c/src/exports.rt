@@ -14,13 +14,15 @@ ghost use Rattle.simplecss_c.specs.Calls.{IsListCall, IsRuleLines, IsSkippedCall
 ghost use Rattle.simplecss_c.specs.Calls.{IsRefusalCall, IsStylesCall, IsDeclarationsCall};
 ghost use Rattle.simplecss_c.specs.Calls.{IsReadCall, IsCloseCall};
 ghost use Rattle.simplecss_c.specs.Calls.{IsMatchSelectorsCall};
+ghost use Rattle.simplecss_c.specs.Conditions.{IsMediaCall, IsSupportsCall};
 ghost use Rattle.simplecss_c.specs.Level3Calls.{IsListLevel3Call, IsRefusalLevel3Call};
 ghost use Rattle.simplecss_c.specs.Level3Calls.{IsMatchLevel3Call, IsSelectLevel3Call};
 
-use crate::answer::{TreeFault, copy_whole, hand_over, set_fault};
+use crate::answer::{TreeFault, copy_whole, hand_over, hand_over_truth, set_fault};
 use crate::calls::Passed;
+use crate::conditions::DeviceNumbers;
 use crate::elements::TreeElement;
-use crate::{calls, level3};
+use crate::{calls, conditions, level3};
 use std::alloc::Global;
 
 /// The version of the library. The changelog begins with it.
@@ -415,4 +417,38 @@ pub extern "C" fn simplecss_select_level3(
     let outcome = level3::select(alloc, selectors, reading, tree, most);
     set_fault(&outcome, fault);
     hand_over(outcome, out, len)
+}
+
+/// Writes what a list of media queries says on a device: `true`, `false` or `unknown`. It holds if that is
+/// `true`.
+#[unsafe(no_mangle)]
+pub extern "C" fn simplecss_media(
+    text: &[u8],
+    device: &DeviceNumbers,
+    out: &mut [u8],
+    len: &mut usize,
+) -> u32
+    ensures { (outcome : Result (List ℕ) CallErrorView) × IsMediaCall text.now device.now outcome
+        × Answers outcome result out.old out.new len.new }
+{
+    hand_over_truth(conditions::media(text, device), out, len)
+}
+
+/// Writes `true` if a condition of `@supports` holds where the properties of a buffer are known, else
+/// `false`.
+#[unsafe(no_mangle)]
+pub extern "C" fn simplecss_supports(
+    alloc: Global,
+    text: &[u8],
+    properties: &[u8],
+    ends: &[usize],
+    out: &mut [u8],
+    len: &mut usize,
+) -> u32
+    ensures { (outcome : Result (List ℕ) CallErrorView)
+        × IsSupportsCall text.now properties.now ends.now outcome
+        × Answers outcome result out.old out.new len.new }
+{
+    let outcome = conditions::supports(alloc, text, properties, ends);
+    hand_over_truth(outcome, out, len)
 }

@@ -7,6 +7,7 @@
 
 mod answer;
 mod calls;
+mod conditions;
 mod elements;
 mod exports;
 mod items;

@@ -11,12 +11,13 @@ ghost use Rattle.simplecss_c.specs.AnswerLines.{selected_line, indices_line, IsL
 ghost use Rattle.simplecss_c.specs.AnswerLines.{IsWinnerLine, AreWinnerLines};
 ghost use Rattle.simplecss_c.specs.AnswerLines.{IsWinnersLine, AreWinnersLines};
 ghost use Rattle.simplecss_c.specs.Calls.{FailsLonger};
+ghost use Rattle.simplecss_tree.specs.Walks.{IsAlong};
 
 use crate::answer::{CallError, check_length};
 use crate::json::push_declarations;
-use cssq::cascade::{Cascade, winning_among};
-use simplecss::{Declaration, HasSelector, Rule, RuleIndex};
-use simplecss_tree::{Node, Tree};
+use cssq::cascade::{winners_among, winning_among};
+use simplecss::{Declaration, HasSelector, Rule, Tests};
+use simplecss_tree::{Node, RuleWalk, Tree};
 use std::alloc::{AllocError, Global};
 use std::fmt::Write as _;
 
@@ -92,27 +93,29 @@ fn push_winner(
     writeln!(out, "{number}: {value}{mark}")
 }
 
-/// Appends the line of an element, which is given by its index, by an index of rules or selectors.
-/// What was in `indices` is dropped.
+/// Appends the line of an element, which is given by its index, by a walk. What was in `indices` is
+/// dropped.
 fn push_line<'a, T: HasSelector<'a>>(
     out: &mut String,
     content: LineContent,
-    index: &RuleIndex<'a>,
+    walk: &mut RuleWalk<'a>,
     rules: &[T],
     tree: &Tree<'_>,
     element: usize,
     indices: &mut Vec<usize>,
 ) -> Result<(), AllocError>
-    requires index { index.now ≡ map T.selector_in rules.now }
+    requires rules { walk.old.selectors ≡ map T.selector_in rules.now }
     requires fits { length rules.now < 2 ^ 63 }
     requires element { element < length tree.now }
     requires number { element + 1 < 2 ^ 64 }
-    ensures { OnOk result ((line : List ℕ) × IsLineOf content
+    requires along { IsAlong tree.now walk.old }
+    ensures written { OnOk result ((line : List ℕ) × IsLineOf content
         (map T.selector_in rules.now) tree.now element line
         × (string_bytes out.new ≡ string_bytes out.old ++ line)) }
+    ensures along { OnOk result (IsAlong tree.now walk.new) }
+    ensures selectors { walk.new.selectors ≡ walk.old.selectors }
 {
-    let node = tree.node(element).unwrap();
-    index.matching(rules, &node, indices)?;
+    walk.matching(rules, tree, element, indices, &mut Tests::new())?;
     push_indices(out, content, element + 1, indices.as_slice())
 }
 
@@ -131,14 +134,14 @@ pub fn lines<'a, T: HasSelector<'a>>(
         (Some (string_bytes text)))
         (FailsLonger (AreLinesOf most content (map T.selector_in rules.now) tree.now None)) }
 {
-    let index = RuleIndex::new(alloc, rules)?;
+    let mut walk = RuleWalk::new(alloc, rules)?;
     let mut indices = Vec::new(alloc);
     let mut text = String::new(alloc);
     for element in 0..tree.len() {
         push_line(
             &mut text,
             content,
-            &index,
+            &mut walk,
             rules,
             tree,
             element,
@@ -149,28 +152,29 @@ pub fn lines<'a, T: HasSelector<'a>>(
     Ok(text)
 }
 
-/// Appends the line of what wins for a name on an element, which is given by its index, by an index
-/// of the rules. What was in `indices` is dropped.
+/// Appends the line of what wins for a name on an element, which is given by its index, by a walk. What
+/// was in `indices` is dropped.
 fn push_winning<'a>(
     out: &mut String,
     name: &str,
-    index: &RuleIndex<'a>,
+    walk: &mut RuleWalk<'a>,
     rules: &[Rule<'a>],
     tree: &Tree<'_>,
     element: usize,
     indices: &mut Vec<usize>,
 ) -> Result<(), AllocError>
-    requires index { index.now ≡ map (λ rule. rule.selector) rules.now }
+    requires rules { walk.old.selectors ≡ map (λ rule. rule.selector) rules.now }
     requires element { element < length tree.now }
     requires number { element + 1 < 2 ^ 64 }
-    ensures { OnOk result
+    requires along { IsAlong tree.now walk.old }
+    ensures written { OnOk result
         ((line : List ℕ) × IsWinnerLine name.now (rules_of rules.now) tree.now element line
         × (string_bytes out.new ≡ string_bytes out.old ++ line)) }
+    ensures along { OnOk result (IsAlong tree.now walk.new) }
+    ensures selectors { walk.new.selectors ≡ walk.old.selectors }
 {
-    let node = tree.node(element).unwrap();
-    index.matching(rules, &node, indices)?;
-    let indices = indices.as_slice();
-    let winner = winning_among::<Node<'_, '_>>(rules, indices, name);
+    walk.matching(rules, tree, element, indices, &mut Tests::new())?;
+    let winner = winning_among::<Node<'_, '_>>(rules, indices.as_slice(), name);
     push_winner(out, element + 1, winner)
 }
 
@@ -187,31 +191,46 @@ pub fn winner_lines(
         (Some (string_bytes text)))
         (FailsLonger (AreWinnerLines most name.now (rules_of rules.now) tree.now None)) }
 {
-    let index = RuleIndex::new(alloc, rules)?;
+    let mut walk = RuleWalk::new(alloc, rules)?;
     let mut indices = Vec::new(alloc);
     let mut text = String::new(alloc);
     for element in 0..tree.len() {
-        push_winning(&mut text, name, &index, rules, tree, element, &mut indices)?;
+        push_winning(
+            &mut text,
+            name,
+            &mut walk,
+            rules,
+            tree,
+            element,
+            &mut indices,
+        )?;
         check_length(&text, most)?;
     }
     Ok(text)
 }
 
-/// Appends the line of all that wins on an element, which is given by its index, in JSON.
-fn push_winners(
+/// Appends the line of all that wins on an element, which is given by its index, in JSON, by a walk. What
+/// was in `indices` is dropped.
+fn push_winners<'a>(
     out: &mut String,
-    cascade: &mut Cascade<'_, '_>,
+    alloc: Global,
+    walk: &mut RuleWalk<'a>,
+    rules: &[Rule<'a>],
     tree: &Tree<'_>,
     element: usize,
+    indices: &mut Vec<usize>,
 ) -> Result<(), AllocError>
-    requires { element < length tree.now }
-    ensures same { cascade.new ≡ cascade.old }
+    requires rules { walk.old.selectors ≡ map (λ rule. rule.selector) rules.now }
+    requires element { element < length tree.now }
+    requires along { IsAlong tree.now walk.old }
     ensures written { OnOk result
-        ((line : List ℕ) × IsWinnersLine cascade.old tree.now element line
+        ((line : List ℕ) × IsWinnersLine (rules_of rules.now) tree.now element line
         × (string_bytes out.new ≡ string_bytes out.old ++ line)) }
+    ensures along { OnOk result (IsAlong tree.now walk.new) }
+    ensures selectors { walk.new.selectors ≡ walk.old.selectors }
 {
-    let node = tree.node(element).unwrap();
-    let winners = cascade.winners(&node)?;
+    walk.matching(rules, tree, element, indices, &mut Tests::new())?;
+    let winners = winners_among::<Node<'_, '_>>(alloc, rules, indices.as_slice())?;
     push_declarations(out, &winners)?;
     out.push('\n')
 }
@@ -227,10 +246,19 @@ pub fn winners_lines(
         (λ text. AreWinnersLines most (rules_of rules.now) tree.now (Some (string_bytes text)))
         (FailsLonger (AreWinnersLines most (rules_of rules.now) tree.now None)) }
 {
-    let mut cascade = Cascade::new(alloc, rules)?;
+    let mut walk = RuleWalk::new(alloc, rules)?;
+    let mut indices = Vec::new(alloc);
     let mut text = String::new(alloc);
     for element in 0..tree.len() {
-        push_winners(&mut text, &mut cascade, tree, element)?;
+        push_winners(
+            &mut text,
+            alloc,
+            &mut walk,
+            rules,
+            tree,
+            element,
+            &mut indices,
+        )?;
         check_length(&text, most)?;
     }
     Ok(text)

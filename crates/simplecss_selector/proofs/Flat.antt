@@ -55,17 +55,6 @@ pub begin_is : (ps : List FlatComponent) (k start : ℕ) (d : FlatComponent) →
 begin_is ps zero start d first later = first refl
 begin_is ps (suc k) start d first later = rw sub-one at (later (omega arith))
 
-pub index_within : (ps : List FlatComponent) (last : FlatComponent) (ss : List SubSelector)
-    (cs : List Component) (k : ℕ) → components_from 0 (ps ++ last ∷ []) ss ≡ cs → k < length cs
-    → k ≤ length ps
-index_within ps last ss cs k view h =
-    omega (
-      arith,
-      components_from-length 0 (ps ++ last ∷ []) ss,
-      length-append ps (last ∷ []),
-      ap length view,
-    )
-
 pub length_is : (ps : List FlatComponent) (last : FlatComponent) (ss : List SubSelector)
     (cs : List Component) → components_from 0 (ps ++ last ∷ []) ss ≡ cs → length ps + 1 ≡ length cs
 length_is ps last ss cs view =
@@ -75,6 +64,13 @@ length_is ps last ss cs view =
       length-append ps (last ∷ []),
       ap length view,
     )
+
+pub index_within : (ps : List FlatComponent) (last : FlatComponent) (ss : List SubSelector)
+    (cs : List Component) (k : ℕ) → components_from 0 (ps ++ last ∷ []) ss ≡ cs → k < length cs
+    → k ≤ length ps
+index_within ps last ss cs k view h =
+    let same = length_is ps last ss cs view in
+    omega (arith, same)
 
 pub combinator_is : (ps : List FlatComponent) (ss : List SubSelector) (cs : List Component) (k : ℕ)
     (p : FlatComponent) → components_from 0 ps ss ≡ cs → k < length cs → p ≡ get_or ps k p

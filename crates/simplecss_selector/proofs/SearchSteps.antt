@@ -2,8 +2,7 @@
 -- Serves `matching::{climb, place_stretch, continues}` (a step more of a search).
 use Rattle.simplecss_selector.specs.declared.matching.Fit.{Fit}
 use Rattle.simplecss_selector.specs.declared.matching.Fit.TheVariants.{Mismatch, NoNodeLeft, Complete, Continues}
-use Rattle.std.proofs.Common.{◌≡◌, ◌<◌, ◌≤◌, ℕ, ◌+◌, arith, Option, Some, None, ap, sym, ◌∙◌, Bor, IsTrue}
-use Rattle.std.specs.Option.{option_copied, unwrap_or, option_map_or}
+use Rattle.std.proofs.Common.{◌≡◌, ◌<◌, ◌≤◌, ℕ, ◌+◌, arith, Option, ap, sym, ◌∙◌, IsTrue}
 use Rattle.simplecss_grammar.specs.Components.{Combinator as Seen}
 use Rattle.std.proofs.lemmas.Bool.{false≢true}
 use Rattle.simplecss_selector.specs.Placements.{is_step}
@@ -11,17 +10,6 @@ use Rattle.simplecss_selector.specs.Trees.{Tree}
 use Rattle.simplecss_selector.specs.internal.StretchFits.{TestsPlaced}
 use Rattle.simplecss_selector.specs.internal.PlacementSearch.{step_from}
 use Rattle.simplecss_grammar.specs.Components.Combinator.{descendant}
-
-taken : {T Node : Type 0} (node : T → Node) (r : Option (Bor T)) (top : Option T) (low : Bor T)
-    → option_copied r ≡ top → node (unwrap_or r low).now ≡ option_map_or node top (node low.now)
-taken node None top low e = ap (λ (o : Option _). option_map_or node o (node low.now)) e
-taken node (Some x) top low e = ap (λ (o : Option _). option_map_or node o (node low.now)) e
-
--- the node that is borrowed is the top, or the lowest where there is no top yet
-pub borrowed : {T Node : Type 0} (node : T → Node) (r : Option (Bor T)) (top : Option T)
-    (low b : Bor T) → option_copied r ≡ top → b ≡ unwrap_or r low
-    → node b.now ≡ option_map_or node top (node low.now)
-borrowed node r top low b e f = ap (λ (x : Bor _). node x.now) f ∙ taken node r top low e
 
 pub step_at : {Node : Type 0} (tree : Tree Node) (c d : Seen) (x u : Node) (o : Option Node) → c ≡ d
     → x ≡ u → o ≡ step_from tree c x → step_from tree d u ≡ o

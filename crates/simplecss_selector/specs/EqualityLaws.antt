@@ -36,18 +36,24 @@ decides_by_key E decides key back undone a b = (
   λ e. (decides (key a) (key b)).1 (ap key e),
 )
 
-key_decides : (a b : ℕ × List ℕ) → Decides (key_eq a b) (a ≡ b)
-key_decides a b =
-    let x = eqb a.0 b.0 in
-    let y = text_eq a.1 b.1 in
-    let n = Decides-eqb a.0 b.0 in
-    let t = bytes_decides a.1 b.1 in (
+-- pairs are equal exactly if their parts are
+both_decide : {A B : Type 0} (E : A → A → Bool) (F : B → B → Bool)
+    → ((a b : A) → Decides (E a b) (a ≡ b)) → ((a b : B) → Decides (F a b) (a ≡ b))
+    → (p q : A × B) → Decides (E p.0 q.0 && F p.1 q.1) (p ≡ q)
+both_decide E F first second p q =
+    let x = E p.0 q.0 in
+    let y = F p.1 q.1 in
+    let n = first p.0 q.0 in
+    let t = second p.1 q.1 in (
       (λ h.
-          let p : a.0 ≡ b.0 = n.0 (and_left x y h) in
-          let q : a.1 ≡ b.1 = t.0 (and_right x y h) in
-          λ i. (p i, q i)),
+          let e : p.0 ≡ q.0 = n.0 (and_left x y h) in
+          let f : p.1 ≡ q.1 = t.0 (and_right x y h) in
+          λ i. (e i, f i)),
       (λ e. and_both x y (n.1 (λ i. (e i).0)) (t.1 (λ i. (e i).1))),
     )
+
+key_decides : (a b : ℕ × List ℕ) → Decides (key_eq a b) (a ≡ b)
+key_decides a b = both_decide eqb text_eq Decides-eqb bytes_decides a b
 
 abbrev operator_back : ℕ × List ℕ → Operator
 operator_back (zero, text) = exists
@@ -65,17 +71,7 @@ operator_decides = decides_by_key key_eq key_decides operator_key operator_back 
     undone (begins_with text) = refl
 
 text_key_decides : (a b : List ℕ × List ℕ) → Decides (text_key_eq a b) (a ≡ b)
-text_key_decides a b =
-    let x = text_eq a.0 b.0 in
-    let y = text_eq a.1 b.1 in
-    let n = bytes_decides a.0 b.0 in
-    let t = bytes_decides a.1 b.1 in (
-      (λ h.
-          let p : a.0 ≡ b.0 = n.0 (and_left x y h) in
-          let q : a.1 ≡ b.1 = t.0 (and_right x y h) in
-          λ i. (p i, q i)),
-      (λ e. and_both x y (n.1 (λ i. (e i).0)) (t.1 (λ i. (e i).1))),
-    )
+text_key_decides a b = both_decide text_eq text_eq bytes_decides bytes_decides a b
 
 -- the pseudo-class that was found by its name, else `:lang` with its argument
 abbrev found_or_lang : Option KnownPseudoClass → List ℕ → KnownPseudoClass

@@ -1,3 +1,4 @@
 mod Growing
 mod Languages
 pub mod ErrorWrites
+pub mod Walking

@@ -1,3 +1,5 @@
 pub mod Rows
 pub mod TreeNodes
 pub mod Messages
+pub mod Walks
+pub mod internal

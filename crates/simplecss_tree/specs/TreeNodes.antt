@@ -6,8 +6,10 @@ use Rattle.std.specs.Option.{option_map_or, option_and_then, option_or}
 use Rattle.std.specs.Str.{str_eq_ignore_ascii_case}
 use Rattle.simplecss.specs.AsciiBytes.{hyphen}
 use Rattle.simplecss.specs.Components.{KnownPseudoClass, Operator}
+use Rattle.simplecss.specs.Components.Operator.{exists}
 use Rattle.simplecss.specs.Components.KnownPseudoClass.{first_child, link, visited, hover, active, focus, lang}
 use Rattle.simplecss.specs.ListTrees.{ListOf, ancestors, sibling_by, list_tree}
+use Rattle.simplecss.specs.Exact.{ReportsOnlyKeys}
 use Rattle.simplecss.specs.Keys.{Reported, ReportsKeys}
 use Rattle.simplecss.specs.Keys.Key.{by_id, by_class, by_name, by_attribute, by_nothing}
 use Rattle.simplecss.specs.Operators.{is_satisfied}
@@ -118,3 +120,17 @@ keys_reported n (by_class word) h = h
 keys_reported n (by_name name) h = h
 keys_reported n (by_attribute name) (o, h) = value_there (attribute_at n.0 n.1 name) o h
 keys_reported n by_nothing h = h
+
+-- an attribute that is there has a value, whatever it is
+value_of : (r : Option (List ℕ)) → IsTrue (is_some r)
+    → IsTrue (option_map_or (is_satisfied exists) r false)
+value_of None h = absurd (cc)
+value_of (Some v) h = refl
+
+-- An element has every key that it reports. This is proved here since the trait `Exact` requires it.
+pub only_keys_reported : (n : List Row × ℕ) → ReportsOnlyKeys element_tree n (reported_at n)
+only_keys_reported n (by_id text) h = h
+only_keys_reported n (by_class word) h = h
+only_keys_reported n (by_name name) h = h
+only_keys_reported n (by_attribute name) h = (exists, value_of (attribute_at n.0 n.1 name) h)
+only_keys_reported n by_nothing h = h

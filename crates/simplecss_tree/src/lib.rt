@@ -3,7 +3,9 @@
 #![tactic(auto)]
 
 mod node;
+mod rule_walk;
 mod tree;
 
 pub use node::Node;
+pub use rule_walk::RuleWalk;
 pub use tree::{States, Tree, TreeError};

@@ -5,7 +5,7 @@ ghost use Rattle.simplecss_tree.specs.TreeNodes.{is_in_language, value_in};
 ghost use Rattle.simplecss_tree.specs.Rows.{attribute_of};
 
 use crate::Tree;
-use simplecss::{AttributeOperator, Element, Keyed, PseudoClass};
+use simplecss::{AttributeOperator, Element, Exact, Keyed, PseudoClass};
 use std::marker::Model;
 
 /// An element of a tree.
@@ -181,4 +181,11 @@ impl<'p, 't> Keyed for Node<'p, 't> {
     fn has_attribute(&self, name: &str) -> bool {
         self.tree.attribute(self.index, name).is_some()
     }
+}
+
+/// Names and values are reported as they are compared.
+impl<'p, 't> Exact for Node<'p, 't> {
+    ghost use Rattle.simplecss_tree.specs.TreeNodes.{only_keys_reported};
+
+    ghost exact_law = { only_keys_reported };
 }

@@ -6,9 +6,10 @@ ghost use Rattle.css_syntax.specs.SelectorLists.{listed_of};
 ghost use Rattle.css_syntax.specs.PlacedSelectors.{PlacedSelector, placed_selectors};
 ghost use Rattle.css_sheet.specs.RuleSelectors.{selector_of};
 ghost use Rattle.css_selectors.specs.Components.{Selector};
-ghost use Rattle.css_selectors.specs.Grammar.{selector_list};
+ghost use Rattle.css_selectors.specs.Supported.{supported_list};
 ghost use Rattle.simplecss_c.specs.Calls.{FailsFor, HasNoSelector, AreSelectorsIn};
-ghost use Rattle.simplecss_c.specs.Level3Lines.{string_or_null, listed_line};
+ghost use Rattle.simplecss_c.specs.Level3Lines.{string_or_null, element_name, listed_line};
+ghost use Rattle.css_selectors.specs.Views.{pseudo_element_of};
 ghost use Rattle.simplecss_c.specs.Level3Lines.{AreListedLines, listed_texts};
 ghost use Rattle.simplecss_c.specs.Level3Lines.{refusal_text, IsRefusalLine};
 ghost use Rattle.simplecss_c.specs.Readings.{is_memory, selectors_of};
@@ -18,7 +19,7 @@ use crate::answer::CallError;
 use crate::items::offset_of;
 use crate::json::{position_line, push_specificity, push_string};
 use crate::ranges::push_range;
-use css_selectors::{Refusal, Selector, Why};
+use css_selectors::{PseudoElement, Refusal, Selector, Why};
 use css_syntax::selectors::{FoundSelector, next_part, read_part};
 use std::alloc::{AllocError, Global};
 
@@ -67,13 +68,13 @@ pub fn read_list(alloc: Global, text: &str) -> Result<Vec<Selector<'_>>, CallErr
     Ok(Selector::parse_list(alloc, text)?)
 }
 
-/// Appends a string, or null.
-fn push_name(out: &mut String, name: Option<&str>) -> Result<(), AllocError>
+/// Appends the name of a pseudo-element, or null.
+fn push_name(out: &mut String, element: Option<&PseudoElement<'_>>) -> Result<(), AllocError>
     ensures { OnOk result (string_bytes out.new ≡ string_bytes out.old
-        ++ string_or_null (option_map (λ name. name.now) name.entry)) }
+        ++ string_or_null (element_name (option_map (λ e. pseudo_element_of e.now) element.entry))) }
 {
-    match name {
-        Some(name) => push_string(out, name),
+    match element {
+        Some(element) => push_string(out, element.element.name.as_str()),
         None => out.push_str("null"),
     }
 }
@@ -167,7 +168,7 @@ fn is_memory(why: Why) -> bool
 /// The line of why a text is no list of selectors, or nothing where it is one.
 pub fn refusal_line(alloc: Global, text: &str) -> Result<String, CallError>
     ensures { MatchResult result
-        (λ line. IsRefusalLine text.now (selector_list text.now) (string_bytes line))
+        (λ line. IsRefusalLine text.now (supported_list text.now) (string_bytes line))
         (λ error. error ≡ Memory) }
 {
     let refusal = match Selector::parse_list(alloc, text) {

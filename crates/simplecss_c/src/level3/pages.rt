@@ -12,7 +12,7 @@ use super::reading::{Reading, html_selectors};
 use crate::answer::{CallError, check_length};
 use crate::elements::{TreeElement, has_text};
 use crate::pages::{LineContent, push_indices};
-use css_selectors::Selector;
+use css_selectors::{Selector, Tests};
 use css_tree::{NumberedTree, NumberingError, TreeWalk};
 use simplecss_tree::Tree;
 use std::alloc::{AllocError, Global};
@@ -68,7 +68,7 @@ fn push_line(
     ensures opened { IsOpenAt page.now walk.new.walk walk.new.place }
     ensures selectors { walk.new.walk.selectors ≡ walk.old.walk.selectors }
 {
-    walk.matching(page, element, indices)?;
+    walk.matching(page, element, indices, &mut Tests::new())?;
     push_indices(out, content, element + 1, indices.as_slice())
 }
 

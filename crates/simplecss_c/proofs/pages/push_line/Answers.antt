@@ -1,4 +1,4 @@
-use Rattle.std.proofs.Common.{◌≡◌, ◌+◌, ◌<◌, ◌≤◌, MatchOption, map, length, refl, sym, subst, arith}
+use Rattle.std.proofs.Common.{◌+◌, map, refl, sym, subst, arith}
 use Rattle.std.proofs.lemmas.List.{get_or_default, length-map}
 use Rattle.std.proofs.lemmas.Result.{on_ok_weaker}
 use Rattle.simplecss.specs.ListTrees.{spot}
@@ -15,15 +15,10 @@ found : (g : Over) (c : After-as_slice g)
     → AreMatches element_tree (spot c.args.tree.now c.args.element)
     (map g.T.HasSelector.selector_in c.args.rules.now) c.as_slice.result.now
 found g c =
-    let at = subst (λ r. MatchOption r (length c.args.tree.now ≤ c.args.element) (λ node.
-    (c.args.element < length c.args.tree.now) × (node ≡ spot c.args.tree.now c.args.element)))
-    c.unwrap-node.ensures c.node.ensures in
-    subst (λ node. AreMatches element_tree node
-    (map g.T.HasSelector.selector_in c.args.rules.now) c.as_slice.result.now) at.1
-    (subst (λ selectors. AreMatches element_tree c.unwrap-node.result selectors
-    c.as_slice.result.now) c.requires.index
-    (subst (AreMatches element_tree c.unwrap-node.result c.args.index.now)
-    (sym c.as_slice.ensures.value) c.in_ok-matching.ensures.matches))
+    subst (λ selectors. AreMatches element_tree (spot c.args.tree.now c.args.element) selectors
+    c.as_slice.result.now) c.requires.rules
+    (subst (AreMatches element_tree (spot c.args.tree.now c.args.element) c.args.walk.now.selectors)
+    (sym c.as_slice.ensures.value) c.in_ok-matching.ensures.matches)
 
 pub push_indices-requires : goal.push_indices-requires
 push_indices-requires g c = λ k d within.
@@ -33,10 +28,10 @@ push_indices-requires g c = λ k d within.
     let all = length-map c.args.rules.now g.T.HasSelector.selector_in in
     omega (arith, bound, at, same, all)
 
-pub returns : goal.returns
-returns g c =
+pub returns-clause-written : goal.returns-clause-written
+returns-clause-written g c =
     let indices = c.as_slice.result.now in
-    let are = found g (goal.at.returns g c).After-as_slice in
+    let are = found g (goal.at.returns-clause-written g c).After-as_slice in
     on_ok_weaker c.push_indices.result (λ wrote. (
       indices_line c.args.content (c.args.element + 1) indices,
       (indices, are, refl),

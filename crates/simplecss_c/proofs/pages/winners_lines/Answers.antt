@@ -1,56 +1,62 @@
-use Rattle.std.proofs.Common.{◌≡◌, ◌+◌, length, string_bytes, Some, None, ◌∙◌, subst, arith}
+use Rattle.std.proofs.Common.{◌≡◌, ◌+◌, length, string_bytes, Some, None, ◌∙◌, arith}
 use Rattle.simplecss.specs.RuleViews.{rules_of}
 use Rattle.cssq.proofs.MatchLines.{lines_more}
 use Rattle.simplecss_c.specs.AnswerLines.{IsWinnersLine, AreWinnersLines}
-use Rattle.simplecss_c.proofs.PageLines.{lines_done, longer_due, memory_due}
+use Rattle.simplecss_c.proofs.PageLines.{lines_none, lines_done, longer_due, memory_due}
 use Rattle.simplecss_c.proofs.pages.winners_lines.Goals as goal
 
-pub returns-in_err-cascade : goal.returns-in_err-cascade
-returns-in_err-cascade c =
-    let are = AreWinnersLines c.args.most (rules_of c.args.rules.now) c.args.tree.now in
+pub returns-in_err-walk : goal.returns-in_err-walk
+returns-in_err-walk c =
+    let are = AreWinnersLines c.args.most (rules_of c.args.rules.now)
+    c.args.tree.now in
     memory_due (λ text. are (Some (string_bytes text))) (are None) c.from_residual.result
     c.from_residual.ensures.1
 
 pub returns-in_err-push_winners : goal.returns-in_err-push_winners
 returns-in_err-push_winners c =
-    let are = AreWinnersLines c.args.most (rules_of c.args.rules.now) c.args.tree.now in
+    let are = AreWinnersLines c.args.most (rules_of c.args.rules.now)
+    c.args.tree.now in
     memory_due (λ text. are (Some (string_bytes text))) (are None)
     c.from_residual-in_err-push_winners.result c.from_residual-in_err-push_winners.ensures.1
+
+pub loop-element-init : goal.loop-element-init
+loop-element-init c = record {
+  lines = lines_none c.args.most _ (string_bytes c.new-text.result) c.new-text.ensures.bytes;
+  along = c.in_ok-walk.ensures.along c.args.tree.now;
+  selectors = c.in_ok-walk.ensures.selectors;
+}
 
 -- the lines up to this element are too long
 pub returns-in_err-check_length : goal.returns-in_err-check_length
 returns-in_err-check_length c =
     let rules = rules_of c.args.rules.now in
     let are = AreWinnersLines c.args.most rules c.args.tree.now in
-    let same = c.loop-element.invariant.0 in
     let added = c.in_ok-push_winners.ensures.written in
     longer_due (λ text. are (Some (string_bytes text))) c.args.most
     (IsWinnersLine rules c.args.tree.now) (c.loop-element.element + 1)
     (length c.args.tree.now) (string_bytes c.push_winners.new.out)
-    (lines_more c.loop-element.invariant.1.so_far added.0 (string_bytes c.push_winners.new.out)
-    (subst (λ rules. IsWinnersLine rules c.args.tree.now c.loop-element.element added.0) same
-    added.1) added.2) (omega arith) c.from_residual-in_err-check_length.result
+    (lines_more c.loop-element.invariant.lines.so_far added.0 (string_bytes c.push_winners.new.out)
+    added.1 added.2) (omega arith) c.from_residual-in_err-check_length.result
     c.in_err-check_length.field-0.0 c.from_residual-in_err-check_length.ensures.1
     c.in_err-check_length.ensures
 
 -- the line of one more element
 pub loop-element-preserved : goal.loop-element-preserved
 loop-element-preserved c =
-    let same = c.loop-element.invariant.0 in
-    let added = c.in_ok-push_winners.ensures.written in (
-      c.push_winners.ensures.same ∙ same,
-      record {
-        so_far = lines_more c.loop-element.invariant.1.so_far added.0
-            (string_bytes c.push_winners.new.out)
-            (subst (λ rules. IsWinnersLine rules c.args.tree.now c.loop-element.element added.0)
-            same added.1) added.2;
+    let added = c.in_ok-push_winners.ensures.written in
+    record {
+      lines = record {
+        so_far = lines_more c.loop-element.invariant.lines.so_far added.0
+            (string_bytes c.push_winners.new.out) added.1 added.2;
         short = c.in_ok-check_length.ensures;
-      },
-    )
+      };
+      along = c.in_ok-push_winners.ensures.along;
+      selectors = c.in_ok-push_winners.ensures.selectors ∙ c.loop-element.invariant.selectors;
+    }
 
 pub returns : goal.returns
 returns c =
     let all : c.loop-element.element ≡ length c.args.tree.now = omega arith in
-    lines_done c.args.most (IsWinnersLine (rules_of c.args.rules.now) c.args.tree.now)
-    c.loop-element.element (length c.args.tree.now) (string_bytes c.loop-element.text)
-    c.loop-element.invariant.1 all
+    lines_done c.args.most (IsWinnersLine (rules_of c.args.rules.now)
+    c.args.tree.now) c.loop-element.element (length c.args.tree.now)
+    (string_bytes c.loop-element.text) c.loop-element.invariant.lines all

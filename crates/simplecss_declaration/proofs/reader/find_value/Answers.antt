@@ -1,11 +1,11 @@
-use Rattle.std.proofs.Common.{◌≡◌, sym, ap, ◌∙◌, refl, subst, List, ℕ, Option, Some, None}
+use Rattle.std.proofs.Common.{◌≡◌, sym, ap, ◌∙◌, refl, List, ℕ, Some, None}
 use Rattle.std.specs.Str.{trim_start}
 use Rattle.css_text.specs.Reading.{Reading, got, fails}
 use Rattle.simplecss_grammar.specs.Declarations.{stated_name}
 use Rattle.css_text.specs.ThisEdition.{this_edition}
 use Rattle.css_text.specs.Cursor.{rest_of}
 use Rattle.simplecss_declaration.specs.internal.UnreportedFaults.{FailsAt}
-use Rattle.simplecss_declaration.specs.ValueStarts.{from_name, value_from}
+use Rattle.simplecss_declaration.specs.ValueStarts.{from_name}
 use Rattle.simplecss_declaration.proofs.reader.find_value.Goals as goal
 
 none_from : (r : Reading (List ℕ)) (left : List ℕ) → FailsAt r left → None ≡ from_name r
@@ -18,15 +18,11 @@ returns-in_err-take_stated_name c =
     rw (c.new-s.ensures.offset, c.new-s.ensures.text) refl in
     let none = c.from_residual.ensures in
     rw none (none_from (stated_name this_edition c.args.text.now) (rest_of c.take_stated_name.new.s)
-    (subst (λ (t : List ℕ). FailsAt (stated_name this_edition t)
-    (rest_of c.take_stated_name.new.s)) whole c.in_err-take_stated_name.ensures.reads))
+    (rw whole at c.in_err-take_stated_name.ensures.reads))
 
 pub returns : goal.returns
 returns c =
     let whole : rest_of c.new-s.result ≡ c.args.text.now =
     rw (c.new-s.ensures.offset, c.new-s.ensures.text) refl in
-    let read : stated_name this_edition c.args.text.now
-    ≡ got c.in_ok-take_stated_name.field-0.now (rest_of c.take_stated_name.new.s) =
-    rw (← whole) c.in_ok-take_stated_name.ensures.reads in
     ap Some (c.trim_start.ensures.trim ∙ ap trim_start c.slice_tail.ensures)
-    ∙ sym (ap from_name read)
+    ∙ sym (ap from_name (rw whole at c.in_ok-take_stated_name.ensures.reads))

@@ -13,6 +13,8 @@ use Rattle.css_text.proofs.bytes.ByteLemmas.{past_byte_there}
 use Rattle.css_text.proofs.reading.EachLemmas.{Done}
 use Rattle.simplecss_selector.specs.SelectorLists.{item_and_comma, at_end, left_over}
 use Rattle.simplecss_selector.proofs.SelectorListLemmas.{not_ended, left, no_comma, selector_skips-none, item-less, item-more, last-is, left-is, list-ends, skips-end}
+use Rattle.simplecss_selector.proofs.list.read_items.Given.{Over}
+use Rattle.simplecss_selector.proofs.list.read_items.Goals.{After-pos-stop, In-Some}
 use Rattle.simplecss_selector.proofs.list.read_items.Goals as goal
 
 -- where a cursor is in the text
@@ -23,16 +25,59 @@ located text own offset at same is boundary {rest} left = (
   subst (λ t. drop at t ≡ rest) same (subst (λ n. drop n own ≡ rest) (sym is) left),
 )
 
+-- what follows the selector that was read
+rest_here : (g : Over) (c : After-pos-stop g)
+    → rest_of c.advance.new.self ≡ (reads this_edition (rest_of c.items.s)).1
+rest_here g c =
+    c.advance.ensures.rest
+    ∙ subst (λ (t : List ℕ). drop c.in_ok-selector.len t ≡ (reads this_edition t).1)
+    c.slice_tail.ensures c.in_ok-selector.ensures.rest
+
+-- the selector that was read
+read_here : (g : Over) (c : After-pos-stop g)
+    → (reads this_edition (rest_of c.items.s)).0 ≡ c.in_ok-selector.selector
+read_here g c =
+    sym (c.in_ok-selector.ensures.selector
+    ∙ ap (λ (t : List ℕ). (reads this_edition t).0) c.slice_tail.ensures)
+
+-- where the last selector starts
+started : (g : Over) (c : After-pos-stop g) (last : List ℕ) → rest_of c.items.s ≡ last
+    → IsCharBoundary c.args.text.now c.pos-start.result
+    × (drop c.pos-start.result c.args.text.now ≡ last)
+started g c last is =
+    located c.args.text.now (text_of c.items.s) (offset_of c.items.s) c.pos-start.result
+    c.items.invariant.same c.pos-start.ensures c.items.s.boundary is
+
+-- where the last selector stops
+stopped : (g : Over) (c : After-pos-stop g) (last : List ℕ) → rest_of c.advance.new.self ≡ last
+    → IsCharBoundary c.args.text.now c.pos-stop.result
+    × (drop c.pos-stop.result c.args.text.now ≡ last)
+stopped g c last is =
+    located c.args.text.now (text_of c.advance.new.self) (offset_of c.advance.new.self)
+    c.pos-stop.result (c.advance.ensures.text ∙ c.items.invariant.same) c.pos-stop.ensures
+    c.advance.new.self.boundary is
+
+-- a selector that is read adds no report
+same_here : (g : Over) (c : In-Some g)
+    → g.P.Report.state c.read_front.new.report ≡ g.P.Report.state c.args.report.now
+same_here g c =
+    let here = rest_of c.items.s in
+    let is : (reads this_edition here).0 ≡ c.in_ok-selector.selector =
+    sym (c.in_ok-selector.ensures.selector
+    ∙ ap (λ (t : List ℕ). (reads this_edition t).0) c.slice_tail.ensures) in
+    c.in_ok-selector.ensures.reported
+    ∙ ap (add_each g.P.Report.add (g.P.Report.state c.items.report))
+    (ap (selector_skips this_edition) c.slice_tail.ensures
+    ∙ selector_skips-none this_edition here c.in-Some.selector (is ∙ c.in-Some.is))
+    ∙ c.items.invariant.reported
+
 pub returns-in_default-clause-list : goal.returns-in_default-clause-list
 returns-in_default-clause-list g c =
     let here = rest_of c.items.s in
     let rest = rest_of c.advance.new.self in
-    let rest_is : rest ≡ (reads this_edition here).1 = c.advance.ensures.rest
-    ∙ subst (λ (t : List ℕ). drop c.in_ok-selector.len t ≡ (reads this_edition t).1)
-    c.slice_tail.ensures c.in_ok-selector.ensures.rest in
-    let is : (reads this_edition here).0 ≡ c.in_ok-selector.selector =
-    sym (c.in_ok-selector.ensures.selector
-    ∙ ap (λ (t : List ℕ). (reads this_edition t).0) c.slice_tail.ensures) in
+    let at = goal.at.returns-in_default-clause-list g c in
+    let rest_is = rest_here g at.After-pos-stop in
+    let is = read_here g at.After-pos-stop in
     sym (list-ends this_edition c.args.text.now here rest c.items.selectors.items
     c.items.invariant.done rest_is
     None (is ∙ c.in_default.is) refl)
@@ -41,12 +86,9 @@ pub returns-in_default-clause-reported : goal.returns-in_default-clause-reported
 returns-in_default-clause-reported g c =
     let here = rest_of c.items.s in
     let rest = rest_of c.advance.new.self in
-    let rest_is : rest ≡ (reads this_edition here).1 = c.advance.ensures.rest
-    ∙ subst (λ (t : List ℕ). drop c.in_ok-selector.len t ≡ (reads this_edition t).1)
-    c.slice_tail.ensures c.in_ok-selector.ensures.rest in
-    let is : (reads this_edition here).0 ≡ c.in_ok-selector.selector =
-    sym (c.in_ok-selector.ensures.selector
-    ∙ ap (λ (t : List ℕ). (reads this_edition t).0) c.slice_tail.ensures) in
+    let at = goal.at.returns-in_default-clause-reported g c in
+    let rest_is = rest_here g at.After-pos-stop in
+    let is = read_here g at.After-pos-stop in
     let before = g.P.Report.state c.args.report.now in
     c.in_ok-selector.ensures.reported
     ∙ ap (λ s. add_each g.P.Report.add s (selector_skips this_edition c.slice_tail.result.now))
@@ -62,12 +104,9 @@ pub returns-then-at_end-clause-list : goal.returns-then-at_end-clause-list
 returns-then-at_end-clause-list g c =
     let here = rest_of c.items.s in
     let rest = rest_of c.advance.new.self in
-    let rest_is : rest ≡ (reads this_edition here).1 = c.advance.ensures.rest
-    ∙ subst (λ (t : List ℕ). drop c.in_ok-selector.len t ≡ (reads this_edition t).1)
-    c.slice_tail.ensures c.in_ok-selector.ensures.rest in
-    let is : (reads this_edition here).0 ≡ c.in_ok-selector.selector =
-    sym (c.in_ok-selector.ensures.selector
-    ∙ ap (λ (t : List ℕ). (reads this_edition t).0) c.slice_tail.ensures) in
+    let at = goal.at.returns-then-at_end-clause-list g c in
+    let rest_is = rest_here g at.After-pos-stop in
+    let is = read_here g at.After-pos-stop in
     let end : rest ≡ [] = c.at_end.ensures.0 c.if-at_end.true in
     let s = c.in-Some.selector in
     ap Some c.in_ok-push.ensures.items
@@ -81,18 +120,10 @@ pub returns-then-at_end-clause-reported : goal.returns-then-at_end-clause-report
 returns-then-at_end-clause-reported g c =
     let here = rest_of c.items.s in
     let rest = rest_of c.advance.new.self in
-    let rest_is : rest ≡ (reads this_edition here).1 = c.advance.ensures.rest
-    ∙ subst (λ (t : List ℕ). drop c.in_ok-selector.len t ≡ (reads this_edition t).1)
-    c.slice_tail.ensures c.in_ok-selector.ensures.rest in
-    let is : (reads this_edition here).0 ≡ c.in_ok-selector.selector =
-    sym (c.in_ok-selector.ensures.selector
-    ∙ ap (λ (t : List ℕ). (reads this_edition t).0) c.slice_tail.ensures) in
-    let same : g.P.Report.state c.read_front.new.report ≡ g.P.Report.state c.args.report.now =
-    c.in_ok-selector.ensures.reported
-    ∙ ap (add_each g.P.Report.add (g.P.Report.state c.items.report))
-    (ap (selector_skips this_edition) c.slice_tail.ensures
-    ∙ selector_skips-none this_edition here c.in-Some.selector (is ∙ c.in-Some.is))
-    ∙ c.items.invariant.reported in
+    let at = goal.at.returns-then-at_end-clause-reported g c in
+    let rest_is = rest_here g at.After-pos-stop in
+    let is = read_here g at.After-pos-stop in
+    let same = same_here g at.In-Some in
     let end : rest ≡ [] = c.at_end.ensures.0 c.if-at_end.true in
     let s = c.in-Some.selector in
     same
@@ -108,12 +139,9 @@ pub returns-then-not-skip_byte-clause-list : goal.returns-then-not-skip_byte-cla
 returns-then-not-skip_byte-clause-list g c =
     let here = rest_of c.items.s in
     let rest = rest_of c.advance.new.self in
-    let rest_is : rest ≡ (reads this_edition here).1 = c.advance.ensures.rest
-    ∙ subst (λ (t : List ℕ). drop c.in_ok-selector.len t ≡ (reads this_edition t).1)
-    c.slice_tail.ensures c.in_ok-selector.ensures.rest in
-    let is : (reads this_edition here).0 ≡ c.in_ok-selector.selector =
-    sym (c.in_ok-selector.ensures.selector
-    ∙ ap (λ (t : List ℕ). (reads this_edition t).0) c.slice_tail.ensures) in
+    let at = goal.at.returns-then-not-skip_byte-clause-list g c in
+    let rest_is = rest_here g at.After-pos-stop in
+    let is = read_here g at.After-pos-stop in
     let s = c.in-Some.selector in
     let other = sym c.skip_byte.ensures.occurs ∙ c.if-not-skip_byte.true in
     let more : rest ≡ [] → ⊥ = λ e. false≢true (sym c.if-at_end.false ∙ c.at_end.ensures.1 e) in
@@ -127,18 +155,10 @@ pub returns-then-not-skip_byte-clause-reported : goal.returns-then-not-skip_byte
 returns-then-not-skip_byte-clause-reported g c =
     let here = rest_of c.items.s in
     let rest = rest_of c.advance.new.self in
-    let rest_is : rest ≡ (reads this_edition here).1 = c.advance.ensures.rest
-    ∙ subst (λ (t : List ℕ). drop c.in_ok-selector.len t ≡ (reads this_edition t).1)
-    c.slice_tail.ensures c.in_ok-selector.ensures.rest in
-    let is : (reads this_edition here).0 ≡ c.in_ok-selector.selector =
-    sym (c.in_ok-selector.ensures.selector
-    ∙ ap (λ (t : List ℕ). (reads this_edition t).0) c.slice_tail.ensures) in
-    let same : g.P.Report.state c.read_front.new.report ≡ g.P.Report.state c.args.report.now =
-    c.in_ok-selector.ensures.reported
-    ∙ ap (add_each g.P.Report.add (g.P.Report.state c.items.report))
-    (ap (selector_skips this_edition) c.slice_tail.ensures
-    ∙ selector_skips-none this_edition here c.in-Some.selector (is ∙ c.in-Some.is))
-    ∙ c.items.invariant.reported in
+    let at = goal.at.returns-then-not-skip_byte-clause-reported g c in
+    let rest_is = rest_here g at.After-pos-stop in
+    let is = read_here g at.After-pos-stop in
+    let same = same_here g at.In-Some in
     let s = c.in-Some.selector in
     let other = sym c.skip_byte.ensures.occurs ∙ c.if-not-skip_byte.true in
     let more : rest ≡ [] → ⊥ = λ e. false≢true (sym c.if-at_end.false ∙ c.at_end.ensures.1 e) in
@@ -166,33 +186,20 @@ pub returns-in_default-clause-start : goal.returns-in_default-clause-start
 returns-in_default-clause-start g c =
     let here = rest_of c.items.s in
     let rest = rest_of c.advance.new.self in
-    let rest_is : rest ≡ (reads this_edition here).1 = c.advance.ensures.rest
-    ∙ subst (λ (t : List ℕ). drop c.in_ok-selector.len t ≡ (reads this_edition t).1)
-    c.slice_tail.ensures c.in_ok-selector.ensures.rest in
-    let is : (reads this_edition here).0 ≡ c.in_ok-selector.selector =
-    sym (c.in_ok-selector.ensures.selector
-    ∙ ap (λ (t : List ℕ). (reads this_edition t).0) c.slice_tail.ensures) in
-    located c.args.text.now (text_of c.items.s) (offset_of c.items.s) c.pos-start.result
-    c.items.invariant.same
-    c.pos-start.ensures
-    c.items.s.boundary (sym (last-is this_edition c.args.text.now here rest c.items.selectors.items
+    let at = goal.at.returns-in_default-clause-start g c in
+    let rest_is = rest_here g at.After-pos-stop in
+    let is = read_here g at.After-pos-stop in
+    started g at.After-pos-stop _ (sym (last-is this_edition c.args.text.now here rest c.items.selectors.items
     c.items.invariant.done rest_is None (is ∙ c.in_default.is) refl))
 
 pub returns-in_default-clause-stop : goal.returns-in_default-clause-stop
 returns-in_default-clause-stop g c =
     let here = rest_of c.items.s in
     let rest = rest_of c.advance.new.self in
-    let rest_is : rest ≡ (reads this_edition here).1 = c.advance.ensures.rest
-    ∙ subst (λ (t : List ℕ). drop c.in_ok-selector.len t ≡ (reads this_edition t).1)
-    c.slice_tail.ensures c.in_ok-selector.ensures.rest in
-    let is : (reads this_edition here).0 ≡ c.in_ok-selector.selector =
-    sym (c.in_ok-selector.ensures.selector
-    ∙ ap (λ (t : List ℕ). (reads this_edition t).0) c.slice_tail.ensures) in
-    located c.args.text.now (text_of c.advance.new.self)
-    (offset_of c.advance.new.self) c.pos-stop.result
-    (c.advance.ensures.text ∙ c.items.invariant.same)
-    c.pos-stop.ensures
-    c.advance.new.self.boundary (sym (left-is this_edition c.args.text.now here rest
+    let at = goal.at.returns-in_default-clause-stop g c in
+    let rest_is = rest_here g at.After-pos-stop in
+    let is = read_here g at.After-pos-stop in
+    stopped g at.After-pos-stop _ (sym (left-is this_edition c.args.text.now here rest
     c.items.selectors.items
     c.items.invariant.done rest_is None (is ∙ c.in_default.is) refl))
 
@@ -200,18 +207,12 @@ pub returns-then-at_end-clause-start : goal.returns-then-at_end-clause-start
 returns-then-at_end-clause-start g c =
     let here = rest_of c.items.s in
     let rest = rest_of c.advance.new.self in
-    let rest_is : rest ≡ (reads this_edition here).1 = c.advance.ensures.rest
-    ∙ subst (λ (t : List ℕ). drop c.in_ok-selector.len t ≡ (reads this_edition t).1)
-    c.slice_tail.ensures c.in_ok-selector.ensures.rest in
-    let is : (reads this_edition here).0 ≡ c.in_ok-selector.selector =
-    sym (c.in_ok-selector.ensures.selector
-    ∙ ap (λ (t : List ℕ). (reads this_edition t).0) c.slice_tail.ensures) in
+    let at = goal.at.returns-then-at_end-clause-start g c in
+    let rest_is = rest_here g at.After-pos-stop in
+    let is = read_here g at.After-pos-stop in
     let end : rest ≡ [] = c.at_end.ensures.0 c.if-at_end.true in
     let s = c.in-Some.selector in
-    located c.args.text.now (text_of c.items.s) (offset_of c.items.s) c.pos-start.result
-    c.items.invariant.same
-    c.pos-start.ensures
-    c.items.s.boundary (sym (last-is this_edition c.args.text.now here rest c.items.selectors.items
+    started g at.After-pos-stop _ (sym (last-is this_edition c.args.text.now here rest c.items.selectors.items
     c.items.invariant.done rest_is (Some s) (is ∙ c.in-Some.is)
     (no_comma this_edition s rest (ap (starts comma) end))))
 
@@ -219,19 +220,12 @@ pub returns-then-at_end-clause-stop : goal.returns-then-at_end-clause-stop
 returns-then-at_end-clause-stop g c =
     let here = rest_of c.items.s in
     let rest = rest_of c.advance.new.self in
-    let rest_is : rest ≡ (reads this_edition here).1 = c.advance.ensures.rest
-    ∙ subst (λ (t : List ℕ). drop c.in_ok-selector.len t ≡ (reads this_edition t).1)
-    c.slice_tail.ensures c.in_ok-selector.ensures.rest in
-    let is : (reads this_edition here).0 ≡ c.in_ok-selector.selector =
-    sym (c.in_ok-selector.ensures.selector
-    ∙ ap (λ (t : List ℕ). (reads this_edition t).0) c.slice_tail.ensures) in
+    let at = goal.at.returns-then-at_end-clause-stop g c in
+    let rest_is = rest_here g at.After-pos-stop in
+    let is = read_here g at.After-pos-stop in
     let end : rest ≡ [] = c.at_end.ensures.0 c.if-at_end.true in
     let s = c.in-Some.selector in
-    located c.args.text.now (text_of c.advance.new.self)
-    (offset_of c.advance.new.self) c.pos-stop.result
-    (c.advance.ensures.text ∙ c.items.invariant.same)
-    c.pos-stop.ensures
-    c.advance.new.self.boundary (sym (left-is this_edition c.args.text.now here rest
+    stopped g at.After-pos-stop _ (sym (left-is this_edition c.args.text.now here rest
     c.items.selectors.items
     c.items.invariant.done rest_is (Some s) (is ∙ c.in-Some.is)
     (no_comma this_edition s rest (ap (starts comma) end))))
@@ -240,18 +234,12 @@ pub returns-then-not-skip_byte-clause-start : goal.returns-then-not-skip_byte-cl
 returns-then-not-skip_byte-clause-start g c =
     let here = rest_of c.items.s in
     let rest = rest_of c.advance.new.self in
-    let rest_is : rest ≡ (reads this_edition here).1 = c.advance.ensures.rest
-    ∙ subst (λ (t : List ℕ). drop c.in_ok-selector.len t ≡ (reads this_edition t).1)
-    c.slice_tail.ensures c.in_ok-selector.ensures.rest in
-    let is : (reads this_edition here).0 ≡ c.in_ok-selector.selector =
-    sym (c.in_ok-selector.ensures.selector
-    ∙ ap (λ (t : List ℕ). (reads this_edition t).0) c.slice_tail.ensures) in
+    let at = goal.at.returns-then-not-skip_byte-clause-start g c in
+    let rest_is = rest_here g at.After-pos-stop in
+    let is = read_here g at.After-pos-stop in
     let s = c.in-Some.selector in
     let other = sym c.skip_byte.ensures.occurs ∙ c.if-not-skip_byte.true in
-    located c.args.text.now (text_of c.items.s) (offset_of c.items.s) c.pos-start.result
-    c.items.invariant.same
-    c.pos-start.ensures
-    c.items.s.boundary (sym (last-is this_edition c.args.text.now here rest c.items.selectors.items
+    started g at.After-pos-stop _ (sym (last-is this_edition c.args.text.now here rest c.items.selectors.items
     c.items.invariant.done rest_is (Some s) (is ∙ c.in-Some.is)
     (no_comma this_edition s rest other)))
 
@@ -259,19 +247,12 @@ pub returns-then-not-skip_byte-clause-stop : goal.returns-then-not-skip_byte-cla
 returns-then-not-skip_byte-clause-stop g c =
     let here = rest_of c.items.s in
     let rest = rest_of c.advance.new.self in
-    let rest_is : rest ≡ (reads this_edition here).1 = c.advance.ensures.rest
-    ∙ subst (λ (t : List ℕ). drop c.in_ok-selector.len t ≡ (reads this_edition t).1)
-    c.slice_tail.ensures c.in_ok-selector.ensures.rest in
-    let is : (reads this_edition here).0 ≡ c.in_ok-selector.selector =
-    sym (c.in_ok-selector.ensures.selector
-    ∙ ap (λ (t : List ℕ). (reads this_edition t).0) c.slice_tail.ensures) in
+    let at = goal.at.returns-then-not-skip_byte-clause-stop g c in
+    let rest_is = rest_here g at.After-pos-stop in
+    let is = read_here g at.After-pos-stop in
     let s = c.in-Some.selector in
     let other = sym c.skip_byte.ensures.occurs ∙ c.if-not-skip_byte.true in
-    located c.args.text.now (text_of c.advance.new.self)
-    (offset_of c.advance.new.self) c.pos-stop.result
-    (c.advance.ensures.text ∙ c.items.invariant.same)
-    c.pos-stop.ensures
-    c.advance.new.self.boundary (sym (left-is this_edition c.args.text.now here rest
+    stopped g at.After-pos-stop _ (sym (left-is this_edition c.args.text.now here rest
     c.items.selectors.items
     c.items.invariant.done rest_is (Some s) (is ∙ c.in-Some.is)
     (no_comma this_edition s rest other)))
@@ -280,12 +261,9 @@ pub items-smaller : goal.items-smaller
 items-smaller g c =
     let here = rest_of c.items.s in
     let rest = rest_of c.advance.new.self in
-    let rest_is : rest ≡ (reads this_edition here).1 = c.advance.ensures.rest
-    ∙ subst (λ (t : List ℕ). drop c.in_ok-selector.len t ≡ (reads this_edition t).1)
-    c.slice_tail.ensures c.in_ok-selector.ensures.rest in
-    let is : (reads this_edition here).0 ≡ c.in_ok-selector.selector =
-    sym (c.in_ok-selector.ensures.selector
-    ∙ ap (λ (t : List ℕ). (reads this_edition t).0) c.slice_tail.ensures) in
+    let at = goal.at.items-smaller g c in
+    let rest_is = rest_here g at.After-pos-stop in
+    let is = read_here g at.After-pos-stop in
     let occurs = sym c.skip_byte.ensures.occurs ∙ c.if-not-skip_byte.false in
     subst (λ (t : List ℕ). length t < length here)
     (sym (c.skip_byte.ensures.rest ∙ past_byte_there comma rest occurs))
@@ -297,18 +275,10 @@ pub items-preserved : goal.items-preserved
 items-preserved g c =
     let here = rest_of c.items.s in
     let rest = rest_of c.advance.new.self in
-    let rest_is : rest ≡ (reads this_edition here).1 = c.advance.ensures.rest
-    ∙ subst (λ (t : List ℕ). drop c.in_ok-selector.len t ≡ (reads this_edition t).1)
-    c.slice_tail.ensures c.in_ok-selector.ensures.rest in
-    let is : (reads this_edition here).0 ≡ c.in_ok-selector.selector =
-    sym (c.in_ok-selector.ensures.selector
-    ∙ ap (λ (t : List ℕ). (reads this_edition t).0) c.slice_tail.ensures) in
-    let same : g.P.Report.state c.read_front.new.report ≡ g.P.Report.state c.args.report.now =
-    c.in_ok-selector.ensures.reported
-    ∙ ap (add_each g.P.Report.add (g.P.Report.state c.items.report))
-    (ap (selector_skips this_edition) c.slice_tail.ensures
-    ∙ selector_skips-none this_edition here c.in-Some.selector (is ∙ c.in-Some.is))
-    ∙ c.items.invariant.reported in
+    let at = goal.at.items-preserved g c in
+    let rest_is = rest_here g at.After-pos-stop in
+    let is = read_here g at.After-pos-stop in
+    let same = same_here g at.In-Some in
     let occurs = sym c.skip_byte.ensures.occurs ∙ c.if-not-skip_byte.false in
     record {
       same = c.skip_byte.ensures.text ∙ c.advance.ensures.text ∙ c.items.invariant.same;

@@ -1,4 +1,5 @@
-use Rattle.std.proofs.Common.{◌≡◌, ℕ, ◌<◌, ◌≤◌, ◌+◌, ◌-◌, None, Some, refl, arith}
+use Rattle.std.proofs.Common.{◌≡◌, ℕ, ◌<◌, ◌≤◌, ◌+◌, ◌-◌, IsTrue, None, Some, refl, arith}
+use Rattle.simplecss_selector.specs.Placements.{Relates, is_step}
 use Rattle.std.proofs.lemmas.Bool.{false≢true}
 use Rattle.std.specs.Option.{option_map_or}
 use Rattle.simplecss_selector.specs.internal.CombinatorViews.{combinator_of}
@@ -7,7 +8,10 @@ use Rattle.simplecss_selector.proofs.Depths.{depth-above, depth-step}
 use Rattle.simplecss_selector.proofs.Greedy.{tracks_step, not_met, no_node, no_rest, leaves_rest, stepped, no_step}
 use Rattle.simplecss_selector.proofs.StretchEnds.{IsStretch-step, IsStretch-gap}
 use Rattle.simplecss_selector.proofs.LongestStretch.{stretch_tests-bound, AreJoined-more}
-use Rattle.simplecss_selector.proofs.SearchSteps.{borrowed, step_at, step_not, parent_at}
+use Rattle.css_matching.proofs.Steps.{borrowed}
+use Rattle.simplecss_selector.proofs.SearchSteps.{step_at, step_not, parent_at}
+use Rattle.simplecss_selector.proofs.matching.climb.Given.{Over}
+use Rattle.simplecss_selector.proofs.matching.climb.Goals.{In-Some, After-unwrap_or-node-2}
 use Rattle.simplecss_selector.proofs.matching.climb.Goals as goal
 
 above_zero : (a b : ℕ) → a < b → 0 < b
@@ -49,6 +53,32 @@ all_placed : (begun last now index first : ℕ) → index ≤ first → now + in
     → begun + last < now + 1 + first
 all_placed begun last now index first h counted = omega arith
 
+-- the node before is a step from the one that is placed
+step_here : (g : Over) (c : In-Some g)
+    → let d = (component_at c.args.selector.now c.steps.index).combinator in
+    IsTrue (is_step d)
+    × Relates g.E.Element.tree d (g.E.Element.node c.in-Some.before)
+    (option_map_or g.E.Element.node c.steps.top (g.E.Element.node c.args.lowest.now))
+step_here g c =
+    let tree = g.E.Element.tree in
+    let node = g.E.Element.node in
+    let d = (component_at c.args.selector.now c.steps.index).combinator in
+    let index = borrowed node c.as_ref.result c.steps.top c.args.lowest c.unwrap_or-node.result
+    c.as_ref.ensures.value c.unwrap_or-node.ensures in
+    stepped tree d (option_map_or node c.steps.top (node c.args.lowest.now))
+    (node c.in-Some.before)
+    (step_at tree (combinator_of c.combinator.result) d (node c.unwrap_or-node.result.now)
+    (option_map_or node c.steps.top (node c.args.lowest.now)) (Some (node c.in-Some.before))
+    c.combinator.ensures.value index c.in-Some.ensures)
+
+-- what the node is from which the search goes up
+top_is : (g : Over) (c : After-unwrap_or-node-2 g)
+    → g.E.Element.node c.unwrap_or-node-2.result.now
+    ≡ option_map_or g.E.Element.node c.steps.top (g.E.Element.node c.args.lowest.now)
+top_is g c =
+    borrowed g.E.Element.node c.as_ref-2.result c.steps.top c.args.lowest c.unwrap_or-node-2.result
+    c.as_ref-2.ensures.value c.unwrap_or-node-2.ensures
+
 pub returns-in_default-clause-finds : goal.returns-in_default-clause-finds
 returns-in_default-clause-finds g c =
     let tree = g.E.Element.tree in
@@ -83,13 +113,7 @@ returns-then-not-is_met_at-clause-finds g c =
     let cs = c.args.selector.now in
     let i = c.steps.invariant in
     let some : 0 < c.steps.index = above_zero _ _ c.steps-test.true in
-    let index = borrowed node c.as_ref.result c.steps.top c.args.lowest c.unwrap_or-node.result
-    c.as_ref.ensures.value c.unwrap_or-node.ensures in
-    let step = stepped tree (component_at cs c.steps.index).combinator
-    (option_map_or node c.steps.top (node c.args.lowest.now)) (node c.in-Some.before)
-    (step_at tree (combinator_of c.combinator.result) (component_at cs c.steps.index).combinator
-    (node c.unwrap_or-node.result.now) (option_map_or node c.steps.top (node c.args.lowest.now))
-    (Some (node c.in-Some.before)) c.combinator.ensures.value index c.in-Some.ensures) in
+    let step = step_here g (goal.at.returns-then-not-is_met_at-clause-finds g c).In-Some in
     not_met tree cs (c.args.stretch.last + 1) (c.steps.index - 1) (node c.args.lowest.now)
     (node c.in-Some.before) (one_less_within _ _ _ i.within_stretch c.requires.stretch.within)
     (λ m. false≢true (c.if-not-is_met_at.ensures.answer.1 m))
@@ -119,13 +143,7 @@ steps-preserved g c =
     let cs = c.args.selector.now in
     let i = c.steps.invariant in
     let some : 0 < c.steps.index = above_zero _ _ c.steps-test.true in
-    let index = borrowed node c.as_ref.result c.steps.top c.args.lowest c.unwrap_or-node.result
-    c.as_ref.ensures.value c.unwrap_or-node.ensures in
-    let step = stepped tree (component_at cs c.steps.index).combinator
-    (option_map_or node c.steps.top (node c.args.lowest.now)) (node c.in-Some.before)
-    (step_at tree (combinator_of c.combinator.result) (component_at cs c.steps.index).combinator
-    (node c.unwrap_or-node.result.now) (option_map_or node c.steps.top (node c.args.lowest.now))
-    (Some (node c.in-Some.before)) c.combinator.ensures.value index c.in-Some.ensures) in
+    let step = step_here g (goal.at.steps-preserved g c).In-Some in
     record {
       from_stretch = at_one_less _ _ c.steps-test.true;
       within_stretch = one_less _ _ i.within_stretch;
@@ -168,8 +186,7 @@ returns-in-Some-parent_element-clause-finds g c =
     let node = g.E.Element.node in
     let cs = c.args.selector.now in
     let i = c.steps.invariant in
-    let index = borrowed node c.as_ref-2.result c.steps.top c.args.lowest c.unwrap_or-node-2.result
-    c.as_ref-2.ensures.value c.unwrap_or-node-2.ensures in
+    let index = top_is g (goal.at.returns-in-Some-parent_element-clause-finds g c).After-unwrap_or-node-2 in
     let parent = parent_at tree (node c.unwrap_or-node-2.result.now)
     (option_map_or node c.steps.top (node c.args.lowest.now))
     (Some (node c.in-Some-parent_element.above)) index c.in-Some-parent_element.ensures in
@@ -193,8 +210,7 @@ returns-clause-finds g c =
     let node = g.E.Element.node in
     let cs = c.args.selector.now in
     let i = c.steps.invariant in
-    let index = borrowed node c.as_ref-2.result c.steps.top c.args.lowest c.unwrap_or-node-2.result
-    c.as_ref-2.ensures.value c.unwrap_or-node-2.ensures in
+    let index = top_is g (goal.at.returns-clause-finds g c).After-unwrap_or-node-2 in
     let parent = parent_at tree (node c.unwrap_or-node-2.result.now)
     (option_map_or node c.steps.top (node c.args.lowest.now)) None index c.in-None.ensures in
     let first : c.steps.index ≡ c.args.stretch.first =

@@ -6,7 +6,7 @@ use Rattle.css_selectors.specs.Printing.{selector_text}
 use Rattle.css_selectors.specs.Specificities.{specificity}
 use Rattle.simplecss_c.specs.Json.{string}
 use Rattle.simplecss_c.specs.JsonLines.{counts_array}
-use Rattle.simplecss_c.specs.Level3Lines.{string_or_null}
+use Rattle.simplecss_c.specs.Level3Lines.{string_or_null, element_name}
 use Rattle.simplecss_c.specs.Ranges.{extent}
 use Rattle.simplecss_c.proofs.JsonTexts.{wrote_last}
 use Rattle.simplecss_c.proofs.SheetTexts.{listed-written}
@@ -25,7 +25,7 @@ returns c =
     (string_bytes c.push_range.new.out) (string_bytes c.push_str-2.new.self)
     (string_bytes c.push_string.new.out) third (string_bytes c.push_specificity.new.out) fourth
     (string_bytes c.push_name.new.out) (extent start count) (string (selector_text s))
-    (counts_array (specificity s)) (string_or_null s.pseudo_element)
+    (counts_array (specificity s)) (string_or_null (element_name s.pseudo_element))
     c.in_ok-push_str.ensures.bytes
     (c.in_ok-push_range.ensures ∙ ap (λ n. string_bytes c.push_str.new.self ++ extent n count)
     c.offset_of-start.ensures.is)
@@ -37,7 +37,7 @@ returns c =
     (c.in_ok-push_specificity.ensures ∙ ap (λ counts. third ++ counts_array counts)
     c.specificity.ensures)
     c.in_ok-push_str-4.ensures.bytes
-    (c.in_ok-push_name.ensures ∙ ap (λ name. fourth ++ string_or_null name)
+    (c.in_ok-push_name.ensures ∙ ap (λ element. fourth ++ string_or_null (element_name element))
     c.pseudo_element.ensures))
     (wrote_last c.push_str-5.result (string_bytes c.push_name.new.out) (codes "}\n")
     (string_bytes c.push_str-5.new.self) c.push_str-5.ensures.bytes)

@@ -1,6 +1,6 @@
 use Rattle.std.proofs.Common.{◌≡◌, Some, refl, sym, ap}
 use Rattle.css_sheet.specs.RuleSelectors.{if_read, selector_of}
-use Rattle.css_selectors.specs.Grammar.{selector}
+use Rattle.css_selectors.specs.Supported.{supported_selector}
 use Rattle.simplecss_c.proofs.Level3Lists.{parse-refused}
 use Rattle.simplecss_c.proofs.level3.lists.read_selector.Goals as goal
 
@@ -8,7 +8,7 @@ pub returns-in_err-parse : goal.returns-in_err-parse
 returns-in_err-parse c =
     let refusal = c.in_err-parse.field-0.0 in
     parse-refused (λ s. selector_of c.args.text.now ≡ Some s) if_read (λ why rest. refl)
-    (selector c.args.text.now) refusal.why refusal.rest.now c.in_err-parse.ensures
+    (supported_selector c.args.text.now) refusal.why refusal.rest.now c.in_err-parse.ensures
     c.from_residual.result c.from_residual.ensures.1
 
 pub returns : goal.returns

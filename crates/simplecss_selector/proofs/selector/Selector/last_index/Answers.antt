@@ -5,9 +5,5 @@ use Rattle.simplecss_selector.proofs.selector.Selector.last_index.Goals as goal
 pub returns : goal.returns
 returns c =
     let s = c.self.inside in
-    omega (
-      arith,
-      c.len.ensures,
-      s.front.ok.0,
-      length_is s.front.items _ s.subselectors.items c.args.self.now c.self.view_is,
-    )
+    let all = length_is s.front.items _ s.subselectors.items c.args.self.now c.self.view_is in
+    omega (arith, c.len.ensures, s.front.ok.0, all)
