@@ -10,10 +10,13 @@ use std::io;
 const SHEET: &str = "p { color: black; margin: 1em }
     .note:not(:first-child) { color: green; margin: 0 !important }
     @media screen { main > p { color: navy; margin: 2em } }
-    @media print { p { color: gray !important } }";
+    @media print { p { color: gray !important } }
+    @layer reset, theme;
+    @layer theme { p { margin: 3em !important; cursor: help } }
+    @layer reset { p { margin: 4em !important; cursor: wait } }";
 
 /// The properties that are shown.
-const PROPERTIES: [&str; 2] = ["color", "margin"];
+const PROPERTIES: [&str; 3] = ["color", "margin", "cursor"];
 
 /// How many declarations the rules of a sheet may have together.
 const MOST: usize = 10_000;

@@ -198,7 +198,7 @@ fn holds(name: &str, prelude: &str) -> bool {
 }
 
 /// Writes the rules of a text in the order of the cascade, or that they have more declarations than
-/// these.
+/// these, or too many layers.
 fn write_order<W: Write>(alloc: Global, out: &mut W, text: &str, most: usize) -> io::Result<()> {
     let rules = match read_sheet(
         alloc,
@@ -209,6 +209,9 @@ fn write_order<W: Write>(alloc: Global, out: &mut W, text: &str, most: usize) ->
         Ok(rules) => rules,
         Err(SheetError::TooManyDeclarations) => {
             return write_fields(out, "too many declarations", "", "", "");
+        }
+        Err(SheetError::TooManyLayers) => {
+            return write_fields(out, "too many layers", "", "", "");
         }
         Err(error) => return Err(error.into()),
     };

@@ -2,8 +2,8 @@
 
 use crate::tree::{mark_texts, read_tree};
 use css_index::{HasSelector, SelectorIndex};
-use css_selectors::{Element, Selector};
-use css_tree::NumberedTree;
+use css_selectors::{Element, Selector, Tests};
+use css_tree::{NumberedTree, TreeWalk};
 use simplecss_tree::Tree;
 use std::alloc::Global;
 use std::io;
@@ -119,6 +119,15 @@ fn read_listed<'a>(alloc: Global, lists: &'a str) -> io::Result<Vec<Listed<'a>>>
     Ok(all)
 }
 
+/// Writes the numbers of the lists that the selectors with these indices are of, from 0 on, and a NUL
+/// byte.
+fn write_lists<W: Write>(out: &mut W, all: &[Listed<'_>], indices: &[usize]) -> io::Result<()> {
+    for listed in indices.iter().filter_map(|index| all.get(*index)) {
+        write!(out, " {}", listed.list)?;
+    }
+    out.write_all(b"\x00")
+}
+
 /// Writes for each element the numbers of the lists of which one index over all of them finds a
 /// selector, from 0 on, and a NUL byte.
 pub(crate) fn write_found_by_index<W: Write>(
@@ -136,10 +145,36 @@ pub(crate) fn write_found_by_index<W: Write>(
         if let Some(element) = page.node(number) {
             index.matching(&element, &mut indices)?;
         }
-        for listed in indices.iter().filter_map(|index| all.get(*index)) {
-            write!(out, " {}", listed.list)?;
-        }
-        out.write_all(b"\x00")?;
+        write_lists(out, all.as_slice(), indices.as_slice())?;
     }
     Ok(())
+}
+
+/// Writes for each element of the page what a walk along it finds.
+fn write_walked<W: Write>(
+    alloc: Global,
+    out: &mut W,
+    page: &NumberedTree<'_, '_>,
+    all: &[Listed<'_>],
+) -> io::Result<()> {
+    let mut walk = TreeWalk::new(alloc, all)?;
+    let mut indices = Vec::new(alloc);
+    for element in 0..page.len() {
+        walk.matching(page, element, &mut indices, &mut Tests::new())?;
+        write_lists(out, all, indices.as_slice())?;
+    }
+    Ok(())
+}
+
+/// Writes what [`write_found_by_index`] does, as a walk along the page finds it.
+pub(crate) fn write_found_by_walk<W: Write>(
+    alloc: Global,
+    out: &mut W,
+    lines: &str,
+    lists: &str,
+) -> io::Result<()> {
+    let tree = read_tree(alloc, lines)?;
+    let page = numbered(alloc, &tree, lines)?;
+    let all = read_listed(alloc, lists)?;
+    write_walked(alloc, out, &page, all.as_slice())
 }

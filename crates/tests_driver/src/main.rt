@@ -1,8 +1,8 @@
 //! Prints what the crates answer, for the tests in `tests/`: `tests_driver WORD ..`. Texts are on
 //! standard input.
 //!
-//! With `tokens` the texts have the byte 1 between them. With `match` and `index` they are a tree and
-//! lists of selectors, with a NUL byte between two. With the words of `css::Part` they have a NUL byte
+//! With `tokens` the texts have the byte 1 between them. With `match`, `index` and `walk` they are a tree
+//! and lists of selectors, with a NUL byte between two. With the words of `css::Part` they have a NUL byte
 //! between them.
 #![tactic(auto)]
 
@@ -16,21 +16,32 @@ use std::alloc::Global;
 use std::io::{BufWriter, ErrorKind, Read, Write};
 use std::{env, io};
 
-/// Writes the answers on a tree and lists of selectors: those of an index, or of each selector.
+/// How selectors are found.
+#[derive(Clone, Copy)]
+enum Search {
+    /// Each is tested.
+    Each,
+    /// By an index.
+    Index,
+    /// By a walk along the page.
+    Walk,
+}
+
+/// Writes the answers on a tree and lists of selectors.
 fn write_on_tree<W: Write>(
     alloc: Global,
     out: &mut W,
     input: &[u8],
-    has_index: bool,
+    search: Search,
 ) -> io::Result<()> {
     let Ok(input) = str::from_utf8(input) else {
         return Err(io::Error::from(ErrorKind::InvalidData));
     };
     let (lines, lists) = input.split_once('\0').unwrap_or((input, ""));
-    if has_index {
-        lists::write_found_by_index(alloc, out, lines, lists)
-    } else {
-        lists::write_matched(alloc, out, lines, lists)
+    match search {
+        Search::Each => lists::write_matched(alloc, out, lines, lists),
+        Search::Index => lists::write_found_by_index(alloc, out, lines, lists),
+        Search::Walk => lists::write_found_by_walk(alloc, out, lines, lists),
     }
 }
 
@@ -42,8 +53,9 @@ fn write_answers<W: Write>(
     input: &[u8],
 ) -> io::Result<()> {
     match words {
-        ["match"] => return write_on_tree(alloc, out, input, false),
-        ["index"] => return write_on_tree(alloc, out, input, true),
+        ["match"] => return write_on_tree(alloc, out, input, Search::Each),
+        ["index"] => return write_on_tree(alloc, out, input, Search::Index),
+        ["walk"] => return write_on_tree(alloc, out, input, Search::Walk),
         ["tokens"] => {
             for text in input.split(|byte| *byte == 1) {
                 if let Ok(text) = str::from_utf8(text) {

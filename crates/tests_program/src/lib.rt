@@ -27,6 +27,4 @@ mod same;
 #[cfg(test)]
 mod skipped;
 #[cfg(test)]
-mod skipped_lines;
-#[cfg(test)]
 mod taken;

@@ -5,6 +5,7 @@
 #![tactic(auto)]
 
 mod free;
+mod walks;
 
 use css_index::SelectorIndex;
 use css_selectors::Selector as ModernSelector;
@@ -381,6 +382,31 @@ fn show_modern(rt: &HostRuntime, made: &Made<'_>, text: &str, names: &[&str]) ->
     show_number(rt, sum)
 }
 
+/// Finds rules by a walk along a tree of the names.
+fn show_rule_walk(rt: &HostRuntime, made: &Made<'_>, text: &str, names: &[&str]) -> io::Result<()> {
+    let sheet = StyleSheet::parse(&Discard, rt.alloc(), text)?;
+    let tree = chain(rt.alloc(), names)?;
+    begin(rt);
+    let sum = walks::found_rules(rt.alloc(), &sheet.rules, &tree);
+    end(rt, made);
+    show_number(rt, sum)
+}
+
+/// Finds selectors by a walk along a tree of the names.
+fn show_tree_walk(rt: &HostRuntime, made: &Made<'_>, text: &str, names: &[&str]) -> io::Result<()> {
+    let Ok(selectors) = ModernSelector::parse_list(rt.alloc(), text) else {
+        return println!(rt; "no selectors");
+    };
+    let tree = chain(rt.alloc(), names)?;
+    let Ok(page) = NumberedTree::new(rt.alloc(), &tree) else {
+        return println!(rt; "no tree");
+    };
+    begin(rt);
+    let sum = walks::found_selectors(rt.alloc(), selectors.as_slice(), &page);
+    end(rt, made);
+    show_number(rt, sum)
+}
+
 /// Shows how a run ended, and how many bytes it wrote.
 fn show_run(rt: &HostRuntime, outcome: Result<(), RunFault>, out: &Counted) -> io::Result<()> {
     let bytes = out.bytes;
@@ -425,6 +451,8 @@ fn show<R: Log>(rt: &HostRuntime, made: &Made<'_>, log: &R, words: &[&str]) -> i
         }
         ["numbered", names @ ..] => show_numbered(rt, made, names),
         ["modern", text, names @ ..] => show_modern(rt, made, text, names),
+        ["rule_walk", text, names @ ..] => show_rule_walk(rt, made, text, names),
+        ["tree_walk", text, names @ ..] => show_tree_walk(rt, made, text, names),
         ["run_selector", text] => {
             begin(rt);
             let outcome = run_selector(log, rt.alloc(), text, &mut out);

@@ -1,0 +1,47 @@
+//! What walks along a tree find.
+use css_selectors::{Selector as ModernSelector, Tests as ModernTests};
+use css_tree::{NumberedTree, TreeWalk};
+use simplecss::{Rule, Tests};
+use simplecss_tree::{RuleWalk, Tree};
+use std::alloc::{AllocError, Global};
+
+/// Returns the sum of the numbers of these indices, from 1 on.
+fn sum_of(indices: &[usize]) -> usize {
+    let mut sum = 0_usize;
+    for index in indices {
+        sum = sum.saturating_add(*index).saturating_add(1);
+    }
+    sum
+}
+
+/// Returns the sum of the numbers of the rules that a walk finds for each element of the tree.
+pub(crate) fn found_rules(
+    alloc: Global,
+    rules: &[Rule<'_>],
+    tree: &Tree<'_>,
+) -> Result<usize, AllocError> {
+    let mut walk = RuleWalk::new(alloc, rules)?;
+    let mut indices = Vec::new(alloc);
+    let mut sum = 0_usize;
+    for element in 0..tree.len() {
+        walk.matching(rules, tree, element, &mut indices, &mut Tests::new())?;
+        sum = sum.saturating_add(sum_of(indices.as_slice()));
+    }
+    Ok(sum)
+}
+
+/// Returns the sum of the numbers of the selectors that a walk finds for each element of the page.
+pub(crate) fn found_selectors(
+    alloc: Global,
+    selectors: &[ModernSelector<'_>],
+    page: &NumberedTree<'_, '_>,
+) -> Result<usize, AllocError> {
+    let mut walk = TreeWalk::new(alloc, selectors)?;
+    let mut indices = Vec::new(alloc);
+    let mut sum = 0_usize;
+    for element in 0..page.len() {
+        walk.matching(page, element, &mut indices, &mut ModernTests::new())?;
+        sum = sum.saturating_add(sum_of(indices.as_slice()));
+    }
+    Ok(sum)
+}
