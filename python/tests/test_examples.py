@@ -22,7 +22,10 @@ class Examples(unittest.TestCase):
 
     def test_inlined(self) -> None:
         """Each page has its inlined form beside it."""
-        for name, inlined in (("mail.html", "mail.inlined.html"), ("drawing.svg", "drawing.inlined.svg")):
+        for name, inlined in (
+            ("mail.html", "mail.inlined.html"),
+            ("drawing.svg", "drawing.inlined.svg"),
+        ):
             self.assertEqual(simplecss.inline(read(name), at=name), read(inlined), name)
 
 

@@ -78,39 +78,84 @@ def rewritten(selector):
 
 
 LINEAR = (
-    ("comments of a selector", lambda css: simplecss.inline("<p>", css),
-     lambda n: "a:hover:has(" + "/**/" * n + "(((a)))){x:y}", 16),
+    (
+        "comments of a selector",
+        lambda css: simplecss.inline("<p>", css),
+        lambda n: "a:hover:has(" + "/**/" * n + "(((a)))){x:y}",
+        16,
+    ),
     ("blanks of a url", rebased, lambda n: "a{b:url(" + " " * n, 200),
     ("comments that are open", states_in, lambda n: "/*" * n, 8_000),
-    ("parentheses and comments", without_pseudo_classes, lambda n: ":a((" + "/*/" * n, 2_000),
+    (
+        "parentheses and comments",
+        without_pseudo_classes,
+        lambda n: ":a((" + "/*/" * n,
+        2_000,
+    ),
     ("digits of a value", _families.is_known, lambda n: "1" * n + "x", 4_000),
-    ("attributes of a printed selector", rewritten, lambda n: "[a='] " + "[" * n, 4_000),
-    ("elements with attributes, lint", lambda text: _lint.findings("a.html", text), lambda n: "<a style=a:b>\n" * n, 2_000),
-    ("at-rules within at-rules", lambda text: _lint.findings("a.css", text), lambda n: "@font-face{" * n, 2_000),
+    (
+        "attributes of a printed selector",
+        rewritten,
+        lambda n: "[a='] " + "[" * n,
+        4_000,
+    ),
+    (
+        "elements with attributes, lint",
+        lambda text: _lint.findings("a.html", text),
+        lambda n: "<a style=a:b>\n" * n,
+        2_000,
+    ),
+    (
+        "at-rules within at-rules",
+        lambda text: _lint.findings("a.css", text),
+        lambda n: "@font-face{" * n,
+        2_000,
+    ),
 )
 # Sizes at which these take milliseconds, since they are linear.
-SIZES = {"comments of a selector": 4_000, "blanks of a url": 20_000, "comments that are open": 20_000,
-         "parentheses and comments": 20_000, "digits of a value": 20_000, "attributes of a printed selector": 20_000}
+SIZES = {
+    "comments of a selector": 4_000,
+    "blanks of a url": 20_000,
+    "comments that are open": 20_000,
+    "parentheses and comments": 20_000,
+    "digits of a value": 20_000,
+    "attributes of a printed selector": 20_000,
+}
 # More inputs of patterns.
 PATTERNS = (
-    ("urls", rebased, lambda n: "url(" * n), ("imports", rebased, lambda n: "@import " * n),
-    ("quotes", rebased, lambda n: "'\"" * n), ("comments", rebased, lambda n: "/*/" * n),
-    ("escapes", rebased, lambda n: '"\\' * n), ("strings", states_in, lambda n: "\"\\" * n),
+    ("urls", rebased, lambda n: "url(" * n),
+    ("imports", rebased, lambda n: "@import " * n),
+    ("quotes", rebased, lambda n: "'\"" * n),
+    ("comments", rebased, lambda n: "/*/" * n),
+    ("escapes", rebased, lambda n: '"\\' * n),
+    ("strings", states_in, lambda n: '"\\' * n),
     ("parentheses", without_pseudo_classes, lambda n: ":a(" * n),
     ("pairs", without_pseudo_classes, lambda n: ":a(" + "(:b)" * n),
-    ("names", without_pseudo_classes, lambda n: ":a((" + ":b" * n), ("quotes", without_pseudo_classes, lambda n: ":a(" + "'" * n),
-    ("numbers", _inline._is_known_selector, lambda n: ":nth-child(" + " " * n + "n" + " " * n),
+    ("names", without_pseudo_classes, lambda n: ":a((" + ":b" * n),
+    ("quotes", without_pseudo_classes, lambda n: ":a(" + "'" * n),
+    (
+        "numbers",
+        _inline._is_known_selector,
+        lambda n: ":nth-child(" + " " * n + "n" + " " * n,
+    ),
     ("digits", _inline._is_known_selector, lambda n: ":nth-child(" + "1" * n),
-    ("functions", _inline._is_known_selector, lambda n: ":not(" * n), ("points", _families.is_known, lambda n: "1." * n),
-    ("classes", _inline._ESCAPED_CLASS.search, lambda n: ".a" * n), ("names of classes", _inline._CLASS.findall, lambda n: "." + "a" * n),
-    ("clients", _inline._CLIENTS.search, lambda n: "u " * n), ("blanks of clients", _inline._CLIENTS.search, lambda n: "u" + " " * n),
+    ("functions", _inline._is_known_selector, lambda n: ":not(" * n),
+    ("points", _families.is_known, lambda n: "1." * n),
+    ("classes", _inline._ESCAPED_CLASS.search, lambda n: ".a" * n),
+    ("names of classes", _inline._CLASS.findall, lambda n: "." + "a" * n),
+    ("clients", _inline._CLIENTS.search, lambda n: "u " * n),
+    ("blanks of clients", _inline._CLIENTS.search, lambda n: "u" + " " * n),
 )
 
 
 class Time(unittest.TestCase):
     def check_growth(self, name, call, text, size):
         small, large = seconds(call, text(size)), seconds(call, text(4 * size))
-        self.assertLess(large, 9 * max(small, _SHORT), f"{name}: {small} s at {size}, {large} s at four times that")
+        self.assertLess(
+            large,
+            9 * max(small, _SHORT),
+            f"{name}: {small} s at {size}, {large} s at four times that",
+        )
 
     def test_time_is_linear(self):
         for name, call, text, small in LINEAR:
@@ -137,7 +182,10 @@ class Time(unittest.TestCase):
         page = folder.put("a.html", "<div>" * 3000)
         status, output, _ = run("select", "--json", "*", page)
         paths = [json.loads(line)["path"] for line in output.splitlines()]
-        self.assertEqual((status, len(paths), paths[3]), (0, 3003, "html > body:nth-child(2) > div:nth-child(1)"))
+        self.assertEqual(
+            (status, len(paths), paths[3]),
+            (0, 3003, "html > body:nth-child(2) > div:nth-child(1)"),
+        )
         self.assertLess(len(output), 1_000_000)
         self.assertIsNone(paths[-1])
 
@@ -155,28 +203,53 @@ class Xml(unittest.TestCase):
             simplecss.Tree.from_xml(text)
 
     def test_entities_are_not_elements(self):
-        entities = "<!ENTITY a '<b/><b/>'>" + "".join(f"<!ENTITY {chr(98 + i)} '{f'&{chr(97 + i)};' * 10}'>" for i in range(4))
+        entities = "<!ENTITY a '<b/><b/>'>" + "".join(
+            f"<!ENTITY {chr(98 + i)} '{f'&{chr(97 + i)};' * 10}'>" for i in range(4)
+        )
         text = f"<!DOCTYPE r [{entities}]><r>&e;</r>"
         self.check_refusal(text, "'a' is not only text")
-        self.check_refusal("<!DOCTYPE r [<!ENTITY a 'x'><!ENTITY b '&a;&a;'>]><r>&b;</r>", "'b' is not only text")
+        self.check_refusal(
+            "<!DOCTYPE r [<!ENTITY a 'x'><!ENTITY b '&a;&a;'>]><r>&b;</r>",
+            "'b' is not only text",
+        )
         with self.assertRaises(simplecss.TreeError):
             simplecss.inline(text, "b{c:d}", is_xml=True)
 
     def test_entities_of_text_are_read(self):
         space = "http://www.w3.org/2000/svg"
-        tree = simplecss.Tree.from_xml(f'<!DOCTYPE svg [<!ENTITY s "{space}"><!ENTITY t "&#38;amp;">]>'
-                                       '<svg xmlns="&s;" id="&t;">&t;</svg>')
-        self.assertEqual((tree[0].is_drawn, tree[0].attributes, tree[0].text), (True, {"id": "&"}, "&"))
+        tree = simplecss.Tree.from_xml(
+            f'<!DOCTYPE svg [<!ENTITY s "{space}"><!ENTITY t "&#38;amp;">]>'
+            '<svg xmlns="&s;" id="&t;">&t;</svg>'
+        )
+        self.assertEqual(
+            (tree[0].is_drawn, tree[0].attributes, tree[0].text),
+            (True, {"id": "&"}, "&"),
+        )
 
     def test_what_is_added_is_limited(self):
         value = "v" * 20_000
-        self.check_refusal(f'<!DOCTYPE r [<!ENTITY e "{value}">]><r>{"&e;" * 100}</r>', "entities add more than 1000000")
-        self.check_refusal(f'<!DOCTYPE r [<!ENTITY e "{value}">]><r x="{"&e;" * 100}"/>', "entities add more than 1000000")
-        self.check_refusal(f'<!DOCTYPE r [<!ATTLIST a x CDATA "{value}">]><r>{"<a/>" * 100}</r>', "attributes .* 1000000")
-        self.check_refusal(f'<r xmlns:a="{value}">{"".join(f"<a:b{i}/>" for i in range(9))}</r>', "a namespace has more")
+        self.check_refusal(
+            f'<!DOCTYPE r [<!ENTITY e "{value}">]><r>{"&e;" * 100}</r>',
+            "entities add more than 1000000",
+        )
+        self.check_refusal(
+            f'<!DOCTYPE r [<!ENTITY e "{value}">]><r x="{"&e;" * 100}"/>',
+            "entities add more than 1000000",
+        )
+        self.check_refusal(
+            f'<!DOCTYPE r [<!ATTLIST a x CDATA "{value}">]><r>{"<a/>" * 100}</r>',
+            "attributes .* 1000000",
+        )
+        self.check_refusal(
+            f'<r xmlns:a="{value}">{"".join(f"<a:b{i}/>" for i in range(9))}</r>',
+            "a namespace has more",
+        )
 
     def test_long_attributes_of_its_own_are_read(self):
-        self.assertEqual(len(simplecss.Tree.from_xml(f'<a b="{"x" * 3_000_000}"/>')[0].attributes["b"]), 3_000_000)
+        self.assertEqual(
+            len(simplecss.Tree.from_xml(f'<a b="{"x" * 3_000_000}"/>')[0].attributes["b"]),
+            3_000_000,
+        )
 
 
 class Limits(unittest.TestCase):
@@ -195,9 +268,14 @@ class Limits(unittest.TestCase):
         every = simplecss.StyleSheet("*{a:b}" * 10, answer_limit=None)
         self.assertEqual(every.match(tree), sheet.match(tree))
         rules = "".join(f".c{i % 7}, b:nth-child({i}n), #x{i} {{a:b}}" for i in range(50))
-        page = simplecss.Tree.from_html("".join(f"<b class='c{i % 9} c{i % 5}' id=x{i}></b>" for i in range(60)))
+        page = simplecss.Tree.from_html(
+            "".join(f"<b class='c{i % 9} c{i % 5}' id=x{i}></b>" for i in range(60))
+        )
         for grammar in ("modern", "simplecss"):
-            found = [simplecss.StyleSheet(rules, answer_limit=limit, grammar=grammar).match(page) for limit in (2000, None)]
+            found = [
+                simplecss.StyleSheet(rules, answer_limit=limit, grammar=grammar).match(page)
+                for limit in (2000, None)
+            ]
             self.assertEqual(found[0], found[1])
 
     def test_limits_that_hold_where_none_is_named(self):
@@ -206,7 +284,10 @@ class Limits(unittest.TestCase):
         self.check_limit(lambda: simplecss.inline("<b></b>" * 4000, "*{a:b}" * 4000))
         self.addCleanup(setattr, library, "_MOST_WRITTEN", library._MOST_WRITTEN)
         library._MOST_WRITTEN = 2**20
-        self.check_limit(lambda: simplecss.StyleSheet("@media{" * 63 + "{}" * 1_000).skipped, "more than 1048576 bytes")
+        self.check_limit(
+            lambda: simplecss.StyleSheet("@media{" * 63 + "{}" * 1_000).skipped,
+            "more than 1048576 bytes",
+        )
 
     def test_declarations_of_elements(self):
         tree = simplecss.Tree.from_html("<b></b>" * 97)
@@ -218,25 +299,43 @@ class Limits(unittest.TestCase):
         page = simplecss.Tree.from_html("".join(f"<b class=c{i}></b>" for i in range(100)))
         rules = f"*{{{block}}}" + "".join(f".c{i}{{a1:c}}" for i in range(100))
         self.check_limit(lambda: simplecss.StyleSheet(rules, answer_limit=999).styles(page))
-        self.check_limit(lambda: simplecss.StyleSheet(f"html{{{block}}}", answer_limit=500).styles(tree, inherit=[f"a{i}" for i in range(10)]))
+        self.check_limit(
+            lambda: simplecss.StyleSheet(f"html{{{block}}}", answer_limit=500).styles(
+                tree, inherit=[f"a{i}" for i in range(10)]
+            )
+        )
 
     def test_a_pickled_sheet_has_its_limit(self):
         import pickle
+
         sheet = pickle.loads(pickle.dumps(simplecss.StyleSheet("*{a:b}", answer_limit=1)))
         self.check_limit(lambda: sheet.match(simplecss.Tree.from_html("<p>")))
 
     def test_inline(self):
         page = "<b></b>" * 100
-        self.check_limit(lambda: simplecss.inline(page, "b{a:bbbbbb}", answer_limit=899), "899 characters")
-        self.assertEqual(simplecss.inline(page, "b{a:bbbbbb}", answer_limit=900).count("style="), 100)
-        self.check_limit(lambda: simplecss.inline(page, "b{a:b}b{a:c}", answer_limit=199), "199 rules")
+        self.check_limit(
+            lambda: simplecss.inline(page, "b{a:bbbbbb}", answer_limit=899),
+            "899 characters",
+        )
+        self.assertEqual(
+            simplecss.inline(page, "b{a:bbbbbb}", answer_limit=900).count("style="), 100
+        )
+        self.check_limit(
+            lambda: simplecss.inline(page, "b{a:b}b{a:c}", answer_limit=199),
+            "199 rules",
+        )
         with self.assertRaisesRegex(simplecss.LimitError, "more declarations"):
             simplecss.inline(page, "b{a:b;c:d}", limit=1)
         self.assertIn("c: d", simplecss.inline(page, "b{a:b;c:d}", limit=2))
 
     def test_a_rule_that_stays_costs_no_product(self):
         page = "".join(f"<b class=c{i}></b>" for i in range(1500))
-        css = "".join(f".c{i}{{x:y}}" for i in range(1500)) + "b:hover{" + "".join(f"a{i}:b;" for i in range(1500)) + "}"
+        css = (
+            "".join(f".c{i}{{x:y}}" for i in range(1500))
+            + "b:hover{"
+            + "".join(f"a{i}:b;" for i in range(1500))
+            + "}"
+        )
         start = time.process_time()
         self.assertEqual(simplecss.inline(page, css).count('style="x: y"'), 1500)
         self.assertLess(time.process_time() - start, 3)
@@ -250,25 +349,42 @@ class Links(unittest.TestCase):
 
     def inlined(self, links, **options):
         left = []
-        text = simplecss.inline(f"<head>{links}</head><p>", folder=self.folder.path, report=left, **options)
+        text = simplecss.inline(
+            f"<head>{links}</head><p>", folder=self.folder.path, report=left, **options
+        )
         return text, [tuple(each) for each in left]
 
     def test_a_link_that_cannot_be_read_stays(self):
         os.symlink("loop.css", os.path.join(self.folder.path, "loop.css"))
         self.folder.put("latin.css", b"p{c:\xe9}")
-        for href, reason in ((f"{'x' * 256}.css", None), ("%00.css", "its file cannot be read"), ("loop.css", None),
-                             ("latin.css", "its file is not UTF-8"), ("none.css", None)):
+        for href, reason in (
+            (f"{'x' * 256}.css", None),
+            ("%00.css", "its file cannot be read"),
+            ("loop.css", None),
+            ("latin.css", "its file is not UTF-8"),
+            ("none.css", None),
+        ):
             link = f'<link rel=stylesheet href="{href}">'
             text, left = self.inlined(link + "<link rel=stylesheet href=a.css>")
             self.assertEqual(text, f'<head>{link}</head><p style="a: b">', href)
             if reason is not None:
-                self.assertEqual(left, [(href, f"{reason}: its rules lose to what is written into attributes")])
+                self.assertEqual(
+                    left,
+                    [
+                        (
+                            href,
+                            f"{reason}: its rules lose to what is written into attributes",
+                        )
+                    ],
+                )
 
     def test_only_sheets_are_read(self):
         for name in (".env", "a.txt", ".css", "b.css.bak"):
             self.folder.put(name, "p{secret:x}")
             self.assertNotIn("secret", self.inlined(f"<link rel=stylesheet href={name}>")[0], name)
-        self.assertNotIn("a: b", self.inlined("<link rel=stylesheet href=a.css type=text/plain>")[0])
+        self.assertNotIn(
+            "a: b", self.inlined("<link rel=stylesheet href=a.css type=text/plain>")[0]
+        )
         self.assertIn("a: b", self.inlined("<link rel=stylesheet href=a.css type=TEXT/CSS>")[0])
         self.folder.put("B.CSS", "p{c:d}")
         self.assertIn("c: d", self.inlined("<link rel=stylesheet href=B.CSS>")[0])
@@ -280,15 +396,29 @@ class Links(unittest.TestCase):
     def test_the_sheet_is_rebased(self):
         css = "p{a:url(i.png);b:url( 'j k.png' );c:'url(x)'/*url(y)*/;d:xurl(z)}@import 'k.css';"
         text = simplecss.inline("<p>", css, base_url="http://h/d/")
-        for part in ("url(http://h/d/i.png)", "http://h/d/j%20k.png", "'url(x)'", "xurl(z)"):
+        for part in (
+            "url(http://h/d/i.png)",
+            "http://h/d/j%20k.png",
+            "'url(x)'",
+            "xurl(z)",
+        ):
             self.assertIn(part, text)
-        self.assertIn("@import 'http://h/d/k.css'", simplecss.inline("<p>", "@import 'k.css';p{a:b}", base_url="http://h/d/"))
+        self.assertIn(
+            "@import 'http://h/d/k.css'",
+            simplecss.inline("<p>", "@import 'k.css';p{a:b}", base_url="http://h/d/"),
+        )
 
     def test_a_base_does_not_end_a_url(self):
         self.folder.put("b.css", "p{a:url(i.png)}")
         os.mkdir(os.path.join(self.folder.path, "x)y"))
-        os.rename(os.path.join(self.folder.path, "b.css"), os.path.join(self.folder.path, "x)y", "b.css"))
-        self.assertIn("url(x%29y/i.png)", self.inlined("<link rel=stylesheet href='x)y/b.css'>")[0])
+        os.rename(
+            os.path.join(self.folder.path, "b.css"),
+            os.path.join(self.folder.path, "x)y", "b.css"),
+        )
+        self.assertIn(
+            "url(x%29y/i.png)",
+            self.inlined("<link rel=stylesheet href='x)y/b.css'>")[0],
+        )
 
     def test_a_name_is_no_sheet(self):
         for name in ("style.css", " mail/Style.CSS\n"):
@@ -303,11 +433,20 @@ class Encodings(unittest.TestCase):
     def test_names_are_read_of_tags(self):
         for front, name in (
             (b"<meta name=description content='how to set charset=koi8-r'>", "utf-8"),
-            (b"<meta http-equiv=content-type content='text/html; charset=koi8-r'>", "koi8-r"),
-            (b"<meta content='x; CHARSET = \"koi8-r\"' http-equiv=Content-Type>", "koi8-r"),
-            (b"<p title='<meta charset=koi8-r>'>", "utf-8"), (b"<meta charset='koi8-r'>", "koi8-r"),
-            (b"<meta charset=none><meta charset=koi8-r>", "koi8-r"), (b"<!x <meta charset=koi8-r>", "utf-8"),
-            (b"<metadata charset=koi8-r>", "utf-8"), (b"<meta charset=utf-16>", "utf-8"),
+            (
+                b"<meta http-equiv=content-type content='text/html; charset=koi8-r'>",
+                "koi8-r",
+            ),
+            (
+                b"<meta content='x; CHARSET = \"koi8-r\"' http-equiv=Content-Type>",
+                "koi8-r",
+            ),
+            (b"<p title='<meta charset=koi8-r>'>", "utf-8"),
+            (b"<meta charset='koi8-r'>", "koi8-r"),
+            (b"<meta charset=none><meta charset=koi8-r>", "koi8-r"),
+            (b"<!x <meta charset=koi8-r>", "utf-8"),
+            (b"<metadata charset=koi8-r>", "utf-8"),
+            (b"<meta charset=utf-16>", "utf-8"),
             (b"<!-- <meta charset=cp866> --><META/CHARSET=koi8-r>", "koi8-r"),
             (b"<?xml version='1.0' encoding='koi8-r'?>", "koi8-r"),
         ):
@@ -318,11 +457,15 @@ class Encodings(unittest.TestCase):
         page = b"<meta charset=latin1><p>"
         text = simplecss.inline(page, "p:hover{a:'\u6c34\u6c341\\\u6c34'} p{b:'\u6c34'}")
         self.assertIn(b"a:'\\6c34 \\6c34 1\\6c34 '", text)
-        self.assertIn(b'style="b: \'&#27700;\'"', text)
+        self.assertIn(b"style=\"b: '&#27700;'\"", text)
         self.assertIn("'\u6c34'".encode(), simplecss.inline(b"<p>", "p:hover{a:'\u6c34'}"))
 
     def test_xml_has_names_of_one_case(self):
-        text = simplecss.inline("<?xml version='1.0'?><r><p STYLE='c: d' style='e: f'/></r>", "p{a:b}", is_xml=True)
+        text = simplecss.inline(
+            "<?xml version='1.0'?><r><p STYLE='c: d' style='e: f'/></r>",
+            "p{a:b}",
+            is_xml=True,
+        )
         self.assertEqual(text, "<?xml version='1.0'?><r><p STYLE='c: d' style='a: b; e: f'/></r>")
         simplecss.Tree.from_xml(text)
         found = _lint.findings("a.xml", "<?xml version='1.0'?><r><p STYLE='c' style='e'/></r>")
@@ -334,11 +477,24 @@ class White(unittest.TestCase):
 
     def test_spaces(self):
         page = "<p class='a\xa0b'>"
-        self.assertIn('class="a\xa0b"', simplecss.inline(page, ".a\xa0b:hover{c:d}", remove_classes=True))
-        self.assertNotIn("x", [each.name for each in simplecss.StyleSheet("@media\xa0screen{a{x:y}}").styles(
-            simplecss.Tree.from_html("<a>"), media="screen")[3]])
+        self.assertIn(
+            'class="a\xa0b"',
+            simplecss.inline(page, ".a\xa0b:hover{c:d}", remove_classes=True),
+        )
+        self.assertNotIn(
+            "x",
+            [
+                each.name
+                for each in simplecss.StyleSheet("@media\xa0screen{a{x:y}}").styles(
+                    simplecss.Tree.from_html("<a>"), media="screen"
+                )[3]
+            ],
+        )
         tree = simplecss.Tree.from_html("<svg fill='\xa0'>")
-        self.assertEqual([each.value for each in simplecss.StyleSheet().styles(tree, specified=True)[3]], ["\xa0"])
+        self.assertEqual(
+            [each.value for each in simplecss.StyleSheet().styles(tree, specified=True)[3]],
+            ["\xa0"],
+        )
 
     def test_case(self):
         # The sign for kelvin is a K to Unicode.
@@ -349,7 +505,9 @@ class White(unittest.TestCase):
 
     def test_classes_of_any_name_stay(self):
         for name in ("a\U0001f600", "--x", "\u4e00"):
-            text = simplecss.inline(f'<p class="{name} z">', f".{name}:hover{{a:b}}", remove_classes=True)
+            text = simplecss.inline(
+                f'<p class="{name} z">', f".{name}:hover{{a:b}}", remove_classes=True
+            )
             self.assertIn(f'class="{name}"', text)
 
 
@@ -365,8 +523,14 @@ class Terminals(unittest.TestCase):
 
     def test_no_control_character_is_written(self):
         folder = Folder(self)
-        sheet = folder.put("a.css", f"p {{ {self.HOSTILE} }} q{self.HOSTILE} {{ a:b }} p:hover[a='{self.HOSTILE}'] {{ a:b }}")
-        page = folder.put("a.html", f"<meta charset=utf-8><p id='{self.HOSTILE}' title='{self.HOSTILE}' style='{self.HOSTILE}'>")
+        sheet = folder.put(
+            "a.css",
+            f"p {{ {self.HOSTILE} }} q{self.HOSTILE} {{ a:b }} p:hover[a='{self.HOSTILE}'] {{ a:b }}",
+        )
+        page = folder.put(
+            "a.html",
+            f"<meta charset=utf-8><p id='{self.HOSTILE}' title='{self.HOSTILE}' style='{self.HOSTILE}'>",
+        )
         for form in ("text", "json", "github", "sarif", "checkstyle"):
             self.check("lint", "--all", "--format", form, sheet, page)
         self.check("select", "p", page)
@@ -396,7 +560,10 @@ class Terminals(unittest.TestCase):
 
 class Trees(unittest.TestCase):
     def test_an_element_without_a_name(self):
-        for element in (xml.etree.ElementTree.Element(""), xml.etree.ElementTree.Element("{x}")):
+        for element in (
+            xml.etree.ElementTree.Element(""),
+            xml.etree.ElementTree.Element("{x}"),
+        ):
             with self.assertRaisesRegex(simplecss.TreeError, "the name is empty"):
                 simplecss.Tree.from_etree(element).select("a")
 
@@ -422,11 +589,46 @@ class Products(unittest.TestCase):
             except simplecss.TreeError:
                 pass
 
+        def matched(text):
+            simplecss.StyleSheet(text).match(simplecss.Tree.from_html("<p>"))
+
         cases = (
-            (lambda n: f"@media {'a' * 20 * n}{{{'a{}' * n}}}", 800, lambda text: _lint.findings("a", text, True)),
-            (lambda n: ("<p id=x>", f"*{{b-a:x}}#x{{{declared(n, 'b-c')}}}" + "p:hover{b-a:x}" * n), 600, inlined),
-            (lambda n: ("<p>", f"p{{{declared(n, 'a')}}}" + "p:hover{b:c}" * n), 500, inlined),
-            (lambda n: ("<p>", "p{{{0}}}p:hover{{{0}}}".format("".join(f"b:x{i};" for i in range(n)))), 1500, inlined),
+            (
+                lambda n: f"@supports (a:b){' or (c:d)' * n}{{p{{}}}}@media {'((a) and ' * n}{{p{{}}}}",
+                4000,
+                matched,
+            ),
+            (
+                lambda n: "".join(f"@media (width:{i}px){{p{{a:b}}}}" for i in range(n)),
+                800,
+                matched,
+            ),
+            (
+                lambda n: f"@media {'a' * 20 * n}{{{'a{}' * n}}}",
+                800,
+                lambda text: _lint.findings("a", text, True),
+            ),
+            (
+                lambda n: (
+                    "<p id=x>",
+                    f"*{{b-a:x}}#x{{{declared(n, 'b-c')}}}" + "p:hover{b-a:x}" * n,
+                ),
+                600,
+                inlined,
+            ),
+            (
+                lambda n: ("<p>", f"p{{{declared(n, 'a')}}}" + "p:hover{b:c}" * n),
+                500,
+                inlined,
+            ),
+            (
+                lambda n: (
+                    "<p>",
+                    "p{{{0}}}p:hover{{{0}}}".format("".join(f"b:x{i};" for i in range(n))),
+                ),
+                1500,
+                inlined,
+            ),
             (lambda n: ("x" + "</p>" * n, f"p{{{declared(n, 'a')}}}"), 600, inlined),
             (lambda n: "<marquee>" * n + "<b></b>" * n, 1200, built),
             (lambda n: "<div>" * n, 1500, built),
@@ -442,11 +644,16 @@ class Products(unittest.TestCase):
         for count in (0, 1, 40):
             others = "".join(f"<b id={i}>" for i in range(count))
             for alike in ("<i>", "<i id=a class=b>", "<i class=b id=a>"):
-                tree = simplecss.Tree.from_html(f"<p><i title=a>{others}<i class=b id=a>{alike * 4}<p>x")
+                tree = simplecss.Tree.from_html(
+                    f"<p><i title=a>{others}<i class=b id=a>{alike * 4}<p>x"
+                )
                 opened = [each.name for each in tree.select("p:last-child *")]
                 first = 1 + (alike == "<i>")
                 self.assertEqual(opened, ["i"] + count * ["b"] + (first + 2) * ["i"])
-        self.assertEqual(len(simplecss.Tree.from_html("".join(f"<b id={i}>" for i in range(3000)))), 3003)
+        self.assertEqual(
+            len(simplecss.Tree.from_html("".join(f"<b id={i}>" for i in range(3000)))),
+            3003,
+        )
 
     def test_what_is_out_of_proportion(self):
         with self.assertRaises(simplecss.TreeError):
@@ -470,7 +677,13 @@ class Products(unittest.TestCase):
     def test_names_of_other_machines_are_none(self):
         names = ["a.css"] if os.name == "nt" else ["a.css", "\\\\a.css"]
         folder = Folder(self, **dict.fromkeys(names, "p{a:b}")).path
-        for name in ("%5C%5Ca.css", "\\\\host\\a.css", "%5C%5Chost%5Ca.css", "/\\host\\a.css", "/c:/a.css"):
+        for name in (
+            "%5C%5Ca.css",
+            "\\\\host\\a.css",
+            "%5C%5Chost%5Ca.css",
+            "/\\host\\a.css",
+            "/c:/a.css",
+        ):
             self.assertIsNone(Shelf(folder=folder).read(name), name)
         self.assertEqual(Shelf(folder=folder).read("/a.css"), "p{a:b}")
 

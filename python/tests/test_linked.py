@@ -57,10 +57,16 @@ class Site(unittest.TestCase):
 class Urls(unittest.TestCase):
     def test_a_base_above(self):
         for base, url, expected in (
-            ("../../a.css", "b/c.css", "../../b/c.css"), ("../a.css", "../b.css", "../../b.css"),
-            ("a/b.css", "../c.css", "c.css"), ("a.css", "../../b/c.css", "../../b/c.css"), ("/a/b.css", "../../c", "/c"),
-            ("http://h/a/b", "../../c", "http://h/c"), ("../a.css", "/b.css", "/b.css"), ("", "../b", "../b"),
-            ("../a.css", "http://h/b", "http://h/b"), ("../a.css", "?x=../y", "../a.css?x=../y"),
+            ("../../a.css", "b/c.css", "../../b/c.css"),
+            ("../a.css", "../b.css", "../../b.css"),
+            ("a/b.css", "../c.css", "c.css"),
+            ("a.css", "../../b/c.css", "../../b/c.css"),
+            ("/a/b.css", "../../c", "/c"),
+            ("http://h/a/b", "../../c", "http://h/c"),
+            ("../a.css", "/b.css", "/b.css"),
+            ("", "../b", "../b"),
+            ("../a.css", "http://h/b", "http://h/b"),
+            ("../a.css", "?x=../y", "../a.css?x=../y"),
         ):
             self.assertEqual(joined(base, url), expected, (base, url))
 
@@ -68,19 +74,37 @@ class Urls(unittest.TestCase):
 class Loaded(unittest.TestCase):
     """What a callable returns for urls."""
 
-    SHEETS = {"a.css": "p{color:red}", "b.css": "@import 'a.css'; @import url(c.css) print;", "c.css": "p{color:blue}"}
+    SHEETS = {
+        "a.css": "p{color:red}",
+        "b.css": "@import 'a.css'; @import url(c.css) print;",
+        "c.css": "p{color:blue}",
+    }
 
     def color(self, head, **options):
         return color_of(f"{head}<p>", load=self.SHEETS.get, **options)[0]
 
     def test_links_in_use(self):
         for link, expected in (
-            ("", "red"), ("type=text/css", "red"), ("type='TEXT/CSS; charset=x'", "red"), ("type=text/plain", None),
-            ("media=screen", "red"), ("media=print", None), ("media=' ALL '", "red"), ("disabled", None), ("title=x", "red"),
+            ("", "red"),
+            ("type=text/css", "red"),
+            ("type='TEXT/CSS; charset=x'", "red"),
+            ("type=text/plain", None),
+            ("media=screen", "red"),
+            ("media=print", None),
+            ("media=' ALL '", "red"),
+            ("disabled", None),
+            ("title=x", "red"),
         ):
             self.assertEqual(self.color(f"<link rel=stylesheet href=a.css {link}>"), expected, link)
-        self.assertEqual(self.color("<link rel=stylesheet href=a.css media=print>", media="print"), "red")
-        for rel, expected in (("'x StyleSheet'", "red"), ("icon", None), ("'alternate stylesheet'", None)):
+        self.assertEqual(
+            self.color("<link rel=stylesheet href=a.css media=print>", media="print"),
+            "red",
+        )
+        for rel, expected in (
+            ("'x StyleSheet'", "red"),
+            ("icon", None),
+            ("'alternate stylesheet'", None),
+        ):
             self.assertEqual(self.color(f"<link rel={rel} href=a.css>"), expected, rel)
         for place in ("svg", "math"):
             self.assertIsNone(self.color(f"<{place}><link rel=stylesheet href=a.css></{place}>"))
@@ -88,56 +112,104 @@ class Loaded(unittest.TestCase):
     def test_titles(self):
         other = "<link rel='alternate stylesheet' title={} href=a.css>"
         for head, expected in (
-            ("<style title=x>p{color:blue}</style><link rel=stylesheet title=y href=a.css>", "blue"),
-            ("<style title=x>p{color:blue}</style><link rel=stylesheet title=x href=a.css>", "red"),
-            (other.format("x"), None), (other.format("x") + "<style title=x></style>", "red"),
+            (
+                "<style title=x>p{color:blue}</style><link rel=stylesheet title=y href=a.css>",
+                "blue",
+            ),
+            (
+                "<style title=x>p{color:blue}</style><link rel=stylesheet title=x href=a.css>",
+                "red",
+            ),
+            (other.format("x"), None),
+            (other.format("x") + "<style title=x></style>", "red"),
         ):
             self.assertEqual(self.color(head), expected, head)
 
     def test_order(self):
-        link, style = "<link rel=stylesheet href=a.css>", "<style>p{color:green}</style>"
+        link, style = (
+            "<link rel=stylesheet href=a.css>",
+            "<style>p{color:green}</style>",
+        )
         self.assertEqual((self.color(link + style), self.color(style + link)), ("green", "red"))
 
     def test_imports(self):
         for css, media, expected in (
-            ("@import 'a.css';", "screen", "red"), ("@import url( 'a.css' ) screen;", "screen", "red"),
-            ("@import url(a.css) print;", "screen", None), ("@import 'b.css';", "screen", "red"),
-            ("@import 'b.css';", "print", "blue"), ("@import 'a.css'; p{color:green}", "screen", "green"),
-            ("x{} @import 'a.css';", "screen", None), ("@charset 'x'; @layer y; ? {} @import 'a.css';", "screen", "red"),
-            ("@media screen{@import 'a.css';}", "screen", None), ("@import '\\61.css';", "screen", None),
+            ("@import 'a.css';", "screen", "red"),
+            ("@import url( 'a.css' ) screen;", "screen", "red"),
+            ("@import url(a.css) print;", "screen", None),
+            ("@import 'b.css';", "screen", "red"),
+            ("@import 'b.css';", "print", "blue"),
+            ("@import 'a.css'; p{color:green}", "screen", "green"),
+            ("x{} @import 'a.css';", "screen", None),
+            ("@charset 'x'; @layer y; ? {} @import 'a.css';", "screen", "red"),
+            ("@media screen{@import 'a.css';}", "screen", None),
+            ("@import '\\61.css';", "screen", None),
         ):
             self.assertEqual(self.color(f"<style>{css}</style>", media=media), expected, css)
 
     def test_conditions(self):
-        tree = simplecss.Tree.from_html("<style>@import 'a' layer(x); @import 'b' print;</style><p>")
-        sheet = simplecss.StyleSheet.of_page(tree, load=lambda url: f"@media {url} {{ p {{ c:d }} }}")
-        self.assertEqual([[*map(str, each.conditions)] for each in sheet.rules],
-                         [["@import layer(x)", "@media a"], ["@media print", "@media b"]])
+        tree = simplecss.Tree.from_html(
+            "<style>@import 'a' layer(x); @import 'b' print;</style><p>"
+        )
+        sheet = simplecss.StyleSheet.of_page(
+            tree, load=lambda url: f"@media {url} {{ p {{ c:d }} }}"
+        )
+        self.assertEqual(
+            [[*map(str, each.conditions)] for each in sheet.rules],
+            [["@import layer(x)", "@media a"], ["@media print", "@media b"]],
+        )
         asked = []
         sheet.match(tree, media=lambda text: asked.append(text) or True)
         self.assertEqual(asked, ["@import layer(x)", "a", "print", "b"])
-        self.assertEqual(str(sheet), "\n".join((
-            "@media print {", "  @media b {", "    p { c:d; }", "  }", "}", "@import 'a' layer(x);", "@import 'b' print;")))
+        self.assertEqual(
+            str(sheet),
+            "\n".join(
+                (
+                    "@media print {",
+                    "  @media b {",
+                    "    p { c:d; }",
+                    "  }",
+                    "}",
+                    "@import 'a' layer(x);",
+                    "@import 'b' print;",
+                )
+            ),
+        )
         again = pickle.loads(pickle.dumps(sheet))
         self.assertEqual((again.rules, again.unread), (sheet.rules, sheet.unread))
 
     def test_sheets_that_import_one_another(self):
-        sheets = {"a": "@import 'b'; p{color:red}", "b": "@import 'a'; @import 'b'; q{color:blue}"}
+        sheets = {
+            "a": "@import 'b'; p{color:red}",
+            "b": "@import 'a'; @import 'b'; q{color:blue}",
+        }
         page = "<link rel=stylesheet href=a><p>"
         self.assertEqual(color_of(page, load=sheets.get), ("red", []))
         self.assertEqual(inline(page, load=sheets.get), '<p style="color: red">')
         # Each imports the next.
-        chain = color_of("<link rel=stylesheet href=0><p>", load=lambda url: f"@import '{int(url) + 1}'; p{{color:red}}")
+        chain = color_of(
+            "<link rel=stylesheet href=0><p>",
+            load=lambda url: f"@import '{int(url) + 1}'; p{{color:red}}",
+        )
         self.assertEqual(chain, ("red", ["16"]))
 
     def test_what_is_too_much(self):
         # 2^40 sheets.
         def load(url):
             number = int(url.partition("?")[0])
-            return f"@import '{number + 1}?a'; @import '{number + 1}?b';/*{' ' * 1000}*/" if number < 40 else ""
+            return (
+                f"@import '{number + 1}?a'; @import '{number + 1}?b';/*{' ' * 1000}*/"
+                if number < 40
+                else ""
+            )
+
         page = "<link rel=stylesheet href=0>"
-        for call in (lambda: inline(page, load=load, answer_limit=100_000),
-                     lambda: simplecss.StyleSheet.of_page(simplecss.Tree.from_html(page), load=load, answer_limit=100_000)):
+        for call in (
+            lambda: inline(page, load=load, answer_limit=100_000),
+            lambda: simplecss.StyleSheet.of_page(
+                simplecss.Tree.from_html(page), load=load, answer_limit=100_000
+            ),
+        ):
             with self.assertRaises(simplecss.LimitError):
                 call()
 
@@ -145,7 +217,11 @@ class Loaded(unittest.TestCase):
         asked = []
         page = "<base href=../c/><link rel=stylesheet href=d.css?e><style>@import '/f.css';</style>"
         load = {"https://h/c/d.css?e": "@import 'g/h.css';"}
-        unread = color_of(page, at="https://h/a/b.html", load=lambda url: asked.append(url) or load.get(url))[1]
+        unread = color_of(
+            page,
+            at="https://h/a/b.html",
+            load=lambda url: asked.append(url) or load.get(url),
+        )[1]
         self.assertEqual(asked, ["https://h/c/d.css?e", "https://h/c/g/h.css", "https://h/f.css"])
         self.assertEqual(unread, ["g/h.css", "/f.css"])
         with self.assertRaises(TypeError):
@@ -153,15 +229,23 @@ class Loaded(unittest.TestCase):
 
     def test_data(self):
         text = base64.b64encode(b"p{color:red}").decode()
-        for data, expected in ((f"text/css;base64,{text}", "red"), ("text/css;charset=utf-8,p{color:red%7d", "red"),
-                               ("text/plain,p{color:red}", None), ("text/css;base64,!", None), ("text/css", None)):
+        for data, expected in (
+            (f"text/css;base64,{text}", "red"),
+            ("text/css;charset=utf-8,p{color:red%7d", "red"),
+            ("text/plain,p{color:red}", None),
+            ("text/css;base64,!", None),
+            ("text/css", None),
+        ):
             page = f"<link rel=stylesheet href='data:{data}'><p>"
             self.assertEqual(color_of(page)[0], expected, data)
             self.assertEqual("style=" in inline(page), expected is not None, data)
 
     def test_other_trees(self):
         import xml.etree.ElementTree as etree
-        root = etree.fromstring("<r><style>p{color:red}</style><link rel='stylesheet' href='c.css'/><p/></r>")
+
+        root = etree.fromstring(
+            "<r><style>p{color:red}</style><link rel='stylesheet' href='c.css'/><p/></r>"
+        )
         tree = simplecss.Tree.from_etree(root)
         sheet = simplecss.StyleSheet.of_page(tree, load=self.SHEETS.get)
         self.assertEqual(sheet.style(tree, "color")[-1].value, "blue")
@@ -169,47 +253,88 @@ class Loaded(unittest.TestCase):
 
 class Files(Site):
     def test_where_the_page_is(self):
-        (page, *_) = self.put(a__b__p_html="<link rel=stylesheet href=../../x.css><link rel=stylesheet href=/y.css><p>",
-                              x_css="p{color:red}", y_css="p{top:0}")
+        (page, *_) = self.put(
+            a__b__p_html="<link rel=stylesheet href=../../x.css><link rel=stylesheet href=/y.css><p>",
+            x_css="p{color:red}",
+            y_css="p{top:0}",
+        )
         text = pathlib.Path(page).read_text()
         self.assertEqual(color_of(text, at=page, folder=self.folder), ("red", []))
-        self.assertIn('<p style="color: red; top: 0">', inline(text, at=pathlib.Path(page), folder=str(self.folder)))
+        self.assertIn(
+            '<p style="color: red; top: 0">',
+            inline(text, at=pathlib.Path(page), folder=str(self.folder)),
+        )
         # Above the folder is nothing.
-        self.assertEqual(color_of(text, at=page, folder=self.folder / "a")[1], ["../../x.css", "/y.css"])
+        self.assertEqual(
+            color_of(text, at=page, folder=self.folder / "a")[1],
+            ["../../x.css", "/y.css"],
+        )
         self.assertEqual(color_of(text, at=page), (None, ["../../x.css", "/y.css"]))
         # A url stands for the folder.
         self.assertEqual(color_of(text, at="http://h/a/b/p.html", folder=self.folder), ("red", []))
         self.assertEqual(color_of(text, at="http://h/p.html", folder=self.folder)[0], "red")
 
     def test_what_is_never_read(self):
-        self.put(site__x_css="p{color:red}", out_css="p{color:blue}", site__x_txt="p{color:blue}")
+        self.put(
+            site__x_css="p{color:red}",
+            out_css="p{color:blue}",
+            site__x_txt="p{color:blue}",
+        )
         os.symlink(self.folder / "out.css", self.folder / "site" / "link.css")
         folder = self.folder / "site"
-        for url in ("../out.css", "link.css", "x.txt", "http://h/x.css", "//h/x.css", (self.folder / "out.css").as_uri(),
-                    "%2e%2e/out.css", "/../out.css", "\\\\h\\x.css", "%00.css", "file://h/x.css", "[", "//[x"):
-            for page in (f"<link rel=stylesheet href='{url}'><p>", f"<style>@import '{url}';</style><p>"):
+        for url in (
+            "../out.css",
+            "link.css",
+            "x.txt",
+            "http://h/x.css",
+            "//h/x.css",
+            (self.folder / "out.css").as_uri(),
+            "%2e%2e/out.css",
+            "/../out.css",
+            "\\\\h\\x.css",
+            "%00.css",
+            "file://h/x.css",
+            "[",
+            "//[x",
+        ):
+            for page in (
+                f"<link rel=stylesheet href='{url}'><p>",
+                f"<style>@import '{url}';</style><p>",
+            ):
                 self.assertIsNone(color_of(page, folder=folder)[0], page)
                 self.assertNotIn("blue", inline(page, folder=folder), page)
 
     def test_inline_takes_imports(self):
-        self.put(a__a_css="@import 'b.css'; a:hover{b:url(i.png)} p{c:url(j.png)}", a__b_css="p{color:red}")
+        self.put(
+            a__a_css="@import 'b.css'; a:hover{b:url(i.png)} p{c:url(j.png)}",
+            a__b_css="p{color:red}",
+        )
         page = "<style>@import 'a/a.css'; p{d:e}</style><p>"
-        self.assertEqual(inline(page, folder=self.folder),
-                         "<style>\na:hover{b:url(a/i.png)}\n</style>"
-                         '<p style="color: red; c: url(a/j.png); d: e">')
-        self.assertIn("url(http://h/a/i.png)", inline(page, folder=self.folder, base_url="http://h/"))
+        self.assertEqual(
+            inline(page, folder=self.folder),
+            "<style>\na:hover{b:url(a/i.png)}\n</style>"
+            '<p style="color: red; c: url(a/j.png); d: e">',
+        )
+        self.assertIn(
+            "url(http://h/a/i.png)",
+            inline(page, folder=self.folder, base_url="http://h/"),
+        )
 
     def test_inline_keeps_the_order_of_imports(self):
         self.put(a_css="p{color:red}", b_css="p{color:blue !important}", c_css="p{top:0}")
         page = "<style>@import 'a.css'; @import 'b.css' print; @import 'c.css'; p{color:green}</style><p>"
-        self.assertEqual(inline(page, folder=self.folder),
-                         "<style>\n@import 'a.css';\n@import 'b.css' print;\n</style>"
-                         '<p style="top: 0; color: green">')
+        self.assertEqual(
+            inline(page, folder=self.folder),
+            "<style>\n@import 'a.css';\n@import 'b.css' print;\n</style>"
+            '<p style="top: 0; color: green">',
+        )
         # What an import that stays may override stays, too.
         self.put(a_css="p.x{color:red}")
-        self.assertEqual(inline(page.replace("<p", "<p class=x"), folder=self.folder),
-                         "<style>\n@import 'a.css';\n@import 'b.css' print;\np { color: green }\n</style>"
-                         '<p class=x style="top: 0">')
+        self.assertEqual(
+            inline(page.replace("<p", "<p class=x"), folder=self.folder),
+            "<style>\n@import 'a.css';\n@import 'b.css' print;\np { color: green }\n</style>"
+            '<p class=x style="top: 0">',
+        )
 
     def test_inline_wakes_no_import(self):
         page = "<style>p{color:red} @import 'a.css'; @namespace x 'y'; p:hover{top:0}</style><p>"
@@ -217,10 +342,18 @@ class Files(Site):
 
     def test_what_is_said(self):
         left = []
-        inline("<link rel=stylesheet href=http://h/a.css><style>@import 'b.css'; p{c:d}</style><p>",
-               folder=self.folder, report=left)
-        self.assertEqual([tuple(each) for each in left], [
-            ("http://h/a.css", f"{ELSEWHERE}: {LOSES}"), ("@import 'b.css'", f"there is no such file: {LOSES}")])
+        inline(
+            "<link rel=stylesheet href=http://h/a.css><style>@import 'b.css'; p{c:d}</style><p>",
+            folder=self.folder,
+            report=left,
+        )
+        self.assertEqual(
+            [tuple(each) for each in left],
+            [
+                ("http://h/a.css", f"{ELSEWHERE}: {LOSES}"),
+                ("@import 'b.css'", f"there is no such file: {LOSES}"),
+            ],
+        )
 
     def test_classes_that_a_link_may_need_stay(self):
         page = "<link rel=stylesheet href=http://h/a.css><p class=a>"
@@ -230,47 +363,80 @@ class Files(Site):
 class CommandLine(Site):
     def setUp(self):
         super().setUp()
-        self.page, *_ = self.put(a_html="<link rel=stylesheet href=x.css><link rel=stylesheet href=http://h/y.css><p>",
-                                 x_css="p{color:red} p{broken}", b__c_html="<p id=c>", b__d_txt="<p>")
+        self.page, *_ = self.put(
+            a_html="<link rel=stylesheet href=x.css><link rel=stylesheet href=http://h/y.css><p>",
+            x_css="p{color:red} p{broken}",
+            b__c_html="<p id=c>",
+            b__d_txt="<p>",
+        )
         self.message = f"simplecss: {self.page}: 'http://h/y.css' is not read: {ELSEWHERE}\n"
 
     def test_links_are_followed(self):
-        self.assertEqual(run("style", "color", self.page), (0, f"{self.page}:1:74: <p> color: red\n", self.message))
-        self.assertEqual(run("match", "--json", self.page)[1].splitlines()[-1],
-                         '{"element": 5, "name": "p", "rules": [0, 1]}')
+        self.assertEqual(
+            run("style", "color", self.page),
+            (0, f"{self.page}:1:74: <p> color: red\n", self.message),
+        )
+        self.assertEqual(
+            run("match", "--json", self.page)[1].splitlines()[-1],
+            '{"element": 5, "name": "p", "rules": [0, 1]}',
+        )
         status, out, err = run("inline", self.page)
         self.assertEqual((status, '<p style="color: red">' in out, LOSES in err), (0, True, True))
-        self.assertEqual(run("style", "color", "--folder", str(self.folder / "b"), self.page)[1], "")
+        self.assertEqual(
+            run("style", "color", "--folder", str(self.folder / "b"), self.page)[1], ""
+        )
 
     def test_lint_follows_links(self):
         sheet = self.page.replace("a.html", "x.css")
-        found = (1, f"{os.path.realpath(sheet)}:1:16: 'broken': broken declaration\n", self.message)
+        found = (
+            1,
+            f"{os.path.realpath(sheet)}:1:16: 'broken': broken declaration\n",
+            self.message,
+        )
         self.assertEqual(run("lint", self.page), found)
         # Once for all pages.
-        other, = self.put(e_html="<link rel=stylesheet href=x.css>")
+        (other,) = self.put(e_html="<link rel=stylesheet href=x.css>")
         self.assertEqual(run("lint", self.page, other)[1], found[1])
         self.assertEqual(run("lint", sheet, self.page)[1].count("broken declaration"), 1)
 
     def test_folders_and_patterns(self):
-        self.assertEqual(run("select", "--count", "p", str(self.folder))[1],
-                         f"{self.page}:1\n{self.folder / 'b' / 'c.html'}:1\n")
+        self.assertEqual(
+            run("select", "--count", "p", str(self.folder))[1],
+            f"{self.page}:1\n{self.folder / 'b' / 'c.html'}:1\n",
+        )
         self.assertEqual(run("select", "--count", "p", str(self.folder / "*" / "*.html"))[1], "1\n")
         status, out, err = run("select", "p", str(self.folder / "none*"))
         self.assertEqual((status, out, "cannot read" in err), (4, "", True))
-        self.assertEqual(run("style", "color", str(self.folder / "x.css"), str(self.folder))[1].count("color: red"), 2)
+        self.assertEqual(
+            run("style", "color", str(self.folder / "x.css"), str(self.folder))[1].count(
+                "color: red"
+            ),
+            2,
+        )
         self.assertEqual(run("lint", str(self.folder))[1].count("broken"), 2)
 
     def test_outputs(self):
         out = self.folder / "out"
         self.assertEqual(run("inline", self.page, "-o", str(out / "one.html"))[:2], (0, ""))
         self.assertIn("color: red", (out / "one.html").read_text())
-        self.assertEqual(run("inline", str(self.folder / "b"), self.page, "-o", str(out / "all"))[0], 0)
-        self.assertEqual(sorted(each.name for each in (out / "all").iterdir()), ["a.html", "c.html"])
-        self.assertEqual(run("inline", self.page, str(self.folder / "b"))[::2],
-                         (2, "simplecss: several pages need -o FOLDER\n"))
-        self.assertEqual(run("inline", self.page, self.page, "-o", str(out))[::2],
-                         (2, "simplecss: two of the pages have one name\n"))
-        self.assertEqual(run("inline", self.page, "-o", str(self.folder / "b" / "d.txt" / "x"))[0], 4)
+        self.assertEqual(
+            run("inline", str(self.folder / "b"), self.page, "-o", str(out / "all"))[0],
+            0,
+        )
+        self.assertEqual(
+            sorted(each.name for each in (out / "all").iterdir()), ["a.html", "c.html"]
+        )
+        self.assertEqual(
+            run("inline", self.page, str(self.folder / "b"))[::2],
+            (2, "simplecss: several pages need -o FOLDER\n"),
+        )
+        self.assertEqual(
+            run("inline", self.page, self.page, "-o", str(out))[::2],
+            (2, "simplecss: two of the pages have one name\n"),
+        )
+        self.assertEqual(
+            run("inline", self.page, "-o", str(self.folder / "b" / "d.txt" / "x"))[0], 4
+        )
 
     def test_several_at_once(self):
         names = self.put(**{f"n{number}_html": f"<p id=n{number}>" for number in range(20)})
@@ -280,10 +446,13 @@ class CommandLine(Site):
             command._free_processors = lambda: count
             answers.append(run("select", "p", *names))
         self.assertEqual(answers[0], answers[1])
-        self.assertEqual(answers[0][1], "".join(f"{name}:1:1: <p id=\"n{at}\">\n" for at, name in enumerate(names)))
+        self.assertEqual(
+            answers[0][1],
+            "".join(f'{name}:1:1: <p id="n{at}">\n' for at, name in enumerate(names)),
+        )
 
     def test_xml(self):
-        page, = self.put(a_htm="<?xml version='1.0'?><P/>")
+        (page,) = self.put(a_htm="<?xml version='1.0'?><P/>")
         self.assertEqual(run("select", "--count", "p", page)[1], "1\n")
         self.assertEqual(run("select", "--count", "--xml", "p", page)[1], "0\n")
 

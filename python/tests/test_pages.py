@@ -60,8 +60,14 @@ class Encodings(unittest.TestCase):
     def test_where_a_page_names_its_encoding(self):
         far = b"<style>" + b" " * 2000 + b"</style>"
         for page, text in (
-            (b"<meta name=description content='how to set charset=koi8-r'>\xc3\xa9", "é"),
-            (b"<meta content='text/html; charset = koi8-r' http-equiv=Content-Type>\xc1", "а"),
+            (
+                b"<meta name=description content='how to set charset=koi8-r'>\xc3\xa9",
+                "é",
+            ),
+            (
+                b"<meta content='text/html; charset = koi8-r' http-equiv=Content-Type>\xc1",
+                "а",
+            ),
             (b"<meta http-equiv=refresh content='charset=koi8-r'>\xc3\xa9", "é"),
             (b"<meta charset=none><meta/charset='koi8-r'>\xc1", "а"),
             (b"<metax charset=koi8-r>\xc3\xa9", "é"),
@@ -78,7 +84,11 @@ class Encodings(unittest.TestCase):
             self.assertEqual((decoded[-1:], encode(decoded)), (text, page), page[-60:])
 
     def test_marks(self):
-        for name, mark in (("utf-8", b"\xef\xbb\xbf"), ("utf-16-le", b"\xff\xfe"), ("utf-16-be", b"\xfe\xff")):
+        for name, mark in (
+            ("utf-8", b"\xef\xbb\xbf"),
+            ("utf-16-le", b"\xff\xfe"),
+            ("utf-16-be", b"\xfe\xff"),
+        ):
             page = mark + "<meta charset=koi8-r>é".encode(name)
             decoded, encode = decode_page(page)
             self.assertEqual((decoded, encode(decoded)), ("\ufeff<meta charset=koi8-r>é", page))
@@ -106,8 +116,14 @@ DOCTYPES = [
     ("<!DOCTYPE html PUBLIC '-//W3C//DTD HTML 3.2 Final//EN'>", OLD),
     ("<!DOCTYPE html PUBLIC '-/W3C/DTD HTML 4.0 Transitional/EN'>", OLD),
     ("<!DOCTYPE html PUBLIC '-//W3C//DTD HTML 4.01 Transitional//EN'>", OLD),
-    ("<!DOCTYPE html PUBLIC '-//W3C//DTD HTML 4.01 Transitional//EN' 'http://www.w3.org/TR/html4/loose.dtd'>", NEW),
-    ("<!DOCTYPE html PUBLIC '-//W3C//DTD XHTML 1.0 Transitional//EN' 'http://www.w3.org/x'>", NEW),
+    (
+        "<!DOCTYPE html PUBLIC '-//W3C//DTD HTML 4.01 Transitional//EN' 'http://www.w3.org/TR/html4/loose.dtd'>",
+        NEW,
+    ),
+    (
+        "<!DOCTYPE html PUBLIC '-//W3C//DTD XHTML 1.0 Transitional//EN' 'http://www.w3.org/x'>",
+        NEW,
+    ),
 ]
 
 
@@ -129,8 +145,11 @@ class Names(unittest.TestCase):
 
     def test_what_is_no_element_and_no_name(self):
         tree = simplecss.Tree.from_html("<p>")
-        for make in (lambda: simplecss.Tree([("p", {})]), lambda: simplecss.Tree.from_html("<p>", {"p": b"hover"}),
-                     lambda: simplecss.StyleSheet("p{a:b}").styles(tree, inherit=[b"a"])):
+        for make in (
+            lambda: simplecss.Tree([("p", {})]),
+            lambda: simplecss.Tree.from_html("<p>", {"p": b"hover"}),
+            lambda: simplecss.StyleSheet("p{a:b}").styles(tree, inherit=[b"a"]),
+        ):
             self.assertRaises(TypeError, make)
         found = simplecss.StyleSheet("body{a:b}").style(tree, "a", inherit="a")
         self.assertEqual(found[tree.select_one("p")].value, "b")
@@ -140,29 +159,71 @@ class Presentation(unittest.TestCase):
     def test_attributes_that_are_properties(self):
         tree = simplecss.Tree.from_html(
             "<svg width=9><rect rx=1 x=2 cx=3 fill=red /><circle r=4 x=5 /><path d=M0,0 /><animate fill=freeze /></svg>"
-            "<p width=6>")
+            "<p width=6>"
+        )
         styles = simplecss.StyleSheet("rect { x: 7 }").styles(tree, specified=True)
-        found = {element.name: " ".join(sorted(map(str, styles[element]))) for element in tree if styles[element]}
-        self.assertEqual(found, {"svg": "width: 9", "rect": "fill: red rx: 1 x: 7", "circle": "r: 4",
-                                 "path": "d: M0,0"})
+        found = {
+            element.name: " ".join(sorted(map(str, styles[element])))
+            for element in tree
+            if styles[element]
+        }
+        self.assertEqual(
+            found,
+            {
+                "svg": "width: 9",
+                "rect": "fill: red rx: 1 x: 7",
+                "circle": "r: 4",
+                "path": "d: M0,0",
+            },
+        )
 
 
 # Objects of SARIF 2.1.0 (its sections 3.13 to 3.52): the properties that each must have, and the form of each that may
 # be there. A form is another object, a list with one form, a set of values, a pattern, or a number that is the least.
-URI = re.compile(r"(?:[A-Za-z][-+.A-Za-z0-9]*:)?(?:[-\w.~:/?#\[\]@!$&'()*+,;=]|%[0-9A-Fa-f]{2})*", re.ASCII)
+URI = re.compile(
+    r"(?:[A-Za-z][-+.A-Za-z0-9]*:)?(?:[-\w.~:/?#\[\]@!$&'()*+,;=]|%[0-9A-Fa-f]{2})*",
+    re.ASCII,
+)
 TEXT = re.compile(r"(?s).*")
 SARIF = {
-    "log": (("version", "runs"), {"$schema": URI, "version": {"2.1.0"}, "runs": ["run"]}),
-    "run": (("tool",), {"tool": "tool", "results": ["result"], "columnKind": {"utf16CodeUnits", "unicodeCodePoints"}}),
+    "log": (
+        ("version", "runs"),
+        {"$schema": URI, "version": {"2.1.0"}, "runs": ["run"]},
+    ),
+    "run": (
+        ("tool",),
+        {
+            "tool": "tool",
+            "results": ["result"],
+            "columnKind": {"utf16CodeUnits", "unicodeCodePoints"},
+        },
+    ),
     "tool": (("driver",), {"driver": "component"}),
-    "component": (("name",), {"name": TEXT, "version": TEXT, "informationUri": URI, "rules": ["descriptor"]}),
-    "descriptor": (("id",), {"id": TEXT, "name": TEXT, "shortDescription": "multiformat"}),
+    "component": (
+        ("name",),
+        {"name": TEXT, "version": TEXT, "informationUri": URI, "rules": ["descriptor"]},
+    ),
+    "descriptor": (
+        ("id",),
+        {"id": TEXT, "name": TEXT, "shortDescription": "multiformat"},
+    ),
     "multiformat": (("text",), {"text": TEXT, "markdown": TEXT}),
-    "result": (("message",), {"ruleId": TEXT, "ruleIndex": 0, "level": {"none", "note", "warning", "error"},
-                              "message": "message", "locations": ["location"]}),
+    "result": (
+        ("message",),
+        {
+            "ruleId": TEXT,
+            "ruleIndex": 0,
+            "level": {"none", "note", "warning", "error"},
+            "message": "message",
+            "locations": ["location"],
+        },
+    ),
     "message": (("text",), {"text": TEXT}),
     "location": ((), {"physicalLocation": "physical"}),
-    "physical": (("artifactLocation",), {"artifactLocation": "artifact", "region": "region"}),
+    "physical": (
+        ("artifactLocation",),
+        {"artifactLocation": "artifact", "region": "region"},
+    ),
     "artifact": ((), {"uri": URI, "uriBaseId": TEXT}),
     "region": ((), {"startLine": 1, "startColumn": 1, "endLine": 1, "endColumn": 1}),
 }
@@ -175,7 +236,11 @@ def faults(value, form, where="$"):
     elif isinstance(form, str):
         required, known = SARIF[form]
         is_right = isinstance(value, dict) and set(required) <= value.keys() <= known.keys()
-        inner = [(each, known[key], f"{where}.{key}") for key, each in value.items()] if is_right else []
+        inner = (
+            [(each, known[key], f"{where}.{key}") for key, each in value.items()]
+            if is_right
+            else []
+        )
     else:
         inner = []
         if isinstance(form, int):
@@ -194,7 +259,9 @@ class Reports(unittest.TestCase):
         folder = tempfile.TemporaryDirectory()
         self.addCleanup(folder.cleanup)
         self.names = [os.path.join(folder.name, name) for name in ("a b:%é.css", "b.css", "c.css")]
-        for name, text in zip(self.names, ("@x;\na { b }\n@y 'é\u0001';", "@x; a { b", "a { b: c }")):
+        for name, text in zip(
+            self.names, ("@x;\na { b }\n@y 'é\u0001';", "@x; a { b", "a { b: c }")
+        ):
             with open(name, "w", encoding="utf-8") as file:
                 file.write(text)
 
@@ -205,7 +272,10 @@ class Reports(unittest.TestCase):
         return json.loads(out.getvalue())
 
     def test_sarif(self):
-        self.assertEqual(list(faults({"runs": [{"tool": {}}], "version": "2"}, "log")), ["$.runs[].tool", "$.version"])
+        self.assertEqual(
+            list(faults({"runs": [{"tool": {}}], "version": "2"}, "log")),
+            ["$.runs[].tool", "$.version"],
+        )
         log = self.sarif(*self.names)
         self.assertEqual(list(faults(log, "log")), [])
         run = log["runs"][0]
@@ -235,8 +305,13 @@ class CommandLine(unittest.TestCase):
 
     def start(self, *words, **options):
         environment = {**os.environ, "PYTHONPATH": FOLDER}
-        return subprocess.Popen([sys.executable, "-m", "simplecss", *words], env=environment,
-                                stdout=subprocess.PIPE, stderr=subprocess.PIPE, **options)
+        return subprocess.Popen(
+            [sys.executable, "-m", "simplecss", *words],
+            env=environment,
+            stdout=subprocess.PIPE,
+            stderr=subprocess.PIPE,
+            **options,
+        )
 
     def test_one_page_of_many_is_missing(self):
         page = self.page("a.html", "<p>")
@@ -244,7 +319,10 @@ class CommandLine(unittest.TestCase):
         with redirect_stdout(out), redirect_stderr(err):
             status = command.main(["select", "p", page, page + "x", page])
         self.assertEqual((status, out.getvalue()), (4, f"{page}:1:1: <p>\n" * 2))
-        self.assertEqual(err.getvalue(), f"simplecss: cannot read {page}x: No such file or directory\n")
+        self.assertEqual(
+            err.getvalue(),
+            f"simplecss: cannot read {page}x: No such file or directory\n",
+        )
 
     def test_paths_of_wide_pages(self):
         page = self.page("a.html", "<p>" * 20_000)
@@ -304,14 +382,20 @@ class CommandLine(unittest.TestCase):
             self.assertEqual([simplecss.inline(page, sheet) for page in pages], wanted)
         self.assertEqual([each.args[0] for each in call.mock_calls].count("simplecss_read"), 1)
         self.assertIn('style="color: red"', wanted[0])
-        for other in (simplecss.StyleSheet(), simplecss.StyleSheet(css, css), simplecss.StyleSheet(css, grammar="simplecss")):
+        for other in (
+            simplecss.StyleSheet(),
+            simplecss.StyleSheet(css, css),
+            simplecss.StyleSheet(css, grammar="simplecss"),
+        ):
             with self.assertRaisesRegex(ValueError, "one text"):
                 simplecss.inline("<p>", other)
         with self.assertRaises(TypeError):
             simplecss.inline("<p>", b"p{}")
 
     def test_modules_are_imported_when_their_names_are_used(self):
-        code = "import sys, simplecss; print(*(each for each in sys.modules if 'simplecss' in each))"
+        code = (
+            "import sys, simplecss; print(*(each for each in sys.modules if 'simplecss' in each))"
+        )
         environment = {**os.environ, "PYTHONPATH": FOLDER}
         words = [sys.executable, "-S", "-c", code]
         made = subprocess.run(words, env=environment, capture_output=True, text=True, check=True)

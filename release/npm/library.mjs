@@ -2,8 +2,9 @@
 
 const DONE = 0, REFUSED = 1, TREE_FAULT = 2, OUT_OF_MEMORY = 3, TOO_MANY = 4, TOO_SMALL = 6;
 const FAULTS = ['', 'its depth', 'its name is empty', 'its strings', 'a key occurs twice'];
-// The limit that allows any number.
+// The limit that allows any number, and the greatest number of 32 bits.
 export const NO_LIMIT = 2n ** 64n - 1n;
+const MOST_NARROW = 2n ** 32n - 1n;
 // What may be written of a text: so many bytes, or so many for each byte of a longer text.
 const MOST_WRITTEN = 2 ** 26, MOST_FOR_BYTE = 32;
 
@@ -28,10 +29,39 @@ export class TreeError extends Error {
 }
 
 let library;
+// Whether the module is compiled from the erased sources: its numbers have 32 bits, and not 64.
+let isErased;
 
 /** Starts a compiled module. Those that are exported use the one that was started last. */
 export function start(module) {
   library = new WebAssembly.Instance(module, {}).exports;
+  isErased = library.simplecss_is_erased !== undefined;
+}
+
+/** Whether the library is the one that is proved, and not one that is compiled from the erased sources. */
+export function isProved() {
+  return !isErased;
+}
+
+/** Calls a function of the module with numbers, of which one that is too great for it stands for the greatest. */
+function invoke(name, numbers) {
+  const given = isErased ? numbers.map(each => Number(each < MOST_NARROW ? each : MOST_NARROW)) : numbers;
+  return library[name](...given);
+}
+
+/** Returns the bytes of a text, or of numbers as the module has them: a half of one of 64 bits is 0. */
+function bytesOf(word) {
+  let numbers = word;
+  if (word instanceof Uint32Array && !isErased) {
+    numbers = new Uint32Array(2 * word.length);
+    word.forEach((number, index) => { numbers[2 * index] = number; });
+  }
+  return new Uint8Array(numbers.buffer, numbers.byteOffset, numbers.byteLength);
+}
+
+/** Returns a number of the module's memory. */
+function sizeAt(view, at) {
+  return isErased ? view.getUint32(at, true) : Number(view.getBigUint64(at, true));
 }
 
 /** Compiles a module, and starts it: from a Response, or what will be one, from bytes, or a compiled module. */
@@ -57,11 +87,9 @@ export function decode(bytes) {
   return decoder.decode(bytes);
 }
 
-/** Numbers of the width of 64 bits, of which the second half is 0. */
+/** Numbers that are passed as an array of the library. */
 export function sizes(numbers) {
-  const found = new Uint32Array(2 * numbers.length);
-  numbers.forEach((number, index) => { found[2 * index] = number; });
-  return found;
+  return Uint32Array.from(numbers);
 }
 
 /** The bytes of texts one after another, and where each ends. */
@@ -104,18 +132,19 @@ export function mostWritten(length) {
 
 /** Takes room of the module's memory. */
 function take(length) {
-  const at = library.simplecss_take(BigInt(length));
+  const at = BigInt.asUintN(isErased ? 32 : 64, BigInt(invoke('simplecss_take', [BigInt(length)])));
   if (!at) throw new RangeError('out of memory');
   return at;
 }
 
-/** Copies a text, sizes or the elements of a tree into the module's memory. Returns its place and its length. */
+/** Copies a text, sizes or the elements of a tree into the module's memory. Returns its place and its length, or of a structure
+ * its place. */
 function placed(word) {
   if (typeof word === 'bigint') return [word];
-  const at = take(word.byteLength);
-  const bytes = new Uint8Array(word.buffer, word.byteOffset, word.byteLength);
+  if (word.structure) return placed(new Uint8Array(word.structure.buffer)).slice(0, 1);
+  const bytes = bytesOf(word), at = take(bytes.length);
   new Uint8Array(library.memory.buffer, Number(at), bytes.length).set(bytes);
-  return [at, BigInt(word.count ?? (word instanceof Uint32Array ? word.length / 2 : word.length))];
+  return [at, BigInt(word.count ?? word.length)];
 }
 
 /**
@@ -133,9 +162,9 @@ export function call(name, words, { room = 65536, most, hasTree = false } = {}) 
     const out = take(room), length = take(24);
     given.push(out, BigInt(room), length);
     if (hasTree) given.push(length + 8n);
-    const status = library[`simplecss_${name}`](...given);
+    const status = invoke(`simplecss_${name}`, given);
     const view = new DataView(library.memory.buffer, Number(length), 24);
-    const written = Number(view.getBigUint64(0, true));
+    const written = sizeAt(view, 0);
     if (status === DONE) return decode(new Uint8Array(library.memory.buffer, Number(out), written));
     if (status === REFUSED) return null;
     if (status !== TOO_SMALL) throw failure(name, status, view);
@@ -147,7 +176,7 @@ export function call(name, words, { room = 65536, most, hasTree = false } = {}) 
 function failure(name, status, view) {
   if (status === OUT_OF_MEMORY) return new RangeError('out of memory');
   if (status === TREE_FAULT) {
-    return new TreeError(FAULTS[view.getUint32(8, true)], Number(view.getBigUint64(16, true)) - 1);
+    return new TreeError(FAULTS[view.getUint32(8, true)], sizeAt(view, isErased ? 12 : 16) - 1);
   }
   if (status === TOO_MANY) return new LimitError('more declarations than `limit`, or a longer answer than `answerLimit` allows');
   return new TypeError(`simplecss_${name}: status ${status}`);

@@ -1,6 +1,7 @@
 // Selectors and style sheets: which rules match the elements of a tree, and which declarations win on them.
+import { holds } from './device.mjs';
 import { LimitError, call, encode, expectText, joined, limited, linesOf } from './library.mjs';
-import { conditionsOf, headOf, lower, readSheet, Source } from './reading.mjs';
+import { conditionsOf, readSheet, Source } from './reading.mjs';
 import { PORT, SelectorError, Tree, grammarOf, matches, selected } from './tree.mjs';
 
 // The limits where none is named: of the declarations of rules, and of the rules and declarations of an answer.
@@ -41,27 +42,9 @@ class Room {
   }
 }
 
-/** Whether the rules of a group rule apply. */
-export function holds(condition, media) {
-  const isMedia = condition.name === 'media';
-  if (typeof media === 'function') return Boolean(media(isMedia ? condition.prelude : headOf(condition)));
-  return isMedia && hasType(condition.prelude, lower(media));
-}
-
 /** Returns the words of a value, between which is white space. */
 export function wordsOf(text) {
   return text.split(/[\t\n\f\r ]+/).filter(word => word !== '');
-}
-
-/** Whether a list of media queries has one of the media type, or of all, without features. */
-function hasType(prelude, media) {
-  return lower(prelude).split(',').some(query => {
-    const words = wordsOf(query);
-    if (words[0] === 'only') words.shift();
-    if (words.length === 0 || words.length === 1 && ['all', media].includes(words[0])) return true;
-    const [first, type] = words;
-    return words.length === 2 && first === 'not' && !['all', media].includes(type) && /^[a-z]+$/.test(type);
-  });
 }
 
 /** Returns of several declarations of one name the last one of the greatest importance (CSS 2.1 section 6.4.1). */

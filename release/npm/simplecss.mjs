@@ -1,5 +1,5 @@
 // What programs use, once the module is started.
-export { LimitError, TreeError, version } from './library.mjs';
+export { LimitError, TreeError, isProved, version } from './library.mjs';
 export { lint } from './lint.mjs';
 export { declarations } from './reading.mjs';
 export { Selector, StyleSheet, rules, styles } from './sheet.mjs';

@@ -12,6 +12,7 @@ Every call may be made from any thread.
 TYPE_CHECKING = False
 if TYPE_CHECKING:
     from ._declaration import Declaration
+    from ._device import Device
     from ._elements import TreeError
     from ._inline import NotWritten, inline
     from ._library import LibraryError, LimitError, __version__, is_proved, library_path
@@ -27,6 +28,7 @@ __all__ = [
     "AtRule",
     "Condition",
     "Declaration",
+    "Device",
     "Element",
     "Item",
     "LibraryError",
@@ -52,6 +54,7 @@ if not TYPE_CHECKING:
     # The names of each module, which is imported when one of them is first used.
     _NAMES = {
         "_declaration": "Declaration",
+        "_device": "Device",
         "_elements": "TreeError",
         "_inline": "NotWritten inline",
         "_library": "LibraryError LimitError __version__ is_proved library_path",

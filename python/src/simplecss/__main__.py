@@ -11,11 +11,32 @@ import sys
 import threading
 import time
 from pathlib import Path
-from typing import Any, Callable, Iterator, List, NamedTuple, Optional, Sequence, Tuple, Type
+from typing import (
+    Any,
+    Callable,
+    Iterator,
+    List,
+    NamedTuple,
+    Optional,
+    Sequence,
+    Tuple,
+    Type,
+)
 
 from . import _jobs, _lint
+from ._device import TYPES, Device
 from ._elements import TreeError
-from ._jobs import DONE, INPUT, OUT_OF_MEMORY, REFUSED, UNREADABLE, USAGE, Failure, Job, Outcome
+from ._jobs import (
+    DONE,
+    INPUT,
+    OUT_OF_MEMORY,
+    REFUSED,
+    UNREADABLE,
+    USAGE,
+    Failure,
+    Job,
+    Outcome,
+)
 from ._library import LibraryError, LimitError, __version__
 from ._output import printable, printable_lines
 from ._selectors import MODERN, PORT, TODAY, SelectorError
@@ -300,10 +321,29 @@ def _add_folder(command: Any) -> None:
     command.add_argument("--folder", metavar="PATH", help=text)
 
 
+def _pixels(word: str) -> int:
+    """Returns a number of pixels."""
+    number = int(word)
+    if not 0 <= number < 2**32:
+        raise ValueError(word)
+    return number
+
+
+def _add_device(command: Any) -> None:
+    usual = Device()
+    text = "what the page is shown on"
+    command.add_argument("--media", choices=TYPES, default=usual.type, help=text)
+    text = "the width in pixels"
+    command.add_argument("--width", type=_pixels, default=usual.width, metavar="PX", help=text)
+    text = "the height in pixels"
+    command.add_argument("--height", type=_pixels, default=usual.height, metavar="PX", help=text)
+    command.add_argument("--dark", action="store_true", help="with dark colours")
+
+
 def _add_reading(command: Any) -> None:
     _add_grammar(command)
     _add_folder(command)
-    command.add_argument("--media", default="screen", metavar="TYPE", help="the type of media")
+    _add_device(command)
     text = "style sheets (those of each page without any), and pages, folders or patterns of them"
     command.add_argument("files", nargs="+", metavar="FILE", help=text)
 
@@ -332,7 +372,10 @@ def _add_inline(command: Any) -> None:
         ("keep-style", "leave all style elements"),
         ("remove-classes", "remove the classes that no rule needs any more"),
         ("attributes", "write `width`, `bgcolor` and the like beside styles"),
-        ("no-important", "leave what a rule that stays could override, in place of `!important`"),
+        (
+            "no-important",
+            "leave what a rule that stays could override, in place of `!important`",
+        ),
         ("report", "say on standard error what could not be written"),
     ):
         command.add_argument(f"--{name}", action="store_true", help=text)

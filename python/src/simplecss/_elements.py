@@ -65,7 +65,8 @@ class TreeError(ValueError):
 
 class _Texts:
     """The texts of a document that are not empty, in order: for each how many elements begin before
-    it, in which element it is, and the text, or where it begins and ends in the source."""
+    it, in which element it is, and the text, or where it begins and ends in the source.
+    """
 
     def __init__(self) -> None:
         self.begun = array.array("l")
@@ -176,7 +177,11 @@ class Elements:
         """Takes the texts, and where each element is. Returns the elements in order."""
         taken: List[Node] = []
         parents, depths, texts = self.parents, self.depths, self.texts
-        begun, owners, values = texts.begun.append, texts.owners.append, texts.values.append
+        begun, owners, values = (
+            texts.begun.append,
+            texts.owners.append,
+            texts.values.append,
+        )
         # The children that are to come of each open element, and its index.
         waiting = [iter(top)]
         open_ones = [-1]

@@ -16,7 +16,8 @@ LOSES = "its rules lose to what is written into attributes"
 
 class ReadSheet:
     """What is read of a sheet and of those that it imports: the statements, each with what it is
-    in; why those of its own that are `@import`s stay; and the sheets that these import."""
+    in; why those of its own that are `@import`s stay; and the sheets that these import.
+    """
 
     def __init__(self) -> None:
         self.placed: List[Tuple[Source, Statement]] = []

@@ -910,7 +910,8 @@ def _strength(rule: "StayingRule | Group") -> Tuple[Specificity, int]:
 
 def _may_beat(rival: StayingRule, declared: FrozenSet[Declaration], mine: List[_Mine]) -> bool:
     """Whether declarations of a rule that stays may beat others that would be written, the weakest
-    of which come first. Those of two names are never the same, so that few are looked at."""
+    of which come first. Those of two names are never the same, so that few are looked at.
+    """
     for each in mine:
         if _strength(rival) < each.strength:
             return False

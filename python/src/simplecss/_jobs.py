@@ -9,6 +9,7 @@ from pathlib import Path
 from typing import Any, Iterator, List, NamedTuple, Optional
 
 from . import _lint
+from ._device import Device
 from ._elements import TreeError
 from ._imports import LOSES
 from ._inline import NotWritten, inline
@@ -123,6 +124,11 @@ class Job:
         self._say_unread(name, sheet.unread)
         return sheet
 
+    def _device(self) -> Device:
+        """Returns the device that the words name."""
+        words = self.words
+        return Device(words.width, words.height, words.media, dark=words.dark)
+
     def _say_unread(self, name: str, unread: "tuple[Unread, ...]") -> None:
         """Says which sheets were not read."""
         for each in unread:
@@ -157,7 +163,7 @@ class Match(Job):
         tree = self._tree(name, text)
         sheet = self._sheet(name, tree)
         room = Room(most_written(len(text)), "characters")
-        for element, found in zip(tree, sheet.match(tree, media=self.words.media)):
+        for element, found in zip(tree, sheet.match(tree, media=self._device())):
             if self.words.json:
                 value = {"element": element.index, "name": element.name, "rules": found}
                 self._write(json_line(value))
@@ -177,7 +183,7 @@ class Style(Job):
         tree = self._tree(name, text)
         sheet = self._sheet(name, tree)
         room = Room(most_written(len(text)), "characters")
-        found = sheet.style(tree, self.words.name, media=self.words.media)
+        found = sheet.style(tree, self.words.name, media=self._device())
         for element, winner in zip(tree, found):
             room.take(0 if winner is None else len(winner.value))
             if self.words.json:
@@ -278,13 +284,19 @@ class Lint(Job):
         words = self.words
         if not _lint.is_page(name):
             return Outcome(
-                name, mistakes=_lint.findings(name, read(name), words.all, words.grammar)
+                name,
+                mistakes=_lint.findings(name, read(name), words.all, words.grammar),
             )
         shelf = Shelf(self._place(name), self._folder(name))
         try:
             text = read_page(name)
             found = _lint.findings(
-                name, text, words.all, words.grammar, shelf=shelf, has_xml=self._is_xml(name)
+                name,
+                text,
+                words.all,
+                words.grammar,
+                shelf=shelf,
+                has_xml=self._is_xml(name),
             )
         except TreeError as error:
             raise Failure(f"{name}:{error}", UNREADABLE) from None

@@ -230,11 +230,16 @@ def ends_of(lengths: Iterable[int]) -> "ctypes.Array[ctypes.c_size_t]":
 
 
 def call(
-    name: str, *arguments: Any, room: int, with_fault: bool = False, most: Optional[int] = None
+    name: str,
+    *arguments: Any,
+    room: int,
+    with_fault: bool = False,
+    most: Optional[int] = None,
 ) -> Answer:
     """Calls a function of the library.
 
-    An argument is a text, an array of ends, the arrays of a tree, or a number. `room` is the length
+    An argument is a text, an array of ends, the arrays of a tree, a structure, or a number. `room` is
+    the length
     of the first buffer; a call that needs a longer one is made again. `most` is passed last to a
     function that takes it: an answer of more bytes raises `LimitError`.
     """
@@ -243,6 +248,9 @@ def call(
     for argument in arguments:
         if isinstance(argument, int):
             words.append(ctypes.c_size_t(argument))
+            continue
+        if isinstance(argument, ctypes.Structure):
+            words.append(ctypes.byref(argument))
             continue
         parts = argument.arguments if isinstance(argument, TreeArrays) else (argument,)
         for part in parts:

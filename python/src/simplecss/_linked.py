@@ -7,7 +7,17 @@ import os
 import re
 import urllib.parse
 from pathlib import Path, PurePosixPath
-from typing import Callable, Dict, Iterable, Iterator, List, NamedTuple, Optional, Tuple, Union
+from typing import (
+    Callable,
+    Dict,
+    Iterable,
+    Iterator,
+    List,
+    NamedTuple,
+    Optional,
+    Tuple,
+    Union,
+)
 
 from . import _library as library
 from ._elements import Elements
@@ -214,7 +224,8 @@ def _is_sheet(elements: Elements, index: int) -> bool:
 
 def _in_use(elements: Elements) -> List[int]:
     """Returns the elements `style` and `link` whose sheets are in use (CSSOM, "add a CSS style
-    sheet"): those without a title, and those of the first title of one that is no alternate."""
+    sheet"): those without a title, and those of the first title of one that is no alternate.
+    """
     found = [
         (index, elements.attributes[index].get("title", ""))
         for index, name in enumerate(elements.names)

@@ -20,6 +20,7 @@ from typing import (
 )
 from xml.sax.saxutils import escape, quoteattr
 
+from ._device import UNKNOWN, Device, says
 from ._elements import STATES
 from ._library import __version__
 from ._linked import Shelf, sheets_of
@@ -37,7 +38,7 @@ from ._reading import (
     read_sheet,
 )
 from ._selectors import MODERN, PORT, states_in
-from ._sheet import StyleSheet, holds
+from ._sheet import StyleSheet
 from ._words import lower, words_of
 from ._xml import is_xml
 from .html import attributes_of, decode_value
@@ -100,7 +101,7 @@ def _problems_of_sheet(statements: Iterable[Statement], shows_all: bool) -> Iter
             if level.span in groups:
                 continue
             groups.add(level.span)
-            if not any(holds(level.condition, media) for media in ("screen", "print")):
+            if says(level.condition, Device()) == UNKNOWN:
                 yield "unsupported condition", level.head
         if isinstance(statement, RuleSet):
             yield from _problems_of_rule(statement, shows_all)
@@ -180,7 +181,10 @@ def _reported(part: _SheetText, shows_all: bool) -> Iterator[Tuple[str, int, int
         end = max((item.span[1] for item in items), default=0)
     else:
         source, statements = read_sheet(part.css)
-        problems = [*_problems_of_sheet(statements, shows_all), *_open_groups(source, statements)]
+        problems = [
+            *_problems_of_sheet(statements, shows_all),
+            *_open_groups(source, statements),
+        ]
         end = _end_of(statements)
     for reason, span in problems:
         yield reason, source.offset(span[0]), source.offset(span[1])
@@ -242,7 +246,8 @@ def findings(
     has_xml: bool = False,
 ) -> List[Finding]:
     """Returns the mistakes of a style sheet, or of those of a page, in order; with `shows_all` also
-    what is unsupported. After them are those of the files that a page links to, of a shelf."""
+    what is unsupported. After them are those of the files that a page links to, of a shelf.
+    """
 
     def found_in(file: str, parts: Iterable[_SheetText]) -> List[Finding]:
         found = [each for part in parts for each in _findings_of(file, part, shows_all, grammar)]
@@ -324,7 +329,11 @@ def as_sarif(found: Sequence[Finding]) -> str:
     ]
     rules = [{"id": kind, "shortDescription": {"text": reason}} for kind, reason in reasons.items()]
     driver = {"name": "simplecss", "version": __version__, "rules": rules}
-    run = {"tool": {"driver": driver}, "columnKind": "unicodeCodePoints", "results": results}
+    run = {
+        "tool": {"driver": driver},
+        "columnKind": "unicodeCodePoints",
+        "results": results,
+    }
     log = {
         "$schema": "https://json.schemastore.org/sarif-2.1.0.json",
         "version": "2.1.0",

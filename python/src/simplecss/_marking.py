@@ -279,7 +279,8 @@ class _Problem:
         is_single = len(self._names) == 1
         floor = min((each.rank for each in self._bases), default=LOWEST) if is_single else LOWEST
         units = sorted(
-            (each for each in self._normal if each.most >= floor), key=lambda each: each.least
+            (each for each in self._normal if each.most >= floor),
+            key=lambda each: each.least,
         )
         for one, other in zip(units, units[1:]):
             self._clauses.imply(one.unit, other.unit)
@@ -317,7 +318,8 @@ class Marking:
 
     def solve(self, left_as_it_is: Callable[[Kind], FrozenSet[str]]) -> Dict[Kind, Set[str]]:
         """Decides for what is not left yet. Returns the families that have to be left, of which all
-        is decided again; `left_as_it_is` are those of a kind if nothing is made important."""
+        is decided again; `left_as_it_is` are those of a kind if nothing is made important.
+        """
         for kind in self._left_of:
             self._look_at(kind, left_as_it_is)
         barred = self._clauses.barred()

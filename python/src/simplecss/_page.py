@@ -4,13 +4,34 @@ from __future__ import annotations
 
 import bisect
 import re
-from typing import Callable, Dict, FrozenSet, List, Match, NamedTuple, Optional, Set, Tuple
+from typing import (
+    Callable,
+    Dict,
+    FrozenSet,
+    List,
+    Match,
+    NamedTuple,
+    Optional,
+    Set,
+    Tuple,
+)
 
 from ._elements import Elements, TreeError
 from ._linked import is_alternate, is_sheet_link, without_marks
 from ._words import BLANKS, lower
 from ._xml import XmlError, read_xml
-from .html import HTML, MATH, SVG, VOID, Attribute, Builder, Node, TooDeep, attributes_of, decode
+from .html import (
+    HTML,
+    MATH,
+    SVG,
+    VOID,
+    Attribute,
+    Builder,
+    Node,
+    TooDeep,
+    attributes_of,
+    decode,
+)
 
 _HEAD_PARTS = frozenset("head title meta link base style script noscript template".split())
 # The elements of HTML whose content is text up to an end tag of theirs, for some browsers at least.
@@ -155,7 +176,11 @@ class _Other:
         node = self._nodes.get(tag)
         if node is None or name != "style":
             return node is not None and (space == _XML or (node.name, node.space) == (name, space))
-        return (node.name, node.space, node.end) == (name, SVG if space == _XML else space, end)
+        return (node.name, node.space, node.end) == (
+            name,
+            SVG if space == _XML else space,
+            end,
+        )
 
 
 class Page:
@@ -272,7 +297,12 @@ class Page:
         """Returns the `style` elements and the links to style sheets that may be written anew, in
         order."""
         links = [
-            Content(index, tag, tag, self.elements.attributes[index].get("href", "").strip(BLANKS))
+            Content(
+                index,
+                tag,
+                tag,
+                self.elements.attributes[index].get("href", "").strip(BLANKS),
+            )
             for index, tag in enumerate(self.tags)
             if tag is not None
             and self.elements.names[index] == "link"

@@ -36,7 +36,11 @@ class PortReading(NamedTuple):
         value = attributes.get("class")
         if value is None or not self.has_lines:
             return attributes
-        return {**attributes, "class": _WHITE_SPACE.sub(" ", value), _WHOLE_CLASS: value}
+        return {
+            **attributes,
+            "class": _WHITE_SPACE.sub(" ", value),
+            _WHOLE_CLASS: value,
+        }
 
     def _part(self, found: Match[str], quote: str) -> str:
         key, operator, value = found.groups()

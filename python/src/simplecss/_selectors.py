@@ -155,13 +155,20 @@ def listed(text: str, grammar: str = MODERN) -> List[Listed]:
     if answer.status == library.REFUSED:
         raise selector_error(text, grammar)
     return [
-        Listed(each["selector"], specificity_of(each["specificity"]), each.get("pseudo_element"))
+        Listed(
+            each["selector"],
+            specificity_of(each["specificity"]),
+            each.get("pseudo_element"),
+        )
         for each in lines_of(library.output_of(name, answer))
     ]
 
 
 def matched(
-    tree: library.TreeArrays, selectors: Sequence[str], reading: Optional[Reading], limit: int
+    tree: library.TreeArrays,
+    selectors: Sequence[str],
+    reading: Optional[Reading],
+    limit: int,
 ) -> List[bytes]:
     """Returns for each element the numbers of the selectors that match it, which begin at 1, with
     spaces between them. Without a reading, the selectors are of the grammar of the Rust crate. More

@@ -2,10 +2,10 @@
 
 from __future__ import annotations
 
+import functools
 import itertools
 from typing import (
     Any,
-    Callable,
     Dict,
     Iterable,
     Iterator,
@@ -21,6 +21,7 @@ from typing import (
 from . import _library as library
 from ._declaration import Declaration, cascaded
 from ._deprecated import warn_of_old
+from ._device import Device, Media, device_of, holds
 from ._linked import Load, Name, Shelf, Unread, sheets_of
 from ._reading import (
     AtRule,
@@ -34,15 +35,19 @@ from ._reading import (
     read_sheet,
 )
 from ._port import PortReading
-from ._selectors import MODERN, PORT, Numbers, Specificity, grammar_of, lines_of, specificity_of
+from ._selectors import (
+    MODERN,
+    PORT,
+    Numbers,
+    Specificity,
+    grammar_of,
+    lines_of,
+    specificity_of,
+)
 from ._specified import Inherit, inherited, specified_by
-from ._words import lower, words_of
 from ._tree import Element, Tree, elements_of
 
 T = TypeVar("T")
-
-# A media type, or what decides of the prelude of a group rule whether its rules apply.
-Media = Union[str, Callable[[str], bool]]
 
 
 class Rule(NamedTuple):
@@ -107,36 +112,6 @@ class _Contents(NamedTuple):
     at_rules: Tuple[AtRule, ...]
 
 
-def holds(condition: Condition, media: Media) -> bool:
-    """Whether the rules of a group rule apply."""
-    is_media = condition.name == "media"
-    if callable(media):
-        return media(condition.prelude if is_media else str(condition))
-    return is_media and _has_type(condition.prelude, lower(media))
-
-
-def _has_type(prelude: str, media: str) -> bool:
-    """Whether a list of media queries has one of the media type, or of all, without features."""
-    for query in lower(prelude).split(","):
-        words = words_of(query)
-        if words[:1] == ["only"]:
-            words.pop(0)
-        if words in ([], ["all"], [media]):
-            return True
-        if (
-            len(words) == 2
-            and words[0] == "not"
-            and words[1] not in ("all", media)
-            and _is_word(words[1])
-        ):
-            return True
-    return False
-
-
-def _is_word(text: str) -> bool:
-    return text.isascii() and text.isalpha()
-
-
 class StyleSheet:
     """The style sheet of texts, read one after another.
 
@@ -168,7 +143,7 @@ class StyleSheet:
         self._answer_limit = library.limit_of(answer_limit)
         self._read: Optional[List[Tuple[Source, List[Statement]]]] = None
         self._contents: Optional[_Contents] = None
-        self._selectors: Dict[Tuple[Optional[PortReading], str], _Selectors] = {}
+        self._selectors: Dict[Tuple[Optional[PortReading], Device], _Selectors] = {}
 
     @classmethod
     def of_page(
@@ -327,23 +302,23 @@ class StyleSheet:
         if not isinstance(tree, Tree):
             raise TypeError(f"a Tree is expected, not {type(tree).__name__}")
         reading = elements_of(tree).port_reading if self._grammar == PORT else None
-        if callable(media):
+        if not isinstance(media, Device) and callable(media):
             found = _Selectors(self.rules, reading, media)
         else:
-            library.expect_text(media)
-            key = (reading, media)
+            device = device_of(media)
+            key = (reading, device)
             if key not in self._selectors:
-                self._selectors[key] = _Selectors(self.rules, reading, media)
+                self._selectors[key] = _Selectors(self.rules, reading, device)
             found = self._selectors[key]
         return found, elements_of(tree).matched(found.texts, self._answer_limit, self._grammar)
 
     def match(self, tree: Tree, *, media: Media = "screen") -> "ByElement[List[int]]":
         """Returns for each element the indices of the rules that match it, in order.
 
-        Of rules in `@media`, those apply whose prelude has the media type, or `all`, without
-        features. A callable decides instead: it is called with the prelude of each `@media`, and
-        with the text of each other group rule up to its block, as `@supports (a: b)`. Rules with a
-        pseudo-element match no element.
+        Rules in `@media` and `@supports` apply where these hold on the device `media`, which may be
+        a type as "print": the usual device of it. A callable decides instead: it is called with the
+        prelude of each `@media`, and with the text of each other group rule up to its block, as
+        `@layer a`. Rules with a pseudo-element match no element.
         """
         selectors, lines = self._match(tree, media)
         return ByElement(selectors.rules[line].copy() for line in lines)
@@ -435,10 +410,11 @@ class _Selectors:
         self, rules: Tuple[Rule, ...], reading: Optional[PortReading], media: Media
     ) -> None:
         groups: Dict[Tuple[Condition, ...], bool] = {(): True}
+        apply = functools.lru_cache(maxsize=None)(functools.partial(holds, media=media))
         indices = []
         for index, rule in enumerate(rules):
             if rule.conditions not in groups:
-                groups[rule.conditions] = all(holds(each, media) for each in rule.conditions)
+                groups[rule.conditions] = all(map(apply, rule.conditions))
             if groups[rule.conditions] and rule.pseudo_element is None:
                 indices.append(index)
         self.texts = [rules[index].selector for index in indices]
@@ -470,7 +446,13 @@ def _rules_of(
                 continue
             selector = each.front or "*"
             rules.append(
-                Rule(selector, each.specificity, declarations, conditions, each.pseudo_element)
+                Rule(
+                    selector,
+                    each.specificity,
+                    declarations,
+                    conditions,
+                    each.pseudo_element,
+                )
             )
     rules.sort(key=lambda rule: rule.specificity)
     return rules, unsupported

@@ -25,7 +25,8 @@ from ._words import lower
 # A pseudo-class with what is in its parentheses, in which may be one more pair of them.
 _INNER = rf"""[^()"'\\/]|/(?!\*)|{OPAQUE}"""
 _PSEUDO_CLASS = re.compile(
-    rf"{OPAQUE}|:{NAMING}*(?:\((?:{_INNER}|\((?:{_INNER})*\))*\))?", re.DOTALL | re.ASCII
+    rf"{OPAQUE}|:{NAMING}*(?:\((?:{_INNER}|\((?:{_INNER})*\))*\))?",
+    re.DOTALL | re.ASCII,
 )
 # What matches any element, as a selector and as a pseudo-class.
 _EVERY = "*"

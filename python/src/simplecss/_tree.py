@@ -19,7 +19,15 @@ from typing import (
 )
 
 from . import _library as library
-from ._elements import LINK, NO_STATES, SVG_SPACE, Elements, States, TreeError, states_of
+from ._elements import (
+    LINK,
+    NO_STATES,
+    SVG_SPACE,
+    Elements,
+    States,
+    TreeError,
+    states_of,
+)
 from ._selectors import MODERN, Reading
 from ._words import words_of
 from ._xml import XmlError, read_xml
@@ -28,7 +36,13 @@ from .html import Builder, TooDeep, decode_page
 _LINK_SPACES = ("", "http://www.w3.org/1999/xhtml", SVG_SPACE)
 # The nodes of BeautifulSoup that are no elements and no texts.
 _NO_TEXTS = frozenset(
-    ("Comment", "Doctype", "Declaration", "ProcessingInstruction", "XMLProcessingInstruction")
+    (
+        "Comment",
+        "Doctype",
+        "Declaration",
+        "ProcessingInstruction",
+        "XMLProcessingInstruction",
+    )
 )
 
 
@@ -196,7 +210,11 @@ class Tree:
 
     @classmethod
     def from_html(
-        cls, text: Union[str, bytes], states: Optional[States] = None, *, is_part: bool = False
+        cls,
+        text: Union[str, bytes],
+        states: Optional[States] = None,
+        *,
+        is_part: bool = False,
     ) -> "Tree":
         """Reads an HTML document, as a browser does without scripts.
 

@@ -29,7 +29,8 @@ class XmlError(ValueError):
 
 class XmlTag:
     """An element: its local name, its attributes by local names, its parent's index or -1, where
-    its start tag begins and ends, and where the element ends, as offsets in the text."""
+    its start tag begins and ends, and where the element ends, as offsets in the text.
+    """
 
     __slots__ = (
         "name",

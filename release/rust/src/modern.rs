@@ -13,7 +13,7 @@
 //! let document = Document::new(&tree);
 //!
 //! let text = "@media screen { li:nth-child(odd) { color: red } } li { color: blue }";
-//! let sheet = Sheet::read(text, |name, prelude| name == "media" && prelude == "screen");
+//! let sheet = Sheet::read(text, |name, prelude| name == "media" && prelude == "screen").unwrap();
 //! let color = |index| sheet.winning(&document.node(index).unwrap(), "color").unwrap().value;
 //! assert_eq!([color(1), color(2), color(3)], ["red", "blue", "red"]);
 //! ```
@@ -29,9 +29,8 @@
 //! ```
 //!
 //! Elements are of a type of your own, which implements [`Element`], or those of a [`Document`]. A selector
-//! that is valid and not supported, such as `a:has(b)`, matches nothing. Nested rules are not read, and the
-//! order of layers makes no difference.
-use crate::erased::{css_index, css_selectors, css_sheet, css_syntax, css_tree};
+//! that is valid and not supported, such as `a:has(b)`, matches nothing. Nested rules are not read.
+use crate::erased::{css_index, css_matching, css_selectors, css_sheet, css_syntax, css_tree};
 use crate::rattle_std::alloc::Global;
 use crate::{done, tree::Tree, within, TextPos};
 use alloc::string::{String, ToString};
@@ -97,7 +96,7 @@ impl<'a> Selector<'a> {
 
     /// Returns the name of the pseudo-element at the end, if there is one.
     pub fn pseudo_element(&self) -> Option<&str> {
-        self.0.pseudo_element()
+        self.0.pseudo_element().map(|it| it.element.name.as_str())
     }
 
     /// Returns the specificity.
@@ -124,27 +123,38 @@ impl fmt::Display for Selector<'_> {
     }
 }
 
-/// The rules hold more declarations than the limit.
+/// Why a sheet is not read.
 #[derive(Clone, Copy, Debug, PartialEq)]
-pub struct TooManyDeclarations;
+pub enum SheetError {
+    /// The rules hold more declarations than the limit.
+    TooManyDeclarations,
+    /// There are more than 1,024 layers.
+    TooManyLayers,
+}
 
-impl fmt::Display for TooManyDeclarations {
+impl fmt::Display for SheetError {
     fn fmt(&self, f: &mut fmt::Formatter<'_>) -> fmt::Result {
-        f.write_str("the rules hold more declarations than the limit")
+        f.write_str(match self {
+            SheetError::TooManyDeclarations => "the rules hold more declarations than the limit",
+            SheetError::TooManyLayers => "there are more than 1,024 layers",
+        })
     }
 }
 
-impl crate::rattle_std::error::Error for TooManyDeclarations {}
+impl crate::rattle_std::error::Error for SheetError {}
 
-/// The style rules of a sheet, in the order of the cascade without layers.
+/// The style rules of a sheet, in the order of the cascade.
 pub struct Sheet<'a>(crate::rattle_std::vec::Vec<css_sheet::SheetRule<'a>>);
 
 impl<'a> Sheet<'a> {
-    /// Reads a sheet. `holds` says whether the condition of a group rule holds, by the name of the rule
-    /// without the `@` and its prelude. Set a limit for texts from untrusted sources
+    /// Reads a sheet. `holds` says whether the condition of a group rule that is no `@layer` holds, by the
+    /// keyword that its name is and its prelude. Set a limit for texts from untrusted sources
     /// ([`Sheet::read_limited`]).
-    pub fn read(text: &'a str, holds: impl Fn(&str, &str) -> bool) -> Self {
-        Sheet(done(css_sheet::read_sheet(Global, within(text), usize::MAX, holds)))
+    pub fn read(
+        text: &'a str,
+        holds: impl Fn(&str, &str) -> bool,
+    ) -> Result<Self, SheetError> {
+        Sheet::read_limited(text, usize::MAX, holds)
     }
 
     /// Reads a sheet as [`Sheet::read`] does, unless its rules hold more than `most` declarations.
@@ -152,9 +162,10 @@ impl<'a> Sheet<'a> {
         text: &'a str,
         most: usize,
         holds: impl Fn(&str, &str) -> bool,
-    ) -> Result<Self, TooManyDeclarations> {
+    ) -> Result<Self, SheetError> {
         match css_sheet::read_sheet(Global, within(text), most, holds) {
-            Err(css_sheet::SheetError::TooManyDeclarations) => Err(TooManyDeclarations),
+            Err(css_sheet::SheetError::TooManyDeclarations) => Err(SheetError::TooManyDeclarations),
+            Err(css_sheet::SheetError::TooManyLayers) => Err(SheetError::TooManyLayers),
             outcome => Ok(Sheet(done(outcome))),
         }
     }
@@ -164,8 +175,8 @@ impl<'a> Sheet<'a> {
         self.0 .0.iter().map(Rule)
     }
 
-    /// Returns the declaration of a property that wins on the element: the last of the important ones, or
-    /// the last if none is important. Shorthands are not expanded.
+    /// Returns the declaration of a property that wins on the element: by importance, by layers, by
+    /// specificity, and by where it stands. Shorthands are not expanded.
     pub fn winning<E: Element>(&self, element: &E, property: &str) -> Option<Declaration<'a>> {
         css_sheet::winning(&self.0, element, property)
     }
@@ -182,6 +193,7 @@ impl<'a> Sheet<'a> {
     pub fn walk(&self) -> Walk<'_, 'a> {
         Walk {
             walk: done(css_index::SelectorWalk::new(Global, &self.0)),
+            tried: crate::rattle_std::vec::Vec::new(Global),
             indices: crate::rattle_std::vec::Vec::new(Global),
         }
     }
@@ -244,7 +256,7 @@ impl Index<'_, '_> {
 /// let list = tree.push(None, "ul").unwrap();
 /// let item = tree.push(Some(list), "li").unwrap();
 /// let document = Document::new(&tree);
-/// let sheet = Sheet::read("li { margin: 0 } ul > li { color: red } ol li { color: blue }", |_, _| false);
+/// let sheet = Sheet::read("li { margin: 0 } ul > li { color: red } ol li { color: blue }", |_, _| false).unwrap();
 ///
 /// let mut walk = sheet.walk();
 /// walk.enter(&document.node(list).unwrap());
@@ -253,6 +265,7 @@ impl Index<'_, '_> {
 /// ```
 pub struct Walk<'s, 'a> {
     walk: css_index::SelectorWalk<'s, 'a>,
+    tried: crate::rattle_std::vec::Vec<usize>,
     indices: crate::rattle_std::vec::Vec<usize>,
 }
 
@@ -269,7 +282,8 @@ impl Walk<'_, '_> {
 
     /// Returns what [`Index::matching`] returns for an element whose ancestors are the open elements.
     pub fn matching<E: Keyed>(&mut self, element: &E) -> &[usize] {
-        done(self.walk.matching(element, &mut self.indices));
+        let mut tests = css_matching::Tests::new();
+        done(self.walk.matching(element, &mut self.tried, &mut self.indices, &mut tests));
         &self.indices
     }
 }

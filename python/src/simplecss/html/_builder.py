@@ -164,7 +164,10 @@ def is_quirky(doctype: str) -> bool:
     # Something else follows the name or the identifier.
     if not found.group(5) and found.group(4) is None:
         return True
-    if first.startswith(_QUIRKS) or first in ("-/w3c/dtd html 4.0 transitional/en", "html"):
+    if first.startswith(_QUIRKS) or first in (
+        "-/w3c/dtd html 4.0 transitional/en",
+        "html",
+    ):
         return True
     is_old = first.startswith(
         ("-//w3c//dtd html 4.01 frameset//", "-//w3c//dtd html 4.01 transitional//")
@@ -362,7 +365,10 @@ class Builder:
         if node.start == token.start and node.inner == token.end:
             node.inner_end = node.outer_end = token.end
         else:
-            node.inner_end, node.outer_end = token.start, token.end if is_own else token.start
+            node.inner_end, node.outer_end = (
+                token.start,
+                token.end if is_own else token.start,
+            )
 
     def _remove(self, node: Node) -> None:
         """Removes an element from the open ones, if it is one."""
@@ -743,7 +749,10 @@ class Builder:
                 and token.name not in ("mglyph", "malignmark")
             ):
                 return False
-        if (top.space, top.name) == (MATH, "annotation-xml") and (token.kind, token.name) == (
+        if (top.space, top.name) == (MATH, "annotation-xml") and (
+            token.kind,
+            token.name,
+        ) == (
             START,
             "svg",
         ):
@@ -1443,7 +1452,13 @@ class Builder:
             if self._has(name, _TABLE_SCOPE):
                 self._end_cell()
                 self._process(token)
-        elif token.kind != END or name not in ("body", "caption", "col", "colgroup", "html"):
+        elif token.kind != END or name not in (
+            "body",
+            "caption",
+            "col",
+            "colgroup",
+            "html",
+        ):
             self._in_body(token)
 
     def _end_cell(self) -> None:
@@ -1457,7 +1472,10 @@ class Builder:
     def _after_body(self, token: Token) -> None:
         if token.kind == TEXT and is_blank(self.text[token.start : token.end]):
             self._in_body(token)
-        elif token.kind not in (EOF, DOCTYPE) and (token.kind, token.name) != (END, "html"):
+        elif token.kind not in (EOF, DOCTYPE) and (token.kind, token.name) != (
+            END,
+            "html",
+        ):
             self._go(Builder._in_body, token)
 
     def _in_frameset(self, token: Token) -> None:
@@ -1554,7 +1572,10 @@ def _is_html_point(node: Node) -> bool:
     if node.space == SVG:
         return node.name in _SVG_SCOPE
     encoding = lower(node.attributes.get("encoding", ""))
-    return node.name == "annotation-xml" and encoding in ("text/html", "application/xhtml+xml")
+    return node.name == "annotation-xml" and encoding in (
+        "text/html",
+        "application/xhtml+xml",
+    )
 
 
 Handler = Callable[[Builder, Token], None]

@@ -61,7 +61,10 @@ _LABELS: Dict[str, str] = {
             "csiso88598e csisolatinhebrew hebrew iso-8859-8 iso-8859-8-e iso-ir-138 iso8859-8"
             " iso88598 iso_8859-8 iso_8859-8:1988 visual csiso88598i iso-8859-8-i logical",
         ),
-        ("iso8859-10", "csisolatin6 iso-8859-10 iso-ir-157 iso8859-10 iso885910 l6 latin6"),
+        (
+            "iso8859-10",
+            "csisolatin6 iso-8859-10 iso-ir-157 iso8859-10 iso885910 l6 latin6",
+        ),
         ("iso8859-13", "iso-8859-13 iso8859-13 iso885913"),
         ("iso8859-14", "iso-8859-14 iso8859-14 iso885914"),
         ("iso8859-15", "csisolatin9 iso-8859-15 iso8859-15 iso885915 iso_8859-15 l9"),
@@ -97,7 +100,10 @@ _LABELS: Dict[str, str] = {
         ("big5hkscs", "big5 big5-hkscs cn-big5 csbig5 x-x-big5"),
         ("euc_jp", "cseucpkdfmtjapanese euc-jp x-euc-jp"),
         ("iso2022_jp", "csiso2022jp iso-2022-jp"),
-        ("cp932", "csshiftjis ms932 ms_kanji shift-jis shift_jis sjis windows-31j x-sjis"),
+        (
+            "cp932",
+            "csshiftjis ms932 ms_kanji shift-jis shift_jis sjis windows-31j x-sjis",
+        ),
         (
             "cp949",
             "cseuckr csksc56011987 euc-kr iso-ir-149 korean ks_c_5601-1987 ks_c_5601-1989 ksc5601"
@@ -153,7 +159,11 @@ class Encoding:
         if _ESCAPE in data and not (self._is_named and _is_agreed(text, data)):
             at = data.index(_ESCAPE)
             raise UnicodeDecodeError(
-                self._name, data, at, at + 1, "the page has to name its encoding, and one only"
+                self._name,
+                data,
+                at,
+                at + 1,
+                "the page has to name its encoding, and one only",
             )
         if self._name == "iso2022_jp" and self(text) != data:
             raise UnicodeDecodeError(

@@ -52,3 +52,32 @@ unsafe fn filled<'a, T>(items: *mut T, len: usize) -> &'a mut [T] {
 pub extern "C" fn simplecss_is_erased() -> u32 {
     1
 }
+
+/// What a program on WebAssembly calls to pass texts and take answers: it has no allocator of its own.
+#[cfg(target_family = "wasm")]
+mod memory {
+    use alloc::vec::Vec;
+    use std::cell::RefCell;
+
+    thread_local! {
+        static TAKEN: RefCell<Vec<Vec<u64>>> = RefCell::new(Vec::new());
+    }
+
+    /// Takes room for as many bytes. Null if there is none.
+    #[no_mangle]
+    extern "C" fn simplecss_take(len: usize) -> *mut u64 {
+        let mut room = Vec::new();
+        if room.try_reserve_exact(len / 8 + 1).is_err() {
+            return core::ptr::null_mut();
+        }
+        let start = room.as_mut_ptr();
+        TAKEN.with(|taken| taken.borrow_mut().push(room));
+        start
+    }
+
+    /// Frees all that was taken.
+    #[no_mangle]
+    extern "C" fn simplecss_reset() {
+        TAKEN.with(|taken| taken.borrow_mut().clear());
+    }
+}
