@@ -1,12 +1,15 @@
 """Measures how the time of the program grows with its input: each input at a size and at ten times
 that size.
 
-    cost.py [PROGRAM [MATCHER]] [--modern SELECTORS] [--python]     PROGRAM is the built `cssq`
+    cost.py [PROGRAM [MATCHER]] [--modern SELECTORS] [--library LIBRARY] [--python]
+
+PROGRAM is the built `cssq`.
 
 MATCHER, if given, is another program of the command `match`: its time at the larger size stands
 last for the inputs of `match`. SELECTORS, if given, is the built `tests_driver`, which reads
-modern selectors, matches them on a tree and prints them. With
---python, calls of the Python package are measured, too, in a process each: at a size and at four
+modern selectors, matches them on a tree and prints them. LIBRARY, if given, is the C library: pages
+that are hostile to a search are matched by its calls, at a size and at four times that size, by both
+grammars. With --python, calls of the Python package are measured, too, in a process each: at a size and at four
 times that size, and the most memory. Where what would be made is a product, the larger size may be
 refused: its time is that until then.
 
@@ -26,6 +29,10 @@ import subprocess
 import sys
 import tempfile
 from typing import Any, Callable, Dict, Iterator, List, Optional, Sequence, Tuple
+
+sys.path.insert(0, os.path.dirname(os.path.dirname(os.path.abspath(__file__))))
+
+from bench.library import Library  # noqa: E402
 
 # What a size makes: a text, lines of a tree, or words and the file that is standard input.
 Text = Callable[[int], str]
@@ -483,6 +490,66 @@ PYTHON: Sequence[Tuple[str, int, str, str]] = [
 ]
 
 
+def chain_of(n: int) -> str:
+    """A chain of n elements, the first of which has a language."""
+    return "0\ta\tlang=en\n" + "".join(f"{depth}\ta\n" for depth in range(1, n))
+
+
+def keyed(n: int) -> str:
+    """An element of n attributes."""
+    return "0\ta" + "".join(f"\tk{i}=v" for i in range(n)) + "\n"
+
+
+def numbered(selector: str) -> Callable[[int], List[str]]:
+    """n selectors, each with its number."""
+    return lambda n: [selector.format(i) for i in range(n)]
+
+
+# What is hostile to a search, a size, the selectors at a size, and the page.
+SEARCHES: List[Tuple[str, int, Callable[[int], List[str]], Text]] = [
+    (
+        "200 rules on leaves under 50 ancestors",
+        5_000,
+        lambda n: numbered(".q{} .leaf")(200),
+        leaves(50),
+    ),
+    ("a chain of elements", 5_000, lambda n: numbered(".x{0} .c{0}")(97), lambda n: deep(n)),
+    (
+        "children of a parent of 1,000 words",
+        10_000,
+        lambda n: numbered(".x{} > *")(20),
+        children(1_000),
+    ),
+    ("a parent of n words and n children", 2_000, lambda n: [".x > *"], lambda n: children(n)(n)),
+    (
+        "a repeated word and n rules",
+        2_000,
+        lambda n: n * [".a"],
+        lambda n: f"0\ta\tclass={n * 'a '}\n",
+    ),
+    ("n rules [k=v], an element of n attributes", 1_000, numbered("[k{}='v']"), keyed),
+    ("n ids that no element has", 20_000, numbered("#i{}"), lambda n: "0\ta\tid=x\n"),
+    (":lang(x) on a chain", 2_000, lambda n: [":lang(x)"], chain_of),
+]
+
+
+def show_searches(library: Library) -> None:
+    """Prints the lines of the calls of the C library, by both grammars."""
+    print(
+        f"{'call of the C library':46} {'size':>9} {'ms':>9} {'four times':>10} {'ms':>9} {'ratio':>6}"
+    )
+    for name, size, selectors, page in SEARCHES:
+        for grammar, is_modern in (("CSS 2.1", False), ("modern", True)):
+            small, large = (
+                library.match(selectors(n), page(n), is_modern) for n in (size, 4 * size)
+            )
+            print(
+                f"{name + ', ' + grammar:56} {size:9} {small:9.1f} {4 * size:10} {large:9.1f}"
+                f" {large / max(small, 0.1):6.1f}",
+                flush=True,
+            )
+
+
 def call(size: int, text: str, expression: str, runs: int = 3) -> Tuple[float, int]:
     """The least processor time of some processes that make a call, in milliseconds, and their most
     memory."""
@@ -533,6 +600,7 @@ def main() -> None:
     parser.add_argument("program", type=absolute, nargs="?")
     parser.add_argument("matcher", type=absolute, nargs="?")
     parser.add_argument("--modern", type=absolute)
+    parser.add_argument("--library", type=absolute)
     parser.add_argument("--python", action="store_true")
     given = parser.parse_args()
     print(f"{'input':40} {'size':>9} {'ms':>9} {'ten times':>10} {'ms':>9} {'ratio':>6}")
@@ -540,6 +608,8 @@ def main() -> None:
         show(name, size, words_of, given.program, given.matcher)
     for name, size, words_of in MODERN if given.modern else []:
         show(name, size, words_of, given.modern, None)
+    if given.library:
+        show_searches(Library(given.library))
     if given.python:
         show_calls()
 

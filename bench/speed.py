@@ -2,7 +2,9 @@
 programs of the same commands.
 
     speed.py PROGRAM [OTHER] [--matcher MATCHER] [--out FOLDER] [--runs N] [--quick]
+    speed.py --libraries [--modern MODERN] [--out FOLDER] [--runs N] [--quick]
     speed.py --python [--out FOLDER]
+    speed.py --all PROGRAM ..    all three, in one run
 
 PROGRAM is the built `cssq`. OTHER and MATCHER, if given, are run on the same files, one run of each
 after another. OTHER is called the Rust crate, and MATCHER Servo's crates. Their standard output
@@ -16,6 +18,10 @@ Prints a table, and writes it with a picture to FOLDER: speed.md and speed.svg. 
 least of N runs of the whole process, in milliseconds of processor time. The most resident memory,
 in megabytes, is that of one more run below GNU `time`, if it is there: of a process that Python
 starts the system reports no less than Python's own.
+
+--libraries measures the C library in out/ and the module `modern` of the Rust crate, as the programs
+bench/library.c and bench/library.rs, which gcc and cargo make in FOLDER. MODERN, if given, is the
+same over Servo's crates: its `match` must print the same.
 
 --python measures the Python package beside other packages on the same sheet and page, and prints a
 table. What is not installed is left out. Each call is made five times in a process of its own, one
@@ -49,6 +55,20 @@ ENVIRONMENT = {**os.environ, "GLIBC_TUNABLES": "glibc.malloc.hugetlb=1", "PEER_W
 SLOW = ("20,000 rule sets", "children of", "a chain")
 # After this many seconds a row has no more than three runs.
 PATIENCE = 8.0
+TOP = os.path.dirname(os.path.dirname(os.path.abspath(__file__)))
+PACKAGE = os.path.join(TOP, "python", "src")
+# The program over the Rust crate.
+PROJECT = """[package]
+name = "library"
+version = "0.0.0"
+edition = "2021"
+[dependencies]
+simplecss = { path = "../crate", default-features = false, features = ["modern"] }
+[profile.release]
+lto = true
+codegen-units = 1
+[workspace]
+"""
 
 
 @dataclass(frozen=True)
@@ -371,6 +391,85 @@ def match_made(bench: Bench, css: str, tree: List[str]) -> None:
     )
 
 
+# ---- the libraries
+
+
+def program_in_c(folder: str) -> Optional[str]:
+    """Makes the program over the C library. Returns its path, or none if a part is missing."""
+    made, archive = os.path.join(folder, "library_c"), os.path.join(TOP, "out", "libsimplecss.a")
+    if not shutil.which("gcc") or not os.path.exists(archive):
+        return None
+    words = ["gcc", "-O2", "-I", os.path.join(TOP, "include"), os.path.join(TOP, "bench/library.c")]
+    subprocess.run([*words, archive, "-o", made], check=True)
+    return made
+
+
+def program_in_rust(folder: str) -> Optional[str]:
+    """Makes the program over the Rust crate. Returns its path, or none if there is no cargo."""
+    if not shutil.which("cargo"):
+        return None
+    project, source = os.path.join(folder, "library"), os.path.join(folder, "library/src/main.rs")
+    os.makedirs(os.path.dirname(source), exist_ok=True)
+    shutil.copy(os.path.join(TOP, "bench/library.rs"), source)
+    with open(os.path.join(project, "Cargo.toml"), "w", encoding="utf-8") as file:
+        file.write(PROJECT)
+    erase = os.path.join(TOP, "tools/erase.py")
+    shutil.rmtree(os.path.join(folder, "crate"), ignore_errors=True)
+    subprocess.run([sys.executable, erase, os.path.join(folder, "crate")], check=True)
+    words = ["cargo", "build", "-q", "--release", "--offline", "--target-dir", "target"]
+    subprocess.run(words, cwd=project, check=True)
+    return os.path.join(project, "target/release/library")
+
+
+def libraries(folder: str, modern: Optional[str]) -> List[Program]:
+    """Returns the programs over the libraries, and the one over Servo's crates."""
+    every, match = ("json", "match"), ("match",)
+    named = [
+        ("C", "#1764c0", program_in_c(folder), every),
+        ("Rust", "#c04a17", program_in_rust(folder), match),
+        ("Servo's crates", "#2c8a3a", modern and os.path.abspath(modern), every),
+    ]
+    return [
+        Program(name, colour, path, commands, match)
+        for name, colour, path, commands in named
+        if path
+    ]
+
+
+def selectors_of(css: str) -> str:
+    """Returns the selectors of the rules of a sheet, each on a line."""
+    if PACKAGE not in sys.path:
+        sys.path.insert(0, PACKAGE)
+    from simplecss import StyleSheet
+
+    rules_of_it = StyleSheet(css, limit=sys.maxsize).rules
+    return "".join(f"{it.selector}\n" for it in rules_of_it if it.pseudo_element is None)
+
+
+def modern_pages(tree: List[str]) -> Iterator[Tuple[str, str, Callable[[], str]]]:
+    """Returns what pages are, their sheets, and what makes them."""
+    yield from made_pages(tree)
+    counted = rules(1_000, ".k{0}:nth-child(2n+1)") + rules(20, ".k{0} ~ .k5")
+    yield "`:nth-child` and `~` on 20,000 elements", counted, lambda: classed(20_000)
+    lists = rules(1_000, ":is(.k{0}, #x):not(.y, body > .z)")
+    yield "`:is` and `:not` on 20,000 elements", lists, lambda: classed(20_000)
+
+
+def show_libraries(bench: Bench, css: str, tree: List[str], is_quick: bool) -> None:
+    """Reads sheets, and matches selectors on pages, by the libraries."""
+    show_names(bench)
+    for times in (1, 4) if is_quick else (1, 4, 16):
+        path = bench.put(f"sheet{times}.css", css * times)
+        bench.run(f"json: {len(css) * times / 1e6:.1f} MB", 0, ["json", path])
+    selectors = bench.put("selectors", selectors_of(css))
+    for lines in (tree[: len(tree) // 4], tree) if is_quick else (tree, tree * 4, tree * 40):
+        path = bench.put("part.tree", tree_of(lines))
+        bench.run(f"match: {len(lines):,} elements", 0, ["match", selectors, path])
+    for what, text, page in () if is_quick else modern_pages(tree):
+        selectors, path = bench.put("made", selectors_of(text)), bench.put("made.tree", page())
+        bench.run(f"match: {what}", 0, ["match", selectors, path])
+
+
 @dataclass(frozen=True)
 class Panel:
     """A curve for each program on double logarithmic scales."""
@@ -496,7 +595,8 @@ def table(bench: Bench, source: str) -> str:
         f"Machine: {processor()}, {os.cpu_count()} processors. Date: {time.strftime('%Y-%m-%d')}.",
         f"Texts: {source}.",
         "",
-        "||`cssq`, ms|MB|" + "".join(f"{it.name}, ms|MB|times|" for it in rivals),
+        f"||{bench.programs[0].name}, ms|MB|"
+        + "".join(f"{it.name}, ms|MB|times|" for it in rivals),
         "|---|---|---|" + "---|---|---|" * len(rivals),
     ]
     for row in bench.rows:
@@ -598,8 +698,7 @@ CALLS: Dict[str, Dict[str, Tuple[str, str]]] = {
 def measured_call(prepare: str, expression: str, files: Sequence[str]) -> Optional[float]:
     """Returns the least processor time of a call of Python, or `None` if a package is missing."""
     code = CALL.format(prepare=prepare, expression=expression)
-    top = os.path.dirname(os.path.dirname(os.path.abspath(__file__)))
-    environment = {**os.environ, "PYTHONPATH": os.path.join(top, "python", "src")}
+    environment = {**os.environ, "PYTHONPATH": PACKAGE}
     words = [sys.executable, "-c", code, *files]
     done = subprocess.run(words, capture_output=True, text=True, check=False, env=environment)
     if (
@@ -613,36 +712,30 @@ def measured_call(prepare: str, expression: str, files: Sequence[str]) -> Option
 
 def started(code: str) -> float:
     """Returns the least processor time of some processes of Python in milliseconds."""
-    top = os.path.dirname(os.path.dirname(os.path.abspath(__file__)))
-    words = [
-        "-c",
-        f"import sys; sys.path.insert(0, {os.path.join(top, 'python', 'src')!r}); {code}",
-    ]
+    words = ["-c", f"import sys; sys.path.insert(0, {PACKAGE!r}); {code}"]
     return min(measured(sys.executable, words)[0] for _ in range(15))
 
 
-def show_python(bench: Bench, css: str, page: str) -> None:
-    """Prints the table of the Python package."""
+def python_rows(bench: Bench, css: str, page: str) -> Iterator[str]:
+    """Yields the table of the Python package."""
     files = [bench.put("page.html", page), bench.put("sheet.css", css)]
-    print("||simplecss, ms|others, in times of it|\n|---|---|---|")
+    yield "||simplecss, ms|others, in times of it|\n|---|---|---|"
     plain = started("pass")
     for code in ("import simplecss", "from simplecss import Tree", "from simplecss import inline"):
-        print(
-            f"|`{code}`|{started(code) - plain:.1f}|`python3 -c pass` {plain:.1f} ms|", flush=True
-        )
+        yield f"|`{code}`|{started(code) - plain:.1f}|`python3 -c pass` {plain:.1f} ms|"
     for what, calls in CALLS.items():
         times = {name: measured_call(*call, files) for name, call in calls.items()}
         own = times.pop("simplecss")
         if own is not None:
             others = ", ".join(f"{name} {time / own:.2f}" for name, time in times.items() if time)
-            print(f"|{what}|{own:.1f}|{others}|", flush=True)
+            yield f"|{what}|{own:.1f}|{others}|"
 
 
 def programs_of(words: argparse.Namespace) -> List[Program]:
     """Returns the program and the others that were named."""
     every = ("sheet", "match", "style")
     named = [
-        ("cssq", "#1764c0", words.program, every, every),
+        ("`cssq`", "#1764c0", words.program, every, every),
         ("the Rust crate", "#c04a17", words.other, every, every),
         ("Servo's crates", "#2c8a3a", words.matcher, ("sheet", "match"), ("match",)),
     ]
@@ -653,48 +746,93 @@ def programs_of(words: argparse.Namespace) -> List[Program]:
     ]
 
 
-def main() -> None:
-    """Makes all rows, the table and the picture."""
+def words_of() -> argparse.Namespace:
+    """Returns the words of the command line."""
     parser = argparse.ArgumentParser()
     parser.add_argument("program", nargs="?")
     parser.add_argument("other", nargs="?")
     parser.add_argument("--matcher")
+    parser.add_argument("--modern")
     parser.add_argument("--out", default=os.path.join(tempfile.gettempdir(), "cssq-speed"))
     parser.add_argument("--runs", type=int, default=9)
     parser.add_argument("--quick", action="store_true", help="only small inputs")
+    parser.add_argument("--libraries", action="store_true", help="the libraries for C and Rust")
     parser.add_argument("--python", action="store_true", help="the Python package")
+    parser.add_argument("--all", action="store_true", help="all of them")
     words = parser.parse_args()
-    if not words.program and not words.python:
+    words.libraries, words.python = words.libraries or words.all, words.python or words.all
+    if not words.program and (words.all or not words.python and not words.libraries):
         parser.error("no program")
-    os.makedirs(words.out, exist_ok=True)
+    return words
+
+
+def show_names(bench: Bench) -> None:
+    """Prints the names of the programs above their columns."""
+    named = "".join(f" {it.name:>18}" for it in bench.programs)
+    print(f"{'milliseconds and megabytes':52}{named}")
+
+
+def measure_programs(
+    words: argparse.Namespace, css: str, tree: List[str], source: str
+) -> Iterator[str]:
+    """Measures the programs, writes the picture, and yields the table."""
     bench = Bench(programs_of(words), words.out, words.runs)
+    show_names(bench)
+    read_sheets(bench, css, words.quick)
+    match_parts(bench, css, tree, words.quick)
+    if not words.quick:
+        match_made(bench, css, tree)
+    bench.put("speed.svg", picture(bench))
+    yield table(bench, source) + "\n"
+
+
+def measure_libraries(
+    words: argparse.Namespace, css: str, tree: List[str], source: str
+) -> Iterator[str]:
+    """Measures the libraries for C and Rust, and yields the table."""
+    bench = Bench(libraries(words.out, words.modern), words.out, words.runs)
+    if not bench.programs or bench.programs[0].name != "C":
+        sys.exit("the C library is not measured: there is no gcc, or no out/libsimplecss.a")
+    show_libraries(bench, css, tree, words.quick)
+    yield table(bench, source) + "\n"
+
+
+def measure_python(words: argparse.Namespace, css: str, page: Optional[str]) -> Iterator[str]:
+    """Measures the Python package, prints the table, and yields its lines."""
+    if not page:
+        sys.exit("the sheet and the page cannot be fetched")
+    for line in python_rows(Bench([], words.out, words.runs), css, page):
+        print(line, flush=True)
+        yield line + "\n"
+
+
+def main() -> None:
+    """Makes all rows, the tables and the picture."""
+    words = words_of()
+    os.makedirs(words.out, exist_ok=True)
     css = fetched(words.out, "libjs-bootstrap4", "bootstrap.css")
     page = fetched(words.out, "developers-reference", "developers-reference.html")
     source = (
         "bootstrap.css of Debian's libjs-bootstrap4, and the page developers-reference.html of"
         " Debian"
     )
-    if words.python:
-        if not (css and page):
-            sys.exit("the sheet and the page cannot be fetched")
-        show_python(bench, css, page)
-        return
     elements = Elements()
     if css and page:
         elements.feed(page)
     else:
         source = "a sheet and a page that this script makes"
-        css, elements.lines = made_sheet(1400), made_tree(8400).splitlines()
-    print(
-        f"{'milliseconds and megabytes':52}" + "".join(f" {it.name:>18}" for it in bench.programs)
-    )
-    read_sheets(bench, css, words.quick)
-    match_parts(bench, css, elements.lines, words.quick)
-    if not words.quick:
-        match_made(bench, css, elements.lines)
-    bench.put("speed.md", table(bench, source))
-    bench.put("speed.svg", picture(bench))
-    print(f"written: {os.path.join(words.out, 'speed.md')} and speed.svg")
+        css, page, elements.lines = made_sheet(1400), None, made_tree(8400).splitlines()
+    parts: List[str] = []
+    if words.program:
+        parts += measure_programs(words, css, elements.lines, source)
+    if words.libraries:
+        parts += measure_libraries(words, css, elements.lines, source)
+    if words.python:
+        parts += measure_python(words, css, page)
+    path = os.path.join(words.out, "speed.md")
+    with open(path, "w", encoding="utf-8") as file:
+        file.writelines(parts)
+    print(f"written: {path}")
 
 
 if __name__ == "__main__":

@@ -37,6 +37,7 @@ SUBJECTS = (
     ("hostile", ()),
     ("states", ()),
     ("sheets", ()),
+    ("conditions", ()),
     ("judges", ()),
     ("trees", ()),
     ("checkout", ("tests_driver",)),
@@ -46,8 +47,9 @@ CRATES = sorted({crate for _, crates in SUBJECTS for crate in crates})
 # What tests want of Debian and work without, but for what they then leave out.
 # fmt: off
 PACKAGES = (
-    "librust-roxmltree-dev", "librust-log-dev", "nodejs", "binaryen", "python3-venv",
-    "python3-setuptools", "python3-wheel", "gcc", "g++", "libc6-dev", "pkg-config",
+    "librust-roxmltree-dev", "librust-log-dev", "nodejs", "node-parse5", "node-typescript",
+    "esbuild", "binaryen", "lld", "python3-venv", "python3-setuptools", "python3-wheel", "gcc",
+    "g++", "libc6-dev", "make", "cmake", "pkg-config",
     "python3-tinycss2", "python3-soupsieve", "python3-bs4", "python3-html5lib", "python3-lxml",
     "mypy", "black", "xz-utils", "chromium",
 )
@@ -147,6 +149,8 @@ def main() -> int:
         # The subjects must not run the program of an earlier build.
         if os.path.exists(program_of(crate)):
             os.remove(program_of(crate))
+    # `rt ci` refuses a checkout with links, which unpacked packages have.
+    shutil.rmtree(os.path.join(TOP, "out", "judges", "packages"), ignore_errors=True)
     if shutil.which("rt"):
         began = time.time()
         totals.run(["rt", "ci"], "rt ci")

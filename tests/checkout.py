@@ -1,7 +1,7 @@
 """From a checkout and stock tools: what Python and cargo make of the files of the repository where
 there is no toolchain on the PATH and nothing is built. That is the crate of Rust with and without
-its features, the C library as a crate, and the Python package from the checkout and from a source
-distribution.
+its features, the C library as a crate, the Python package from the checkout and from a source
+distribution, and the npm package.
 
 The module `modern` of the crate answers as the proved crates do on random texts, whose number
 `COUNT` sets. What needs a tool or a package of Debian that is missing is left out.
@@ -20,7 +20,7 @@ import tempfile
 import unittest
 from typing import Any, Dict, List, Optional, Sequence, Set, Tuple
 
-from tests import modern_selectors, syntax
+from tests import judges_tests, modern_selectors, release, syntax
 from tests.common import DEBIAN, TOP, browser_answers, count, has_modules, library_path, read, write
 from tests.release import (
     DRAWING,
@@ -37,7 +37,26 @@ from tests.release import (
 
 FEATURES = ("", "std", "log", "modern", "std,log,modern", "bits32")
 # Targets of 32 bits, of which one may be installed.
-NARROW = ("wasm32-unknown-unknown", "i686-unknown-linux-gnu", "armv7-unknown-linux-gnueabihf")
+WASM, ARM = "wasm32-unknown-unknown", "armv7-unknown-linux-gnueabihf"
+NARROW = (WASM, "i686-unknown-linux-gnu", ARM)
+# Debian's Rust with the standard library for WebAssembly, and what its cargo needs. It is 1.63, for
+# which `let .. else` alone is too new in the erased sources.
+RUST = judges_tests.Project(
+    "Rust",
+    [],
+    [
+        *("rustc", "cargo", "libstd-rust-1.63", "libstd-rust-dev", "libstd-rust-dev-wasm32"),
+        *("libgit2-1.5", "libhttp-parser2.9", "libmbedcrypto7", "libmbedtls14", "libmbedx509-1"),
+    ],
+    lambda top, judge: None,
+    0,
+)
+STOCK_CARGO = """#!/bin/sh
+export LD_LIBRARY_PATH={usr}/lib/x86_64-linux-gnu RUSTC={usr}/bin/rustc RUSTC_BOOTSTRAP=1
+export RUSTFLAGS='-Zcrate-attr=feature(let_else) -Aunused-unsafe'
+export CARGO_TARGET_WASM32_UNKNOWN_UNKNOWN_LINKER=wasm-ld
+exec {usr}/bin/cargo "$@" --ignore-rust-version
+"""
 # What the erased sources may use of the standard library that is newer than the Rust of
 # `Cargo.toml`: for older versions `rattle_std` has it. They all use the first.
 NEWER = ("split_first_chunk", "is_some_and")
@@ -144,6 +163,20 @@ class Checkout(Release):
             self.works(words, f"erase.py: {name}", self.top, env=self.environment)
         return folder
 
+    def stock_rust(self) -> Dict[str, str]:
+        """Where cargo is that compiles by Debian's Rust, and for WebAssembly."""
+        top = os.path.join(TOP, "out", "judges")
+        why = judges_tests.fetch(RUST, top)
+        if why:
+            self.skipTest(f"{self.id().partition('.')[2]} by Debian's Rust: {why}")
+        folder = os.path.join(clean_folder(), "debian")
+        for name in RUST.packages if not os.path.isdir(folder) else ():
+            source = os.path.join(top, judges_tests.PACKAGES, name)
+            shutil.copytree(source, folder, symlinks=True, dirs_exist_ok=True)
+        path = write(os.path.join(folder, "cargo"), STOCK_CARGO.format(usr=f"{folder}/usr"))
+        os.chmod(path, 0o755)
+        return {"PATH": folder + os.pathsep + self.environment["PATH"]}
+
     def offline_cargo(self) -> Cargo:
         """Cargo without the toolchain, which takes other crates from Debian's packages and keeps
         what it compiles."""
@@ -198,33 +231,21 @@ class Rust(Checkout):
                 self.assertEqual(named - set(NEWER), set())
 
     def test_debian(self) -> None:
-        """Debian's Rust builds the crate and the C library."""
-        rustc = "/usr/bin/rustc"
-        found = re.match(
-            rb"rustc 1\.(\d+)", run([rustc, "--version"]).stdout if os.path.exists(rustc) else b""
-        )
-        if not found or int(found[1]) < 65:
-            self.skipTest(
-                "the crate by Debian's Rust: there is no rustc of 1.65 or later (rustc-web)"
-            )
-        self.cargo.environment["RUSTC"] = rustc
-        self.cargo.environment["CARGO_TARGET_DIR"] = os.path.join(self.folder, "target")
+        """Debian's Rust, which is older than what `Cargo.toml` states but for one feature, builds
+        the crate and the C library."""
+        self.cargo.environment.update(self.stock_rust())
         for package in (self.package, self.erased("c", "--c")):
             self.cargo(["check", "--all-features"], package, "cargo check by Debian's rustc")
 
     def test_narrow(self) -> None:
         """Targets of 32 bits are refused, unless the feature for them is on."""
-        words = ["rustc", "--print", "target-libdir", "--target"]
-        places = {
-            it: run([*words, it], env=self.cargo.environment).stdout.decode().strip()
-            for it in NARROW
-        }
-        able = [it for it, place in places.items() if place and os.path.isdir(place)]
+        able = [it for it in NARROW if has_target(self.cargo.environment, it)]
         if not able:
-            self.skipTest("the crate for 32 bits: no such target of Rust is installed")
-        for package in (self.package, self.erased("c", "--c")):
-            check = ["cargo", "check", "--offline", "--target", able[0], "--no-default-features"]
-            check += ["--features", "std"]
+            self.cargo.environment.update(self.stock_rust())
+        packages = ((self.package, "std,modern"), (self.erased("c", "--c"), "std"))
+        for package, features in packages:
+            check = ["cargo", "check", "--offline", "--target", [*able, WASM][0]]
+            check += ["--no-default-features", "--features", features]
             done = run(check, package, env=self.cargo.environment)
             self.assertIn(b"there is the feature `bits32`", done.stderr)
             check[-1] += ",bits32"
@@ -264,6 +285,12 @@ class Rust(Checkout):
         print(done.stdout.decode(), end="")
 
 
+def has_target(environment: Dict[str, str], target: str) -> bool:
+    """Whether the Rust of an environment has the standard library for a target."""
+    words = ["rustc", "--print", "target-libdir", "--target", target]
+    return os.path.isdir(run(words, env=environment).stdout.decode().strip())
+
+
 def unknown_names(folder: str) -> Set[str]:
     """The names in the text of a documentation that nothing in it has. What it repeats of Rust's
     own is left out."""
@@ -298,7 +325,7 @@ def named_by(messages: bytes, lint: str) -> Set[str]:
 def modern_texts(source: modern_selectors.Source) -> List[str]:
     """Random lists of selectors, sheets and lists of declarations."""
     texts = []
-    for number in range(count(4000)):
+    for number in range(count(20_000)):
         if number % 3 == 0:
             texts.append(source.changed() if number % 9 == 0 else source.listed())
         elif number % 3 == 1:
@@ -458,6 +485,24 @@ class Library(Checkout):
             folder = os.path.dirname(library_path())
             self.assertEqual(self.page_by(["cc", "-std=c99"], package, folder), PRINTED)
 
+    def test_arm(self) -> None:
+        """The library for armv7 answers as the proved one, and no sum of it leaves 32 bits."""
+        package, cargo, machine = (
+            self.erased("c", "--c"),
+            self.offline_cargo(),
+            "arm-linux-gnueabihf",
+        )
+        self.needs(f"{machine}-gcc", "the C library for armv7")
+        if not has_target(cargo.environment, ARM):
+            self.skipTest("the C library for armv7: no such target of Rust is installed")
+        variable = f"CARGO_TARGET_{ARM.replace('-', '_').upper()}_LINKER"
+        cargo.environment[variable] = f"{machine}-gcc"
+        cargo.environment["CARGO_PROFILE_RELEASE_OVERFLOW_CHECKS"] = "true"
+        words = ["build", "--release", "--features", "bits32", "--target", ARM]
+        cargo(words, package, "the C library for armv7")
+        made = os.path.join(cargo.environment["CARGO_TARGET_DIR"], ARM, "release")
+        self.emulate(made, "qemu-arm", machine)
+
     def page_by(self, words: Sequence[str], package: str, folder: str) -> bytes:
         """What the example prints where a compiler links it with the library of a folder."""
         source, made = os.path.join(self.top, "examples/c/page.c"), os.path.join(self.folder, "p")
@@ -524,3 +569,21 @@ class Python(Checkout):
         os.makedirs(os.path.join(checkout, "out"))
         shutil.copy(proved, os.path.join(checkout, "out"))
         self.answers(True, self.installed(os.path.join(checkout, "python")))
+
+
+class JavaScript(Checkout, release.Npm):
+    """The npm package that a checkout makes. Its module stops where a sum leaves 32 bits."""
+
+    IS_PROVED = "false"
+
+    def put(self, folder: str) -> None:
+        made = os.path.join(clean_folder(), "npm")
+        if not os.path.isdir(made):
+            self.environment["CARGO_PROFILE_RELEASE_OVERFLOW_CHECKS"] = "true"
+            if not has_target(self.environment, WASM):
+                self.needs("wasm-ld", "the npm package from a checkout")
+                self.environment.update(self.stock_rust())
+            tool = os.path.join(self.top, "tools", "release.py")
+            words = [sys.executable, tool, "--npm", made]
+            self.works(words, "release.py --npm", self.top, env=self.environment)
+        shutil.copytree(made, folder)

@@ -23,7 +23,7 @@ import sys
 import tempfile
 import unittest
 from pathlib import Path
-from typing import Iterator, List, Sequence, Tuple
+from typing import Dict, Iterator, List, Sequence, Tuple
 
 from tests import claims
 from tests.common import TOP, Case, answer, kit, program, read, version, write
@@ -43,6 +43,35 @@ VERSIONS = (
     ("examples/pre-commit/pyproject.toml", r'"simplecss==(.*)"'),
     ("docs/INSTALL.md", r"PWD/cssq-(\d[^/\s]*)/"),
 )
+
+# What carries each tick of the README's table, column by column: a test of this folder or of the
+# Python package, or a crate whose tests or output `rt ci` checks. Those of a cell without a tick
+# are empty.
+# fmt: off
+TICKS: Dict[str, Sequence[str]] = {
+    "the port": (
+        "release.Crate.test_answers", "test_simplecss.Port.test_rules",
+        "library_calls.Calls.test_answers", "release.Npm.test_answers", "program.Words.test_answers",
+        "tests_matching"),
+    "modern sheets": (
+        "checkout.Rust.test_answers", "sheets.Sheets.test_real_sheets",
+        "library_calls.Calls.test_answers", "release.Npm.test_python", "",
+        "syntax.Tables.test_statements"),
+    "modern selectors": (
+        "checkout.Rust.test_answers", "judges.Judges.test_cssselect",
+        "library_calls.Calls.test_answers", "release.Npm.test_browser", "",
+        "modern_selectors.Random.test_selectors"),
+    "an index of modern rules": (
+        "checkout.Rust.test_answers", "", "", "", "", "modern_selectors.Index.test_random_selectors"),
+    "the cascade: which declarations win": (
+        "checkout.Rust.test_answers", "test_simplecss.Modern.test_the_cascade",
+        "library_calls.Calls.test_answers", "release.Npm.test_browser", "program.Words.test_answers",
+        "example_modern"),
+    "inline": ("", "states.States.test_pages", "", "", "", ""),
+    "lint": ("", "test_simplecss.CommandLine.test_lint", "", "release.Npm.test_lint", "", ""),
+    "HTML is read": ("", "trees.Trees.test_html5lib", "", "", "", ""),
+}
+# fmt: on
 
 
 def flush(lines: Sequence[str]) -> List[str]:
@@ -242,6 +271,33 @@ class Sources(Case):
                         with open(entry.path, "rb") as file:
                             runs = file.read(2) == b"#!"
                         self.assertEqual(os.access(entry.path, os.X_OK), runs)
+
+
+def is_in_gate(test: str) -> bool:
+    """Whether `.ci/run` has a test of this name."""
+    module, _, rest = test.partition(".")
+    if not rest:
+        return re.search(rf"^{module}: ", read("crates.txt"), re.MULTILINE) is not None
+    kind, name = rest.split(".")
+    is_package = module.startswith("test_")
+    text = read("python/tests" if is_package else "tests", f"{module}.py")
+    body = text.partition(f"\nclass {kind}(")[2].partition("\nclass ")[0]
+    is_run = is_package or f'("{module}", (' in read("tests/all.py")
+    return is_run and f"    def {name}(self)" in body
+
+
+class Interfaces(Case):
+    def test_ticks(self) -> None:
+        """A test of the gate carries each tick of the README's table."""
+        (table,) = re.findall(r"^\| \| Rust .*\n\|[-|]+\n((?:\|.*\n)+)", read("README.md"), re.M)
+        rows = [[it.strip() for it in line.split("|")[1:-1]] for line in table.splitlines()]
+        self.assertEqual([row[0] for row in rows], list(TICKS))
+        for name, *cells in rows:
+            self.assertEqual(len(cells), len(TICKS[name]))
+            for cell, test in zip(cells, TICKS[name]):
+                with self.subTest(row=name, test=test):
+                    self.assertEqual(cell in ("✓", "port"), test != "")
+                    self.assertTrue(not test or is_in_gate(test))
 
 
 class Lengths(Case):

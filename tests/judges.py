@@ -47,6 +47,7 @@ OUTSIDE = tuple(
         ("an extension", rf"(?<!:):({EXTENSIONS})(?![-\w(])", (FIND, REFUSE)),
         ("a state, or what a call is about", rf":({STATES})\(", (FIND, READ, REFUSE)),
         ("a state, or what a call is about", rf":({STATES})(?![-\w(])", (FIND, REFUSE)),
+        ("an unsupported selector in a list", r":(is|not|where)\([^)]*:host", (FIND, READ, REFUSE)),
         ("`of` in :nth-child()", r":nth-(last-)?child\([^)]*\bof\b", (FIND, READ, REFUSE)),
         ("a pseudo-element with an argument", r"::[-\w]+\(", (FIND, READ, REFUSE)),
         ("a pseudo-class after a pseudo-element", r"::[-\w]+:(?!:)", (FIND, READ)),

@@ -33,6 +33,13 @@ class TreeFault(ctypes.Structure):
     _fields_ = [("fault", ctypes.c_uint32), ("element", SIZE)]
 
 
+class Device(ctypes.Structure):
+    """A device: its width, height, resolution, type and pointer, and whether it can hover, is dark and
+    has less motion."""
+
+    _fields_ = [(f"number_{each}", ctypes.c_uint32) for each in range(8)]
+
+
 def sizes(numbers: Sequence[int]) -> Sizes:
     """An array of sizes."""
     return (SIZE * len(numbers))(*numbers)
@@ -65,11 +72,14 @@ class Elements:
 
 
 def words_of(arguments: Sequence[Any]) -> List[Any]:
-    """Each argument as a pointer and a length, and a number as a size."""
+    """Each argument as a pointer and a length, a device as a pointer, and a number as a size."""
     words: List[Any] = []
     for argument in arguments:
         if isinstance(argument, int):
             words.append(SIZE(argument))
+            continue
+        if isinstance(argument, Device):
+            words.append(ctypes.byref(argument))
             continue
         words += (
             argument.array if isinstance(argument, Elements) else argument,
@@ -130,6 +140,29 @@ SELECTORS3 = buffer_of(
         b"li::before",
         b":is(a, [class^=n]):last-of-type",
     )
+)
+# Lists of media queries, and what they say on two devices.
+SCREEN = Device(1280, 800, 2000, 0, 2, 1, 1, 0)
+PAPER = Device(794, 1123, 1000, 1, 0, 0, 0, 1)
+MEDIA = (
+    (b"", b"true", b"true"),
+    (b"print", b"false", b"true"),
+    (b"(foo)", b"unknown", b"unknown"),
+    (b"(width >= 80em) and (hover)", b"true", b"false"),
+    (b"(width: 210mm), (1dppx < resolution)", b"true", b"false"),
+    (b"(orientation: portrait) or (prefers-color-scheme: dark)", b"true", b"true"),
+    (b"(pointer: fine)", b"true", b"false"),
+    (b"(prefers-reduced-motion)", b"false", b"true"),
+)
+# Conditions of `@supports`, and the names of properties.
+NAMES = buffer_of((b"color", b"display"))
+SUPPORTS = (
+    (b"(DISPLAY: grid)", b"true"),
+    (b"(width: 1px)", b"false"),
+    (b"(--x:) and selector(a > b)", b"true"),
+    (b"not selector(a, b)", b"true"),
+    (b"selector(:not(\xc3\xa9))", b"true"),
+    (b"display: grid", b"false"),
 )
 # The calls with a limit on the answer: those on trees, and one on a text.
 WITH_TREE = (
@@ -324,6 +357,12 @@ ANSWERS: Sequence[Tuple[str, Tuple[Any, ...], bytes]] = (
     ("simplecss_select_level3", (b"LI, a", AS_WRITTEN, *TREE3), b"6\n"),
     ("simplecss_select_level3", (b"LI, a", HTML, *TREE3), b"2\n3\n4\n5\n6\n"),
     ("simplecss_select_level3", (b":any-link, :HOVER", AS_WRITTEN, *STATES), b"1\n2\n3\n5\n"),
+    *(
+        ("simplecss_media", (text, device), answer)
+        for text, *answers in MEDIA
+        for device, answer in zip((SCREEN, PAPER), answers)
+    ),
+    *(("simplecss_supports", (text, *NAMES), answer) for text, answer in SUPPORTS),
     ("simplecss_style", (*SHEET, *PAGE, b"color"), b"1:\n2: blue !important\n3: red\n"),
     ("simplecss_styles", (*SHEET, *PAGE), b"[]\n[" + BLUE + b"]\n[" + RED + b"]\n"),
 )
@@ -357,6 +396,14 @@ FAILURES += [
     for name in ("refusal", "refusal_level3", "skipped", "read", "declarations", "close")
 ]
 FAILURES += [("simplecss_close", (value,), REFUSED) for value in UNCLOSED]
+FAILURES += [
+    ("simplecss_media", (BROKEN, SCREEN), NOT_UTF8),
+    ("simplecss_media", (b"all", Device(1, 1, 1, 3, 0, 0, 0, 0)), REFUSED),
+    ("simplecss_media", (b"all", Device(1, 1, 1, 0, 3, 0, 0, 0)), REFUSED),
+    ("simplecss_supports", (BROKEN, *NAMES), NOT_UTF8),
+    ("simplecss_supports", (b"(a:b)", b"ab", sizes([1])), REFUSED),
+    ("simplecss_supports", (b"(a:b)", BROKEN, sizes([1])), NOT_UTF8),
+]
 # Of two faults of texts the first is reported.
 for _sheet, _status in (
     ((b"ab", sizes([1]), NO_LIMIT), REFUSED),

@@ -17,6 +17,8 @@ static const char sheet[] = "ul > li { color: red }.new { color: blue !important
 static const size_t sheet_ends[] = {22, sizeof(sheet) - 1};
 static const size_t selector_ends[] = {2, 6};
 static const simplecss_element elements[] = {{0, 0, 0}, {1, 1, 0}, {1, 1, 0}};
+static const size_t name_ends[] = {5};
+static const simplecss_device device = {1280, 800, 2000, SIMPLECSS_SCREEN, SIMPLECSS_FINE, 1, 0, 0};
 static const char strings[] = "ullicl\tssnewlititlea\nb";
 static const size_t string_ends[] = {2, 4, 9, 12, 14, 19, 22};
 static uint8_t out[4096];
@@ -48,6 +50,8 @@ int main(int count, char **words) {
     case 16: status = simplecss_match_level3(TEXT("LI.new"), selector_ends, 2, SIMPLECSS_HTML, TREE, MOST, OUT, &fault); break;
     case 17: status = simplecss_select_level3(TEXT("LI:empty, :is(UL, a) > .NEW"), SIMPLECSS_HTML_QUIRKS, TREE, MOST, OUT, &fault); break;
     case 18: status = simplecss_close(TEXT("f(g['h"), OUT); break;
+    case 19: status = simplecss_media(TEXT("print, (2x <= resolution) and (hover)"), &device, OUT); break;
+    case 20: status = simplecss_supports(TEXT("(color: a) and selector(a > b)"), TEXT("color"), name_ends, 1, OUT); break;
     default: break;
     }
     (void)!write(2, "end", 3);

@@ -457,6 +457,8 @@ class Judge:
             return True
         if self.name == "soupsieve" and is_open(text):
             return True
+        if reply.endswith(" is unsupported"):
+            return bool(FORGIVING.search(plain(text)))
         if found_of(reply) is None:
             return bool(REFUSED_HERE.search(reply) or INNER.search(front_of(text, reply)))
         return has_unknown(text) and bool(theirs is None or FORGIVING.search(plain(text)))
@@ -524,18 +526,24 @@ INDEXED: Tuple[Element, Sequence[str], List[List[int]]] = (
 )
 
 
-def numbers_of(tree: Element, texts: Sequence[str]) -> List[List[int]]:
-    """For each element the numbers of the lists of which an index over all of them finds a selector,
-    each once."""
-    return [sorted(set(map(int, one.split()))) for one in answers_of("index", tree, texts)]
+# How selectors are found: by an index, and by a walk along the page.
+SEARCHES = ("index", "walk")
+
+
+def numbers_of(search: str, tree: Element, texts: Sequence[str]) -> List[List[int]]:
+    """For each element the numbers of the lists of which a search by all of them finds a selector, each
+    once."""
+    return [sorted(set(map(int, one.split()))) for one in answers_of(search, tree, texts)]
 
 
 class Index(Case):
-    """What an index over selectors finds."""
+    """What an index over selectors, and a walk, finds."""
 
     def test_table(self) -> None:
         tree, texts, wanted = INDEXED
-        self.assertEqual(numbers_of(tree, texts), wanted)
+        for search in SEARCHES:
+            with self.subTest(search):
+                self.assertEqual(numbers_of(search, tree, texts), wanted)
 
     def test_random_selectors(self) -> None:
         """It finds what testing each selector finds."""
@@ -545,12 +553,14 @@ class Index(Case):
         for _ in range(count(4000) // 50):
             tree, lists = source.tree(), [source.listed() for _ in range(50)]
             tested = [found_of(reply) or [] for reply in ours(tree, lists)]
-            for element, numbers in enumerate(numbers_of(tree, lists)):
-                others = [number for number, found in enumerate(tested) if element in found]
+            found = [numbers_of(search, tree, lists) for search in SEARCHES]
+            for element, both in enumerate(zip(*found)):
+                others = [number for number, which in enumerate(tested) if element in which]
                 elements += 1
-                if numbers != others:
-                    shown = f"an index finds {numbers}, and not {others}"
-                    failures.append(f"element {element} of {tree}: {shown}")
+                for search, numbers in zip(SEARCHES, both):
+                    if numbers != others:
+                        shown = f"the {search} finds {numbers}, and not {others}"
+                        failures.append(f"element {element} of {tree}: {shown}")
         self.sweep(elements, failures)
 
 
@@ -636,6 +646,85 @@ class Serialized(Case):
             " differences"
         )
         self.sweep(len(texts) - left_out, failures)
+
+
+# What is before a pseudo-element, pseudo-elements, and what follows them, of which the last six are
+# in no selector.
+BEFORE_ELEMENTS = ("", "a", ".c > a", "a ", "a + ", ":hover", "a:host", "*")
+PSEUDO_ELEMENTS = (
+    "::before",
+    ":AFTER",
+    ":/**/:first-line",
+    "::part(c)",
+    "::part( c d )",
+    "::slotted(a.b)",
+    "::highlight(x)",
+    "::-webkit-scrollbar-thumb",
+    "::part(a/**/b)",
+    "::cue(b)",
+    "::marker",
+)
+AFTER_ELEMENTS = (
+    "",
+    ":hover",
+    "::before",
+    ":is(:hover)",
+    ":not(:hover)",
+    "::after:hover",
+    ", b",
+    "/**/:focus",
+    ":first-child",
+    ":/**/hover",
+)
+NEVER_AFTER = (".c", " a", ":url(x)", "[c]", "#c", " > a")
+BROKEN_ELEMENTS = ("::part()", "::before(a)", ":before(a)", "::url(x)", "::part(]", "::", "::1")
+# Pseudo-classes with arguments that have no meaning here, in a selector and a list.
+FUNCTIONS = (
+    ":has(a)",
+    ":has(> a)",
+    "a:has(a, b) > c",
+    ":host",
+    ":host(a)",
+    ":host(a b)",
+    ":host-context(a)",
+    ":dir(ltr)",
+    "a:not(:has(b))",
+    "a:is(:has(b))",
+    "a, :host(b), c",
+    "a:state(x):hover",
+)
+
+
+class Unsupported(Case):
+    def test_elements(self) -> None:
+        """Texts that a browser reads are selectors, whether they have a meaning or not, and what is
+        in none of the standard is in none."""
+        texts = [
+            before + element + after
+            for before in BEFORE_ELEMENTS
+            for element in PSEUDO_ELEMENTS
+            for after in AFTER_ELEMENTS
+        ]
+        refused = [
+            before + element + after
+            for before in BEFORE_ELEMENTS
+            for element, after in [
+                *((element, after) for element in PSEUDO_ELEMENTS for after in NEVER_AFTER),
+                *((element, "") for element in BROKEN_ELEMENTS),
+            ]
+        ]
+        theirs = browser_texts([*texts, *FUNCTIONS, *refused])
+        if theirs is None:
+            self.skipTest("pseudo-elements beside chromium, which is missing or does not answer")
+        self.assertGreater(len([other for other in theirs if other]), 300)
+        failures = []
+        replies = ours(("a", {}, []), [*texts, *FUNCTIONS, *refused])
+        for text, reply, other in zip([*texts, *FUNCTIONS, *refused], replies, theirs):
+            is_read = not reply.startswith("refused") or reply.endswith(" is unsupported")
+            if other and not is_read or text in refused and (other or is_read):
+                failures.append(f"{text!r}: chromium has {other!r}, and not {reply!r}")
+        print(f"{len(replies)} texts with pseudo-elements and functions beside chromium")
+        self.sweep(len(replies), failures)
 
 
 # Language ranges, tags that are in each, and tags that are not: the examples of RFC 4647, section

@@ -673,6 +673,19 @@ class Large(Program):
         out = "1:\n" + "".join(f"{number}: 1\n" for number in range(2, MANY + 1))
         self.answers(["match", "child.css", "deep.tree"], b"", {}, 0, out, "")
 
+    def test_open_elements(self) -> None:
+        """Rules that need an ancestor which no open element is are left out: to test each on each
+        leaf would climb twenty thousand ancestors half a million times."""
+        rules = [f".m{number} .leaf {{ a:b }}\n" for number in range(500)] + [".n .leaf { c:d }"]
+        self.put("leaves.css", "".join(rules).encode())
+        depth = 20_000
+        path = "".join(f"{number}\tdiv\n" for number in range(depth)) + f"{depth}\tdiv\tclass=n\n"
+        leaves = f"{depth + 1}\tp\tclass=leaf\n" * 1_000
+        self.put("leaves.tree", (path + leaves).encode())
+        out = "".join(f"{number}:\n" for number in range(1, depth + 2))
+        out += "".join(f"{number}: 501\n" for number in range(depth + 2, depth + 1_002))
+        self.answers(["match", "leaves.css", "leaves.tree"], b"", {}, 0, out, "")
+
     def test_siblings(self) -> None:
         self.put("step.css", b"b + a { c:d }")
         self.put("wide.tree", b"0\ta\n" * 749_998 + b"0\tb\n0\ta\n")

@@ -151,11 +151,10 @@ add("Tree::push, set_attribute", ["tree", "a", "b", "c"], plain)
 # Elements with no class, one, two and a repeated one.
 CHAIN = ("", "a", "b a", "c a c")
 add("NumberedTree::new", ["numbered", *CHAIN], plain)
-add(
-    "SelectorIndex::new, matching",
-    ["modern", "*, .a, .b > .a, :is(#x, .c), [class], .c::before, :not(.c)", *CHAIN],
-    plain,
-)
+LISTED = "*, .a, .b > .a, :is(#x, .c), [class], .c::before, :not(.c)"
+add("SelectorIndex::new, matching", ["modern", LISTED, *CHAIN], plain)
+add("TreeWalk::new, matching", ["tree_walk", LISTED, *CHAIN], plain)
+add("RuleWalk::new, matching", ["rule_walk", CASCADE[0], *CHAIN], plain, 3)
 
 # After a refused request the sheet is unchanged, and the same call then reads all: the sheet's
 # text, the one that is read into it, and what the sheet prints before and after.

@@ -157,6 +157,23 @@ class Release(Case):
         )
         print(f"{what}: {len(texts)} texts")
 
+    def emulate(self, folder: str, emulator: str, machine: str) -> None:
+        """The C library of a folder, for another machine, answers as the proved one, in an
+        emulator."""
+        what = f"the library for {machine}"
+        for tool in (emulator, f"{machine}-gcc"):
+            self.needs(tool, what)
+        write(os.path.join(self.folder, "page.h"), page_in_c())
+        source, made = os.path.join(TOP, "tests/release/compare.c"), f"{self.folder}/compare"
+        words = [f"{machine}-gcc", "-O1", "-Wall", "-Werror", f"-I{TOP}/include"]
+        words += [f"-I{self.folder}", source, "-o", made, f"-L{folder}", f"-Wl,-rpath,{folder}"]
+        self.works([*words, "-lsimplecss"], f"{machine}-gcc")
+        texts, words = random_texts(), [emulator, "-L", f"/usr/{machine}", made]
+        done = self.works(words, what, input=framed(texts))
+        self.compare(
+            f"{what} and the proved library", texts, all_answered(), parts_of(done.stdout, 14)
+        )
+
 
 # ---- random texts, and what the proved library answers
 
@@ -213,7 +230,7 @@ class Library:
         )
 
     def modern_answers(self, text: bytes) -> List[bytes]:
-        """The answers of compare.mjs after those of `answers`."""
+        """The answers of compare.c after those of `answers`."""
         texts: List[Any] = [
             ("read", text),
             ("declarations", text),
@@ -231,7 +248,7 @@ class Library:
         return [self.call(*it) for it in texts]
 
     def answers(self, text: bytes) -> List[bytes]:
-        """The first answers of compare.mjs, by the grammar of the Rust crate."""
+        """The first answers of compare.c, by the grammar of the Rust crate."""
         sheet = (*library_calls.buffer_of([text]), NO_LIMIT)
         texts: List[Any] = [
             ("sheet", *sheet),
@@ -251,6 +268,26 @@ def answered() -> Tuple[List[bytes], List[List[bytes]]]:
     """The random texts, and what the proved library answers to each."""
     texts, library = random_texts(), Library()
     return texts, [library.answers(text) for text in texts]
+
+
+@functools.lru_cache(maxsize=None)
+def all_answered() -> List[List[bytes]]:
+    """What the proved library answers to each random text in the calls of compare.c."""
+    library = Library()
+    return [[*it, *library.modern_answers(text)] for text, it in zip(*answered())]
+
+
+def page_in_c() -> str:
+    """The tree of `PAGE` for compare.c."""
+    elements, strings, ends = Library().page
+    shapes, stated = list(elements.array), "static const"
+    rows = [f"{{{', '.join(map(str, shapes[at : at + 3]))}}}" for at in range(0, len(shapes), 3)]
+    return (
+        '#include "simplecss.h"\n'
+        f"{stated} simplecss_element PAGE[] = {{{', '.join(rows)}}};\n"
+        f"{stated} uint8_t STRINGS[] = {{{', '.join(map(str, strings))}}};\n"
+        f"{stated} size_t ENDS[] = {{{', '.join(map(str, ends))}}};\n"
+    )
 
 
 def modern_texts(number: int) -> List[str]:
@@ -571,38 +608,6 @@ class Crate(Release):
 
 # ---- the other packages
 
-ARM = """
-#include <dlfcn.h>
-#include <stdint.h>
-#include <stdio.h>
-#include <stdlib.h>
-#include <string.h>
-typedef uint32_t call(const uint8_t *, size_t, uint8_t *, size_t, size_t *);
-typedef uint32_t texts(
-    const uint8_t *, size_t, const size_t *, size_t, size_t, uint8_t *, size_t, size_t *);
-static uint8_t text[1 << 16], out[1 << 20];
-static void put(uint32_t status, size_t n) {
-    uint64_t w = status ? 0 : n;
-    fwrite(&w, 8, 1, stdout);
-    fwrite(out, 1, w, stdout);
-}
-int main(int argc, char **argv) {
-    void *l = dlopen(argv[argc - 1], RTLD_NOW);
-    if (!l) { fputs(dlerror(), stderr); return 1; }
-    texts *sheet = (texts *)dlsym(l, "simplecss_sheet");
-    texts *rules = (texts *)dlsym(l, "simplecss_rules");
-    call *selector = (call *)dlsym(l, "simplecss_selector");
-    call *skipped = (call *)dlsym(l, "simplecss_skipped");
-    for (uint64_t n; fread(&n, 8, 1, stdin) == 1;) {
-        size_t len = 0, end = fread(text, 1, n, stdin);
-        put(sheet(text, end, &end, 1, SIZE_MAX, out, sizeof out, &len), len);
-        put(selector(text, end, out, sizeof out, &len), len);
-        put(skipped(text, end, out, sizeof out, &len), len);
-        put(rules(text, end, &end, 1, SIZE_MAX, out, sizeof out, &len), len);
-    }
-}
-"""
-
 
 class Wheel(Release):
     """The wheel's package passes its tests where nothing else of this repository is."""
@@ -715,26 +720,13 @@ class Wheel(Release):
 
     def test_arm(self) -> None:
         """The library for aarch64 answers as the proved one, in an emulator."""
+        self.needs("qemu-aarch64", "the wheel for aarch64 was not run")
         wheel = self.made("simplecss-*aarch64*.whl")
-        if not shutil.which("qemu-aarch64") or not shutil.which("aarch64-linux-gnu-gcc"):
-            self.skipTest(
-                "the wheel for aarch64 was not run: there is no qemu-user or no"
-                " gcc-aarch64-linux-gnu"
-            )
         shutil.unpack_archive(wheel, os.path.join(self.folder, "arm"), "zip")
-        source = write(os.path.join(self.folder, "arm.c"), ARM)
-        path = os.path.join(self.folder, "arm_calls")
-        self.works(
-            ["aarch64-linux-gnu-gcc", "-O1", "-o", path, source, "-ldl"], "the program for aarch64"
-        )
-        texts, wanted = answered()
-        library = os.path.join(self.folder, "arm", "simplecss", "libsimplecss.so")
-        words = ["qemu-aarch64", "-L", "/usr/aarch64-linux-gnu", path, library]
-        done = self.works(words, "aarch64", input=framed(texts))
-        some = [[it[at] for at in (0, 1, 2, 4)] for it in wanted]
-        self.compare(
-            "the library for aarch64 and the proved library", texts, some, parts_of(done.stdout, 4)
-        )
+        folder = os.path.join(self.folder, "arm", "simplecss")
+        library = os.path.join(folder, "libsimplecss.so")
+        shutil.copy(library, library + ".0")
+        self.emulate(folder, "qemu-aarch64", "aarch64-linux-gnu")
 
 
 CMAKE = """cmake_minimum_required(VERSION 3.13)
@@ -1000,7 +992,7 @@ document.documentElement.textContent = "ANS" + "WER" + JSON.stringify(compared(c
 PROGRAM = """
 import css, { Tree, select } from 'simplecss';
 const tree = new Tree([{ name: 'a' }, { name: 'b', parent: 0, text: 'x' }]);
-console.log(select(tree, 'a > b:not(:empty)').length, css.select === select, css.version());
+console.log(select(tree, 'a > b:not(:empty)').length, css.select === select, css.version(), css.isProved());
 console.log(Object.keys(css).join(' '));
 """
 LOADING = """
@@ -1074,16 +1066,22 @@ TypeError undefined no grammar: today
 
 
 class Npm(Release):
-    """The npm package and the page."""
+    """The npm package."""
+
+    IS_PROVED = "true"
 
     def unpacked(self) -> str:
         """The folder of the package, where node finds it by its name."""
         self.needs("node", "the npm package was not run")
-        unpack(self.made("simplecss-*.tgz"), self.folder)
         folder = os.path.join(self.folder, "node_modules", "simplecss")
         os.makedirs(os.path.dirname(folder))
-        os.rename(os.path.join(self.folder, "package"), folder)
+        self.put(folder)
         return folder
+
+    def put(self, folder: str) -> None:
+        """Writes the package into a folder."""
+        unpack(self.made("simplecss-*.tgz"), self.folder)
+        os.rename(os.path.join(self.folder, "package"), folder)
 
     def program(self, text: str, name: str = "main.mjs") -> str:
         """What a program over the package prints."""
@@ -1094,9 +1092,7 @@ class Npm(Release):
         """The npm package answers as the proved library does."""
         package = self.unpacked()
         tree = write(os.path.join(self.folder, "page.json"), json.dumps(items_of_page()))
-        texts, wanted = answered()
-        library = Library()
-        due = [[*it, *library.modern_answers(text)] for it, text in zip(wanted, texts)]
+        texts, due = random_texts(), all_answered()
         words = ["node", os.path.join(TOP, "tests", "release", "compare.mjs"), package, tree]
         done = self.works(words, "node", input=framed(texts))
         self.compare(
@@ -1158,7 +1154,7 @@ class Npm(Release):
         members = re.findall(r"^  readonly (\w+): typeof \1;", stated, re.MULTILINE)
         named = re.findall(r"^export (?:class|function) (\w+)", stated, re.MULTILINE)
         self.assertEqual(sorted(set(named)), members)
-        due = f"1 true {version()}\n{' '.join(members)}\n"
+        due = f"1 true {version()} {self.IS_PROVED}\n{' '.join(members)}\n"
         self.assertEqual(self.program(PROGRAM), due)
         unread = "simplecss: call load first\nc\n1\n"
         self.assertEqual(self.program(LOADING, "loading.mjs"), unread)
@@ -1218,6 +1214,8 @@ class Npm(Release):
         self.sweep(found[1], found[0])
         self.assertGreater(found[1], 1000)
 
+
+class Page(Release):
     def test_page(self) -> None:
         """The page works from a file."""
         page = self.made("playground.html")
@@ -1285,6 +1283,7 @@ def answers_to(text: str, tree: Any, grammar: str) -> List[Any]:
         sheet.at_rules,
         sheet.skipped,
         sheet.match(tree),
+        sheet.match(tree, media=simplecss.Device(width=375, type="print", dark=True)),
         sheet.styles(tree, media=lambda query: len(query) % 2 == 0),
         sheet.style(tree, "color"),
         tried(lambda: [it.index for it in tree.select(text, grammar=grammar)]),

@@ -82,6 +82,36 @@ document.documentElement.textContent = "ANS" + "WER" + JSON.stringify(answers) +
 </script>
 """
 
+# The same with group rules in them, but layers, which have an order of their own.
+# fmt: off
+GROUPED = BLOCK + (
+    "@media all{color:red;", "@media all{", "@MEDIA all{", "@m\\65 dia all{",
+    "@supports (color:red){", "@container x{", "p{color:blue}", "p:hover{width:9px}", "color:red}",
+    "width:1px;}", "color:green;", "height:3px;",
+) + 8 * ("}",) + 2 * ("@media all{color:red;", "@media all{", "color:green;", "height:3px;")
+# fmt: on
+# What a browser keeps of the declarations of a sheet's first rule and of the group rules in it, in
+# order, and of these stretches of them, each read alone.
+STRETCHES = """
+<!DOCTYPE html><meta charset=utf-8><script id=input type="application/json">%s</script>
+<script>
+function sheet(text) { const made = new CSSStyleSheet(); made.replaceSync(text); return made.cssRules; }
+function kept(text) { const rules = sheet("x{" + text); return rules.length ? rules[0].style.cssText : ""; }
+function all(stretches) { return kept(stretches.map(kept).join(" ")); }
+function own(rule) {
+  if (rule.selectorText) return [];
+  return rule.style ? [rule.style.cssText] : Array.from(rule.cssRules || []).flatMap(own);
+}
+function stretches(rule) {
+  if (!rule || rule.selectorText != "a") return null;
+  return all([rule.style.cssText, ...Array.from(rule.cssRules).flatMap(own)]);
+}
+const texts = JSON.parse(document.getElementById("input").textContent);
+const answers = texts.map(([text, found]) => [stretches(sheet(text)[0]), all(found)]);
+document.documentElement.textContent = "ANS" + "WER" + JSON.stringify(answers) + "END";
+</script>
+"""
+
 # The pieces of random style attributes for a browser.
 # fmt: off
 STYLE = (
@@ -234,6 +264,43 @@ p::before { color: gray !important }
 div, p > > a { color: white !important }"""
 ORDER = ["p", "p::before", "p.b", "p:not(.b)", ":is(#x, .b) + p"]
 TOO_MANY = ["too many declarations"]
+
+# Sheets with group rules in style rules, which hold but for `@media print`, and for each rule its
+# selector and its declarations.
+IN_RULES = (
+    (
+        "a,b{c:d;@media x{e:f;p{g:h}i:j}k:l}",
+        [("a", "c:d"), ("b", "c:d"), ("a", "e:f"), ("b", "e:f"), ("a", "i:j"), ("b", "i:j")]
+        + [("a", "k:l"), ("b", "k:l")],
+    ),
+    ("a{@m\\65 dia PRINT{b:c}@media x{@media print{d:e}f:g}h:i}", [("a", "f:g"), ("a", "h:i")]),
+    ("a{@font-face{b:c}d:e}", [("a", "@font-face{b:c}d:e")]),
+    ("p{q{@media x{a:b}}c:d}", [("p", "c:d")]),
+    ("@media{" * 99 + "a{b:c}", [("a", "b:c")]),
+    (
+        "a{" + "@media{" * 99 + "b:" + "(" * 64 + ")" * 64 + "}" * 100 + "d{e:f}",
+        [("a", "b:" + "(" * 64 + ")" * 64), ("d", "e:f")],
+    ),
+)
+
+# Sheets with layers, and the selectors of their rules in the order of the cascade (CSS Cascading 5,
+# section 6.4), which Chromium has too.
+LAYERED = (
+    ("p{c:d}@layer x{#q{c:d}}", ["#q", "p"]),
+    ("@layer y,x;@layer x{#p{c:d}}@layer y{#q{c:d}}", ["#q", "#p"]),
+    ("@layer x{#p{c:d}@layer y{#q{c:d}}}", ["#q", "#p"]),
+    ("@layer x.y{#p{c:d}}@layer z{#q{c:d}}@layer x{#r{c:d}}", ["#p", "#r", "#q"]),
+    ("@layer x{@layer y;}@layer z{#q{c:d}}@layer x.y{#p{c:d}}", ["#p", "#q"]),
+    ("@layer{#p{c:d}}@layer x{#q{c:d}}@layer{#r{c:d}}", ["#p", "#q", "#r"]),
+    ("@media print{@layer x,y;}@layer y{#p{c:d}}@layer x{#q{c:d}}", ["#p", "#q"]),
+    ("@layer x{}@layer y{#p{c:d}}@layer x{#q{c:d}}", ["#q", "#p"]),
+    ("@layer y{#p{c:d}}@layer x,z{#q{c:d}}@layer 1{#r{c:d}}", ["#p"]),
+    ("@LAYER x{#p{c:d}}@l\\61yer y{p{c:d}}@layer \\78{#q{c:d}}", ["#p", "#q", "p"]),
+    ("@layer X{#p{c:d}}@layer x{#q{c:d}}@layer X{#r{c:d}}", ["#p", "#r", "#q"]),
+    ("#p{@layer x{c:d}e:f}@layer y{#q{c:d}}", ["#p", "#q", "#p"]),
+    ("@layer " + ",".join(f"l{n}" for n in range(1024)) + ";p{c:d}", ["p"]),
+    ("@layer " + ",".join(f"l{n}" for n in range(1025)) + ";p{c:d}", ["too many layers"]),
+)
 
 # Sheets, and of each rule set the preludes of its group rules, its prelude, and its declarations in
 # their place: a newline that ends a string is the last byte of a block, and brackets are counted
@@ -717,6 +784,16 @@ class Tables(Case):
                 [items] = fields_of(f"order {most}", [SHEET])
                 self.assertEqual([item[0] for item in items], wanted)
 
+    def test_group_rules(self) -> None:
+        """The rules of sheets with group rules in style rules."""
+        read = fields_of("order 99", [text for text, _ in IN_RULES])
+        self.check(IN_RULES, ([(item[0], item[2]) for item in items] for items in read))
+
+    def test_layers(self) -> None:
+        """The rules of sheets with layers, in the order of the cascade."""
+        read = fields_of("order 99", [text for text, _ in LAYERED])
+        self.check(LAYERED, ([item[0] for item in items] for items in read))
+
     def test_statements(self) -> None:
         self.check(STATEMENTS, statements_of([text for text, _ in STATEMENTS]))
 
@@ -793,6 +870,24 @@ class Browser(Case):
             f"{text!r}: chromium keeps {kept!r}, and of {shown!r} {other!r}"
             for text, shown, (kept, other) in zip(texts, printed, answers)
             if kept != other
+        ]
+        self.sweep(len(texts), failures)
+
+    def test_group_rules(self) -> None:
+        """Which declarations a browser keeps of a block with group rules in it, and in which order."""
+        texts = random_texts(GROUPED, 3000, 11, ("a{", "a{color:red;", "a{p{", "a{@media all{"))
+        texts = [text + "}d{color:red}" for text in texts]
+        found = [
+            [block for selector, _, block, _ in rules if selector == "a"]
+            for rules in fields_of(f"order {10**6}", texts)
+        ]
+        answers = browser_answers(STRETCHES, list(zip(texts, found)))
+        if answers is None:
+            self.skipTest("random blocks beside chromium, which is missing or does not answer")
+        failures = [
+            f"{text!r}: chromium keeps {theirs!r}, and of {own!r} {ours!r}"
+            for text, own, (theirs, ours) in zip(texts, found, answers)
+            if (theirs or "").rstrip("; ") != ours.rstrip("; ")
         ]
         self.sweep(len(texts), failures)
 

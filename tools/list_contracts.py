@@ -81,6 +81,8 @@ CALLS = (
     ("modern selectors' grammar", "css_syntax/src/selectors"),
     ("which of them are read", "css_sheet/src/selectors.rt"),
     ("rules of a sheet in order", "css_sheet/src/sheet_order.rt"),
+    ("media queries", "css_conditions/src/media.rt"),
+    ("`@supports`", "css_conditions/src/supports.rt"),
     ("reading modern selectors", "css_selectors/src/reading.rt"),
     ("printing them", "css_selectors/src/printing.rt"),
     ("matching them", "css_selectors/src/matching.rt"),

@@ -3,6 +3,8 @@
 crate, wheels, tarball, Debian package, npm package, one page, and their sums.
 
     release.py KIT [DIR]    KIT is the toolchain's folder; without DIR it writes to out/release
+    release.py --npm DIR    the npm package alone, without the toolchain and not proved: cargo
+                            compiles its module from the erased sources
 
 The bytes are the same from two checkouts of one commit: names are sorted, and times are the
 commit's. What cannot be made, since a tool is missing, is named, and the status is 1.
@@ -62,7 +64,9 @@ OF_CALLERS = """proved library of style sheets and selectors, header
  The header and the static library, for programs in C and C++, with an example."""
 # The modules of the npm package that its page has in it, each after those that it uses, and one
 # that has the WebAssembly module.
-MODULES = ("bytes", "library", "reading", "tree", "sheet", "lint")
+MODULES = ("bytes", "library", "properties", "reading", "device", "tree", "sheet", "lint")
+# The names of the properties that browsers know.
+PROPERTIES = TOP / "python/src/simplecss/properties.txt"
 BYTES = """// The WebAssembly module.
 const packed = atob('%s');
 const bytes = new Uint8Array(packed.length);
@@ -281,7 +285,7 @@ class Release:
         package = TOP / "python/src/simplecss"
         files = {
             it.relative_to(package.parent).as_posix(): it.read_bytes()
-            for it in (*package.rglob("*.py"), package / "py.typed")
+            for it in (*package.rglob("*.py"), package / "py.typed", PROPERTIES)
         }
         files["simplecss/libsimplecss.so"] = library
         files.update({f"{info}licenses/{it.name}": it.read_bytes() for it in LICENCES})
@@ -509,27 +513,14 @@ class Release:
 
     def make_npm(self) -> None:
         """Writes the npm package, and the page with all in it."""
-        wasm, parts = self.webassembly(), PARTS / "npm"
-        files = [
-            File(it.name, it.read_bytes(), 0o755 if it.name == "cli.mjs" else 0o644)
-            for it in parts.iterdir()
-            if it.suffix in (".mjs", ".ts", ".md")
-        ]
-        stated = json.loads((parts / "package.json").read_text())
-        stated["version"] = self.version
-        files += [
-            File("package.json", (json.dumps(stated, indent=2) + "\n").encode()),
-            File("simplecss.wasm", wasm),
-            File("bytes.mjs", (BYTES % base64.b64encode(wasm).decode()).encode()),
-        ]
-        files += [File(it.name, it.read_bytes()) for it in LICENCES]
+        files = npm_files(self.webassembly())
         self.write(f"simplecss-{self.version}.tgz", self.tarred(files, "package/"))
         by_name = {it.name: it.data for it in files}
         modules = (by_name[f"{it}.mjs"].decode() for it in MODULES)
         unbound = (re.sub(r"(?m)^import .*\n|^export (default .*\n)?", "", it) for it in modules)
         code = "".join(unbound)
         code += "start(new WebAssembly.Module(bytes));\n"
-        page = (parts / "playground.html").read_text().replace("// THE LIBRARY\n", code)
+        page = (PARTS / "npm/playground.html").read_text().replace("// THE LIBRARY\n", code)
         self.write("playground.html", page.encode())
 
     def webassembly(self) -> bytes:
@@ -591,6 +582,54 @@ class Release:
         return lowered.read_bytes()
 
 
+def npm_files(module: bytes) -> List[File]:
+    """Returns the files of the npm package with this module."""
+    parts = PARTS / "npm"
+    stated = json.loads((parts / "package.json").read_text())
+    stated["version"] = read_version()
+    return [
+        *(
+            File(it.name, it.read_bytes(), 0o755 if it.name == "cli.mjs" else 0o644)
+            for it in parts.iterdir()
+            if it.suffix in (".mjs", ".ts", ".md")
+        ),
+        File("package.json", (json.dumps(stated, indent=2) + "\n").encode()),
+        File("simplecss.wasm", module),
+        File("bytes.mjs", (BYTES % base64.b64encode(module).decode()).encode()),
+        File("properties.mjs", module_of(PROPERTIES.read_text()).encode()),
+        *(File(it.name, it.read_bytes()) for it in LICENCES),
+    ]
+
+
+def erased_module(room: Path) -> bytes:
+    """Returns the library that cargo makes of the erased sources for WebAssembly."""
+    crate, target = room / "crate", "wasm32-unknown-unknown"
+    run(sys.executable, TOP / "tools/erase.py", "--c", crate)
+    words = ["--release", "--offline", "--features", "bits32", "--target", target]
+    words += ["--target-dir", str(room), "--config", "profile.release.strip=true"]
+    run(need("cargo"), "build", *words, cwd=crate)
+    return (room / target / "release/simplecss.wasm").read_bytes()
+
+
+def make_erased_npm(to: Path) -> None:
+    """Writes the npm package with a module that is not proved into a folder."""
+    with tempfile.TemporaryDirectory() as room:
+        files = npm_files(erased_module(Path(room)))
+    to.mkdir(parents=True, exist_ok=True)
+    for file in files:
+        (to / file.name).write_bytes(file.data)
+        (to / file.name).chmod(file.mode)
+
+
+def module_of(lines: str) -> str:
+    """Returns the module with the names of properties, by their file."""
+    front, names = [it for it in lines.splitlines() if it[0] == "#"], re.findall(
+        "(?m)^[^#].*", lines
+    )
+    words = "".join(f"//{it[1:]}\n" for it in front)
+    return f"{words}export const properties = {json.dumps(names)};\n"
+
+
 def digest_of(data: bytes) -> str:
     """Returns the sum of a file, as a wheel's record has it."""
     return base64.urlsafe_b64encode(hashlib.sha256(data).digest()).rstrip(b"=").decode()
@@ -648,6 +687,12 @@ def main(kit: str, to: Path) -> int:
 
 
 if __name__ == "__main__":
-    if len(sys.argv) not in (2, 3):
-        sys.exit("usage: tools/release.py KIT [DIR]")
+    if len(sys.argv) not in (2, 3) or sys.argv[1] == "--npm" and not sys.argv[2:]:
+        sys.exit("usage: tools/release.py KIT [DIR] | --npm DIR")
+    if sys.argv[1] == "--npm":
+        try:
+            make_erased_npm(Path(sys.argv[2]))
+        except Missing as lacking:
+            sys.exit(f"tools/release.py: there is no {lacking}")
+        sys.exit(0)
     sys.exit(main(sys.argv[1], Path(sys.argv[2]) if sys.argv[2:] else TOP / "out/release"))

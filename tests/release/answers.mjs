@@ -29,6 +29,7 @@ function sheetOf(text, grammar) {
     sheet.atRules.map(each => [each.name, each.prelude, each.block, each.conditions.map(within)]),
     sheet.skipped.map(each => [each.row, each.column, each.reason, each.text, each.source, ...characters(each)]),
     [...sheet.match(tree).values()],
+    [...sheet.match(tree, { media: { width: 375, type: 'print', dark: true } }).values()],
     [...sheet.styles(tree, { media: query => query.length % 2 === 0 }).values()].map(each => each.map(declared)),
     [...sheet.style(tree, 'color').values()].map(declared),
   ];

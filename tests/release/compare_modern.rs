@@ -117,7 +117,7 @@ fn winners(page: &Document, count: usize, sheet: &Sheet) -> String {
 }
 
 fn answers(page: &Document, count: usize, text: &str) -> [String; 7] {
-    let (mut list, sheet) = (String::new(), Sheet::read(text, holds));
+    let (mut list, sheet) = (String::new(), Sheet::read(text, holds).unwrap());
     items(&mut list, declarations(text));
     let on_page = [matched(page, count, text), found(page, count, &sheet), winners(page, count, &sheet)];
     let [matches, index, winners] = on_page;

@@ -27,7 +27,7 @@ fn main() {
     let text = std::fs::read_to_string(std::env::args().nth(1).unwrap()).unwrap();
     let classes: Vec<String> = (0..4000).map(|it| format!("{} n{}", CLASSES[it % 6], it % 50)).collect();
     let tree = page(&classes);
-    let (document, sheet) = (Document::new(&tree), Sheet::read(&text, |_, _| true));
+    let (document, sheet) = (Document::new(&tree), Sheet::read(&text, |_, _| true).unwrap());
     let node = |number| document.node(number).unwrap();
     let by_rules = || (0..tree.len()).map(|it| sheet.rules().filter(|rule| rule.matches(&node(it))).count()).sum();
     let by_index = || {

@@ -11,6 +11,7 @@ for (const [element, declarations] of sheet.styles(tree, { media: query => query
   const name: string = element.name, value: string | undefined = declarations[0]?.value;
   console.log(name, value, own, winners);
 }
+sheet.match(tree, { media: { width: 375, resolution: 2, pointer: 'coarse' } });
 // A DOM, and what parse5 reads.
 const links: HTMLAnchorElement[] = select<HTMLAnchorElement>(document, 'a:link');
 const isLink: boolean = matches(links[0]!, new Selector('a').toString());
@@ -26,6 +27,8 @@ try {
 }
 // @ts-expect-error: there is no such grammar
 select(tree, 'a', { grammar: 'today' });
+// @ts-expect-error: there is no such type
+sheet.match(tree, { media: { type: 'tv' } });
 // @ts-expect-error: an element has a name
 new Tree([{ attributes: {} }]);
 // @ts-expect-error: a number is no text

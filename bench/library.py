@@ -1,0 +1,80 @@
+"""Calls of the C library by ctypes, for `speed.py` and `cost.py`."""
+from __future__ import annotations
+
+import ctypes
+import itertools
+import time
+from typing import Any, List, Sequence, Tuple
+
+SIZE = ctypes.c_size_t
+# The most bytes of an answer, and the room for it.
+ROOM = 1 << 27
+
+
+class TreeElement(ctypes.Structure):
+    """An element of a tree."""
+
+    _fields_ = [("depth", SIZE), ("attributes", SIZE), ("states", SIZE)]
+
+
+class TreeFault(ctypes.Structure):
+    """A fault of a tree."""
+
+    _fields_ = [("fault", ctypes.c_uint32), ("element", SIZE)]
+
+
+def buffer_of(texts: Sequence[str]) -> List[Any]:
+    """The words of a call for texts: these one after another, where each ends, and how many."""
+    parts = [text.encode() for text in texts]
+    ends = (SIZE * len(parts))(*itertools.accumulate(map(len, parts)))
+    whole = b"".join(parts)
+    return [whole, SIZE(len(whole)), ends, SIZE(len(parts))]
+
+
+def tree_of(text: str) -> List[Any]:
+    """The words of a call for a page, by its lines of `cssq`."""
+    shapes: List[Tuple[int, int, int]] = []
+    strings: List[str] = []
+    for line in text.splitlines():
+        depth, name, *attributes = line.split("\t")
+        shapes.append((int(depth), len(attributes), 0))
+        strings.append(name)
+        for attribute in attributes:
+            strings += attribute.split("=", 1) if "=" in attribute else [attribute, ""]
+    elements = (TreeElement * len(shapes))(*(TreeElement(*shape) for shape in shapes))
+    return [elements, SIZE(len(shapes)), *buffer_of(strings)]
+
+
+class Library:
+    """The library, and room for its answers."""
+
+    def __init__(self, path: str) -> None:
+        self.calls = ctypes.CDLL(path)
+        self.out = ctypes.create_string_buffer(ROOM)
+        self.length = SIZE()
+
+    def milliseconds(self, name: str, words: Sequence[Any], runs: int) -> float:
+        """The least processor time of some calls."""
+        best = float("inf")
+        for _ in range(runs):
+            fault = TreeFault()
+            start = time.process_time()
+            status = getattr(self.calls, name)(
+                *words,
+                SIZE(ROOM),
+                self.out,
+                SIZE(ROOM),
+                ctypes.byref(self.length),
+                ctypes.byref(fault),
+            )
+            best = min(best, 1000 * (time.process_time() - start))
+            if status:
+                raise ValueError(f"{name}: status {status}, element {fault.element}")
+        return best
+
+    def match(self, selectors: Sequence[str], page: str, is_modern: bool, runs: int = 5) -> float:
+        """The time of matching selectors on a page, by the grammar of CSS 2.1 or as written in a modern
+        sheet."""
+        name = "simplecss_match_level3" if is_modern else "simplecss_match_selectors"
+        reading = [SIZE(0)] if is_modern else []
+        return self.milliseconds(name, [*buffer_of(selectors), *reading, *tree_of(page)], runs)

@@ -1,0 +1,46 @@
+/* Answers of the C library, for tests/release.py and tests/checkout.py: to each text of standard input, which is a length of
+ * 8 bytes and the bytes, the answer of each call, with its length first. `page.h` has the tree. */
+#include <inttypes.h>
+#include <stdio.h>
+#include <string.h>
+
+#include "page.h"
+#include "simplecss.h"
+
+#define ROOM (1 << 20)
+#define MOST SIMPLECSS_NO_LIMIT
+#define OUT out, sizeof out, &len
+#define SHEET text, end, &end, 1
+#define TREE PAGE, sizeof PAGE / sizeof *PAGE, STRINGS, sizeof STRINGS, ENDS, sizeof ENDS / sizeof *ENDS
+
+static uint8_t text[ROOM], out[ROOM];
+static size_t len;
+static simplecss_tree_fault fault;
+
+/* Writes the answer of a call, or nothing where it refuses a text. */
+static void put(uint32_t status) {
+    uint64_t length = status == SIMPLECSS_DONE ? len : 0;
+    fwrite(&length, 8, 1, stdout);
+    fwrite(out, 1, length, stdout);
+}
+
+int main(void) {
+    for (uint64_t length; fread(&length, 8, 1, stdin) == 1;) {
+        size_t end = fread(text, 1, length, stdin);
+        put(simplecss_sheet(SHEET, MOST, OUT));
+        put(simplecss_selector(text, end, OUT));
+        put(simplecss_skipped(text, end, OUT));
+        put(simplecss_list(text, end, OUT));
+        put(simplecss_rules(SHEET, MOST, OUT));
+        put(simplecss_match(SHEET, MOST, TREE, MOST, OUT, &fault));
+        put(simplecss_styles(SHEET, MOST, TREE, MOST, OUT, &fault));
+        put(simplecss_read(text, end, MOST, OUT));
+        put(simplecss_declarations(text, end, OUT));
+        put(simplecss_close(text, end, OUT));
+        put(simplecss_list_level3(text, end, OUT));
+        put(simplecss_refusal_level3(text, end, OUT));
+        put(simplecss_select_level3(text, end, 0, TREE, MOST, OUT, &fault));
+        put(simplecss_match_level3(SHEET, 0, TREE, MOST, OUT, &fault));
+    }
+    return 0;
+}
