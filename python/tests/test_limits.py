@@ -85,6 +85,18 @@ LINEAR = (
         16,
     ),
     ("blanks of a url", rebased, lambda n: "a{b:url(" + " " * n, 200),
+    (
+        "a word that is written again",
+        simplecss.inline,
+        lambda n: f"<style>{'.a{b:c}' * (n // 4)}</style><p class='{'a ' * n}'>",
+        1_000,
+    ),
+    (
+        "children of a parent with words",
+        lambda page: simplecss.Tree.from_html(page).select("b"),
+        lambda n: f"<p class='{' '.join(f'w{i}' for i in range(n))}'>{'<b></b>' * n}",
+        1_000,
+    ),
     ("comments that are open", states_in, lambda n: "/*" * n, 8_000),
     (
         "parentheses and comments",
@@ -114,6 +126,8 @@ LINEAR = (
 )
 # Sizes at which these take milliseconds, since they are linear.
 SIZES = {
+    "a word that is written again": 4_000,
+    "children of a parent with words": 5_000,
     "comments of a selector": 4_000,
     "blanks of a url": 20_000,
     "comments that are open": 20_000,
