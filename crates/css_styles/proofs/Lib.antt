@@ -1,0 +1,8 @@
+mod BestLemmas
+mod NumberLemmas
+mod IndexLemmas
+mod PropertyLemmas
+mod ContestLemmas
+mod StatedLemmas
+mod WinningLemmas
+mod StyleLemmas
