@@ -1,5 +1,0 @@
-pub mod Contenders
-pub mod Winners
-pub mod Properties
-pub mod StyleViews
-pub mod internal
