@@ -36,7 +36,7 @@ siblings = (refl, refl, refl, refl, refl, refl)
 -- `@layer {} @layer {}`: each layer without a name is a new one
 pub anonymous_ones :
     map (λ (one : LayerText). one.number)
-    (with_layer (with_layer (outermost_layer ∷ []) 0 (anonymous 0)) 0 (anonymous 10))
+    (with_layer (with_layer (outermost_layer ∷ []) 0 (anonymous (0 ∷ 0 ∷ []))) 0 (anonymous (0 ∷ 10 ∷ [])))
     ≡ 1 ∷ 2 ∷ 0 ∷ []
 anonymous_ones = refl
 
@@ -44,6 +44,7 @@ anonymous_ones = refl
 abbrev plain : Bool → (number : ℕ) → ℕ → Weighed
 plain important number place = record {
   important = important;
+  attached = false;
   layer = place_of number four;
   specificity = 0 ∷ 0 ∷ 1 ∷ [];
   place = place ∷ [];
@@ -51,6 +52,10 @@ plain important number place = record {
 
 abbrev with_id : Weighed → Weighed
 with_id one = record one { specificity = 1 ∷ 0 ∷ 0 ∷ [] }
+
+-- the same declaration in the element's style attribute
+abbrev own : Weighed → Weighed
+own one = record one { attached = true; layer = 0; specificity = 0 ∷ 0 ∷ 0 ∷ [] }
 
 pub orders :
     -- the later place; the greater specificity
@@ -66,3 +71,19 @@ pub orders :
     -- importance before all
     × (beats (plain true 2 1) (with_id (plain false 0 2)) ≡ true)
 orders = (refl, refl, refl, refl, refl, refl, refl, refl)
+
+-- `<p style="..">`
+pub attached_ones :
+    -- a normal one beats those of all normal rules, in a layer or in none
+    (beats (own (plain false 0 1)) (with_id (plain false 0 2)) ≡ true)
+    × (beats (own (plain false 0 1)) (with_id (plain false 2 2)) ≡ true)
+    -- and loses to an important one, in whatever layer
+    × (beats (plain true 0 1) (own (plain false 0 2)) ≡ true)
+    × (beats (plain true 2 1) (own (plain false 0 2)) ≡ true)
+    -- an important one beats important rules in all layers, and in none
+    × (beats (own (plain true 0 1)) (with_id (plain true 2 2)) ≡ true)
+    × (beats (own (plain true 0 1)) (with_id (plain true 0 2)) ≡ true)
+    -- of two in the attribute the important one wins, and else the later
+    × (beats (own (plain true 0 1)) (own (plain false 0 2)) ≡ true)
+    × (beats (own (plain false 0 2)) (own (plain false 0 1)) ≡ true)
+attached_ones = (refl, refl, refl, refl, refl, refl, refl, refl)

@@ -14,7 +14,7 @@ itself n = eq-eqb n n refl
 
 same_itself : (part : LayerPart) → is_same_part part part ≡ true
 same_itself (named name) = nat_list_eq_equiv.refl name
-same_itself (anonymous place) = itself place
+same_itself (anonymous place) = nat_list_eq_equiv.refl place
 same_itself outermost = refl
 
 module _ (n outer : ℕ) (part : LayerPart) where

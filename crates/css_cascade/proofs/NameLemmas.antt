@@ -27,7 +27,8 @@ same-congr (anonymous k) (named b) (named c) e = refl
 same-congr (anonymous k) (named b) (anonymous n) e = absurd (cc)
 same-congr (anonymous k) (named b) outermost e = absurd (cc)
 same-congr (anonymous k) (anonymous m) (named c) e = absurd (cc)
-same-congr (anonymous k) (anonymous m) (anonymous n) e = ap (λ (i : ℕ). k == i) (eqb-true m n e)
+same-congr (anonymous k) (anonymous m) (anonymous n) e =
+    nat_list_eq_equiv.symm k m ∙ nat_list_eq_equiv.congr m n k e ∙ nat_list_eq_equiv.symm n k
 same-congr (anonymous k) (anonymous m) outermost e = absurd (cc)
 same-congr (anonymous k) outermost (named c) e = absurd (cc)
 same-congr (anonymous k) outermost (anonymous n) e = absurd (cc)

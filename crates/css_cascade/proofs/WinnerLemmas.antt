@@ -7,6 +7,7 @@ use Rattle.std.specs.Ordering.{is_gt, ordering_reverse}
 use Rattle.std.proofs.lemmas.Cmp.{upto, tied_itself}
 use Rattle.std.proofs.lemmas.List.Elements.{All-nil, All-cons}
 use Rattle.css_cascade.specs.Cascade.{Weighed, Wins, beats, cascade_cmp}
+use Rattle.css_cascade.specs.internal.Steps.{better, winner_from}
 use Rattle.css_cascade.proofs.CascadeLemmas.{cascade_total}
 
 reversed : (r : Ordering) → is_gt r ≡ true → is_gt (ordering_reverse r) ≡ false
@@ -15,30 +16,20 @@ reversed Equal e = cc
 reversed Greater e = refl
 
 module _ {X : Type 0} (weight : X → Weighed) where
-  -- the later of two, unless the earlier beats it
-  abbrev pub better : Option X → X → X
-  better None later = later
-  better (Some earlier) later = if beats (weight earlier) (weight later) then earlier else later
-
-  -- the one that wins of these and of the best before them
-  abbrev pub winner_from : Option X → List X → Option X
-  winner_from best [] = best
-  winner_from best (one ∷ more) = winner_from (Some (better best one)) more
-
   pub winner-append : (best : Option X) (xs ys : List X)
-      → winner_from best (xs ++ ys) ≡ winner_from (winner_from best xs) ys
+      → winner_from weight best (xs ++ ys) ≡ winner_from weight (winner_from weight best xs) ys
   winner-append best [] ys = refl
-  winner-append best (x ∷ xs) ys = winner-append (Some (better best x)) xs ys
+  winner-append best (x ∷ xs) ys = winner-append (Some (better weight best x)) xs ys
 
-  pub found-some : (x : X) (more : List X) → winner_from (Some x) more ≡ None → ⊥
+  pub found-some : (x : X) (more : List X) → winner_from weight (Some x) more ≡ None → ⊥
   found-some x [] e = cc
-  found-some x (y ∷ more) e = found-some (better (Some x) y) more e
+  found-some x (y ∷ more) e = found-some (better weight (Some x) y) more e
 
-  abbrev Bounds : X → X → Type 0
+  abbrev pub Bounds : X → X → Type 0
   Bounds one other = beats (weight other) (weight one) ≡ false
 
   -- what one bounds, what bounds that bounds too
-  bounds-trans : (a b c : X) → Bounds b a → Bounds c b → Bounds c a
+  pub bounds-trans : (a b c : X) → Bounds b a → Bounds c b → Bounds c a
   bounds-trans a b c p q = upto cascade_total (weight a) (weight b) (weight c) p q
 
   bounds-itself : (a : X) → Bounds a a
@@ -56,7 +47,7 @@ module _ {X : Type 0} (weight : X → Weighed) where
   )
   pick false a x e = (e, bounds-itself x)
 
-  better-bounds : (a x : X) → Both a x (better (Some a) x)
+  better-bounds : (a x : X) → Both a x (better weight (Some a) x)
   better-bounds a x = pick (beats (weight a) (weight x)) a x refl
 
   -- the best of several bounds all of them and the one before them
@@ -64,7 +55,7 @@ module _ {X : Type 0} (weight : X → Weighed) where
     first : Bounds one a
     others : All (Bounds one) more
 
-  bounding : (a : X) (more : List X) (one : X) → winner_from (Some a) more ≡ Some one
+  bounding : (a : X) (more : List X) (one : X) → winner_from weight (Some a) more ≡ Some one
       → Bounding a more one
   bounding a [] one e =
       let same : a ≡ one = cc in
@@ -73,13 +64,13 @@ module _ {X : Type 0} (weight : X → Weighed) where
         others = All-nil (Bounds one);
       }
   bounding a (x ∷ more) one e =
-      let rest = bounding (better (Some a) x) more one e in
+      let rest = bounding (better weight (Some a) x) more one e in
       let both = better-bounds a x in
       record {
-        first = bounds-trans a (better (Some a) x) one both.0 rest.first;
+        first = bounds-trans a (better weight (Some a) x) one both.0 rest.first;
         others =
             All-cons (Bounds one) x more
-            (bounds-trans x (better (Some a) x) one both.1 rest.first) rest.others;
+            (bounds-trans x (better weight (Some a) x) one both.1 rest.first) rest.others;
       }
 
   -- ---- it is one of them
@@ -100,14 +91,14 @@ module _ {X : Type 0} (weight : X → Weighed) where
   kept true a x more one h = inserted a x more one h.0 h.1 h.2
   kept false a x more one h = there-later a (x ∷ more) one h
 
-  found : (a : X) (more : List X) (one : X) → winner_from (Some a) more ≡ Some one
+  found : (a : X) (more : List X) (one : X) → winner_from weight (Some a) more ≡ Some one
       → Contains (a ∷ more) one
   found a [] one e =
       let same : a ≡ one = cc in subst (Contains (a ∷ [])) same (there-first a [])
   found a (x ∷ more) one e =
-      kept (beats (weight a) (weight x)) a x more one (found (better (Some a) x) more one e)
+      kept (beats (weight a) (weight x)) a x more one (found (better weight (Some a) x) more one e)
 
-  pub wins : (all : List X) (one : X) → winner_from None all ≡ Some one → Wins weight all one
+  pub wins : (all : List X) (one : X) → winner_from weight None all ≡ Some one → Wins weight all one
   wins [] one e = absurd (let no : ⊥ = cc in no)
   wins (x ∷ more) one e =
       let bounds = bounding x more one e in

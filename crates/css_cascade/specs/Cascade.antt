@@ -6,11 +6,13 @@ use Rattle.std.specs.declared.cmp.Ordering.{Ordering}
 use Rattle.std.specs.Ordering.{is_gt, bool_cmp, nat_cmp, on, then_cmp, flip_args}
 use Rattle.std.specs.Cmp.Lexicographic.{slice_cmp}
 
--- What the cascade sees of a declaration: whether it is important; the rank of its layer, which is the
+-- What the cascade sees of a declaration: whether it is important; whether it is attached to the
+-- element, as those of a style attribute are, and not in a rule; the rank of its layer, which is the
 -- greater the later the layer is; the specificity of its rule, of which the first count that differs
 -- decides; and where it stands.
 pub record Weighed : Type 0 where
   pub important : Bool
+  pub attached : Bool
   pub layer : ℕ
   pub specificity : List ℕ
   pub place : List ℕ
@@ -36,10 +38,14 @@ layered_cmp =
     then_cmp (on normal_layer nat_cmp)
     (then_cmp (flip_args (on important_layer nat_cmp)) rule_cmp)
 
--- The order of the cascade: an important declaration is after all others. Then layers decide, then
--- specificity, and then the place.
+-- one that is attached to the element is after those of rules; then layers decide
+abbrev pub attached_cmp : Weighed → Weighed → Ordering
+attached_cmp = then_cmp (on (λ (d : Weighed). d.attached) bool_cmp) layered_cmp
+
+-- The order of the cascade: an important declaration is after all others. Then those that are attached
+-- to the element are after those of rules, then layers decide, then specificity, and then the place.
 abbrev pub cascade_cmp : Weighed → Weighed → Ordering
-cascade_cmp = then_cmp (on (λ (d : Weighed). d.important) bool_cmp) layered_cmp
+cascade_cmp = then_cmp (on (λ (d : Weighed). d.important) bool_cmp) attached_cmp
 
 -- the first declaration beats the second
 abbrev pub beats : Weighed → Weighed → Bool

@@ -60,6 +60,6 @@ if_whole (Some found) = if is_empty (past_gap found.1) then Some found.0 else No
 
 -- The layer that a block with this prelude is in, which begins at this place: one name, or a new layer
 -- without a name. None, if the prelude is neither.
-unfoldable pub block_name : (prelude : List ℕ) → (place : ℕ) → Option (List LayerPart)
+unfoldable pub block_name : (prelude : List ℕ) → (place : List ℕ) → Option (List LayerPart)
 block_name prelude place =
     if is_empty (past_gap prelude) then Some (anonymous place ∷ []) else if_whole (layer_name prelude)

@@ -4,11 +4,12 @@ use Rattle.std.specs.Prelude.{ℕ, zero, suc, Bool, true, false, ◌&&◌, ◌==
 use Rattle.std.specs.Cmp.Lexicographic.{pointwise}
 
 -- What tells a layer from the others that are directly in the same one: its name, as it is after
--- escapes; or, if it has none, the place where it begins, so that each is a new one. Nothing tells the
--- outermost one, in which all layers are: what is in no layer is directly in that.
+-- escapes; or, if it has none, the place where it begins, in which text and where in that, so that each
+-- is a new one. Nothing tells the outermost one, in which all layers are: what is in no layer is
+-- directly in that.
 pub data LayerPart : Type 0 where
   named : (name : List ℕ) → LayerPart
-  anonymous : (place : ℕ) → LayerPart
+  anonymous : (place : List ℕ) → LayerPart
   outermost : LayerPart
 
 -- A layer: its number, the number of the layer that it is directly in, and what tells it from the
@@ -26,7 +27,7 @@ is_same_part (named a) (named b) = pointwise nat_eq a b
 is_same_part (named a) (anonymous n) = false
 is_same_part (named a) outermost = false
 is_same_part (anonymous m) (named b) = false
-is_same_part (anonymous m) (anonymous n) = m == n
+is_same_part (anonymous m) (anonymous n) = pointwise nat_eq m n
 is_same_part (anonymous m) outermost = false
 is_same_part outermost (named b) = false
 is_same_part outermost (anonymous n) = false

@@ -4,3 +4,4 @@ pub mod LayerNames
 pub mod LayerNameViews
 pub mod Cascade
 pub mod WeightViews
+pub mod internal

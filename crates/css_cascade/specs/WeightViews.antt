@@ -5,6 +5,7 @@ use Rattle.css_cascade.specs.Cascade.{Weighed}
 abbrev pub weighed : Weight → Weighed
 weighed w = record {
   important = w.important;
+  attached = w.attached;
   layer = w.layer;
   specificity = w.specificity;
   place = w.place;

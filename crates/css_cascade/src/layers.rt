@@ -16,8 +16,9 @@ const MOST: usize = 1024;
 pub enum LayerPart<'a> {
     /// Its name, with its escapes decoded.
     Named(CowStr<'a>),
-    /// The place at which it begins, if it has no name: each is a new one.
-    Anonymous(usize),
+    /// The place at which it begins, if it has no name: a number of its text, and one in that. Each is a
+    /// new one.
+    Anonymous([usize; 2]),
     /// Nothing: it is the outermost one, in which all layers are.
     Outermost,
 }

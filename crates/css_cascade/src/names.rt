@@ -1,5 +1,5 @@
 //! The names of layers after `@layer`.
-ghost use Rattle.std.specs.Prelude.{◌≡◌, ◌<◌, IfOk, is_some, length, map, option_map};
+ghost use Rattle.std.specs.Prelude.{◌≡◌, ◌∷◌, ◌<◌, [], IfOk, is_some, length, map, option_map};
 ghost use Rattle.css_cascade.specs.LayerNames.{name_part, dotted_part, layer_name, further_name};
 ghost use Rattle.css_cascade.specs.LayerNames.{layer_names, block_name as block_name_of};
 ghost use Rattle.css_cascade.specs.LayerNameViews.{name_of, read_part_of, read_name_of};
@@ -132,7 +132,7 @@ pub fn read_layer_names<'a>(
 pub fn read_block_name<'a>(
     alloc: Global,
     prelude: &'a str,
-    place: usize,
+    place: [usize; 2],
 ) -> Result<Option<LayerName<'a>>, AllocError>
     ensures { IfOk result (λ found. option_map name_of found ≡ block_name_of prelude.now place) }
 {
@@ -186,7 +186,7 @@ fn past_name(text: &str) -> Option<&str>
 /// Whether a block with this prelude is in a layer.
 #[tactic(auto, using(crate::proofs::PartLemmas::whole_some, crate::proofs::PartLemmas::whole_none), unfolding(crate::specs::LayerNames::block_name))]
 pub fn is_block_name(prelude: &str) -> bool
-    ensures { result ≡ is_some (block_name_of prelude.now 0) }
+    ensures { result ≡ is_some (block_name_of prelude.now (0 ∷ 0 ∷ [])) }
 {
     if past_gap(prelude).is_empty() {
         return true;

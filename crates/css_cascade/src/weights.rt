@@ -3,6 +3,7 @@ ghost use Rattle.std.specs.Prelude.{◌≡◌};
 ghost use Rattle.std.specs.Cmp.{IsTotalOrder};
 ghost use Rattle.css_cascade.specs.Cascade.{normal_layer as normal_layer_of, important_layer as important_layer_of};
 ghost use Rattle.css_cascade.specs.Cascade.{beats as beats_of, cascade_cmp as cascade_cmp_of};
+ghost use Rattle.css_cascade.specs.Cascade.{attached_cmp as attached_cmp_of};
 ghost use Rattle.css_cascade.specs.Cascade.{layered_cmp as layered_cmp_of, rule_cmp as rule_cmp_of};
 ghost use Rattle.css_cascade.specs.WeightViews.{weighed};
 
@@ -13,6 +14,8 @@ use std::cmp::Ordering;
 pub struct Weight {
     /// Whether it is important.
     pub important: bool,
+    /// Whether it is attached to the element, as those of a style attribute are, and not in a rule.
+    pub attached: bool,
     /// The rank of its layer: how many layers are before that one.
     pub layer: usize,
     /// The specificity of its rule, of which the first count that differs decides.
@@ -54,6 +57,15 @@ fn layered_cmp(one: &Weight, other: &Weight) -> Ordering
         .then(important.then(rule_cmp(one, other)))
 }
 
+/// The same after what is said of the element's own: those are later than those of rules.
+fn attached_cmp(one: &Weight, other: &Weight) -> Ordering
+    ensures { result ≡ attached_cmp_of (weighed one.now) (weighed other.now) }
+{
+    one.attached
+        .cmp(&other.attached)
+        .then(layered_cmp(one, other))
+}
+
 /// Which of two declarations is later in the order of the cascade, which is a total one.
 #[tactic(auto, using(crate::proofs::CascadeLemmas::cascade_total))]
 pub fn cascade_cmp(one: &Weight, other: &Weight) -> Ordering
@@ -62,12 +74,13 @@ pub fn cascade_cmp(one: &Weight, other: &Weight) -> Ordering
 {
     one.important
         .cmp(&other.important)
-        .then(layered_cmp(one, other))
+        .then(attached_cmp(one, other))
 }
 
 /// Whether the first declaration beats the second (CSS Cascading 5, section 6.1): by importance, by
-/// layers, by specificity, and by where they stand. Of two that are not important the one in the later
-/// layer wins, what is in no layer last; of two important ones the one in the earlier layer.
+/// whether it is attached to the element, by layers, by specificity, and by where they stand. Of two that
+/// are not important the one in the later layer wins, what is in no layer last; of two important ones the
+/// one in the earlier layer.
 pub fn beats(one: &Weight, other: &Weight) -> bool
     ensures { result ≡ beats_of (weighed one.now) (weighed other.now) }
 {

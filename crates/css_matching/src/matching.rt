@@ -2,7 +2,7 @@
 ghost use Rattle.std.specs.Prelude.{◌≡◌, ◌+◌, ◌*◌, ◌<◌, ◌≤◌, ◌↔◌, IsTrue};
 ghost use Rattle.css_matching.specs.Placements.{HasPlacement};
 ghost use Rattle.css_matching.specs.Bounds.{run_length, longest_free, longest_fixed, fixed_length, level_count, most_levels, width};
-ghost use Rattle.css_matching.specs.Charges.{IsSpent, IsTested, IsCharged};
+ghost use Rattle.css_matching.specs.Charges.{IsSpent, IsTested, IsCharged, IsPartTest};
 ghost use Rattle.css_matching.specs.Search.{FindsRun, FindsLevel, FindsStretch, HasTested, HasTestedLevel, HasTestedAll};
 
 use crate::{Candidate, Combinator, Parts, Tests};
@@ -31,11 +31,8 @@ fn is_met_at<P: Parts, E: Candidate<P>, F: Fn(usize, &E, &mut Tests) -> bool>(
     total: &mut Tests,
 ) -> bool
     requires within { index < P.count parts.now }
-    requires asks { (i : _) (e : _) (t : _) → i < P.count parts.now → F.pre meets.now i e t }
-    requires answers { (i : _) (e : _) (t : _) (r : _) (u : _) → i < P.count parts.now
-        → F.post meets.now i e t r u → IsTrue r ↔ E.Meets parts.now i (E.node e.now) }
-    requires costs { (i : _) (e : _) (t : _) (r : _) (u : _) → i < P.count parts.now
-        → F.post meets.now i e t r u → IsSpent (E.cost parts.now (E.node e.now)) t.now u.now }
+    requires test { IsPartTest (F.pre meets.now) (F.post meets.now) (P.count parts.now)
+        (E.Meets parts.now) E.node (E.cost parts.now) }
     ensures answer { IsTrue result ↔ E.Meets parts.now index (E.node element.now) }
     ensures counted { tests.new ≡ tests.old + 1 }
     ensures inner { IsTested (E.cost parts.now (E.node element.now)) total.old total.new }
@@ -56,11 +53,8 @@ fn run_at<P: Parts, E: Candidate<P>, F: Fn(usize, &E, &mut Tests) -> bool>(
     total: &mut Tests,
 ) -> Fit<E>
     requires within { last < P.count parts.now }
-    requires asks { (i : _) (e : _) (t : _) → i < P.count parts.now → F.pre meets.now i e t }
-    requires answers { (i : _) (e : _) (t : _) (r : _) (u : _) → i < P.count parts.now
-        → F.post meets.now i e t r u → IsTrue r ↔ E.Meets parts.now i (E.node e.now) }
-    requires costs { (i : _) (e : _) (t : _) (r : _) (u : _) → i < P.count parts.now
-        → F.post meets.now i e t r u → IsSpent (E.cost parts.now (E.node e.now)) t.now u.now }
+    requires test { IsPartTest (F.pre meets.now) (F.post meets.now) (P.count parts.now)
+        (E.Meets parts.now) E.node (E.cost parts.now) }
     ensures finds { FindsRun E.tree (P.combinator_at parts.now) (E.Meets parts.now) E.node last
         (E.node lowest.now) result }
     ensures bounded { tests.new ≤ tests.old + run_length (P.combinator_at parts.now) last }
@@ -106,11 +100,8 @@ fn level_at<P: Parts, E: Candidate<P>, F: Fn(usize, &E, &mut Tests) -> bool>(
     total: &mut Tests,
 ) -> Option<usize>
     requires within { last < P.count parts.now }
-    requires asks { (i : _) (e : _) (t : _) → i < P.count parts.now → F.pre meets.now i e t }
-    requires answers { (i : _) (e : _) (t : _) (r : _) (u : _) → i < P.count parts.now
-        → F.post meets.now i e t r u → IsTrue r ↔ E.Meets parts.now i (E.node e.now) }
-    requires costs { (i : _) (e : _) (t : _) (r : _) (u : _) → i < P.count parts.now
-        → F.post meets.now i e t r u → IsSpent (E.cost parts.now (E.node e.now)) t.now u.now }
+    requires test { IsPartTest (F.pre meets.now) (F.post meets.now) (P.count parts.now)
+        (E.Meets parts.now) E.node (E.cost parts.now) }
     ensures finds { FindsLevel E.tree (P.combinator_at parts.now) (E.Meets parts.now) last
         (E.node lowest.now) result }
     ensures bounded { tests.new ≤ tests.old + run_length (P.combinator_at parts.now) last
@@ -150,11 +141,8 @@ fn stretch_at<P: Parts, E: Candidate<P>, F: Fn(usize, &E, &mut Tests) -> bool>(
     total: &mut Tests,
 ) -> Fit<E>
     requires within { last < P.count parts.now }
-    requires asks { (i : _) (e : _) (t : _) → i < P.count parts.now → F.pre meets.now i e t }
-    requires answers { (i : _) (e : _) (t : _) (r : _) (u : _) → i < P.count parts.now
-        → F.post meets.now i e t r u → IsTrue r ↔ E.Meets parts.now i (E.node e.now) }
-    requires costs { (i : _) (e : _) (t : _) (r : _) (u : _) → i < P.count parts.now
-        → F.post meets.now i e t r u → IsSpent (E.cost parts.now (E.node e.now)) t.now u.now }
+    requires test { IsPartTest (F.pre meets.now) (F.post meets.now) (P.count parts.now)
+        (E.Meets parts.now) E.node (E.cost parts.now) }
     ensures finds { FindsStretch E.tree (P.combinator_at parts.now) (E.Meets parts.now) E.node last
         (E.node lowest.now) result }
     ensures bounded { tests.new ≤ tests.old + fixed_length (P.combinator_at parts.now) last
@@ -199,11 +187,8 @@ fn search<P: Parts, E: Candidate<P>, F: Fn(usize, &E, &mut Tests) -> bool>(
     total: &mut Tests,
 ) -> bool
     requires is_last { last + 1 ≡ P.count parts.now }
-    requires asks { (i : _) (e : _) (t : _) → i < P.count parts.now → F.pre meets.now i e t }
-    requires answers { (i : _) (e : _) (t : _) (r : _) (u : _) → i < P.count parts.now
-        → F.post meets.now i e t r u → IsTrue r ↔ E.Meets parts.now i (E.node e.now) }
-    requires costs { (i : _) (e : _) (t : _) (r : _) (u : _) → i < P.count parts.now
-        → F.post meets.now i e t r u → IsSpent (E.cost parts.now (E.node e.now)) t.now u.now }
+    requires test { IsPartTest (F.pre meets.now) (F.post meets.now) (P.count parts.now)
+        (E.Meets parts.now) E.node (E.cost parts.now) }
     ensures answer { IsTrue result ↔ HasPlacement E.tree (P.combinator_at parts.now)
         (E.Meets parts.now) last (E.node element.now) }
     ensures bounded { tests.new ≤ tests.old + longest_fixed (P.combinator_at parts.now) last

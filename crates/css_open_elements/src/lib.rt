@@ -9,4 +9,5 @@
 mod numbers;
 mod open_elements;
 
+pub use numbers::Numbers;
 pub use open_elements::OpenElements;

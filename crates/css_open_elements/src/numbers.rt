@@ -8,7 +8,7 @@ use std::marker::Model;
 /// Numbers in the order in which they were added. Whether one is after a place in the list is found in
 /// constant time.
 #[derive(Drop)]
-pub(crate) struct Numbers {
+pub struct Numbers {
     /// For each number, the index after that of its last occurrence, or 0.
     lasts: Vec<usize>,
     /// The numbers, each with what `lasts` had for it before.
@@ -17,7 +17,8 @@ pub(crate) struct Numbers {
 
 impl Model for Numbers {
     ghost use Rattle.std.specs.Prelude.{length};
-    ghost use Rattle.css_open_elements.specs.internal.{Numbers, numbers_of, AreLasts};
+    ghost use Rattle.css_open_elements.specs.Opened.{Numbers};
+    ghost use Rattle.css_open_elements.specs.internal.{numbers_of, AreLasts};
 
     ghost Value = { Numbers };
 
@@ -28,7 +29,7 @@ impl Model for Numbers {
 
 impl Numbers {
     /// Returns an empty list of numbers below `size`.
-    pub(crate) fn new(alloc: Global, size: usize) -> Result<Numbers, AllocError>
+    pub fn new(alloc: Global, size: usize) -> Result<Numbers, AllocError>
         ensures size { IfOk result (λ numbers. numbers.size ≡ size) }
         ensures none { IfOk result (λ numbers. numbers.listed ≡ []) }
     {
@@ -40,14 +41,14 @@ impl Numbers {
     }
 
     /// Returns how many numbers are listed. Pass it to `close_to` to return to this state.
-    pub(crate) fn len(&self) -> usize
+    pub fn len(&self) -> usize
         ensures { result ≡ length self.now.listed }
     {
         self.listed.len()
     }
 
     /// Appends a number.
-    pub(crate) fn add(&mut self, number: usize) -> Result<(), AllocError>
+    pub fn add(&mut self, number: usize) -> Result<(), AllocError>
         requires { number < self.old.size }
         ensures listed { OnOk result (self.new.listed ≡ self.old.listed ++ number ∷ []) }
         ensures size { self.new.size ≡ self.old.size }
@@ -60,7 +61,7 @@ impl Numbers {
     }
 
     /// Removes the numbers after the first `len`.
-    pub(crate) fn close_to(&mut self, len: usize)
+    pub fn close_to(&mut self, len: usize)
         ensures closed { self.new.listed ≡ take len self.old.listed }
         ensures size { self.new.size ≡ self.old.size }
     {
@@ -72,7 +73,7 @@ impl Numbers {
     }
 
     /// Appends each of the numbers, or none after an `Err`.
-    pub(crate) fn add_all(&mut self, numbers: &[usize]) -> Result<(), AllocError>
+    pub fn add_all(&mut self, numbers: &[usize]) -> Result<(), AllocError>
         requires { All (λ number. number < self.old.size) numbers.now }
         ensures listed { OnOk result (self.new.listed ≡ self.old.listed ++ numbers.now) }
         ensures size { self.new.size ≡ self.old.size }
@@ -90,7 +91,7 @@ impl Numbers {
 
     /// Whether a number is after the first `len`.
     #[inline(always)]
-    pub(crate) fn is_since(&self, number: usize, len: usize) -> bool
+    pub fn is_since(&self, number: usize, len: usize) -> bool
         ensures { IsTrue result ↔ Contains (drop len self.now.listed) number }
     {
         match self.lasts.get(number) {

@@ -1,21 +1,23 @@
 -- Printed compound selectors, and lists of complex ones, read back.
 -- Serves `printing_laws::printing_law`.
-use Rattle.std.proofs.Common.{◌≡◌, ℕ, zero, suc, ◌≤◌, ◌⊎◌, inl, inr, Bool, true, false, List, [], ◌∷◌, ◌++◌, None, Some, All, length, flat_map, append_assoc, arith, refl, sym, ap, ◌∙◌, subst, eqb-true}
+use Rattle.std.proofs.Common.{◌≡◌, ℕ, zero, suc, ◌≤◌, ◌⊎◌, inl, inr, Bool, true, false, List, [], ◌∷◌, ◌++◌, Option, None, Some, All, length, flat_map, append_assoc, arith, refl, sym, ap, ◌∙◌, subst, eqb-true}
 use Rattle.std.specs.Prelude.{codes, if◌then◌else◌}
-use Rattle.std.proofs.lemmas.List.Elements.{All-cons, All-head, All-tail}
+use Rattle.std.proofs.lemmas.List.Elements.{All-nil, All-cons, All-head, All-tail}
 use Rattle.css_text.specs.AsciiBytes.{asterisk, close_parenthesis, colon, comma, greater_than_sign, open_parenthesis, plus_sign, space, tilde}
 use Rattle.css_text.specs.Bytes.{starts_by, starts}
 use Rattle.css_text.specs.Comments.{opens_comment}
 use Rattle.css_text.proofs.bytes.GapLemmas.{no_gap-byte, NoGap}
+use Rattle.css_syntax.proofs.Shorter.{each-rests}
+use Rattle.css_selectors.specs.declared.refusal.Why.TheVariants.{NoSelector, Unexpected}
 use Rattle.css_matching.specs.declared.Combinator.{Combinator}
 use Rattle.css_matching.specs.declared.Combinator.TheVariants.{Descendant, Child, Adjacent, Sibling}
 use Rattle.css_selectors.specs.declared.components.ListKind.{ListKind}
 use Rattle.css_selectors.specs.declared.components.ListKind.TheVariants.{Not, Is, Where}
 use Rattle.css_selectors.specs.Components.{Simple, Condition, Selectors, Part, selectors_from}
-use Rattle.css_selectors.specs.Components.Simple.{universal, type_name, id, class, has_attribute, attribute, structure, language, state, function, named_element}
+use Rattle.css_selectors.specs.Components.Simple.{universal, type_name, id, class, has_attribute, attribute, structure, language, state, function, named_element, nesting}
 use Rattle.css_selectors.specs.Components.Condition.{simple, negation, any_of, where_any}
 use Rattle.css_selectors.specs.Readings.{Reading, got, refused, follow, give, ◌>>=◌, ◌>>◌, Step, item, none, stop, as_item, with_first, items}
-use Rattle.css_selectors.specs.Grammar.{gap, begins_compound, closing, one_more, list_kind, function_named, with_argument, type_selector, next_simple, after_type, some_of, Finder, ListReader, compound, after_gap, listed, begins_pseudo_class, simple_item, condition_here, condition_by, too_deep, next_condition, deepest, after_type_name, some_or_element, conditions, CompoundReader, sign_combinator, first_sign, joined_by, by_sign, part_after, joined_compound, next_part_in, complex, next_complex, complex_list, may_join}
+use Rattle.css_selectors.specs.Grammar.{gap, begins_compound, closing, one_more, list_kind, function_named, with_argument, type_selector, next_simple, after_type, some_of, Finder, ListReader, compound, ends_part, part_value, past_part, no_selector, part_end, judged, listed_part, next_listed, kept, keep, selectors_after, is_forgiving, list_by, listed, begins_pseudo_class, simple_item, condition_here, condition_by, too_deep, next_condition, deepest, after_type_name, some_or_element, conditions, CompoundReader, sign_combinator, first_sign, joined_by, by_sign, part_after, next_part_in, complex, complex_list}
 use Rattle.css_selectors.specs.Printing.{identifier_text, further_text, list_text, condition_text, selectors_text, combinator_text, part_text, parts_text}
 use Rattle.css_selectors.specs.WellFormed.{IsName, IsFurtherCondition, IsFirstCondition, IsList, AreConditions}
 use Rattle.css_selectors.proofs.GapLemmas.{no_comments}
@@ -33,7 +35,7 @@ Starts text = starts_by is_start text ≡ true
 start_ends : (text rest : List ℕ) → Starts text → ends (text ++ rest) ≡ true
 start_ends [] rest h = absurd (cc)
 start_ends (b ∷ text) rest h =
-    by_start (λ d. ends (d ∷ (text ++ rest)) ≡ true) refl refl refl refl b h
+    by_start (λ d. ends (d ∷ (text ++ rest)) ≡ true) refl refl refl refl refl b h
 
 start_some : (text : List ℕ) → Starts text → 1 ≤ length text
 start_some [] h = absurd (cc)
@@ -44,11 +46,12 @@ start_untyped : (text rest : List ℕ) → Starts text → type_selector (text +
 unfolding type_selector
 start_untyped [] rest h = absurd (cc)
 start_untyped (b ∷ text) rest h =
-    by_start (λ d. type_selector (d ∷ (text ++ rest)) ≡ none) refl refl refl refl b h
+    by_start (λ d. type_selector (d ∷ (text ++ rest)) ≡ none) refl refl refl refl refl b h
 
 start_begins : (text rest : List ℕ) → Starts text → starts_by begins_compound (text ++ rest) ≡ true
 start_begins [] rest h = absurd (cc)
-start_begins (b ∷ text) rest h = by_start (λ d. begins_compound d ≡ true) refl refl refl refl b h
+start_begins (b ∷ text) rest h =
+    by_start (λ d. begins_compound d ≡ true) refl refl refl refl refl b h
 
 condition_starts : (n : ℕ) (c : Condition) → IsFurtherCondition n c → Starts (condition_text c)
 condition_starts n (simple s) w = further_starts s w
@@ -99,6 +102,7 @@ first_kind n (simple (language ranges)) rest w h = inr w
 first_kind n (simple (state name)) rest w h = inr w
 first_kind n (simple (function name argument)) rest w h = inr w
 first_kind n (simple (named_element name argument)) rest w h = absurd w
+first_kind n (simple (nesting list)) rest w h = inr w
 first_kind n (negation _) rest w h = inr w
 first_kind n (any_of _) rest w h = inr w
 first_kind n (where_any _) rest w h = inr w
@@ -226,7 +230,7 @@ none_read n text c e f = by n
 
     by : (n : ℕ) → next_condition n text ≡ none
     by zero = other too_deep
-    by (suc n) = other (complex_list (may_join n) (next_condition n))
+    by (suc n) = other (list_by (next_condition n))
 
 -- ---- compound selectors after others
 
@@ -289,18 +293,18 @@ no_part_at one b rest calm is =
 -- ---- complex selectors in a list
 
 -- what follows a compound selector or a list's complex selector
-record Stops (n : ℕ) (joins : Bool) (rest : List ℕ) : Type 0 where
+record Stops (n : ℕ) (rest : List ℕ) : Type 0 where
   pub ended : ends rest ≡ true
   pub last : next_condition n rest ≡ none
-  pub no_part : next_part_in joins (next_condition n) rest ≡ none
+  pub no_part : next_part_in (next_condition n) rest ≡ none
 
 -- what follows a compound selector of it
-links_follow : (n : ℕ) (joins : Bool) (ps : List Part) (rest : List ℕ) → Stops n joins rest
+links_follow : (n : ℕ) (ps : List Part) (rest : List ℕ) → Stops n rest
     → (ends (flat_map part_text ps ++ rest) ≡ true)
     × (next_condition n (flat_map part_text ps ++ rest) ≡ none)
 unfolding next_simple
-links_follow n joins [] rest stops = (stops.ended, stops.last)
-links_follow n joins (p ∷ ps) rest stops = by p.combinator
+links_follow n [] rest stops = (stops.ended, stops.last)
+links_follow n (p ∷ ps) rest stops = by p.combinator
   where
     by : (c : Combinator)
         → (ends (((combinator_text c ++ row_text p.conditions) ++ flat_map part_text ps) ++ rest)
@@ -315,42 +319,41 @@ links_follow n joins (p ∷ ps) rest stops = by p.combinator
 module _ (n : ℕ) (reads : ReadsFurther n) where
   link_next : (p : Part) (rest : List ℕ) → IsLink n p → ends rest ≡ true
       → next_condition n rest ≡ none
-      → next_part_in (may_join n) (next_condition n) (part_text p ++ rest) ≡ item p rest
-  unfolding next_part_in joined_compound
+      → next_part_in (next_condition n) (part_text p ++ rest) ≡ item p rest
+  unfolding next_part_in
   link_next p rest w h stops =
-      ap (λ j. next_part_in j (next_condition n) (part_text p ++ rest)) w.0
-      ∙ part-again (compound (next_condition n)) p.combinator p.conditions rest
-      (row_begins n p.conditions rest w.1 h)
-      (compound-again n reads p.conditions rest w.1 h stops)
+      part-again (compound (next_condition n)) p.combinator p.conditions rest
+      (row_begins n p.conditions rest w h)
+      (compound-again n reads p.conditions rest w h stops)
 
-  each_link : (ps : List Part) (rest : List ℕ) → All (IsLink n) ps → Stops n (may_join n) rest
-      → EachReads (next_part_in (may_join n) (next_condition n)) part_text ps rest
+  each_link : (ps : List Part) (rest : List ℕ) → All (IsLink n) ps → Stops n rest
+      → EachReads (next_part_in (next_condition n)) part_text ps rest
   each_link [] rest all stops = stops.no_part
   each_link (p ∷ ps) rest all stops =
-      let follows = links_follow n (may_join n) ps rest stops in (
+      let follows = links_follow n ps rest stops in (
         part_some p,
         link_next p _ (All-head (IsLink n) p ps all) follows.0 follows.1,
         each_link ps rest (All-tail (IsLink n) p ps all) stops,
       )
 
-  chain_begins : (ps : List Part) (rest : List ℕ) → IsChain n ps → Stops n (may_join n) rest
+  chain_begins : (ps : List Part) (rest : List ℕ) → IsChain n ps → Stops n rest
       → starts_by begins_compound (parts_text ps ++ rest) ≡ true
   chain_begins [] rest w stops = absurd w
   chain_begins (p ∷ ps) rest w stops =
-      let follows = links_follow n (may_join n) ps rest stops in
+      let follows = links_follow n ps rest stops in
       ap (starts_by begins_compound)
       (append_assoc (row_text p.conditions) (flat_map part_text ps) rest)
       ∙ row_begins n p.conditions (flat_map part_text ps ++ rest) w.1 follows.0
 
-  complex-again : (ps : List Part) (rest : List ℕ) → IsChain n ps → Stops n (may_join n) rest
-      → complex (may_join n) (next_condition n) (parts_text ps ++ rest) ≡ got ps rest
+  complex-again : (ps : List Part) (rest : List ℕ) → IsChain n ps → Stops n rest
+      → complex (next_condition n) (parts_text ps ++ rest) ≡ got ps rest
   unfolding complex
   complex-again [] rest w stops = absurd w
   complex-again (p ∷ ps) rest w stops =
-      let next : List ℕ → Step Part = next_part_in (may_join n) (next_condition n) in
+      let next : List ℕ → Step Part = next_part_in (next_condition n) in
       let others : List ℕ = flat_map part_text ps ++ rest in
-      let follows = links_follow n (may_join n) ps rest stops in
-      ap (complex (may_join n) (next_condition n))
+      let follows = links_follow n ps rest stops in
+      ap (complex (next_condition n))
       (append_assoc (row_text p.conditions) (flat_map part_text ps) rest)
       ∙ ap (λ r. follow r (λ first. one_more (joined_by Descendant first) (items next)))
       (compound-again n reads p.conditions others w.1 follows.0 follows.1)
@@ -358,97 +361,171 @@ module _ (n : ℕ) (reads : ReadsFurther n) where
       (items-again next part_text ps rest (each_link ps rest w.2 stops))
       ∙ ap (λ c. got (joined_by c p.conditions ∷ ps) rest) (sym w.0)
 
-  -- a further complex selector of a list
-  complex_next : (ps : List Part) (rest : List ℕ) → IsChain n ps → Stops n (may_join n) rest
-      → next_complex (may_join n) (next_condition n) (further_text parts_text ps ++ rest)
-      ≡ item ps rest
-  unfolding next_complex
-  complex_next ps rest w stops =
-      let text : List ℕ = parts_text ps ++ rest in
-      ap (after_gap (may_join n) (next_condition n))
-      (no_gap (comma ∷ space ∷ text) (no_gap-byte comma (space ∷ text) refl refl))
-      ∙ ap (λ r. as_item (λ c. c) (follow r (λ x. complex (may_join n) (next_condition n))))
-      (one_blank text (begins_solid text (chain_begins ps rest w stops)))
-      ∙ ap (as_item (λ c. c)) (complex-again ps rest w stops)
+  -- a complex selector as a part of a list, after a gap
+  listed-again : (f : Bool) (text : List ℕ) (spaced : Bool) (ps : List Part) (rest : List ℕ)
+      → gap text ≡ got spaced (parts_text ps ++ rest) → IsChain n ps → Stops n rest → NoGap rest
+      → ends_part rest ≡ true → listed_part f (next_condition n) text ≡ got (Some ps) rest
+  unfolding listed_part
+  listed-again f text spaced ps rest begins w stops calm last =
+      ap (λ r. judged f text (follow r (λ x. complex (next_condition n)))) begins
+      ∙ ap (judged f text) (complex-again ps rest w stops)
+      ∙ ap (part_end f text ps) (no_gap rest calm)
+      ∙ ap (λ (t : Bool). if t then got (Some ps) rest
+      else no_selector f text Unexpected rest) last
 
-complex_end : (joins : Bool) (next : Finder) (rest : List ℕ)
-    → next_complex joins next (close_parenthesis ∷ rest) ≡ none
-unfolding next_complex
-complex_end joins next rest =
-    ap (after_gap joins next)
-    (no_gap (close_parenthesis ∷ rest) (no_gap-byte close_parenthesis rest refl refl))
+  -- a further one
+  listed_next : (f : Bool) (ps : List Part) (rest : List ℕ) → IsChain n ps → Stops n rest
+      → NoGap rest → ends_part rest ≡ true
+      → next_listed f (next_condition n) (further_text parts_text ps ++ rest) ≡ item (Some ps) rest
+  unfolding next_listed
+  listed_next f ps rest w stops calm last =
+      let text : List ℕ = parts_text ps ++ rest in
+      ap (as_item (λ s. s))
+      (listed-again f (space ∷ text) true ps rest
+      (one_blank text (begins_solid text (chain_begins ps rest w stops))) w stops calm last)
+
+list_end : (f : Bool) (next : Finder) (rest : List ℕ)
+    → next_listed f next (close_parenthesis ∷ rest) ≡ none
+unfolding next_listed
+list_end f next rest = refl
+
+part_stays : (rest : List ℕ) → past_part (close_parenthesis ∷ rest) ≡ close_parenthesis ∷ rest
+unfolding past_part
+part_stays rest = each-rests part_value (close_parenthesis ∷ rest) refl
 
 -- what follows a complex selector of a list
-list_stops : (n : ℕ) (joins : Bool) (ss : List (List Part)) (rest : List ℕ)
-    → Stops n joins (flat_map (further_text parts_text) ss ++ (close_parenthesis ∷ rest))
+list_stops : (n : ℕ) (ss : List (List Part)) (rest : List ℕ)
+    → Stops n (flat_map (further_text parts_text) ss ++ (close_parenthesis ∷ rest))
 unfolding next_simple next_part_in
-list_stops n joins [] rest = record {
+list_stops n [] rest = record {
   ended = refl;
   last = none_read n (close_parenthesis ∷ rest) refl refl refl;
-  no_part = no_part_at (joined_compound joins (next_condition n)) close_parenthesis rest
+  no_part = no_part_at (compound (next_condition n)) close_parenthesis rest
       (no_gap-byte close_parenthesis rest refl refl) refl;
 }
-list_stops n joins (s ∷ ss) rest = record {
+list_stops n (s ∷ ss) rest = record {
   ended = refl;
   last = none_read n (comma ∷ _) refl refl refl;
-  no_part = no_part_at (joined_compound joins (next_condition n)) comma _
+  no_part = no_part_at (compound (next_condition n)) comma _
       (no_gap-byte comma _ refl refl) refl;
 }
 
 -- ---- lists
 
-module _ (n : ℕ) (reads : ReadsFurther n) where
-  each_complex : (ss : List (List Part)) (rest : List ℕ) → All (IsChain n) ss
-      → EachReads (next_complex (may_join n) (next_condition n)) (further_text parts_text) ss
-      (close_parenthesis ∷ rest)
-  each_complex [] rest all = complex_end (may_join n) (next_condition n) rest
-  each_complex (s ∷ ss) rest all = (
+after_calm : (ss : List (List Part)) (rest : List ℕ)
+    → NoGap (flat_map (further_text parts_text) ss ++ (close_parenthesis ∷ rest))
+after_calm [] rest = no_gap-byte close_parenthesis rest refl refl
+after_calm (s ∷ ss) rest = no_gap-byte comma _ refl refl
+
+after_ends : (ss : List (List Part)) (rest : List ℕ)
+    → ends_part (flat_map (further_text parts_text) ss ++ (close_parenthesis ∷ rest)) ≡ true
+after_ends [] rest = refl
+after_ends (s ∷ ss) rest = refl
+
+-- the text of a further part
+abbrev shown : Option (List Part) → List ℕ
+shown None = []
+shown (Some s) = further_text parts_text s
+
+abbrev all_some : List (List Part) → List (Option (List Part))
+all_some [] = []
+all_some (s ∷ ss) = Some s ∷ all_some ss
+
+shown_all : (ss : List (List Part))
+    → flat_map shown (all_some ss) ≡ flat_map (further_text parts_text) ss
+shown_all [] = refl
+shown_all (s ∷ ss) = ap (λ t. further_text parts_text s ++ t) (shown_all ss)
+
+kept_all : (ss : List (List Part)) → kept (all_some ss) ≡ ss
+kept_all [] = refl
+kept_all (s ∷ ss) = ap (λ t. s ∷ t) (kept_all ss)
+
+module _ (n : ℕ) (reads : ReadsFurther n) (f : Bool) where
+  each_part : (ss : List (List Part)) (rest : List ℕ) → All (IsChain n) ss
+      → EachReads (next_listed f (next_condition n)) shown (all_some ss) (close_parenthesis ∷ rest)
+  each_part [] rest all = list_end f (next_condition n) rest
+  each_part (s ∷ ss) rest all = (
     omega arith,
-    complex_next n reads s _ (All-head (IsChain n) s ss all) (list_stops n (may_join n) ss rest),
-    each_complex ss rest (All-tail (IsChain n) s ss all),
+    subst (λ l. next_listed f (next_condition n) (further_text parts_text s
+        ++ (l ++ (close_parenthesis ∷ rest))) ≡ item (Some s) (l ++ (close_parenthesis ∷ rest)))
+        (sym (shown_all ss))
+        (listed_next n reads f s _ (All-head (IsChain n) s ss all) (list_stops n ss rest)
+        (after_calm ss rest) (after_ends ss rest)),
+    each_part ss rest (All-tail (IsChain n) s ss all),
   )
 
-  complexes-again : (opened rest : List ℕ) (ss : List (List Part)) → AreChains n ss
-      → complex_list (may_join n) (next_condition n) opened
-      (list_text parts_text ss ++ (close_parenthesis ∷ rest))
+  parts-again : (ss : List (List Part)) (rest : List ℕ) → All (IsChain n) ss
+      → items (next_listed f (next_condition n))
+      (flat_map (further_text parts_text) ss ++ (close_parenthesis ∷ rest))
+      ≡ got (all_some ss) (close_parenthesis ∷ rest)
+  parts-again ss rest all =
+      ap (λ l. items (next_listed f (next_condition n)) (l ++ (close_parenthesis ∷ rest)))
+      (sym (shown_all ss))
+      ∙ items-again (next_listed f (next_condition n)) shown (all_some ss)
+      (close_parenthesis ∷ rest) (each_part ss rest all)
+
+  -- no selector is where a list ends
+  nothing_there : (rest : List ℕ)
+      → complex (next_condition n) (close_parenthesis ∷ rest)
+      ≡ refused NoSelector (close_parenthesis ∷ rest)
+  unfolding complex compound type_selector next_simple
+  nothing_there rest =
+      ap (λ r. follow (some_of (close_parenthesis ∷ rest) r) (λ first.
+      one_more (joined_by Descendant first) (items (next_part_in (next_condition n)))))
+      (items-again (next_condition n) condition_text [] (close_parenthesis ∷ rest)
+      (none_read n (close_parenthesis ∷ rest) refl refl refl))
+
+  empty_part : (rest : List ℕ) → f ≡ true
+      → listed_part f (next_condition n) (close_parenthesis ∷ rest)
+      ≡ got None (close_parenthesis ∷ rest)
+  unfolding listed_part
+  empty_part rest is =
+      let text : List ℕ = close_parenthesis ∷ rest in
+      ap (λ r. judged f text (follow r (λ x. complex (next_condition n))))
+      (no_gap text (no_gap-byte close_parenthesis rest refl refl))
+      ∙ ap (judged f text) (nothing_there rest)
+      ∙ ap (λ b. no_selector b text NoSelector text) is
+      ∙ ap (got None) (part_stays rest)
+
+  complexes-again : (rest : List ℕ) (ss : List (List Part)) → AreChains f n ss
+      → complex_list f (next_condition n) (list_text parts_text ss ++ (close_parenthesis ∷ rest))
       ≡ got ss rest
   unfolding complex_list
-  complexes-again opened rest [] w = absurd (omega (arith, w.0))
-  complexes-again opened rest (s ∷ ss) w =
-      let joins : Bool = may_join n in
+  complexes-again rest [] w =
+      ap (λ r. follow r (λ first. selectors_after f (next_condition n) first >>= λ all.
+      closing close_parenthesis >> give all)) (empty_part rest w)
+      ∙ ap (λ r. follow (keep (with_first None r)) (λ all. closing close_parenthesis >> give all))
+      (parts-again [] rest (All-nil (IsChain n)))
+  complexes-again rest (s ∷ ss) w =
       let next : Finder = next_condition n in
       let end : List ℕ = close_parenthesis ∷ rest in
       let others : List ℕ = flat_map (further_text parts_text) ss ++ end in
-      let one = All-head (IsChain n) s ss w.1 in
-      let stops = list_stops n joins ss rest in
-      ap (complex_list joins next opened)
+      let stops = list_stops n ss rest in
+      let text : List ℕ = parts_text s ++ others in
+      ap (complex_list f next)
       (append_assoc (parts_text s) (flat_map (further_text parts_text) ss) end)
-      ∙ ap (λ r. follow r (λ x. complex joins next >>= λ first.
-      one_more first (items (next_complex joins next)) >>= λ all.
-      gap >> (closing close_parenthesis >> give all)))
-      (no_gap (parts_text s ++ others)
-      (begins_solid (parts_text s ++ others) (chain_begins n reads s others one stops)))
-      ∙ ap (λ r. follow r (λ first. one_more first (items (next_complex joins next)) >>= λ all.
-      gap >> (closing close_parenthesis >> give all)))
-      (complex-again n reads s others one stops)
-      ∙ ap (λ r. follow (with_first s r) (λ all.
-      gap >> (closing close_parenthesis >> give all)))
-      (items-again (next_complex joins next) (further_text parts_text) ss end
-      (each_complex ss rest (All-tail (IsChain n) s ss w.1)))
-      ∙ ap (λ r. follow r (λ x. closing close_parenthesis >> give (s ∷ ss)))
-      (no_gap end (no_gap-byte close_parenthesis rest refl refl))
+      ∙ ap (λ r. follow r (λ first. selectors_after f next first >>= λ all.
+      closing close_parenthesis >> give all))
+      (listed-again n reads f text false s others
+      (no_gap text (begins_solid text (chain_begins n reads s others w.0 stops)))
+      w.0 stops (after_calm ss rest) (after_ends ss rest))
+      ∙ ap (λ r. follow (keep (with_first (Some s) r)) (λ all.
+      closing close_parenthesis >> give all))
+      (parts-again ss rest w.1)
+      ∙ ap (λ l. got (s ∷ l) rest) (kept_all ss)
 
 -- ---- conditions
 
 -- a list is read, up to its closing parenthesis
 abbrev ReadsLists : ℕ → ListReader → Type 0
-ReadsLists n list = (opened rest : List ℕ) (selectors : Selectors) → IsList n selectors
-    → list opened (selectors_text selectors ++ (close_parenthesis ∷ rest))
+ReadsLists n list = (kind : ListKind) (opened rest : List ℕ) (selectors : Selectors)
+    → IsList (is_forgiving kind) n selectors
+    → list kind opened (selectors_text selectors ++ (close_parenthesis ∷ rest))
     ≡ got (selectors_in selectors) rest
 
 module _ (n : ℕ) (list : ListReader) (reads : ReadsLists n list) where
   list-again : (name rest : List ℕ) (kind : ListKind) (selectors : Selectors) → IsName name
-      → list_kind name ≡ Some kind → IsList n selectors
+      → list_kind name ≡ Some kind → IsList (is_forgiving kind) n selectors
       → condition_by list (colon ∷ (identifier_text name ++ (open_parenthesis ∷
       ((selectors_text selectors ++ (close_parenthesis ∷ [])) ++ rest))))
       ≡ item (listed kind (selectors_in selectors)) rest
@@ -457,7 +534,7 @@ module _ (n : ℕ) (list : ListReader) (reads : ReadsLists n list) where
       ap (λ k. with_argument list opened name k (function_named name) argument) is
       ∙ ap (with_argument list opened name (Some kind) (function_named name))
       (append_assoc (selectors_text selectors) (close_parenthesis ∷ []) rest)
-      ∙ ap (λ r. follow r (λ all. give (listed kind all))) (reads opened rest selectors w))
+      ∙ ap (λ r. follow r (λ all. give (listed kind all))) (reads kind opened rest selectors w))
     where
       argument : List ℕ
       argument = (selectors_text selectors ++ (close_parenthesis ∷ [])) ++ rest
@@ -475,21 +552,21 @@ module _ (n : ℕ) (list : ListReader) (reads : ReadsLists n list) where
       list-again (codes "where") rest Where selectors (omega arith) refl w
       ∙ ap (λ cs. item (where_any cs) rest) (selectors_from-in selectors)
 
-complex_list-again : (n : ℕ) → ReadsFurther n
-    → ReadsLists (suc n) (complex_list (may_join n) (next_condition n))
-complex_list-again n reads opened rest selectors w =
+complex_list-again : (n : ℕ) → ReadsFurther n → ReadsLists (suc n) (list_by (next_condition n))
+complex_list-again n reads kind opened rest selectors w =
+    let f : Bool = is_forgiving kind in
     let ss : List (List Part) = selectors_in selectors in
     let same : selectors ≡ selectors_from ss = sym (selectors_from-in selectors) in
-    ap (λ l. complex_list (may_join n) (next_condition n) opened (l ++ (close_parenthesis ∷ rest)))
+    ap (λ l. complex_list f (next_condition n) (l ++ (close_parenthesis ∷ rest)))
     (ap selectors_text same ∙ rows_text ss)
-    ∙ complexes-again n reads opened rest ss (chains_out n ss (subst (IsList (suc n)) same w))
+    ∙ complexes-again n reads f rest ss (chains_out n f ss (subst (IsList f (suc n)) same w))
 
 pub condition-again : (n : ℕ) → ReadsFurther n
 unfolding next_condition
 condition-again zero c rest w h =
-    condition_by-again zero too_deep (λ opened end selectors v. absurd v) c rest w h
+    condition_by-again zero too_deep (λ kind opened end selectors v. absurd v) c rest w h
 condition-again (suc n) c rest w h =
-    condition_by-again (suc n) (complex_list (may_join n) (next_condition n))
+    condition_by-again (suc n) (list_by (next_condition n))
     (complex_list-again n (condition-again n)) c rest w h
 
 -- ---- the compound selectors of a selector

@@ -16,11 +16,11 @@ module _ {T A : Type 0} (view : T → A) where
   found_after [] x r = refl
   found_after (y ∷ xs) x r = ap (with_first (view y)) (found_after xs x r)
 
-found_end : {A : Type 0} (xs : List A) (rest : List ℕ) → found_before xs (got [] rest) ≡ got xs rest
+pub found_end : {A : Type 0} (xs : List A) (rest : List ℕ) → found_before xs (got [] rest) ≡ got xs rest
 found_end [] rest = refl
 found_end (x ∷ xs) rest = ap (with_first x) (found_end xs rest)
 
-found_refused : {A : Type 0} (xs : List A) (why : Why) (rest : List ℕ)
+pub found_refused : {A : Type 0} (xs : List A) (why : Why) (rest : List ℕ)
     → found_before xs (refused why rest) ≡ refused why rest
 found_refused [] why rest = refl
 found_refused (x ∷ xs) why rest = ap (with_first x) (found_refused xs why rest)
@@ -28,7 +28,7 @@ found_refused (x ∷ xs) why rest = ap (with_first x) (found_refused xs why rest
 one_less : (k : ℕ) → suc k - 1 ≡ k
 one_less k = omega arith
 
-stepped : {A : Type 0} (read : List ℕ → Step A) (n : ℕ) (rest : List ℕ) (s : Step A) → 0 < n
+pub stepped : {A : Type 0} (read : List ℕ → Step A) (n : ℕ) (rest : List ℕ) (s : Step A) → 0 < n
     → s ≡ read rest → items_up_to n read rest ≡ go_on rest s (items_up_to (n - 1) read)
 stepped read zero rest s some e = absurd (omega arith)
 stepped read (suc k) rest s some e =

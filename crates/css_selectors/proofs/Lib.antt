@@ -6,12 +6,14 @@ mod BoundLemmas
 mod PlacementListLemmas
 pub mod TextLemmas
 pub mod ItemLemmas
+pub mod KeptLemmas
 pub mod GapLemmas
 pub mod PrintLemmas
 pub mod KeyLemmas
 pub mod AncestorKeyLemmas
 pub mod ListTexts
 pub mod NestLemmas
+pub mod NestingLemmas
 pub mod OccurrenceLemmas
 mod ReadingLemmas
 mod ArgumentLemmas
@@ -27,3 +29,6 @@ mod ListLaws
 mod NestedCosts
 mod NestedReads
 mod Vectors
+mod NestedVectors
+mod NestingLaws
+mod NestedTexts

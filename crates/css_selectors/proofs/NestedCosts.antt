@@ -1,6 +1,6 @@
 -- What lists within lists cost, where combinators stand in few of them, one within another.
 -- Serves `matching_laws::nested_law`.
-use Rattle.std.proofs.Common.{◌≡◌, ℕ, zero, suc, ◌+◌, ◌-◌, ◌*◌, ◌<◌, ◌≤◌, Bool, true, false, subst, arith}
+use Rattle.std.proofs.Common.{◌≡◌, ℕ, zero, suc, ◌+◌, ◌-◌, ◌*◌, ◌<◌, ◌≤◌, Bool, true, false, refl, subst, arith}
 use Rattle.std.proofs.Math.Nat.{mul-le-mul_left, mul-le-mul_right}
 use Rattle.css_matching.specs.Bounds.{longest_free, longest_fixed, most_levels}
 use Rattle.css_selectors.specs.Documents.{Document}
@@ -11,9 +11,8 @@ use Rattle.css_selectors.specs.Components.Parts.{end_of_selector, with_part}
 use Rattle.css_selectors.specs.Components.Selectors.{end_of_list, with_selector}
 use Rattle.css_selectors.specs.Meanings.{combinator_at, part_count}
 use Rattle.css_selectors.specs.TestBounds.{earlier_siblings}
-use Rattle.css_selectors.specs.Costs.{most_questions, is_single, selector_cost_by, condition_cost, compound_cost, dearest_part, list_cost, most_tests}
-use Rattle.css_selectors.specs.NestedTests.{condition_size, compound_size, parts_size, selectors_size, JoinsWithin, CompoundJoinsWithin, PartsJoinWithin, ListJoinsWithin, searches, nested_tests}
-use Rattle.css_selectors.specs.CostLemmas.{list-plain}
+use Rattle.css_selectors.specs.Costs.{most_questions, is_lone, selector_cost_by, condition_cost, compound_cost, dearest_part, list_cost, most_tests}
+use Rattle.css_selectors.specs.NestedTests.{condition_size, compound_size, parts_size, selectors_size, JoinsWithin, CompoundJoinsWithin, PartsJoinWithin, ListJoinsWithin, searches_if, search_count, searches, nested_tests}
 use Rattle.css_selectors.proofs.BoundLemmas.{longest_fixed-le, longest_free-le, most_levels-le, sum_le}
 
 -- ---- numbers
@@ -29,12 +28,6 @@ searches-add a b above before =
     let y : b * (above + b * before) ≤ b * (above + (a + b) * before) =
     mul-le-mul_left b (omega (arith, wider')) in
     omega (arith, x, y)
-
-searches-some : (parts above before : ℕ) → 0 < parts → 0 < above → 0 < searches parts above before
-searches-some parts above before some more =
-    let one : 1 * (above + parts * before) ≤ parts * (above + parts * before) =
-    mul-le-mul_right (above + parts * before) (omega (arith, some)) in
-    omega (arith, one, more)
 
 both : (s t u a b c : ℕ) → s + t ≤ u → a + b ≤ c → s * (a + 1) + t * (b + 1) ≤ u * (c + 1)
 both s t u a b c h k =
@@ -75,13 +68,6 @@ module _ {Node : Type 0} (d : Document Node) (n : Node) where
       product (search_of a) (search_of b) (most k a) (most k b) (search-grows a b le)
       (most-grows k a b le)
 
-  most-up : (k size : ℕ) → 0 < size → most k size ≤ most (suc k) size
-  most-up k size some =
-      let one : 1 * (most k size + 1) ≤ search_of size * (most k size + 1) =
-      mul-le-mul_right (most k size + 1)
-      (searches-some size (d.depth n + 1) (earlier_siblings d n) some (omega arith)) in
-      omega (arith, one)
-
   -- ---- selectors
 
   questions-le : (parts : Parts) → 0 < part_count parts
@@ -101,13 +87,21 @@ module _ {Node : Type 0} (d : Document Node) (n : Node) where
   count-le end_of_selector = omega arith
   count-le (with_part k c parts) = let h = count-le parts in omega (arith, h)
 
-  selector-le : (single : Bool) (k questions dearest size : ℕ) → 0 < size
-      → questions ≤ search_of size → dearest ≤ most k size
-      → selector_cost_by single questions dearest ≤ most (suc k) size
-  selector-le true k questions dearest size some h g =
-      let up = most-up k size some in omega (arith, g, up)
-  selector-le false k questions dearest size some h g =
-      product questions (search_of size) dearest (most k size) h g
+  joined_some : (s : Parts) → is_lone s ≡ false → 0 < part_count s
+  joined_some end_of_selector h = absurd (cc)
+  joined_some (with_part k c parts) h = omega arith
+
+  selector-le : (lone : Bool) (k questions dearest size : ℕ) → searches_if lone ≤ k
+      → (lone ≡ false → questions ≤ search_of size)
+      → dearest ≤ most (k - searches_if lone) size
+      → selector_cost_by lone questions dearest ≤ most k size
+  selector-le true k questions dearest size few h g =
+      let same : k - 0 ≡ k = omega arith in subst (λ j. dearest ≤ most j size) same g
+  selector-le false zero questions dearest size few h g = absurd (omega (arith, few))
+  selector-le false (suc k) questions dearest size few h g =
+      let same : suc k - 1 ≡ k = omega arith in
+      product questions (search_of size) dearest (most k size) (h refl)
+      (subst (λ j. dearest ≤ most j size) same g)
 
   at_most : (s : Parts) → 0 < part_count s → most_questions d s n ≤ search_of (parts_size s)
   at_most s some =
@@ -145,15 +139,12 @@ module _ {Node : Type 0} (d : Document Node) (n : Node) where
 
     list-le : (k : ℕ) (selectors : Selectors) → ListJoinsWithin k selectors
         → list_cost d selectors n ≤ most k (selectors_size selectors)
-    list-le zero selectors h = let none = list-plain d n selectors h in omega (arith, none)
-    list-le (suc k) end_of_list h = omega arith
-    list-le (suc k) (with_selector s selectors) h =
-        let le = count-le s in
-        let some = h.0 in
-        let a = selector-le (is_single s) k (most_questions d s n) (dearest_part d s n) (parts_size s)
-        (omega (arith, le, some)) (at_most s some) (dearest-le k s h.1) in
-        let b = list-le (suc k) selectors h.2 in
-        let all = most-add (suc k) (parts_size s) (selectors_size selectors) in
+    list-le k end_of_list h = omega arith
+    list-le k (with_selector s selectors) h =
+        let a = selector-le (is_lone s) k (most_questions d s n) (dearest_part d s n) (parts_size s)
+        h.0 (λ e. at_most s (joined_some s e)) (dearest-le (k - search_count s) s h.1) in
+        let b = list-le k selectors h.2 in
+        let all = most-add k (parts_size s) (selectors_size selectors) in
         omega (arith, a, b, all)
 
   -- the tests of a selector

@@ -1,13 +1,12 @@
 -- The complex selectors of a list within a condition, as lists.
 -- Serves `printing_laws::printing_law`.
-use Rattle.std.proofs.Common.{◌≡◌, ℕ, suc, ◌<◌, true, List, [], ◌∷◌, All, length, flat_map, arith, refl, ap, ◌∙◌}
+use Rattle.std.proofs.Common.{◌≡◌, ℕ, suc, Bool, true, List, [], ◌∷◌, All, flat_map, refl, ap, ◌∙◌}
 use Rattle.std.proofs.lemmas.List.Elements.{All-nil, All-cons, All-head, All-tail}
 use Rattle.css_matching.specs.declared.Combinator.TheVariants.{Descendant}
 use Rattle.css_selectors.specs.Components.{Condition, Conditions, Parts, Selectors, Part, conditions_from, parts_from, selectors_from}
 use Rattle.css_selectors.specs.Components.Conditions.{end_of_compound, with_condition}
 use Rattle.css_selectors.specs.Components.Parts.{end_of_selector, with_part}
 use Rattle.css_selectors.specs.Components.Selectors.{end_of_list, with_selector}
-use Rattle.css_selectors.specs.Grammar.{may_join}
 use Rattle.css_selectors.specs.Printing.{condition_text, parts_text, selectors_text, list_text}
 use Rattle.css_selectors.specs.WellFormed.{IsFurtherCondition, IsFirstCondition, IsList, AreComplex, IsComplex, AreJoined, IsCompound, AreFurther}
 use Rattle.css_selectors.proofs.ListTexts.{complex_text_parts, further_text_selectors}
@@ -55,18 +54,19 @@ abbrev pub IsRow : ℕ → List Condition → Type 0
 IsRow n [] = ⊥
 IsRow n (c ∷ cs) = IsFirstCondition n c × All (IsFurtherCondition n) cs
 
--- one after a combinator, which may stand there
+-- one after a combinator
 abbrev pub IsLink : ℕ → Part → Type 0
-IsLink n p = (may_join n ≡ true) × IsRow n p.conditions
+IsLink n p = IsRow n p.conditions
 
 -- a complex selector in a list has a first compound selector, which is joined to none
 abbrev pub IsChain : ℕ → List Part → Type 0
 IsChain n [] = ⊥
 IsChain n (p ∷ ps) = (p.combinator ≡ Descendant) × IsRow n p.conditions × All (IsLink n) ps
 
--- a list is not empty
-abbrev pub AreChains : ℕ → List (List Part) → Type 0
-AreChains n ss = (0 < length ss) × All (IsChain n) ss
+-- only a forgiving list may be empty
+abbrev pub AreChains : Bool → ℕ → List (List Part) → Type 0
+AreChains forgiving n [] = forgiving ≡ true
+AreChains forgiving n (s ∷ ss) = IsChain n s × All (IsChain n) ss
 
 module _ (n : ℕ) where
   further_out : (cs : List Condition) → AreFurther n (conditions_from cs)
@@ -93,13 +93,14 @@ module _ (n : ℕ) where
   links_out : (ps : List Part) → AreJoined n (parts_from ps) → All (IsLink n) ps
   links_out [] w = All-nil (IsLink n)
   links_out (p ∷ ps) w =
-      All-cons (IsLink n) p ps (w.0, row_out p.conditions w.1) (links_out ps w.2)
+      All-cons (IsLink n) p ps (row_out p.conditions w.0) (links_out ps w.1)
 
   links_in : (ps : List Part) → All (IsLink n) ps → AreJoined n (parts_from ps)
   links_in [] w = tt
-  links_in (p ∷ ps) w =
-      let one = All-head (IsLink n) p ps w in
-      (one.0, row_in p.conditions one.1, links_in ps (All-tail (IsLink n) p ps w))
+  links_in (p ∷ ps) w = (
+    row_in p.conditions (All-head (IsLink n) p ps w),
+    links_in ps (All-tail (IsLink n) p ps w),
+  )
 
   chain_out : (ps : List Part) → IsComplex n (parts_from ps) → IsChain n ps
   chain_out [] w = w
@@ -118,12 +119,12 @@ module _ (n : ℕ) where
   each_in (s ∷ ss) w =
       (chain_in s (All-head (IsChain n) s ss w), each_in ss (All-tail (IsChain n) s ss w))
 
-  pub chains_out : (ss : List (List Part)) → IsList (suc n) (selectors_from ss) → AreChains n ss
-  chains_out [] w = absurd w
-  chains_out (s ∷ ss) w =
-      (omega arith, All-cons (IsChain n) s ss (chain_out s w.0) (each_out ss w.1))
+  pub chains_out : (f : Bool) (ss : List (List Part)) → IsList f (suc n) (selectors_from ss)
+      → AreChains f n ss
+  chains_out f [] w = w
+  chains_out f (s ∷ ss) w = (chain_out s w.0, each_out ss w.1)
 
-  pub chains_in : (ss : List (List Part)) → AreChains n ss → IsList (suc n) (selectors_from ss)
-  chains_in [] w = absurd (omega (arith, w.0))
-  chains_in (s ∷ ss) w =
-      (chain_in s (All-head (IsChain n) s ss w.1), each_in ss (All-tail (IsChain n) s ss w.1))
+  pub chains_in : (f : Bool) (ss : List (List Part)) → AreChains f n ss
+      → IsList f (suc n) (selectors_from ss)
+  chains_in f [] w = w
+  chains_in f (s ∷ ss) w = (chain_in s w.0, each_in ss w.1)

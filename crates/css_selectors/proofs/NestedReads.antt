@@ -1,160 +1,82 @@
--- In a selector that was read combinators stand within few lists, one within another.
+-- In a supported selector few selectors with combinators are within one another.
 -- Serves `matching_laws::nested_law`.
-use Rattle.std.proofs.Common.{◌≡◌, ℕ, zero, suc, ◌+◌, ◌<◌, ◌≤◌, Bool, true, IsTrue, List, [], ◌∷◌, All, refl, arith}
-use Rattle.std.specs.Option.{is_some}
+use Rattle.std.proofs.Common.{◌≡◌, ℕ, ◌-◌, ◌≤◌, Bool, true, false, refl, arith}
+use Rattle.std.specs.Prelude.{◌&&◌, nat_le}
 use Rattle.std.proofs.lemmas.Bool.Decides.{nat_tests}
-use Rattle.std.proofs.lemmas.List.Elements.{All-head, All-tail}
-use Rattle.css_selectors.specs.Components.{Condition, Conditions, Parts, Selectors, Part, Selector, conditions_from, parts_from}
+use Rattle.css_selectors.specs.Components.{Condition, Conditions, Parts, Selectors, Selector, parts_from}
 use Rattle.css_selectors.specs.Components.Condition.{simple, negation, any_of, where_any}
 use Rattle.css_selectors.specs.Components.Conditions.{end_of_compound, with_condition}
 use Rattle.css_selectors.specs.Components.Parts.{end_of_selector, with_part}
 use Rattle.css_selectors.specs.Components.Selectors.{end_of_list, with_selector}
-use Rattle.css_selectors.specs.Costs.{is_single, IsPlain, ArePlain, HasPlainParts, IsPlainList}
-use Rattle.css_selectors.specs.NestedTests.{JoinsWithin, CompoundJoinsWithin, PartsJoinWithin, ListJoinsWithin}
-use Rattle.css_selectors.specs.Grammar.{deepest, deepest_joined, may_join}
-use Rattle.css_selectors.specs.Meanings.{part_count}
-use Rattle.css_selectors.specs.WellFormed.{IsFurtherCondition, IsFirstCondition, IsList, AreComplex, IsComplex, AreJoined, IsCompound, AreFurther, AreConditions, AreParts, IsWellFormed}
+use Rattle.css_selectors.specs.NestedTests.{JoinsWithin, CompoundJoinsWithin, PartsJoinWithin, ListJoinsWithin, search_count}
+use Rattle.css_selectors.specs.Supported.{deepest_joined, is_supported, have_meaning, parts_supported, are_supported, is_plain_element, is_supported_selector}
 
-joins_above : (m : ℕ) → may_join m ≡ true → 31 ≤ m
-joins_above m h = grind (arith, nat_tests, h)
+first_true : (a b : Bool) → (a && b) ≡ true → a ≡ true
+first_true true b h = refl
+first_true false b h = h
 
-complex_some : (m : ℕ) (s : Parts) → IsComplex m s → 0 < part_count s
-complex_some m end_of_selector w = absurd w
-complex_some m (with_part k c parts) w = omega arith
+second_true : (a b : Bool) → (a && b) ≡ true → b ≡ true
+second_true true b h = h
+second_true false b h = absurd (cc)
 
--- where no combinator may stand, selectors are lone compound selectors
-complex_single : (m : ℕ) → m < 31 → (s : Parts) → IsComplex m s → IsTrue (is_single s)
-complex_single m lt end_of_selector w = absurd w
-complex_single m lt (with_part k c end_of_selector) w = refl
-complex_single m lt (with_part k c (with_part l e parts)) w =
-    let more = joins_above m w.2.0 in absurd (omega (arith, lt, more))
+at_most : (a b : ℕ) → nat_le a b ≡ true → a ≤ b
+at_most a b h = grind (arith, nat_tests, h)
 
-mutual
-  first_plain : (n : ℕ) → n ≤ 31 → (c : Condition) → IsFirstCondition n c → IsPlain c
-  first_plain n le (simple s) w = tt
-  first_plain n le (negation selectors) w = list_plain n le selectors w
-  first_plain n le (any_of selectors) w = list_plain n le selectors w
-  first_plain n le (where_any selectors) w = list_plain n le selectors w
+-- what was found so far has a meaning
+conditions_so_far : (k : ℕ) (b : Bool) (cs : Conditions) → have_meaning k b cs ≡ true → b ≡ true
+conditions_so_far k b end_of_compound h = h
+conditions_so_far k b (with_condition c cs) h =
+    first_true b (is_supported k c) (conditions_so_far k (b && is_supported k c) cs h)
 
-  further_plain : (n : ℕ) → n ≤ 31 → (cs : Conditions) → AreFurther n cs → ArePlain cs
-  further_plain n le end_of_compound w = tt
-  further_plain n le (with_condition (simple s) cs) w = (tt, further_plain n le cs w.1)
-  further_plain n le (with_condition (negation selectors) cs) w =
-      (list_plain n le selectors w.0, further_plain n le cs w.1)
-  further_plain n le (with_condition (any_of selectors) cs) w =
-      (list_plain n le selectors w.0, further_plain n le cs w.1)
-  further_plain n le (with_condition (where_any selectors) cs) w =
-      (list_plain n le selectors w.0, further_plain n le cs w.1)
+parts_so_far : (k : ℕ) (b : Bool) (ps : Parts) → parts_supported k b ps ≡ true → b ≡ true
+parts_so_far k b end_of_selector h = h
+parts_so_far k b (with_part l cs ps) h =
+    conditions_so_far k b cs (parts_so_far k (have_meaning k b cs) ps h)
 
-  compound_plain : (n : ℕ) → n ≤ 31 → (cs : Conditions) → IsCompound n cs → ArePlain cs
-  compound_plain n le end_of_compound w = absurd w
-  compound_plain n le (with_condition c cs) w =
-      (first_plain n le c w.0, further_plain n le cs w.1)
-
-  joined_plain : (n : ℕ) → n ≤ 31 → (parts : Parts) → AreJoined n parts → HasPlainParts parts
-  joined_plain n le end_of_selector w = tt
-  joined_plain n le (with_part k c parts) w =
-      (compound_plain n le c w.1, joined_plain n le parts w.2)
-
-  complex_plain : (n : ℕ) → n ≤ 31 → (parts : Parts) → IsComplex n parts → HasPlainParts parts
-  complex_plain n le end_of_selector w = absurd w
-  complex_plain n le (with_part k c parts) w =
-      (compound_plain n le c w.1, joined_plain n le parts w.2)
-
-  list_plain : (n : ℕ) → n ≤ 31 → (selectors : Selectors) → IsList n selectors
-      → IsPlainList selectors
-  list_plain zero le selectors w = absurd w
-  list_plain (suc m) le end_of_list w = absurd w
-  list_plain (suc m) le (with_selector s selectors) w = (
-    complex_single m (omega (arith, le)) s w.0,
-    complex_plain m (omega (arith, le)) s w.0,
-    others_plain m (omega (arith, le)) selectors w.1,
-  )
-
-  others_plain : (m : ℕ) → m < 31 → (selectors : Selectors) → AreComplex m selectors
-      → IsPlainList selectors
-  others_plain m lt end_of_list w = tt
-  others_plain m lt (with_selector s selectors) w = (
-    complex_single m lt s w.0,
-    complex_plain m (omega (arith, lt)) s w.0,
-    others_plain m lt selectors w.1,
-  )
+selectors_so_far : (k : ℕ) (b : Bool) (ss : Selectors) → are_supported k b ss ≡ true → b ≡ true
+selectors_so_far k b end_of_list h = h
+selectors_so_far k b (with_selector s ss) h =
+    let few = nat_le (search_count s) k in
+    first_true b few (parts_so_far (k - search_count s) (b && few) s
+    (selectors_so_far k (parts_supported (k - search_count s) (b && few) s) ss h))
 
 mutual
-  first_joins : (k n : ℕ) → n ≤ 31 + k → (c : Condition) → IsFirstCondition n c → JoinsWithin k c
-  first_joins k n le (simple s) w = tt
-  first_joins k n le (negation selectors) w = list_joins k n le selectors w
-  first_joins k n le (any_of selectors) w = list_joins k n le selectors w
-  first_joins k n le (where_any selectors) w = list_joins k n le selectors w
+  condition_joins : (k : ℕ) (c : Condition) → is_supported k c ≡ true → JoinsWithin k c
+  condition_joins k (simple s) h = tt
+  condition_joins k (negation ss) h = list_joins k true ss h
+  condition_joins k (any_of ss) h = list_joins k true ss h
+  condition_joins k (where_any ss) h = list_joins k true ss h
 
-  one_joins : (k n : ℕ) → n ≤ 31 + k → (c : Condition) → IsFurtherCondition n c → JoinsWithin k c
-  one_joins k n le (simple s) w = tt
-  one_joins k n le (negation selectors) w = list_joins k n le selectors w
-  one_joins k n le (any_of selectors) w = list_joins k n le selectors w
-  one_joins k n le (where_any selectors) w = list_joins k n le selectors w
-
-  further_joins : (k n : ℕ) → n ≤ 31 + k → (cs : Conditions) → AreFurther n cs
+  compound_joins : (k : ℕ) (b : Bool) (cs : Conditions) → have_meaning k b cs ≡ true
       → CompoundJoinsWithin k cs
-  further_joins k n le end_of_compound w = tt
-  further_joins k n le (with_condition c cs) w =
-      (one_joins k n le c w.0, further_joins k n le cs w.1)
+  compound_joins k b end_of_compound h = tt
+  compound_joins k b (with_condition c cs) h =
+      let so_far = b && is_supported k c in (
+        condition_joins k c (second_true b (is_supported k c) (conditions_so_far k so_far cs h)),
+        compound_joins k so_far cs h,
+      )
 
-  compound_joins : (k n : ℕ) → n ≤ 31 + k → (cs : Conditions) → IsCompound n cs
-      → CompoundJoinsWithin k cs
-  compound_joins k n le end_of_compound w = absurd w
-  compound_joins k n le (with_condition c cs) w =
-      (first_joins k n le c w.0, further_joins k n le cs w.1)
+  parts_join : (k : ℕ) (b : Bool) (ps : Parts) → parts_supported k b ps ≡ true
+      → PartsJoinWithin k ps
+  parts_join k b end_of_selector h = tt
+  parts_join k b (with_part l cs ps) h =
+      let so_far = have_meaning k b cs in
+      (compound_joins k b cs (parts_so_far k so_far ps h), parts_join k so_far ps h)
 
-  joined_join : (k n : ℕ) → n ≤ 31 + k → (parts : Parts) → AreJoined n parts
-      → PartsJoinWithin k parts
-  joined_join k n le end_of_selector w = tt
-  joined_join k n le (with_part l c parts) w =
-      (compound_joins k n le c w.1, joined_join k n le parts w.2)
+  list_joins : (k : ℕ) (b : Bool) (ss : Selectors) → are_supported k b ss ≡ true
+      → ListJoinsWithin k ss
+  list_joins k b end_of_list h = tt
+  list_joins k b (with_selector s ss) h =
+      let less = k - search_count s in
+      let few = nat_le (search_count s) k in
+      let so_far = parts_supported less (b && few) s in
+      let one = selectors_so_far k so_far ss h in
+      let is = second_true b few (parts_so_far less (b && few) s one) in
+      (at_most (search_count s) k is, parts_join less (b && few) s one, list_joins k so_far ss h)
 
-  complex_joins : (k n : ℕ) → n ≤ 31 + k → (parts : Parts) → IsComplex n parts
-      → PartsJoinWithin k parts
-  complex_joins k n le end_of_selector w = absurd w
-  complex_joins k n le (with_part l c parts) w =
-      (compound_joins k n le c w.1, joined_join k n le parts w.2)
-
-  list_joins : (k n : ℕ) → n ≤ 31 + k → (selectors : Selectors) → IsList n selectors
-      → ListJoinsWithin k selectors
-  list_joins zero n le selectors w = list_plain n (omega (arith, le)) selectors w
-  list_joins (suc k) zero le selectors w = absurd w
-  list_joins (suc k) (suc m) le end_of_list w = absurd w
-  list_joins (suc k) (suc m) le (with_selector s selectors) w = (
-    complex_some m s w.0,
-    complex_joins k m (omega (arith, le)) s w.0,
-    others_join k m (omega (arith, le)) selectors w.1,
-  )
-
-  others_join : (k m : ℕ) → m ≤ 31 + k → (selectors : Selectors) → AreComplex m selectors
-      → ListJoinsWithin (suc k) selectors
-  others_join k m le end_of_list w = tt
-  others_join k m le (with_selector s selectors) w =
-      (complex_some m s w.0, complex_joins k m le s w.0, others_join k m le selectors w.1)
-
--- ---- selectors
-
-conditions_join : (cs : List Condition) → All (IsFurtherCondition deepest) cs
-    → CompoundJoinsWithin deepest_joined (conditions_from cs)
-conditions_join [] w = tt
-conditions_join (c ∷ cs) w = (
-  one_joins deepest_joined deepest (omega arith) c (All-head (IsFurtherCondition deepest) c cs w),
-  conditions_join cs (All-tail (IsFurtherCondition deepest) c cs w),
-)
-
-part_joins : (e : Bool) (cs : List Condition) → AreConditions e cs
-    → CompoundJoinsWithin deepest_joined (conditions_from cs)
-part_joins e [] w = tt
-part_joins e (c ∷ cs) w =
-    (first_joins deepest_joined deepest (omega arith) c w.0, conditions_join cs w.1)
-
-parts_join : (e : Bool) (parts : List Part) → AreParts e parts
-    → PartsJoinWithin deepest_joined (parts_from parts)
-parts_join e [] w = tt
-parts_join e (p ∷ parts) w = (part_joins _ p.conditions w.0, parts_join e parts w.1)
-
-pub read_joins : (s : Selector) → IsWellFormed s
+pub supported_joins : (s : Selector) → is_supported_selector s ≡ true
     → PartsJoinWithin deepest_joined (parts_from s.parts)
-read_joins s w = parts_join (is_some s.pseudo_element) s.parts w.1
+supported_joins s h =
+    parts_join deepest_joined true (parts_from s.parts)
+    (first_true (parts_supported deepest_joined true (parts_from s.parts))
+    (is_plain_element s.pseudo_element) h)

@@ -18,12 +18,12 @@ use Rattle.css_selectors.specs.declared.components.Numbering.{Numbering}
 use Rattle.css_selectors.specs.declared.components.Numbering.TheVariants.{Child as OfChild, LastChild as OfLastChild, OfType, LastOfType as OfLastType}
 use Rattle.css_selectors.specs.declared.components.Function.{Function}
 use Rattle.css_selectors.specs.declared.components.Function.TheVariants.{Numbered, Language}
-use Rattle.css_selectors.specs.Components.{Comparison, Signed, Progression, Structure, Simple}
-use Rattle.css_selectors.specs.Components.Structure.{root, empty, first_child, last_child, only_child, first_of_type, last_of_type, only_of_type}
-use Rattle.css_selectors.specs.Components.Simple.{universal, type_name, id, class, has_attribute, attribute, structure, language, state, function, named_element}
+use Rattle.css_selectors.specs.Components.{Comparison, Signed, Progression, Structure, Simple, outermost}
+use Rattle.css_selectors.specs.Components.Structure.{root, scope, empty, first_child, last_child, only_child, first_of_type, last_of_type, only_of_type}
+use Rattle.css_selectors.specs.Components.Simple.{universal, type_name, id, class, has_attribute, attribute, structure, language, state, function, named_element, nesting}
 use Rattle.css_selectors.specs.Readings.{Reading, got, refused, follow, give, ◌>>=◌, ◌>>◌, Step, item, none, stop, step_after, as_item, with_first, go_on, items, items_up_to}
 use Rattle.css_selectors.specs.declared.refusal.Why.TheVariants.{NoName, NoProgression, UnknownFunction}
-use Rattle.css_selectors.specs.Grammar.{gap, past_comments, ident_sequence, name, begins_name, begins_plain_name, begins_word, value, comparison, flag, compared, by_comparison, attribute_selector, closing, progression, digits, with_digit, sign, is_sign, is_n, signed, stepping, offset_after, offset_or_none, with_offset, is_number, subtracted, by_tail, n_word, numbered, is_lone_plus, unsigned, odd_or_even, word_progression, one_more, is_word, plain_structure, plain_pseudo, numbered_by, next_range, language_ranges, list_kind, function_named, argument, takes_none, argument_of, functional, is_old_element, named_pseudo, type_selector, next_simple}
+use Rattle.css_selectors.specs.Grammar.{gap, past_comments, ident_sequence, name, begins_name, begins_plain_name, begins_word, value, comparison, flag, compared, by_comparison, attribute_selector, closing, progression, digits, with_digit, sign, is_sign, is_n, signed, stepping, offset_after, offset_or_none, with_offset, is_number, subtracted, by_tail, n_word, numbered, is_lone_plus, unsigned, odd_or_even, word_progression, one_more, is_word, plain_structure, plain_pseudo, numbered_by, next_range, language_ranges, list_kind, function_named, argument, takes_none, argument_of, functional, is_old_element, named_pseudo, type_selector, next_simple, ampersand}
 use Rattle.css_selectors.specs.WellFormed.{IsName, IsArgumentOf, IsSize, IsProgression, IsStructure, IsFurther, IsFirst}
 use Rattle.css_selectors.proofs.ArgumentLemmas.{argument-again}
 use Rattle.css_selectors.proofs.ReadingLemmas.{followed}
@@ -440,13 +440,14 @@ plain_well : (n : List ℕ) → PlainWell (plain_structure n)
 unfolding PlainWell
 plain_well n =
     either_plain (is_word (codes "root") n) (Some root) _ tt
+    (either_plain (is_word (codes "scope") n) (Some scope) _ tt
     (either_plain (is_word (codes "empty") n) (Some empty) _ tt
     (either_plain (is_word (codes "first-child") n) (Some first_child) _ tt
     (either_plain (is_word (codes "last-child") n) (Some last_child) _ tt
     (either_plain (is_word (codes "only-child") n) (Some only_child) _ tt
     (either_plain (is_word (codes "first-of-type") n) (Some first_of_type) _ tt
     (either_plain (is_word (codes "last-of-type") n) (Some last_of_type) _ tt
-    (either_plain (is_word (codes "only-of-type") n) (Some only_of_type) None tt tt)))))))
+    (either_plain (is_word (codes "only-of-type") n) (Some only_of_type) None tt tt))))))))
 
 plain_pseudo_well : (n : List ℕ) → IsName n → is_old_element n ≡ false
     → IsFurther (plain_pseudo n (plain_structure n))
@@ -483,21 +484,22 @@ pub next_simple_well : (text : List ℕ) (s : Simple) (rest : List ℕ)
 unfolding next_simple
 next_simple_well [] s rest h = absurd (cc)
 next_simple_well (b ∷ text) s rest h =
-    by (b == full_stop) (b == number_sign) (b == open_bracket) h
+    by (b == full_stop) (b == number_sign) (b == open_bracket) (b == ampersand) h
   where
-    by : (c i o : Bool) → (if c then as_item class (name (past_comments text))
+    by : (c i o a : Bool) → (if c then as_item class (name (past_comments text))
         else (if i then as_item id (ident_sequence text)
-        else (if o then as_item (λ s. s) (attribute_selector text) else none))) ≡ item s rest
-        → IsFurther s
-    by true i o k =
+        else (if o then as_item (λ s. s) (attribute_selector text)
+        else (if a then item (nesting outermost) text else none)))) ≡ item s rest → IsFurther s
+    by true i o a k =
         named_well class (λ n some. some) (name (past_comments text))
         (name_well (past_comments text)) s rest k
-    by false true o k =
+    by false true o a k =
         named_well id (λ n some. some) (ident_sequence text) (ident_well text) s rest k
-    by false false true k =
+    by false false true a k =
         let m = made (λ x. x) (attribute_selector text) s rest k in
         subst IsFurther m.is (attribute_well text m.value rest m.first)
-    by false false false k = absurd (cc)
+    by false false false true k = let is : nesting outermost ≡ s = cc in subst IsFurther is refl
+    by false false false false k = absurd (cc)
 
 pub type_well : (text : List ℕ) (s : Simple) (rest : List ℕ) → type_selector text ≡ item s rest
     → IsFirst s
@@ -525,3 +527,4 @@ first_of_further (language ranges) w = w
 first_of_further (state n) w = w
 first_of_further (function n a) w = w
 first_of_further (named_element n a) w = absurd w
+first_of_further (nesting list) w = w

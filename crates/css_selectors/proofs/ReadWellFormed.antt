@@ -1,23 +1,27 @@
 -- What a text reads as is well-formed.
 -- Serves `printing_laws::printing_law`.
-use Rattle.std.proofs.Common.{◌≡◌, ℕ, zero, suc, ◌⊎◌, inl, inr, ◌&&◌, eqb-true, Bool, true, false, List, [], ◌∷◌, Option, None, Some, length, arith, refl, sym, ap, ◌∙◌, subst}
+use Rattle.std.proofs.Common.{◌≡◌, ℕ, zero, suc, ◌⊎◌, inl, inr, ◌&&◌, eqb-true, Bool, true, false, List, [], ◌∷◌, All, Option, None, Some, length, arith, refl, sym, ap, ◌∙◌, subst, not}
 use Rattle.std.specs.Prelude.{if◌then◌else◌}
 use Rattle.std.specs.Option.{is_some, ForSome}
-use Rattle.std.proofs.lemmas.List.Elements.{All-cons, All-head, All-tail}
+use Rattle.std.proofs.lemmas.List.Elements.{All-nil, All-cons, All-head, All-tail}
 use Rattle.css_text.specs.AsciiBytes.{comma, close_parenthesis, colon, open_parenthesis}
 use Rattle.css_text.specs.Bytes.{starts_by, starts, past_one}
 use Rattle.css_text.specs.Comments.{opens_comment}
 use Rattle.css_matching.specs.declared.Combinator.{Combinator}
 use Rattle.css_matching.specs.declared.Combinator.TheVariants.{Descendant}
+use Rattle.css_selectors.specs.declared.refusal.Why.{Why}
+use Rattle.css_selectors.specs.declared.refusal.Why.TheVariants.{Unexpected}
 use Rattle.css_selectors.specs.declared.components.ListKind.{ListKind}
 use Rattle.css_selectors.specs.declared.components.ListKind.TheVariants.{Not, Is, Where}
 use Rattle.css_selectors.specs.declared.components.Function.{Function}
+use Rattle.css_selectors.specs.declared.reading.Start.{Start}
+use Rattle.css_selectors.specs.declared.reading.Start.TheVariants.{Plain, Relative}
 use Rattle.css_selectors.specs.declared.components.Function.TheVariants.{Numbered, Language}
-use Rattle.css_selectors.specs.Components.{Structure, Simple, Condition, selectors_from, Part, PseudoElement, Placed, Selector}
-use Rattle.css_selectors.specs.Components.Simple.{universal, type_name, id, class, has_attribute, attribute, structure, language, state, function, named_element}
+use Rattle.css_selectors.specs.Components.{Structure, Simple, outermost, Condition, selectors_from, Part, PseudoElement, Placed, Selector}
+use Rattle.css_selectors.specs.Components.Simple.{universal, type_name, id, class, has_attribute, attribute, structure, language, state, function, named_element, nesting}
 use Rattle.css_selectors.specs.Components.Condition.{simple, negation, any_of, where_any}
 use Rattle.css_selectors.specs.Readings.{Reading, got, refused, follow, give, ◌>>=◌, ◌>>◌, Step, item, none, stop, step_after, as_item, go_on, items, items_up_to, with_first}
-use Rattle.css_selectors.specs.Grammar.{gap, past_comments, past_colon, condition_here, name, begins_compound, closing, one_more, progression, numbered_by, language_ranges, plain_structure, plain_pseudo, is_old_element, list_kind, function_named, argument_of, functional, named_pseudo, type_selector, next_simple, some_of, Finder, compound, after_gap, listed, ListReader, begins_pseudo_class, simple_item, with_argument, pseudo_condition, condition_by, deepest, too_deep, next_condition, some_or_element, conditions, first_sign, joined_by, signed_part, by_sign, part_after, next_part, element_argument, element_name, element_named, named_condition, class_or_element, after_element, with_after, pseudo_element, at_end, parts, placed_as, placed, placed_selector, selector, CompoundReader, joined_compound, next_part_in, complex, comma_complex, next_complex, complex_list, may_join}
+use Rattle.css_selectors.specs.Grammar.{gap, past_comments, past_colon, condition_here, name, begins_compound, closing, one_more, progression, numbered_by, language_ranges, plain_structure, plain_pseudo, is_old_element, list_kind, function_named, argument_of, functional, named_pseudo, type_selector, next_simple, some_of, Finder, compound, listed, ListReader, begins_pseudo_class, simple_item, with_argument, pseudo_condition, condition_by, deepest, too_deep, next_condition, some_or_element, conditions, first_sign, joined_by, signed_part, by_sign, part_after, next_part, element_argument, element_name, element_named, named_condition, class_or_element, after_element, with_after, pseudo_element, at_end, parts, nesting_part, after_sign, relative_parts, start_parts, placed_as, placed_by, placed, next_placed, list_by, placed_selector, selector, CompoundReader, next_part_in, complex, complex_list, ends_part, past_part, is_lasting, no_selector, part_end, judged, listed_part, next_listed, kept, keep, selectors_after, is_forgiving, placed_list_by}
 use Rattle.css_selectors.specs.WellFormed.{IsName, IsArgumentOf, IsElementName, is_pseudo_class, IsAfterElement, IsPseudoElement, IsFurther, IsFurtherCondition, IsFirstCondition, IsList, AreConditions, is_last, AreParts, BeginsPlain, IsWellFormed}
 use Rattle.css_text.proofs.bytes.GapLemmas.{no_gap-byte}
 use Rattle.css_selectors.proofs.NestedLists.{IsRow, IsLink, IsChain, AreChains, chains_in}
@@ -140,25 +144,17 @@ module _ (one : CompoundReader) (P : List Condition → List ℕ → Type 0)
 
 module _ (n : ℕ) (well : FurtherWell n) where
   link_well : (text : List ℕ) (p : Part) (rest : List ℕ)
-      → next_part_in (may_join n) (next_condition n) text ≡ item p rest → IsLink n p
-  unfolding next_part_in joined_compound
-  link_well text p rest h = by (may_join n) refl h
-    where
-      by : (j : Bool) → may_join n ≡ j → next_part_in j (next_condition n) text ≡ item p rest
-          → IsLink n p
-      by true e k = (
-        e,
-        part_after_well (compound (next_condition n)) (λ cs rest. IsRow n cs)
-            (compound_well n well) text p rest k,
-      )
-      by false e k = absurd (part_after_well (joined_compound false (next_condition n)) (λ cs rest. ⊥)
-          (λ t cs r g. absurd (cc)) text p rest k)
+      → next_part_in (next_condition n) text ≡ item p rest → IsLink n p
+  unfolding next_part_in
+  link_well text p rest h =
+      part_after_well (compound (next_condition n)) (λ cs rest. IsRow n cs) (compound_well n well)
+      text p rest h
 
   complex_well : (text : List ℕ) (ps : List Part) (rest : List ℕ)
-      → complex (may_join n) (next_condition n) text ≡ got ps rest → IsChain n ps
+      → complex (next_condition n) text ≡ got ps rest → IsChain n ps
   unfolding complex
   complex_well text ps rest h =
-      let next : List ℕ → Step Part = next_part_in (may_join n) (next_condition n) in
+      let next : List ℕ → Step Part = next_part_in (next_condition n) in
       let f = followed (compound (next_condition n) text)
       (λ first. one_more (joined_by Descendant first) (items next)) ps rest h in
       let g = first_of_all (joined_by Descendant f.value) (items next f.middle) ps rest f.second in
@@ -168,63 +164,111 @@ module _ (n : ℕ) (well : FurtherWell n) where
         all_items next (IsLink n) link_well f.middle g.others rest g.reads,
       )
 
-  next_complex_well : (text : List ℕ) (ps : List Part) (rest : List ℕ)
-      → next_complex (may_join n) (next_condition n) text ≡ item ps rest → IsChain n ps
-  unfolding next_complex
-  next_complex_well text ps rest h = by (gap text) h
+  -- a part of a list is a selector, or is left out
+  abbrev IsPart : Bool → Option (List Part) → Type 0
+  IsPart f None = f ≡ true
+  IsPart f (Some s) = IsChain n s
+
+  left_out : (f : Bool) (text : List ℕ) (why : Why) (t : List ℕ) (o : Option (List Part))
+      (rest : List ℕ) → no_selector f text why t ≡ got o rest → IsPart f o
+  left_out false text why t o rest h = absurd (cc)
+  left_out true text why t o rest h = by (is_lasting why) h
     where
-      by : (r : Reading Bool) → after_gap (may_join n) (next_condition n) r ≡ item ps rest
-          → IsChain n ps
-      by (refused why t) k = absurd (cc)
-      by (got spaced t) k = after (starts comma t) k
+      by : (l : Bool) → (if not l then got None (past_part text) else refused why t) ≡ got o rest
+          → IsPart true o
+      by true k = absurd (cc)
+      by false k = let is : None ≡ o = cc in subst (IsPart true) is refl
+
+  listed_well : (f : Bool) (text : List ℕ) (o : Option (List Part)) (rest : List ℕ)
+      → listed_part f (next_condition n) text ≡ got o rest → IsPart f o
+  unfolding listed_part
+  listed_well f text o rest h = by ((gap >> complex (next_condition n)) text) refl h
+    where
+      ended : (s : List Part) → IsChain n s → (r : Reading Bool)
+          → part_end f text s r ≡ got o rest → IsPart f o
+      ended s w (refused why t) k = absurd (cc)
+      ended s w (got spaced t) k = at (ends_part t) k
         where
-          after : (c : Bool) → (if c
-              then as_item (λ c. c) (comma_complex (may_join n) (next_condition n) (past_one t))
-              else none)
-              ≡ item ps rest → IsChain n ps
-          after false k = absurd (cc)
-          after true k =
-              let m = made (λ c. c) (comma_complex (may_join n) (next_condition n) (past_one t)) ps
-              rest k in
-              let f = followed (gap (past_one t)) (λ x. complex (may_join n) (next_condition n))
-              m.value rest m.first in
-              subst (IsChain n) m.is (complex_well f.middle m.value rest f.second)
+          at : (e : Bool) → (if e then got (Some s) t else no_selector f text Unexpected t)
+              ≡ got o rest → IsPart f o
+          at true k = let is : Some s ≡ o = cc in subst (IsPart f) is w
+          at false k = left_out f text Unexpected t o rest k
 
-  chains_well : (ps : List Part) (text : List ℕ) (ss : List (List Part)) (rest : List ℕ)
-      → IsChain n ps
-      → with_first ps (items (next_complex (may_join n) (next_condition n)) text) ≡ got ss rest
-      → AreChains n ss
-  chains_well ps text ss rest w h =
-      let next : List ℕ → Step (List Part) = next_complex (may_join n) (next_condition n) in
-      let f = first_of_all ps (items next text) ss rest h in
-      subst (AreChains n) f.is (
-        omega arith,
-        All-cons (IsChain n) ps f.others w
-            (all_items next (IsChain n) next_complex_well text f.others rest f.reads),
-      )
+      by : (r : Reading (List Part)) → (gap >> complex (next_condition n)) text ≡ r
+          → judged f text r ≡ got o rest → IsPart f o
+      by (refused why t) e k = left_out f text why t o rest k
+      by (got s t) e k =
+          let m = followed (gap text) (λ x. complex (next_condition n)) s t e in
+          ended s (complex_well m.middle s t m.second) (gap t) k
 
-  complexes_well : (opened text : List ℕ) (ss : List (List Part)) (rest : List ℕ)
-      → complex_list (may_join n) (next_condition n) opened text ≡ got ss rest → AreChains n ss
+  next_well : (f : Bool) (text : List ℕ) (o : Option (List Part)) (rest : List ℕ)
+      → next_listed f (next_condition n) text ≡ item o rest → IsPart f o
+  unfolding next_listed
+  next_well f text o rest h = by (starts comma text) h
+    where
+      by : (c : Bool) → (if c
+          then as_item (λ s. s) (listed_part f (next_condition n) (past_one text)) else none)
+          ≡ item o rest → IsPart f o
+      by false k = absurd (cc)
+      by true k =
+          let m = made (λ s. s) (listed_part f (next_condition n) (past_one text)) o rest k in
+          subst (IsPart f) m.is (listed_well f (past_one text) m.value rest m.first)
+
+  kept_well : (f : Bool) (os : List (Option (List Part))) → All (IsPart f) os
+      → All (IsChain n) (kept os)
+  kept_well f [] all = All-nil (IsChain n)
+  kept_well f (None ∷ os) all = kept_well f os (All-tail (IsPart f) None os all)
+  kept_well f (Some s ∷ os) all =
+      All-cons (IsChain n) s (kept os) (All-head (IsPart f) (Some s) os all)
+      (kept_well f os (All-tail (IsPart f) (Some s) os all))
+
+  chains_all : (f : Bool) (ss : List (List Part)) → f ≡ true → All (IsChain n) ss
+      → AreChains f n ss
+  chains_all f [] is all = is
+  chains_all f (s ∷ ss) is all = (All-head (IsChain n) s ss all, All-tail (IsChain n) s ss all)
+
+  chains_well : (f : Bool) (o : Option (List Part)) (os : List (Option (List Part)))
+      → IsPart f o → All (IsPart f) os → AreChains f n (kept (o ∷ os))
+  chains_well f None os w all = chains_all f (kept os) w (kept_well f os all)
+  chains_well f (Some s) os w all = (w, kept_well f os all)
+
+  selectors_well : (f : Bool) (o : Option (List Part)) (text : List ℕ) (ss : List (List Part))
+      (rest : List ℕ) → IsPart f o → selectors_after f (next_condition n) o text ≡ got ss rest
+      → AreChains f n ss
+  selectors_well f o text ss rest w h = by (with_first o (items next text)) refl h
+    where
+      next : List ℕ → Step (Option (List Part))
+      next = next_listed f (next_condition n)
+
+      by : (r : Reading (List (Option (List Part)))) → with_first o (items next text) ≡ r
+          → keep r ≡ got ss rest → AreChains f n ss
+      by (refused why t) e k = absurd (cc)
+      by (got os t) e k =
+          let g = first_of_all o (items next text) os t e in
+          let is : kept os ≡ ss = cc in
+          subst (AreChains f n) (ap kept g.is ∙ is)
+          (chains_well f o g.others w (all_items next (IsPart f) (next_well f) text g.others t g.reads))
+
+  complexes_well : (f : Bool) (text : List ℕ) (ss : List (List Part)) (rest : List ℕ)
+      → complex_list f (next_condition n) text ≡ got ss rest → AreChains f n ss
   unfolding complex_list
-  complexes_well opened text ss rest h =
-      let joins : Bool = may_join n in
+  complexes_well f text ss rest h =
       let next : Finder = next_condition n in
-      let f = followed (gap text) (λ x. complex joins next >>= λ c.
-      one_more c (items (next_complex joins next)) >>= λ all.
-      gap >> (closing close_parenthesis >> give all)) ss rest h in
-      let g = followed (complex joins next f.middle) (λ c.
-      one_more c (items (next_complex joins next)) >>= λ all.
-      gap >> (closing close_parenthesis >> give all)) ss rest f.second in
-      let i = followed (one_more g.value (items (next_complex joins next)) g.middle) (λ all.
-      gap >> (closing close_parenthesis >> give all)) ss rest g.second in
-      closed_well (AreChains n) close_parenthesis i.value ss i.middle rest i.second
-      (chains_well g.value g.middle i.value i.middle
-      (complex_well f.middle g.value g.middle g.first) i.first)
+      let i = followed (listed_part f next text) (λ first. selectors_after f next first >>= λ all.
+      closing close_parenthesis >> give all) ss rest h in
+      let g = followed (selectors_after f next i.value i.middle) (λ all.
+      closing close_parenthesis >> give all) ss rest i.second in
+      let c = followed (closing close_parenthesis g.middle) (λ x. give g.value) ss rest g.second in
+      let is : g.value ≡ ss = (let e = c.second in cc) in
+      subst (AreChains f n) is
+      (selectors_well f i.value i.middle g.value g.middle (listed_well f text i.value i.middle i.first)
+      g.first)
 
 -- ---- conditions
 
-module _ (n : ℕ) (list : ListReader) (well : (opened text : List ℕ) (ss : List (List Part))
-    (rest : List ℕ) → list opened text ≡ got ss rest → IsList n (selectors_from ss)) where
+module _ (n : ℕ) (list : ListReader) (well : (kind : ListKind) (opened text : List ℕ)
+    (ss : List (List Part)) (rest : List ℕ) → list kind opened text ≡ got ss rest
+    → IsList (is_forgiving kind) n (selectors_from ss)) where
   argument_well : (opened name text : List ℕ) (kind : Option ListKind) (c : Condition)
       (rest : List ℕ) → IsName name → list_kind name ≡ kind
       → with_argument list opened name kind (function_named name) text ≡ got c rest
@@ -237,11 +281,12 @@ module _ (n : ℕ) (list : ListReader) (well : (opened text : List ℕ) (ss : Li
       (functional_well opened name text (function_named name) f.value f.middle some no_list refl
       f.first)
   argument_well opened name text (Some kind) c rest some is_list h =
-      let f = followed (list opened text) (λ all. give (listed kind all)) c rest h in
+      let f = followed (list kind opened text) (λ all. give (listed kind all)) c rest h in
       let is : listed kind f.value ≡ c = (let e = f.second in cc) in
-      subst (IsFurtherCondition n) is (by kind f.value (well opened text f.value f.middle f.first))
+      subst (IsFurtherCondition n) is
+      (by kind f.value (well kind opened text f.value f.middle f.first))
     where
-      by : (k : ListKind) (ss : List (List Part)) → IsList n (selectors_from ss)
+      by : (k : ListKind) (ss : List (List Part)) → IsList (is_forgiving k) n (selectors_from ss)
           → IsFurtherCondition n (listed k ss)
       by Not ss w = w
       by Is ss w = w
@@ -289,10 +334,11 @@ module _ (n : ℕ) (list : ListReader) (well : (opened text : List ℕ) (ss : Li
 next_condition_well : (n : ℕ) → FurtherWell n
 unfolding next_condition
 next_condition_well zero text c rest h =
-    condition_by_well zero too_deep (λ opened t ss u e. absurd (cc)) text c rest h
+    condition_by_well zero too_deep (λ kind opened t ss u e. absurd (cc)) text c rest h
 next_condition_well (suc n) text c rest h =
-    condition_by_well (suc n) (complex_list (may_join n) (next_condition n)) (λ opened t ss u e.
-    chains_in n ss (complexes_well n (next_condition_well n) opened t ss u e)) text c rest h
+    condition_by_well (suc n) (list_by (next_condition n)) (λ kind opened t ss u e.
+    chains_in n (is_forgiving kind) ss
+    (complexes_well n (next_condition_well n) (is_forgiving kind) t ss u e)) text c rest h
 
 -- the conditions of a compound selector, of which there may be none before a pseudo-element
 abbrev Conditions : List Condition → List ℕ → Type 0
@@ -486,7 +532,7 @@ class_of_argument list opened n text None c rest h =
     subst IsClass is
     (class_of_functional opened n text (function_named n) f.value f.middle f.first)
 class_of_argument list opened n text (Some kind) c rest h =
-    let f = followed (list opened text) (λ all. give (listed kind all)) c rest h in
+    let f = followed (list kind opened text) (λ all. give (listed kind all)) c rest h in
     let is : listed kind f.value ≡ c = (let e = f.second in cc) in
     subst IsClass is (by kind f.value)
   where
@@ -528,7 +574,7 @@ unfolding next_condition
 next_class [] c rest h k = absurd (cc)
 next_class (b ∷ text) c rest h k =
     let is : b ≡ colon = eqb-true b colon h in
-    let list : ListReader = complex_list (may_join 31) (next_condition 31) in
+    let list : ListReader = list_by (next_condition 31) in
     let here : condition_by list (colon ∷ text) ≡ item c rest =
     subst (λ (d : ℕ). condition_by list (d ∷ text) ≡ item c rest) is k in
     class_here list text c rest
@@ -546,6 +592,7 @@ class_after (simple (language ranges)) k w = (k, w)
 class_after (simple (state n)) k w = (k, w)
 class_after (simple (function n a)) k w = (k, w)
 class_after (simple (named_element n a)) k w = absurd w
+class_after (simple (nesting list)) k w = (k, w)
 class_after (negation selectors) k w = w
 class_after (any_of selectors) k w = w
 class_after (where_any selectors) k w = w
@@ -630,17 +677,34 @@ before_comments text ps false e w =
     parts_stay (starts colon (past_comments text)) ps
     (subst (λ (t : Bool). AreParts t ps) e w)
 
-placed_well : (text : List ℕ) (p : Placed) (rest : List ℕ) → placed text ≡ got p rest
-    → IsWellFormed p.selector
-unfolding placed
-placed_well text p rest h =
+-- of a relative selector, too
+relative_well : (text : List ℕ) (ps : List Part) (end : List ℕ) → relative_parts text ≡ got ps end
+    → PartsWell ps end
+unfolding relative_parts
+relative_well text ps end h = by (first_sign text) h
+  where
+    by : (k : Option Combinator) → after_sign text k ≡ got ps end → PartsWell ps end
+    by None k = parts_well text ps end k
+    by (Some c) k =
+        first_parts (nesting_part outermost) text ps end refl
+        (inl (refl, All-nil (IsFurtherCondition deepest))) k
+
+start_well : (start : Start) (text : List ℕ) (ps : List Part) (end : List ℕ)
+    → start_parts start text ≡ got ps end → PartsWell ps end
+start_well Plain text ps end h = parts_well text ps end h
+start_well Relative text ps end h = relative_well text ps end h
+
+placed_well : (start : Start) (text : List ℕ) (p : Placed) (rest : List ℕ)
+    → placed_by start text ≡ got p rest → IsWellFormed p.selector
+unfolding placed_by
+placed_well start text p rest h =
     let a = followed (gap text) _ p rest h in
-    let b = followed (parts a.middle) _ p rest a.second in
+    let b = followed (start_parts start a.middle) _ p rest a.second in
     let c = followed (pseudo_element (past_comments b.middle)) _ p rest b.second in
     let d = followed (gap c.middle) _ p rest c.second in
     let is : placed_as b.value c.value a.middle b.middle (past_comments b.middle) c.middle ≡ p =
     (let e = d.second in cc) in
-    let w = parts_well a.middle b.value b.middle b.first in
+    let w = start_well start a.middle b.value b.middle b.first in
     let e = element_well (past_comments b.middle) c.value c.middle c.first in
     subst (λ (q : Placed). IsWellFormed q.selector) is (
       w.plain,
@@ -660,4 +724,35 @@ selector-well text s rest h =
     let is : f.value.selector ≡ s = (let e = f.second in cc) in
     subst IsWellFormed is
     (subst (λ (q : Placed). IsWellFormed q.selector) same
-    (placed_well text g.value g.middle g.first))
+    (placed_well Plain text g.value g.middle g.first))
+
+next_placed_well : (start : Start) (text : List ℕ) (p : Placed) (rest : List ℕ)
+    → next_placed start text ≡ item p rest → IsWellFormed p.selector
+unfolding next_placed
+next_placed_well start text p rest h = by (starts comma text) h
+  where
+    by : (t : Bool) → (if t then as_item (λ q. q) (placed_by start (past_one text)) else none)
+        ≡ item p rest → IsWellFormed p.selector
+    by false k = absurd (cc)
+    by true k =
+        let m = made (λ q. q) (placed_by start (past_one text)) p rest k in
+        subst (λ (q : Placed). IsWellFormed q.selector) m.is
+        (placed_well start (past_one text) m.value rest m.first)
+
+pub list_well : (start : Start) (text : List ℕ) (all : List Placed) (rest : List ℕ)
+    → placed_list_by start text ≡ got all rest → All (λ p. IsWellFormed p.selector) all
+unfolding placed_list_by
+list_well start text all rest h =
+    let f = followed (placed_by start text) (λ first. one_more first (items (next_placed start))
+    >>= λ ps. at_end >> give ps) all rest h in
+    let g = followed (one_more f.value (items (next_placed start)) f.middle)
+    (λ ps. at_end >> give ps) all rest f.second in
+    let k = followed (at_end g.middle) (λ x. give g.value) all rest g.second in
+    let is : g.value ≡ all = (let e = k.second in cc) in
+    let m = first_of_all f.value (items (next_placed start) f.middle) g.value g.middle g.first in
+    let others = all_items (next_placed start) (λ p. IsWellFormed p.selector) (next_placed_well start)
+    f.middle m.others g.middle m.reads in
+    subst (All (λ p. IsWellFormed p.selector)) is
+    (subst (All (λ p. IsWellFormed p.selector)) m.is
+    (All-cons (λ p. IsWellFormed p.selector) f.value m.others
+    (placed_well start text f.value f.middle f.first) others))

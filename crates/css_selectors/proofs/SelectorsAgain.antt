@@ -11,11 +11,11 @@ use Rattle.css_text.proofs.reading.EachLemmas.{each-none}
 use Rattle.css_matching.specs.declared.Combinator.{Combinator}
 use Rattle.css_matching.specs.declared.Combinator.TheVariants.{Descendant, Child, Adjacent, Sibling}
 use Rattle.css_selectors.specs.Components.{Structure, Condition, Part, PseudoElement, Selector}
-use Rattle.css_selectors.specs.Components.Structure.{root, empty, first_child, last_child, only_child, first_of_type, last_of_type, only_of_type, nth_child, nth_last_child, nth_of_type, nth_last_of_type}
-use Rattle.css_selectors.specs.Components.Simple.{universal, type_name, id, class, has_attribute, attribute, structure, language, state, function, named_element}
+use Rattle.css_selectors.specs.Components.Structure.{root, scope, empty, first_child, last_child, only_child, first_of_type, last_of_type, only_of_type, nth_child, nth_last_child, nth_of_type, nth_last_of_type}
+use Rattle.css_selectors.specs.Components.Simple.{universal, type_name, id, class, has_attribute, attribute, structure, language, state, function, named_element, nesting}
 use Rattle.css_selectors.specs.Components.Condition.{simple, negation, any_of, where_any}
 use Rattle.css_selectors.specs.Readings.{got, follow, give, ◌>>=◌, item, none, as_item, with_first, items}
-use Rattle.css_selectors.specs.Grammar.{gap, past_comments, past_colon, name, begins_pseudo_class, next_condition, next_simple, deepest, conditions, joined_by, part_after, next_part, one_more, element_argument, element_name, element_named, named_condition, class_or_element, after_element_here, after_element, with_after, pseudo_element, selector_with, parts, placed, placed_selector, selector}
+use Rattle.css_selectors.specs.Grammar.{gap, past_comments, past_colon, name, begins_pseudo_class, next_condition, next_simple, deepest, conditions, joined_by, part_after, next_part, one_more, element_argument, element_name, element_named, named_condition, class_or_element, after_element_here, after_element, with_after, pseudo_element, selector_with, parts, placed_by, placed_selector, selector}
 use Rattle.css_selectors.specs.Printing.{identifier_text, argument_text, structure_text, simple_text, condition_text, combinator_text, part_text, parts_text, pseudo_element_text, selector_text}
 use Rattle.css_selectors.specs.WellFormed.{IsArgumentOf, IsElementName, IsAfterElement, IsPseudoElement, IsFurtherCondition, AreConditions, is_last, AreParts, BeginsPlain, IsWellFormed}
 use Rattle.css_selectors.proofs.GapLemmas.{no_comments}
@@ -197,6 +197,7 @@ element_name-again n a rest w h =
 
 structure_colon : (s : Structure) → starts colon (structure_text s) ≡ true
 structure_colon root = refl
+structure_colon scope = refl
 structure_colon empty = refl
 structure_colon first_child = refl
 structure_colon last_child = refl
@@ -221,6 +222,7 @@ after_colon (simple (language ranges)) w = refl
 after_colon (simple (state n)) w = refl
 after_colon (simple (function n a)) w = refl
 after_colon (simple (named_element n a)) w = refl
+after_colon (simple (nesting list)) w = absurd (let k = w.0 in cc)
 after_colon (negation selectors) w = refl
 after_colon (any_of selectors) w = refl
 after_colon (where_any selectors) w = refl
@@ -291,6 +293,7 @@ after-again (simple (language ranges)) rest w h =
 after-again (simple (state n)) rest w h = class-again (simple (state n)) rest w.1 refl h
 after-again (simple (function n a)) rest w h = class-again (simple (function n a)) rest w.1 refl h
 after-again (simple (named_element n a)) rest w h = further_element-again n a rest w h
+after-again (simple (nesting list)) rest w h = absurd (let k = w.0 in cc)
 after-again (negation selectors) rest w h = class-again (negation selectors) rest w refl h
 after-again (any_of selectors) rest w h = class-again (any_of selectors) rest w refl h
 after-again (where_any selectors) rest w h = class-again (where_any selectors) rest w refl h
@@ -344,7 +347,7 @@ starts_solid element p ps w =
     (parts_follow element ps))))
 
 pub selector-again : (s : Selector) → IsWellFormed s → selector (selector_text s) ≡ got s []
-unfolding selector placed_selector placed end
+unfolding selector placed_selector placed_by end
 selector-again s w = by s.parts w.0 w.1
   where
     by : (ps : List Part) → BeginsPlain ps → AreParts (is_some s.pseudo_element) ps

@@ -12,11 +12,11 @@ use Rattle.css_selectors.specs.declared.components.Numbering.TheVariants.{Child 
 use Rattle.css_selectors.specs.declared.components.Function.TheVariants.{Numbered, Language}
 use Rattle.css_selectors.specs.Components.{Comparison, Progression, Structure, Simple, Condition}
 use Rattle.css_selectors.specs.Components.Comparison.{equals, has_word, has_subtag, starts as starts_with, ends as ends_with, contains}
-use Rattle.css_selectors.specs.Components.Structure.{root, empty, first_child, last_child, only_child, first_of_type, last_of_type, only_of_type, nth_child, nth_last_child, nth_of_type, nth_last_of_type}
-use Rattle.css_selectors.specs.Components.Simple.{universal, type_name, id, class, has_attribute, attribute, structure, language, state, function, named_element}
+use Rattle.css_selectors.specs.Components.Structure.{root, scope, empty, first_child, last_child, only_child, first_of_type, last_of_type, only_of_type, nth_child, nth_last_child, nth_of_type, nth_last_of_type}
+use Rattle.css_selectors.specs.Components.Simple.{universal, type_name, id, class, has_attribute, attribute, structure, language, state, function, named_element, nesting}
 use Rattle.css_selectors.specs.Components.Condition.{simple}
 use Rattle.css_selectors.specs.Readings.{got, follow, give, ◌>>=◌, ◌>>◌, Step, item, none, as_item, with_first, go_on, items, items_up_to}
-use Rattle.css_selectors.specs.Grammar.{gap, past_comments, name, begins_name, begins_word, begins_compound, value, comparison, flag, flag_named, compared, by_comparison, attribute_selector, closing, progression, one_more, plain_structure, plain_pseudo, list_kind, function_named, numbered_by, next_range, range_after, language_ranges, argument_of, functional, is_old_element, next_simple, simple_item, ListReader, with_argument, pseudo_condition, condition_here, condition_by}
+use Rattle.css_selectors.specs.Grammar.{gap, past_comments, name, begins_name, begins_word, begins_compound, ampersand, value, comparison, flag, flag_named, compared, by_comparison, attribute_selector, closing, progression, one_more, plain_structure, plain_pseudo, list_kind, function_named, numbered_by, next_range, range_after, language_ranges, argument_of, functional, is_old_element, next_simple, simple_item, ListReader, with_argument, pseudo_condition, condition_here, condition_by}
 use Rattle.css_selectors.specs.Printing.{identifier_text, string_text, progression_text, comparison_text, flag_text, structure_text, further_text, list_text, simple_text}
 use Rattle.css_selectors.specs.WellFormed.{IsName, IsArgumentOf, IsProgression, IsStructure, IsFurther}
 use Rattle.css_selectors.proofs.ArgumentLemmas.{argument-again}
@@ -72,7 +72,7 @@ abbrev pub is_end : ℕ → Bool
 is_end b =
     b == number_sign || b == full_stop || b == open_bracket || b == colon || b == space || b ==
     comma
-    || b == close_parenthesis
+    || b == close_parenthesis || b == ampersand
 
 -- a simple selector ends there
 abbrev pub ends : List ℕ → Bool
@@ -82,22 +82,25 @@ ends (b ∷ text) = is_end b
 end_low : (b : ℕ) → is_end b ≡ true → b < 128
 end_low b h =
     by (b == number_sign) (b == full_stop) (b == open_bracket) (b == colon) (b == space)
-    (b == comma) (b == close_parenthesis) refl refl refl refl refl refl refl h
+    (b == comma) (b == close_parenthesis) (b == ampersand) refl refl refl refl refl refl refl refl h
   where
-    by : (n f o c s k p : Bool) → (b == number_sign) ≡ n → (b == full_stop) ≡ f
+    by : (n f o c s k p a : Bool) → (b == number_sign) ≡ n → (b == full_stop) ≡ f
         → (b == open_bracket) ≡ o → (b == colon) ≡ c → (b == space) ≡ s → (b == comma) ≡ k
-        → (b == close_parenthesis) ≡ p → (n || f || o || c || s || k || p) ≡ true → b < 128
-    by true f o c s k p en ef eo ec es ek ep h = omega (arith, eqb-true b number_sign en)
-    by false true o c s k p en ef eo ec es ek ep h = omega (arith, eqb-true b full_stop ef)
-    by false false true c s k p en ef eo ec es ek ep h =
+        → (b == close_parenthesis) ≡ p → (b == ampersand) ≡ a
+        → (n || f || o || c || s || k || p || a) ≡ true → b < 128
+    by true f o c s k p a en ef eo ec es ek ep ea h = omega (arith, eqb-true b number_sign en)
+    by false true o c s k p a en ef eo ec es ek ep ea h = omega (arith, eqb-true b full_stop ef)
+    by false false true c s k p a en ef eo ec es ek ep ea h =
         omega (arith, eqb-true b open_bracket eo)
-    by false false false true s k p en ef eo ec es ek ep h = omega (arith, eqb-true b colon ec)
-    by false false false false true k p en ef eo ec es ek ep h = omega (arith, eqb-true b space es)
-    by false false false false false true p en ef eo ec es ek ep h =
+    by false false false true s k p a en ef eo ec es ek ep ea h = omega (arith, eqb-true b colon ec)
+    by false false false false true k p a en ef eo ec es ek ep ea h = omega (arith, eqb-true b space es)
+    by false false false false false true p a en ef eo ec es ek ep ea h =
         omega (arith, eqb-true b comma ek)
-    by false false false false false false true en ef eo ec es ek ep h =
+    by false false false false false false true a en ef eo ec es ek ep ea h =
         omega (arith, eqb-true b close_parenthesis ep)
-    by false false false false false false false en ef eo ec es ek ep h = absurd (cc)
+    by false false false false false false false true en ef eo ec es ek ep ea h =
+        omega (arith, eqb-true b ampersand ea)
+    by false false false false false false false false en ef eo ec es ek ep ea h = absurd (cc)
 
 -- no such byte passes a test that none passes
 end_fails : (test : ℕ → Bool) → all_below (λ k. not (is_end k && test k)) 128 ≡ true → (b : ℕ)
@@ -365,20 +368,24 @@ language_argument opened n rest ranges some =
 
 -- the bytes that begin simple selectors but types
 abbrev pub is_start : ℕ → Bool
-is_start b = b == number_sign || b == full_stop || b == open_bracket || b == colon
+is_start b =
+    b == number_sign || b == full_stop || b == open_bracket || b == colon || b == ampersand
 
-pub by_start : (P : ℕ → Type 0) → P number_sign → P full_stop → P open_bracket → P colon → (b : ℕ)
-    → is_start b ≡ true → P b
-by_start P pn pf po pc b h =
-    by (b == number_sign) (b == full_stop) (b == open_bracket) (b == colon) refl refl refl refl h
+pub by_start : (P : ℕ → Type 0) → P number_sign → P full_stop → P open_bracket → P colon
+    → P ampersand → (b : ℕ) → is_start b ≡ true → P b
+by_start P pn pf po pc pa b h =
+    by (b == number_sign) (b == full_stop) (b == open_bracket) (b == colon) (b == ampersand)
+    refl refl refl refl refl h
   where
-    by : (n f o c : Bool) → (b == number_sign) ≡ n → (b == full_stop) ≡ f
-        → (b == open_bracket) ≡ o → (b == colon) ≡ c → (n || f || o || c) ≡ true → P b
-    by true f o c en ef eo ec h = subst P (sym (eqb-true b number_sign en)) pn
-    by false true o c en ef eo ec h = subst P (sym (eqb-true b full_stop ef)) pf
-    by false false true c en ef eo ec h = subst P (sym (eqb-true b open_bracket eo)) po
-    by false false false true en ef eo ec h = subst P (sym (eqb-true b colon ec)) pc
-    by false false false false en ef eo ec h = absurd (cc)
+    by : (n f o c a : Bool) → (b == number_sign) ≡ n → (b == full_stop) ≡ f
+        → (b == open_bracket) ≡ o → (b == colon) ≡ c → (b == ampersand) ≡ a
+        → (n || f || o || c || a) ≡ true → P b
+    by true f o c a en ef eo ec ea h = subst P (sym (eqb-true b number_sign en)) pn
+    by false true o c a en ef eo ec ea h = subst P (sym (eqb-true b full_stop ef)) pf
+    by false false true c a en ef eo ec ea h = subst P (sym (eqb-true b open_bracket eo)) po
+    by false false false true a en ef eo ec ea h = subst P (sym (eqb-true b colon ec)) pc
+    by false false false false true en ef eo ec ea h = subst P (sym (eqb-true b ampersand ea)) pa
+    by false false false false false en ef eo ec ea h = absurd (cc)
 
 -- a further simple selector is no type
 pub further_starts : (s : Simple) → IsFurther s → starts_by is_start (simple_text s) ≡ true
@@ -392,6 +399,7 @@ further_starts (structure s) w = by s
   where
     by : (s : Structure) → starts_by is_start (structure_text s) ≡ true
     by root = refl
+    by scope = refl
     by empty = refl
     by first_child = refl
     by last_child = refl
@@ -407,6 +415,7 @@ further_starts (language ranges) w = refl
 further_starts (state n) w = refl
 further_starts (function n a) w = refl
 further_starts (named_element n a) w = absurd w
+further_starts (nesting list) w = refl
 
 pub call_end : (argument : List ℕ) → EndsName (open_parenthesis ∷ argument)
 call_end argument = record { bare = refl; calm = refl; apart = refl }
@@ -487,6 +496,7 @@ module _ (list : ListReader) where
   structure-again : (s : Structure) (rest : List ℕ) → IsStructure s → ends rest ≡ true
       → condition_by list (structure_text s ++ rest) ≡ item (simple (structure s)) rest
   structure-again root rest w h = plain-again (codes "root") rest _ (omega arith) refl h refl
+  structure-again scope rest w h = plain-again (codes "scope") rest _ (omega arith) refl h refl
   structure-again empty rest w h = plain-again (codes "empty") rest _ (omega arith) refl h refl
   structure-again first_child rest w h =
       plain-again (codes "first-child") rest _ (omega arith) refl h refl
@@ -566,3 +576,6 @@ module _ (list : ListReader) where
       plain-again n rest (state n) w.0 w.2 h (ap (plain_pseudo n) w.1)
   further-again (function n a) rest w h = called-again n a rest w
   further-again (named_element n a) rest w h = absurd w
+  further-again (nesting stands) rest w h =
+      ap (condition_here list) (no_comments (ampersand ∷ rest) refl)
+      ∙ ap (λ l. item (simple (nesting l)) rest) (sym w)

@@ -1,16 +1,20 @@
 -- Worked texts, computed with the definitions.
--- Computes `name`, `ident_sequence`, `progression`, `attribute_selector` and `next_condition`.
-use Rattle.std.specs.Prelude.{◌≡◌, refl, zero, [], codes, true, false}
+-- Computes `name`, `ident_sequence`, `progression`, `attribute_selector`, `next_condition` and
+-- `complex_list`.
+use Rattle.std.specs.Prelude.{◌≡◌, refl, ℕ, zero, List, [], ◌∷◌, map, codes, true, false}
+use Rattle.css_matching.specs.declared.Combinator.TheVariants.{Descendant}
 use Rattle.css_text.specs.Comments.{blank, comment, gap as gap_before}
 use Rattle.css_text.specs.Reading.{each}
-use Rattle.css_syntax.specs.Tokens.{past_escape, past_comment, name_part, string_part}
+use Rattle.css_syntax.specs.Tokens.{past_escape, past_letter, spells, past_comment, gap_part, name_part, string_part, past_string, url_part, remnant_part, past_url, token}
+use Rattle.css_syntax.specs.ComponentValues.{block_of, past_open, component_value}
 use Rattle.css_syntax.specs.Escapes.{decoded_part, decoded_in}
-use Rattle.css_selectors.specs.declared.refusal.Why.TheVariants.{NoName, NoProgression, NoValue, UnknownFunction}
+use Rattle.css_selectors.specs.declared.refusal.Why.TheVariants.{NoSelector, NoName, NoProgression, NoValue, UnknownFunction, TooDeep}
+use Rattle.css_selectors.specs.Components.{Part}
 use Rattle.css_selectors.specs.Components.Comparison.{equals}
-use Rattle.css_selectors.specs.Components.Simple.{class, has_attribute, attribute, state}
+use Rattle.css_selectors.specs.Components.Simple.{type_name, class, has_attribute, attribute, state}
 use Rattle.css_selectors.specs.Components.Condition.{simple}
 use Rattle.css_selectors.specs.Readings.{got, refused, item, stop}
-use Rattle.css_selectors.specs.Grammar.{gap, ident_sequence, name, string, value, comparison, flag, compared, attribute_selector, signed, stepping, offset_or_none, with_offset, subtracted, by_tail, n_word, progression, next_simple, next_condition}
+use Rattle.css_selectors.specs.Grammar.{gap, ident_sequence, name, string, value, comparison, flag, compared, attribute_selector, signed, stepping, offset_or_none, with_offset, subtracted, by_tail, n_word, progression, type_selector, next_simple, next_condition, compound, complex, next_part_in, listed_part, next_listed, past_part, complex_list}
 
 -- `-->` is no name, but in a hash its hyphens are one; a backslash before a newline is no escape
 pub names :
@@ -56,3 +60,22 @@ pub conditions :
 unfolding each past_escape past_comment name_part decoded_part decoded_in ident_sequence name
     next_simple next_condition lib.Utf8.encode
 conditions = (refl, refl, refl, refl)
+
+-- a compound selector of a type
+abbrev types : List (List ℕ) → List (List Part)
+types names = map (λ n. (record { combinator = Descendant; conditions = simple (type_name n) ∷ [] }) ∷ []) names
+
+-- a forgiving list leaves out what is no selector, up to a comma or parenthesis outside brackets
+pub lists :
+    (complex_list true (next_condition zero) (codes "a, %%, b)c") ≡ got (types (codes "a" ∷ codes "b" ∷ [])) (codes "c"))
+    × (complex_list true (next_condition zero) (codes ")") ≡ got [] [])
+    × (complex_list true (next_condition zero) (codes ",/**/,a 5,b,)") ≡ got (types (codes "b" ∷ [])) [])
+    × (complex_list true (next_condition zero) (codes "{),},],b") ≡ got (types (codes "b" ∷ [])) [])
+    × (complex_list true (next_condition zero) (codes "a!b,c") ≡ got (types (codes "c" ∷ [])) [])
+    × (complex_list true (next_condition zero) (codes "a,:is(b))") ≡ refused TooDeep (codes ":is(b))"))
+    × (complex_list false (next_condition zero) (codes "a, %%)") ≡ refused NoSelector (codes "%%)"))
+unfolding each past_escape past_comment name_part decoded_part decoded_in blank comment gap_before gap
+    ident_sequence name type_selector next_simple next_condition compound complex next_part_in listed_part
+    next_listed past_part complex_list token block_of past_open component_value gap_part string_part
+    past_string url_part remnant_part past_url spells past_letter lib.Utf8.encode
+lists = (refl, refl, refl, refl, refl, refl, refl)

@@ -1,6 +1,7 @@
 -- The parts of a selector. Names and values are bytes, without the escapes that spelled them.
 use Rattle.std.specs.Prelude.{ℕ, List, [], ◌∷◌, Bool, Option}
 use Rattle.css_matching.specs.declared.Combinator.{Combinator}
+use Rattle.css_selectors.specs.declared.components.Nesting.{Nesting}
 
 -- how an attribute's value is compared with the text of a selector (sections 6.3.1 and 6.3.2)
 pub data Comparison : Type 0 where
@@ -27,9 +28,10 @@ pub record Progression : Type 0 where
   pub step : Signed
   pub offset : Signed
 
--- a structural pseudo-class (section 6.6.5)
+-- a structural pseudo-class (section 6.6.5), or `:scope`, which names an element by its place, too
 pub data Structure : Type 0 where
   root : Structure
+  scope : Structure
   empty : Structure
   first_child : Structure
   last_child : Structure
@@ -62,6 +64,13 @@ pub data Simple : Type 0 where
   function : (name argument : List ℕ) → Simple
   -- `::name` or `::name(..)`: a pseudo-element, which no element is
   named_element : (name : List ℕ) (argument : Option (List ℕ)) → Simple
+  -- `&`: an element that the list matches for which it stands (CSS Nesting 1, section 3)
+  nesting : Nesting → Simple
+
+-- What `&` stands for outside of nested rules: `:scope`, which is the list of number 0, and it counts
+-- nothing (CSS Nesting 1, section 3).
+abbrev pub outermost : Nesting
+outermost = record { number = 0; specificity = record { ids = 0; classes = 0; names = 0 } }
 
 mutual
   -- a simple selector, or a pseudo-class with a list of complex selectors

@@ -14,7 +14,7 @@ use Rattle.css_selectors.specs.Components.Conditions.{end_of_compound, with_cond
 use Rattle.css_selectors.specs.Components.Parts.{end_of_selector, with_part}
 use Rattle.css_selectors.specs.Components.Selectors.{end_of_list, with_selector}
 use Rattle.css_selectors.specs.Meanings.{combinator_at, part_count}
-use Rattle.css_selectors.specs.Costs.{most_questions, condition_cost, compound_cost, dearest_part, list_cost, is_single, selector_cost_by, IsPlain, ArePlain, HasPlainParts, IsPlainList, most_tests}
+use Rattle.css_selectors.specs.Costs.{most_questions, condition_cost, compound_cost, dearest_part, list_cost, is_lone, selector_cost_by, IsPlain, ArePlain, HasPlainParts, IsPlainList, most_tests}
 
 product-le : (a b c e : ℕ) → a ≤ b → c ≤ e → a * c ≤ b * e
 product-le a b c e h k =
@@ -61,7 +61,7 @@ module _ {Node : Type 0} (d : Document Node) where
       list-le : (selectors : Selectors) → list_cost d selectors m ≤ list_cost d selectors n
       list-le end_of_list = omega arith
       list-le (with_selector parts selectors) =
-          let q = selector-le (is_single parts) (most_questions d parts m) (most_questions d parts n)
+          let q = selector-le (is_lone parts) (most_questions d parts m) (most_questions d parts n)
           (dearest_part d parts m) (dearest_part d parts n) (questions-le parts) (dearest-le parts) in
           let b = list-le selectors in omega (arith, q, b)
 
@@ -141,7 +141,7 @@ module _ {Node : Type 0} (d : Document Node) where
       pub list-plain : (selectors : Selectors) → IsPlainList selectors → list_cost d selectors n ≡ 0
       list-plain end_of_list h = refl
       list-plain (with_selector parts selectors) h =
-          let a = single-none (is_single parts) (most_questions d parts n) (dearest_part d parts n) h.0
+          let a = single-none (is_lone parts) (most_questions d parts n) (dearest_part d parts n) h.0
           (part-plain parts h.1) in
           let b = list-plain selectors h.2 in omega (arith, a, b)
 

@@ -18,11 +18,11 @@ most_questions document parts n =
     + longest_free combinator last
     * (most_levels combinator last * width (shape document) (document.depth n + 1) n)
 
--- there is one part
-abbrev pub is_single : Parts → Bool
-is_single end_of_selector = false
-is_single (with_part k c end_of_selector) = true
-is_single (with_part k c (with_part l e parts)) = false
+-- there is no combinator
+abbrev pub is_lone : Parts → Bool
+is_lone end_of_selector = true
+is_lone (with_part k c end_of_selector) = true
+is_lone (with_part k c (with_part l e parts)) = false
 
 -- the tests of a selector in a list that asks so many questions, and whose dearest part makes so many
 -- tests: a lone compound selector is looked at within the test that the list belongs to
@@ -53,14 +53,14 @@ abbrev mutual
   pub list_cost : {Node : Type 0} → Document Node → Selectors → Node → ℕ
   list_cost document end_of_list n = 0
   list_cost document (with_selector parts selectors) n =
-      selector_cost_by (is_single parts) (most_questions document parts n)
+      selector_cost_by (is_lone parts) (most_questions document parts n)
       (dearest_part document parts n)
       + list_cost document selectors n
 
 -- those of a selector in a list
 abbrev pub selector_cost : {Node : Type 0} → Document Node → Parts → Node → ℕ
 selector_cost document parts n =
-    selector_cost_by (is_single parts) (most_questions document parts n)
+    selector_cost_by (is_lone parts) (most_questions document parts n)
     (dearest_part document parts n)
 
 -- no list has a selector with a combinator
@@ -82,7 +82,7 @@ abbrev mutual
   pub IsPlainList : Selectors → Type 0
   IsPlainList end_of_list = Unit {0}
   IsPlainList (with_selector parts selectors) =
-      IsTrue (is_single parts) × HasPlainParts parts × IsPlainList selectors
+      IsTrue (is_lone parts) × HasPlainParts parts × IsPlainList selectors
 
 -- the tests of a complex selector
 abbrev pub most_tests : {Node : Type 0} → Document Node → Parts → Node → ℕ

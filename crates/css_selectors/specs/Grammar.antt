@@ -13,6 +13,7 @@ use Rattle.css_syntax.specs.Parts.{Stated, parts as parts_stated}
 use Rattle.css_syntax.specs.Printing.{ends_lone}
 use Rattle.css_syntax.specs.Qualities.{is_whole}
 use Rattle.css_syntax.specs.Tokens.{begins_escape, past_comment, past_gap, past_word, past_string_parts}
+use Rattle.css_syntax.specs.ComponentValues.{deepest as deepest_brackets, component_value}
 use Rattle.css_syntax.specs.Escapes.{decoded, decoded_string}
 use Rattle.css_syntax.specs.Statements.{begins_cdc}
 use Rattle.css_matching.specs.declared.Combinator.{Combinator}
@@ -22,12 +23,16 @@ use Rattle.css_selectors.specs.declared.components.Numbering.TheVariants.{Child 
 use Rattle.css_selectors.specs.declared.components.Function.{Function}
 use Rattle.css_selectors.specs.declared.components.Function.TheVariants.{Numbered, Language}
 use Rattle.css_selectors.specs.declared.components.ListKind.{ListKind}
+use Rattle.css_selectors.specs.declared.components.Nesting.{Nesting}
 use Rattle.css_selectors.specs.declared.components.ListKind.TheVariants.{Not, Is, Where}
+use Rattle.css_selectors.specs.declared.reading.Start.{Start}
+use Rattle.css_selectors.specs.declared.reading.Start.TheVariants.{Plain, Relative}
+use Rattle.css_selectors.specs.declared.refusal.Why.{Why}
 use Rattle.css_selectors.specs.declared.refusal.Why.TheVariants.{NoSelector, NoName, BrokenString, NoOperator, NoValue, UnknownFlag, NoProgression, UnknownFunction, TooDeep, Unexpected}
-use Rattle.css_selectors.specs.Components.{Comparison, Signed, Progression, Structure, Simple, Condition, Part, PseudoElement, Placed, Selector, selectors_from}
+use Rattle.css_selectors.specs.Components.{Comparison, Signed, Progression, Structure, Simple, outermost, Condition, Part, PseudoElement, Placed, Selector, selectors_from}
 use Rattle.css_selectors.specs.Components.Comparison.{equals, has_word, has_subtag, starts as starts_with, ends as ends_with, contains}
-use Rattle.css_selectors.specs.Components.Structure.{root, empty, first_child, last_child, only_child, first_of_type, last_of_type, only_of_type, nth_child, nth_last_child, nth_of_type, nth_last_of_type}
-use Rattle.css_selectors.specs.Components.Simple.{universal, type_name, id, class, has_attribute, attribute, structure, language, state, function, named_element}
+use Rattle.css_selectors.specs.Components.Structure.{root, scope, empty, first_child, last_child, only_child, first_of_type, last_of_type, only_of_type, nth_child, nth_last_child, nth_of_type, nth_last_of_type}
+use Rattle.css_selectors.specs.Components.Simple.{universal, type_name, id, class, has_attribute, attribute, structure, language, state, function, named_element, nesting}
 use Rattle.css_selectors.specs.Components.Condition.{simple, negation, any_of, where_any}
 use Rattle.css_selectors.specs.Readings.{Reading, got, refused, Reader, follow, ◌>>=◌, ◌>>◌, give, Step, item, none, stop, step_after, as_item, with_first, items}
 
@@ -304,13 +309,14 @@ is_word word n = str_eq_ignore_ascii_case n word
 abbrev pub plain_structure : List ℕ → Option Structure
 plain_structure n =
     if is_word (codes "root") n then Some root
+    else (if is_word (codes "scope") n then Some scope
     else (if is_word (codes "empty") n then Some empty
     else (if is_word (codes "first-child") n then Some first_child
     else (if is_word (codes "last-child") n then Some last_child
     else (if is_word (codes "only-child") n then Some only_child
     else (if is_word (codes "first-of-type") n then Some first_of_type
     else (if is_word (codes "last-of-type") n then Some last_of_type
-    else (if is_word (codes "only-of-type") n then Some only_of_type else None)))))))
+    else (if is_word (codes "only-of-type") n then Some only_of_type else None))))))))
 
 abbrev pub numbering : List ℕ → Option Numbering
 numbering n =
@@ -430,13 +436,18 @@ type_selector text =
     if starts asterisk text then item universal (past_one text)
     else (if begins_name text then as_item type_name (name text) else none)
 
+-- `&`
+abbrev pub ampersand : ℕ
+ampersand = 38
+
 -- the next simple selector of a compound selector, if it is no pseudo-class
 unfoldable pub next_simple : List ℕ → Step Simple
 next_simple [] = none
 next_simple (b ∷ text) =
     if b == full_stop then as_item class (name (past_comments text))
     else (if b == number_sign then as_item id (ident_sequence text)
-    else (if b == open_bracket then as_item (λ s. s) (attribute_selector text) else none))
+    else (if b == open_bracket then as_item (λ s. s) (attribute_selector text)
+    else (if b == ampersand then item (nesting outermost) text else none)))
 
 -- at least one item
 abbrev pub some_of : {A : Type 0} → List ℕ → Reading (List A) → Reading (List A)
@@ -468,7 +479,7 @@ sign_combinator b =
 abbrev pub begins_compound : ℕ → Bool
 begins_compound b =
     begins_word b || b == hyphen || b == asterisk || b == full_stop || b == number_sign
-    || b == open_bracket || b == colon || b == backslash
+    || b == open_bracket || b == colon || b == backslash || b == ampersand
 
 abbrev pub joined_by : Combinator → List Condition → Part
 joined_by combinator conditions = record { combinator = combinator; conditions = conditions }
@@ -495,52 +506,101 @@ abbrev pub part_after : CompoundReader → Reading Bool → Step Part
 part_after one (refused why rest) = stop why rest
 part_after one (got spaced rest) = by_sign one spaced rest (first_sign rest)
 
--- a compound selector after a combinator in a list, which may have combinators or not
-unfoldable pub joined_compound : Bool → Finder → CompoundReader
-joined_compound true next text = compound next text
-joined_compound false next text = refused TooDeep text
-
 -- in a list, by what finds a condition
-unfoldable pub next_part_in : Bool → Finder → List ℕ → Step Part
-next_part_in joins next text = part_after (joined_compound joins next) (gap text)
+unfoldable pub next_part_in : Finder → List ℕ → Step Part
+next_part_in next text = part_after (compound next) (gap text)
 
 -- a complex selector in a list
-unfoldable pub complex : Bool → Finder → Reader (List Part)
-complex joins next = do
+unfoldable pub complex : Finder → Reader (List Part)
+complex next = do
   first ← compound next
-  one_more (joined_by Descendant first) (items (next_part_in joins next))
+  one_more (joined_by Descendant first) (items (next_part_in next))
 
--- a further one, after a comma
-abbrev pub comma_complex : Bool → Finder → Reader (List Part)
-comma_complex joins next = gap >> complex joins next
+-- A part of a list ends at a comma, at the closing parenthesis, or with the text.
+abbrev pub ends_part : List ℕ → Bool
+ends_part [] = true
+ends_part (b ∷ text) = b == comma || b == close_parenthesis
 
-abbrev pub after_gap : Bool → Finder → Reading Bool → Step (List Part)
-after_gap joins next (refused why rest) = stop why rest
-after_gap joins next (got spaced rest) =
-    if starts comma rest then as_item (λ c. c) (comma_complex joins next (past_one rest)) else none
+-- a component value of a part (CSS Syntax 3, section 5.4.7)
+abbrev pub part_value : List ℕ → Option (Unit {0} × List ℕ)
+part_value text =
+    if ends_part text then None else Some (tt, (component_value deepest_brackets text).1)
 
-unfoldable pub next_complex : Bool → Finder → List ℕ → Step (List Part)
-next_complex joins next text = after_gap joins next (gap text)
+-- the rest after a part, whatever it is
+unfoldable pub past_part : List ℕ → List ℕ
+past_part text = (each part_value text).1
+
+-- a list with such a part is refused, even if it is forgiving
+abbrev pub is_lasting : Why → Bool
+is_lasting TooDeep = true
+is_lasting why = false
+
+-- A part that is no selector is left out of a forgiving list (Selectors 4, section 18.1); any other
+-- list is refused. `text` is where the part begins.
+abbrev pub no_selector : Bool → List ℕ → Why → List ℕ → Reading (Option (List Part))
+no_selector forgiving text why rest =
+    if forgiving && not (is_lasting why) then got None (past_part text) else refused why rest
+
+-- the part ends after the selector and a gap
+abbrev pub part_end : Bool → List ℕ → List Part → Reading Bool → Reading (Option (List Part))
+part_end forgiving text s (refused why rest) = refused why rest
+part_end forgiving text s (got spaced rest) =
+    if ends_part rest then got (Some s) rest else no_selector forgiving text Unexpected rest
+
+abbrev pub judged : Bool → List ℕ → Reading (List Part) → Reading (Option (List Part))
+judged forgiving text (got s rest) = part_end forgiving text s (gap rest)
+judged forgiving text (refused why rest) = no_selector forgiving text why rest
+
+-- A part of a list: the selector that it is, or none. `forgiving` is whether the list is.
+unfoldable pub listed_part : Bool → Finder → Reader (Option (List Part))
+listed_part forgiving next text = judged forgiving text ((gap >> complex next) text)
+
+-- a further part, after a comma
+unfoldable pub next_listed : Bool → Finder → List ℕ → Step (Option (List Part))
+next_listed forgiving next text =
+    if starts comma text then as_item (λ s. s) (listed_part forgiving next (past_one text)) else none
+
+-- the selectors of parts
+abbrev pub kept : List (Option (List Part)) → List (List Part)
+kept [] = []
+kept (None ∷ all) = kept all
+kept (Some s ∷ all) = s ∷ kept all
+
+abbrev pub keep : Reading (List (Option (List Part))) → Reading (List (List Part))
+keep (got all rest) = got (kept all) rest
+keep (refused why rest) = refused why rest
+
+-- the selectors of a list, of which the first part was read
+abbrev pub selectors_after : Bool → Finder → Option (List Part) → Reader (List (List Part))
+selectors_after forgiving next first text =
+    keep (with_first first (items (next_listed forgiving next) text))
+
+-- whether a list leaves out what is no selector
+abbrev pub is_forgiving : ListKind → Bool
+is_forgiving Not = false
+is_forgiving Is = true
+is_forgiving Where = true
 
 abbrev pub listed : ListKind → List (List Part) → Condition
 listed Not selectors = negation (selectors_from selectors)
 listed Is selectors = any_of (selectors_from selectors)
 listed Where selectors = where_any (selectors_from selectors)
 
--- The list of a pseudo-class, from after its parenthesis, by whether it may have combinators and what
--- finds a condition; `opened` is the text from the colon of the pseudo-class on.
-unfoldable pub complex_list : Bool → Finder → List ℕ → Reader (List (List Part))
-complex_list joins next opened = do
-  gap
-  c ← complex joins next
-  selectors ← one_more c (items (next_complex joins next))
-  gap
+-- A list of a pseudo-class, from after its parenthesis, by whether it is forgiving and what finds a
+-- condition.
+unfoldable pub complex_list : Bool → Finder → Reader (List (List Part))
+complex_list forgiving next = do
+  first ← listed_part forgiving next
+  selectors ← selectors_after forgiving next first
   closing close_parenthesis
   give selectors
 
 -- what reads the list of a pseudo-class, given the text from its colon on
 abbrev pub ListReader : Type 0
-ListReader = List ℕ → Reader (List (List Part))
+ListReader = ListKind → List ℕ → Reader (List (List Part))
+
+abbrev pub list_by : Finder → ListReader
+list_by next kind opened = complex_list (is_forgiving kind) next
 
 -- one colon
 abbrev pub begins_pseudo_class : List ℕ → Bool
@@ -557,7 +617,7 @@ abbrev pub with_argument
     : ListReader → List ℕ → List ℕ → Option ListKind → Option Function → Reader Condition
 with_argument list opened n None kind = functional opened n kind >>= λ s. give (simple s)
 with_argument list opened n (Some kind) other =
-    list opened >>= λ selectors. give (listed kind selectors)
+    list kind opened >>= λ selectors. give (listed kind selectors)
 
 -- after the name of a pseudo-class
 abbrev pub pseudo_condition : ListReader → List ℕ → List ℕ → List ℕ → Step Condition
@@ -582,27 +642,19 @@ condition_by list text = condition_here list (past_comments text)
 abbrev pub deepest : ℕ
 deepest = 32
 
--- How many lists may be open at a combinator. (Selectors 4 has no limit.)
-abbrev pub deepest_joined : ℕ
-deepest_joined = 1
-
--- whether a combinator may appear where `n` more lists may be opened
-abbrev pub may_join : ℕ → Bool
-may_join n = nat_le (deepest - deepest_joined) n
-
 -- one list too many: its pseudo-class is refused
 abbrev pub too_deep : ListReader
-too_deep opened text = refused TooDeep opened
+too_deep kind opened text = refused TooDeep opened
 
 -- the next condition of a compound selector, with lists nested at most `n` deep
 unfoldable pub next_condition : ℕ → Finder
 next_condition zero text = condition_by too_deep text
-next_condition (suc n) text = condition_by (complex_list (may_join n) (next_condition n)) text
+next_condition (suc n) text = condition_by (list_by (next_condition n)) text
 
 -- the list of a pseudo-class, with lists nested at most `n` deep, itself included
 abbrev pub list_within : ℕ → ListReader
 list_within zero = too_deep
-list_within (suc n) = complex_list (may_join n) (next_condition n)
+list_within (suc n) = list_by (next_condition n)
 
 -- A compound selector may be empty before a pseudo-element: before a colon that begins no condition.
 abbrev pub some_or_element : List ℕ → Reading (List Condition) → Reading (List Condition)
@@ -683,6 +735,23 @@ parts = do
   first ← conditions
   one_more (joined_by Descendant first) (items next_part)
 
+-- `&`, which stands for this list, as a compound selector at the start
+abbrev pub nesting_part : Nesting → Part
+nesting_part list = joined_by Descendant (simple (nesting list) ∷ [])
+
+abbrev pub after_sign : List ℕ → Option Combinator → Reading (List Part)
+after_sign text None = parts text
+after_sign text (Some combinator) = one_more (nesting_part outermost) (items next_part) text
+
+-- the compound selectors of a relative selector: before a combinator at its start there is an `&` (CSS
+-- Nesting 1, section 3.1)
+unfoldable pub relative_parts : Reader (List Part)
+relative_parts text = after_sign text (first_sign text)
+
+abbrev pub start_parts : Start → Reader (List Part)
+start_parts Plain = parts
+start_parts Relative = relative_parts
+
 -- what is left
 abbrev pub here : Reader (List ℕ)
 here text = got text text
@@ -698,11 +767,11 @@ placed_as parts element from end at after = record {
 }
 
 -- a selector and the gaps round it
-unfoldable pub placed : Reader Placed
-placed = do
+unfoldable pub placed_by : Start → Reader Placed
+placed_by start = do
   gap
   from ← here
-  all ← parts
+  all ← start_parts start
   end ← here
   comments
   at ← here
@@ -710,6 +779,9 @@ placed = do
   after ← here
   gap
   give (placed_as all element from end at after)
+
+abbrev pub placed : Reader Placed
+placed = placed_by Plain
 
 -- a text that is a selector, with where it is in the text
 unfoldable pub placed_selector : Reader Placed
@@ -719,18 +791,21 @@ placed_selector = do
   give p
 
 -- a comma and a further selector, if there is a comma
-unfoldable pub next_placed : List ℕ → Step Placed
-next_placed text =
-    if starts comma text then as_item (λ p. p) (placed (past_one text)) else none
+unfoldable pub next_placed : Start → List ℕ → Step Placed
+next_placed start text =
+    if starts comma text then as_item (λ p. p) (placed_by start (past_one text)) else none
 
 -- a text that is a list of selectors with commas between them (section 5): if one of them is
 -- refused, the list is
-unfoldable pub placed_list : Reader (List Placed)
-placed_list = do
-  first ← placed
-  all ← one_more first (items next_placed)
+unfoldable pub placed_list_by : Start → Reader (List Placed)
+placed_list_by start = do
+  first ← placed_by start
+  all ← one_more first (items (next_placed start))
   at_end
   give all
+
+abbrev pub placed_list : Reader (List Placed)
+placed_list = placed_list_by Plain
 
 -- a text that is a selector
 unfoldable pub selector : Reader Selector

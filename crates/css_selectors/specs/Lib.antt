@@ -18,7 +18,10 @@ pub mod ReadViews
 pub mod Readings
 pub mod Reads
 pub mod RefusalWords
+pub mod Nested
+pub mod Simples
 pub mod Specificities
+pub mod SpelledOut
 pub mod Supported
 pub mod SpecificityViews
 pub mod Runs

@@ -8,8 +8,8 @@ use Rattle.css_matching.specs.Placements.{HasPlacement}
 use Rattle.css_selectors.specs.Documents.{Document, shape}
 use Rattle.css_selectors.specs.Components.{Comparison, Structure, Simple, Condition, Conditions, Parts, Selectors, Selector, parts_from}
 use Rattle.css_selectors.specs.Components.Comparison.{equals, has_word}
-use Rattle.css_selectors.specs.Components.Structure.{root, empty, first_child, last_child, only_child, first_of_type, last_of_type, only_of_type, nth_child, nth_last_child, nth_of_type, nth_last_of_type}
-use Rattle.css_selectors.specs.Components.Simple.{universal, type_name, id, class, has_attribute, attribute, structure, language, state, function, named_element}
+use Rattle.css_selectors.specs.Components.Structure.{root, scope, empty, first_child, last_child, only_child, first_of_type, last_of_type, only_of_type, nth_child, nth_last_child, nth_of_type, nth_last_of_type}
+use Rattle.css_selectors.specs.Components.Simple.{universal, type_name, id, class, has_attribute, attribute, structure, language, state, function, named_element, nesting}
 use Rattle.css_selectors.specs.Components.Condition.{simple, negation, any_of, where_any}
 use Rattle.css_selectors.specs.Components.Conditions.{end_of_compound, with_condition}
 use Rattle.css_selectors.specs.Components.Parts.{end_of_selector, with_part}
@@ -22,9 +22,11 @@ abbrev pub satisfies : Comparison → Bool → List ℕ → Option (List ℕ) �
 satisfies comparison ignores text value =
     option_map_or (is_satisfied comparison ignores text) value false
 
--- a root has no parent; an empty element has no content; the others number siblings from 1 on
+-- a root has no parent; the scoping root is in the list of number 0; an empty element has no content;
+-- the others number siblings from 1 on
 abbrev pub is_placed : {Node : Type 0} → Document Node → Node → Structure → Bool
 is_placed document n root = is_none (document.parent n)
+is_placed document n scope = document.is_in_list n 0
 is_placed document n empty = not (document.has_content n)
 is_placed document n first_child = document.earlier n == 0
 is_placed document n last_child = document.later n == 0
@@ -51,6 +53,7 @@ holds document n (language ranges) = list_any (document.is_in_language n) ranges
 holds document n (state name) = document.is_in_state n name
 holds document n (function name argument) = false
 holds document n (named_element name argument) = false
+holds document n (nesting list) = document.is_in_list n list.number
 
 -- how the part at an index is joined to the part before it
 abbrev pub combinator_at : Parts → ℕ → Combinator

@@ -1,12 +1,11 @@
--- How many tests matching makes at most, by which lists within lists have combinators.
-use Rattle.std.specs.Prelude.{ℕ, zero, suc, ◌+◌, ◌*◌, ◌<◌}
+-- How many tests matching makes at most, by how deep selectors with combinators are nested.
+use Rattle.std.specs.Prelude.{ℕ, zero, suc, ◌+◌, ◌-◌, ◌*◌, ◌≤◌, Bool, true, false}
 use Rattle.css_selectors.specs.Components.{Condition, Conditions, Parts, Selectors}
 use Rattle.css_selectors.specs.Components.Condition.{simple, negation, any_of, where_any}
 use Rattle.css_selectors.specs.Components.Conditions.{end_of_compound, with_condition}
 use Rattle.css_selectors.specs.Components.Parts.{end_of_selector, with_part}
 use Rattle.css_selectors.specs.Components.Selectors.{end_of_list, with_selector}
-use Rattle.css_selectors.specs.Costs.{IsPlainList}
-use Rattle.css_selectors.specs.Meanings.{part_count}
+use Rattle.css_selectors.specs.Costs.{is_lone}
 
 -- how many compound selectors there are, including those within lists
 abbrev mutual
@@ -28,7 +27,15 @@ abbrev mutual
   selectors_size end_of_list = 0
   selectors_size (with_selector parts selectors) = parts_size parts + selectors_size selectors
 
--- each combinator is within at most `k` lists, one within another
+abbrev pub searches_if : Bool → ℕ
+searches_if true = 0
+searches_if false = 1
+
+-- a selector of a list makes a search of its own, unless it has no combinator
+abbrev pub search_count : Parts → ℕ
+search_count parts = searches_if (is_lone parts)
+
+-- of the selectors with combinators that stand in lists, at most `k` are within one another
 abbrev mutual
   pub JoinsWithin : ℕ → Condition → Type 0
   JoinsWithin k (simple s) = Unit {0}
@@ -45,12 +52,11 @@ abbrev mutual
   PartsJoinWithin k end_of_selector = Unit {0}
   PartsJoinWithin k (with_part l c parts) = CompoundJoinsWithin k c × PartsJoinWithin k parts
 
-  -- each selector of a list has a compound selector
   pub ListJoinsWithin : ℕ → Selectors → Type 0
-  ListJoinsWithin zero selectors = IsPlainList selectors
-  ListJoinsWithin (suc k) end_of_list = Unit {0}
-  ListJoinsWithin (suc k) (with_selector parts selectors) =
-      (0 < part_count parts) × PartsJoinWithin k parts × ListJoinsWithin (suc k) selectors
+  ListJoinsWithin k end_of_list = Unit {0}
+  ListJoinsWithin k (with_selector parts selectors) =
+      (search_count parts ≤ k) × PartsJoinWithin (k - search_count parts) parts
+      × ListJoinsWithin k selectors
 
 -- the most tests of a search for `parts` compound selectors: `above` is the number of the element and
 -- its ancestors, `before` that of their earlier siblings

@@ -12,8 +12,8 @@ use Rattle.css_matching.specs.declared.Combinator.{Combinator}
 use Rattle.css_matching.specs.declared.Combinator.TheVariants.{Descendant, Child, Adjacent, Sibling}
 use Rattle.css_selectors.specs.Components.{Comparison, Signed, Progression, Structure, Simple, Condition, Conditions, Parts, Selectors, Part, PseudoElement, Selector}
 use Rattle.css_selectors.specs.Components.Comparison.{equals, has_word, has_subtag, starts as starts_with, ends as ends_with, contains}
-use Rattle.css_selectors.specs.Components.Structure.{root, empty, first_child, last_child, only_child, first_of_type, last_of_type, only_of_type, nth_child, nth_last_child, nth_of_type, nth_last_of_type}
-use Rattle.css_selectors.specs.Components.Simple.{universal, type_name, id, class, has_attribute, attribute, structure, language, state, function, named_element}
+use Rattle.css_selectors.specs.Components.Structure.{root, scope, empty, first_child, last_child, only_child, first_of_type, last_of_type, only_of_type, nth_child, nth_last_child, nth_of_type, nth_last_of_type}
+use Rattle.css_selectors.specs.Components.Simple.{universal, type_name, id, class, has_attribute, attribute, structure, language, state, function, named_element, nesting}
 use Rattle.css_selectors.specs.Components.Condition.{simple, negation, any_of, where_any}
 use Rattle.css_selectors.specs.Components.Conditions.{end_of_compound, with_condition}
 use Rattle.css_selectors.specs.Components.Parts.{end_of_selector, with_part}
@@ -113,6 +113,7 @@ function_text name argument = name ++ argument ++ codes ")"
 
 abbrev pub structure_text : Structure → List ℕ
 structure_text root = codes ":root"
+structure_text scope = codes ":scope"
 structure_text empty = codes ":empty"
 structure_text first_child = codes ":first-child"
 structure_text last_child = codes ":last-child"
@@ -157,6 +158,7 @@ simple_text (function name argument) =
     codes ":" ++ identifier_text name ++ argument_text (Some argument)
 simple_text (named_element name argument) =
     codes "::" ++ identifier_text name ++ argument_text argument
+simple_text (nesting n) = codes "&"
 
 abbrev pub combinator_text : Combinator → List ℕ
 combinator_text Descendant = codes " "

@@ -1,7 +1,7 @@
 -- Specificity (section 9; Selectors 4, section 17, for lists). Each count stops at 4,294,967,295.
 use Rattle.std.specs.Prelude.{ℕ, ◌+◌, Bool, ◌&&◌, ◌||◌, ◌==◌, nat_lt, min, if◌then◌else◌, Option, None, Some}
 use Rattle.css_selectors.specs.Components.{Simple, Condition, Conditions, Parts, Selectors, conditions_from, parts_from, PseudoElement, Selector}
-use Rattle.css_selectors.specs.Components.Simple.{universal, type_name, id, class, has_attribute, attribute, structure, language, state, function, named_element}
+use Rattle.css_selectors.specs.Components.Simple.{universal, type_name, id, class, has_attribute, attribute, structure, language, state, function, named_element, nesting}
 use Rattle.css_selectors.specs.Components.Condition.{simple, negation, any_of, where_any}
 use Rattle.css_selectors.specs.Components.Conditions.{end_of_compound, with_condition}
 use Rattle.css_selectors.specs.Components.Parts.{end_of_selector, with_part}
@@ -58,6 +58,11 @@ of_simple (language ranges) = one_class
 of_simple (state name) = one_class
 of_simple (function name argument) = one_class
 of_simple (named_element name argument) = one_name
+of_simple (nesting list) = record {
+  ids = list.specificity.ids;
+  classes = list.specificity.classes;
+  names = list.specificity.names;
+}
 
 abbrev mutual
   -- `:not()` and `:is()` count as the greatest of their lists, `:where()` counts nothing

@@ -1,5 +1,5 @@
 -- Selectors that have a meaning here. A text may be a selector and have none: it is unsupported.
-use Rattle.std.specs.Prelude.{◌&&◌, ℕ, Bool, true, false, not, if◌then◌else◌, List, [], ◌∷◌, map, codes, Option, None, Some, is_none}
+use Rattle.std.specs.Prelude.{◌&&◌, ◌-◌, nat_le, ℕ, Bool, true, false, not, if◌then◌else◌, List, [], ◌∷◌, map, codes, Option, None, Some, is_none}
 use Rattle.css_selectors.specs.declared.refusal.Why.TheVariants.{Unsupported}
 use Rattle.css_selectors.specs.Components.{Simple, Condition, Conditions, Parts, Selectors, parts_from, PseudoElement, Selector, Placed}
 use Rattle.css_selectors.specs.Components.Simple.{state, function, named_element}
@@ -8,6 +8,7 @@ use Rattle.css_selectors.specs.Components.Conditions.{end_of_compound, with_cond
 use Rattle.css_selectors.specs.Components.Parts.{end_of_selector, with_part}
 use Rattle.css_selectors.specs.Components.Selectors.{end_of_list, with_selector}
 use Rattle.css_selectors.specs.Grammar.{is_word, placed_selector, placed_list}
+use Rattle.css_selectors.specs.NestedTests.{search_count}
 use Rattle.css_selectors.specs.Readings.{Reading, got, refused, Reader}
 
 -- What has an argument that is kept as it is written has no meaning, nor has `:host`, which is an
@@ -18,30 +19,38 @@ is_supported_simple (function name argument) = false
 is_supported_simple (named_element name argument) = false
 is_supported_simple s = true
 
+-- How many selectors with combinators that stand in lists may be within one another: their tests
+-- multiply. (Selectors 4 has no limit.)
+abbrev pub deepest_joined : ℕ
+deepest_joined = 1
+
 abbrev mutual
-  -- a condition has a meaning, if all in its list has
-  pub is_supported : Condition → Bool
-  is_supported (simple s) = is_supported_simple s
-  is_supported (negation selectors) = are_supported true selectors
-  is_supported (any_of selectors) = are_supported true selectors
-  is_supported (where_any selectors) = are_supported true selectors
+  -- a condition has a meaning, if all in its list has, and at most `k` selectors with combinators are
+  -- within one another there
+  pub is_supported : ℕ → Condition → Bool
+  is_supported k (simple s) = is_supported_simple s
+  is_supported k (negation selectors) = are_supported k true selectors
+  is_supported k (any_of selectors) = are_supported k true selectors
+  is_supported k (where_any selectors) = are_supported k true selectors
 
   -- what was found so far has a meaning, and the conditions of a compound selector have
-  pub have_meaning : Bool → Conditions → Bool
-  have_meaning so_far end_of_compound = so_far
-  have_meaning so_far (with_condition c conditions) =
-      have_meaning (so_far && is_supported c) conditions
+  pub have_meaning : ℕ → Bool → Conditions → Bool
+  have_meaning k so_far end_of_compound = so_far
+  have_meaning k so_far (with_condition c conditions) =
+      have_meaning k (so_far && is_supported k c) conditions
 
   -- and the compound selectors of a complex selector
-  pub parts_supported : Bool → Parts → Bool
-  parts_supported so_far end_of_selector = so_far
-  parts_supported so_far (with_part k c parts) = parts_supported (have_meaning so_far c) parts
+  pub parts_supported : ℕ → Bool → Parts → Bool
+  parts_supported k so_far end_of_selector = so_far
+  parts_supported k so_far (with_part l c parts) =
+      parts_supported k (have_meaning k so_far c) parts
 
-  -- and the complex selectors of a list
-  pub are_supported : Bool → Selectors → Bool
-  are_supported so_far end_of_list = so_far
-  are_supported so_far (with_selector s selectors) =
-      are_supported (parts_supported so_far s) selectors
+  -- and the complex selectors of a list, of which one with combinators counts
+  pub are_supported : ℕ → Bool → Selectors → Bool
+  are_supported k so_far end_of_list = so_far
+  are_supported k so_far (with_selector s selectors) =
+      are_supported k
+      (parts_supported (k - search_count s) (so_far && nat_le (search_count s) k) s) selectors
 
 -- nothing follows
 abbrev pub is_last_condition : List Condition → Bool
@@ -56,7 +65,7 @@ is_plain_element (Some e) = is_none e.argument && is_last_condition e.after
 -- the selector has a meaning
 abbrev pub is_supported_selector : Selector → Bool
 is_supported_selector s =
-    parts_supported true (parts_from s.parts) && is_plain_element s.pseudo_element
+    parts_supported deepest_joined true (parts_from s.parts) && is_plain_element s.pseudo_element
 
 -- the first of them has none: what is left from it on
 abbrev pub first_unsupported : List Placed → Option (List ℕ)

@@ -7,9 +7,9 @@ use Rattle.css_selectors.specs.declared.components.Comparison.TheVariants.{Equal
 use Rattle.css_selectors.specs.declared.components.Signed.{Signed as SignedOf}
 use Rattle.css_selectors.specs.declared.components.Progression.{Progression as ProgressionOf}
 use Rattle.css_selectors.specs.declared.components.Structure.{Structure as StructureOf}
-use Rattle.css_selectors.specs.declared.components.Structure.TheVariants.{Root, Empty, FirstChild, LastChild, OnlyChild, FirstOfType, LastOfType, OnlyOfType, NthChild, NthLastChild, NthOfType, NthLastOfType}
+use Rattle.css_selectors.specs.declared.components.Structure.TheVariants.{Root, Scope, Empty, FirstChild, LastChild, OnlyChild, FirstOfType, LastOfType, OnlyOfType, NthChild, NthLastChild, NthOfType, NthLastOfType}
 use Rattle.css_selectors.specs.declared.components.Simple.{Simple as SimpleOf}
-use Rattle.css_selectors.specs.declared.components.Simple.TheVariants.{Universal, TypeName, Id, Class, HasAttribute, Attribute, Structure as StructureIs, Language, State, Function, Element}
+use Rattle.css_selectors.specs.declared.components.Simple.TheVariants.{Universal, TypeName, Id, Class, HasAttribute, Attribute, Structure as StructureIs, Language, State, Function, Element, Nesting as NestingIs}
 use Rattle.css_selectors.specs.declared.components.Complex.{Complex, out-Complex}
 use Rattle.css_selectors.specs.declared.components.Condition.{Condition as ConditionOf, fold-Condition}
 use Rattle.css_selectors.specs.declared.components.Condition.TheOpen.{Condition-F, Complex-F, Part-F}
@@ -18,8 +18,8 @@ use Rattle.css_selectors.specs.declared.components.ElementName.{ElementName}
 use Rattle.css_selectors.specs.declared.components.PseudoElement.{PseudoElement as PseudoElementOf}
 use Rattle.css_selectors.specs.Components.{Comparison, Signed, Progression, Structure, Simple, Condition, selectors_from, Part, PseudoElement}
 use Rattle.css_selectors.specs.Components.Comparison.{equals, has_word, has_subtag, starts, ends, contains}
-use Rattle.css_selectors.specs.Components.Structure.{root, empty, first_child, last_child, only_child, first_of_type, last_of_type, only_of_type, nth_child, nth_last_child, nth_of_type, nth_last_of_type}
-use Rattle.css_selectors.specs.Components.Simple.{universal, type_name, id, class, has_attribute, attribute, structure, language, state, function, named_element}
+use Rattle.css_selectors.specs.Components.Structure.{root, scope, empty, first_child, last_child, only_child, first_of_type, last_of_type, only_of_type, nth_child, nth_last_child, nth_of_type, nth_last_of_type}
+use Rattle.css_selectors.specs.Components.Simple.{universal, type_name, id, class, has_attribute, attribute, structure, language, state, function, named_element, nesting}
 use Rattle.css_selectors.specs.Components.Condition.{simple, negation, any_of, where_any}
 
 abbrev pub comparison_of : ComparisonOf → Comparison
@@ -38,6 +38,7 @@ progression_of p = record { step = signed_of p.step; offset = signed_of p.offset
 
 abbrev pub structure_of : StructureOf → Structure
 structure_of Root = root
+structure_of Scope = scope
 structure_of Empty = empty
 structure_of FirstChild = first_child
 structure_of LastChild = last_child
@@ -64,6 +65,7 @@ simple_of (Language ranges) = language (map cow_str_bytes ranges.items)
 simple_of (State name) = state (cow_str_bytes name)
 simple_of (Function call) = function (cow_str_bytes call.name) (cow_str_bytes call.argument)
 simple_of (Element e) = named_element (cow_str_bytes e.name) (option_map cow_str_bytes e.argument)
+simple_of (NestingIs n) = nesting n
 
 -- one level, with what is within its lists already seen as the definitions see it
 abbrev pub condition_step : Condition-F Condition (List Part) Part → Condition

@@ -2,15 +2,15 @@
 use Rattle.std.specs.Prelude.{◌≡◌, ◌<◌, ◌≤◌, ◌&&◌, ℕ, zero, suc, Bool, true, false, List, [], ◌∷◌, ◌++◌, codes, length, All, Option, None}
 use Rattle.std.specs.Option.{ForSome, is_some}
 use Rattle.css_matching.specs.declared.Combinator.TheVariants.{Descendant}
-use Rattle.css_selectors.specs.Components.{Signed, Progression, Structure, Simple, Condition, Conditions, Parts, Selectors, Part, PseudoElement, Selector}
+use Rattle.css_selectors.specs.Components.{Signed, Progression, Structure, Simple, outermost, Condition, Conditions, Parts, Selectors, Part, PseudoElement, Selector}
 use Rattle.css_selectors.specs.Components.Structure.{nth_child, nth_last_child, nth_of_type, nth_last_of_type}
-use Rattle.css_selectors.specs.Components.Simple.{universal, type_name, id, class, has_attribute, attribute, structure, language, state, function, named_element}
+use Rattle.css_selectors.specs.Components.Simple.{universal, type_name, id, class, has_attribute, attribute, structure, language, state, function, named_element, nesting}
 use Rattle.css_selectors.specs.Components.Condition.{simple, negation, any_of, where_any}
 use Rattle.css_selectors.specs.Components.Conditions.{end_of_compound, with_condition}
 use Rattle.css_selectors.specs.Components.Parts.{end_of_selector, with_part}
 use Rattle.css_selectors.specs.Components.Selectors.{end_of_list, with_selector}
 use Rattle.css_selectors.specs.Readings.{got}
-use Rattle.css_selectors.specs.Grammar.{argument, takes_none, plain_structure, is_old_element, list_kind, function_named, deepest, may_join}
+use Rattle.css_selectors.specs.Grammar.{argument, takes_none, plain_structure, is_old_element, list_kind, function_named, deepest}
 
 -- a name is not empty
 abbrev pub IsName : List ℕ → Type 0
@@ -40,7 +40,7 @@ IsArgumentOf name a = (takes_none name ≡ false) × IsArgument a
 
 -- A simple selector that may follow others. `*`, a type and a pseudo-element may not. A pseudo-class
 -- that is a structural one by its name is no other, and none has the name of a pseudo-element that
--- may have one colon.
+-- may have one colon. `&` stands for what it does outside of nested rules.
 abbrev pub IsFurther : Simple → Type 0
 IsFurther universal = ⊥
 IsFurther (type_name name) = ⊥
@@ -55,6 +55,7 @@ IsFurther (state name) =
 IsFurther (function name a) =
     IsName name × (list_kind name ≡ None) × (function_named name ≡ None) × IsArgumentOf name a
 IsFurther (named_element name a) = ⊥
+IsFurther (nesting list) = list ≡ outermost
 
 -- a simple selector that may be the first
 abbrev pub IsFirst : Simple → Type 0
@@ -66,22 +67,22 @@ abbrev mutual
   -- a condition that may follow others, with lists nested at most `n` deep
   pub IsFurtherCondition : ℕ → Condition → Type 0
   IsFurtherCondition n (simple s) = IsFurther s
-  IsFurtherCondition n (negation selectors) = IsList n selectors
-  IsFurtherCondition n (any_of selectors) = IsList n selectors
-  IsFurtherCondition n (where_any selectors) = IsList n selectors
+  IsFurtherCondition n (negation selectors) = IsList false n selectors
+  IsFurtherCondition n (any_of selectors) = IsList true n selectors
+  IsFurtherCondition n (where_any selectors) = IsList true n selectors
 
   -- a condition that may be the first
   pub IsFirstCondition : ℕ → Condition → Type 0
   IsFirstCondition n (simple s) = IsFirst s
-  IsFirstCondition n (negation selectors) = IsList n selectors
-  IsFirstCondition n (any_of selectors) = IsList n selectors
-  IsFirstCondition n (where_any selectors) = IsList n selectors
+  IsFirstCondition n (negation selectors) = IsList false n selectors
+  IsFirstCondition n (any_of selectors) = IsList true n selectors
+  IsFirstCondition n (where_any selectors) = IsList true n selectors
 
-  -- a list is not empty; it is one of those that are nested
-  pub IsList : ℕ → Selectors → Type 0
-  IsList zero selectors = ⊥
-  IsList (suc n) end_of_list = ⊥
-  IsList (suc n) (with_selector s selectors) = IsComplex n s × AreComplex n selectors
+  -- a list is one of those that are nested; only a forgiving one may be empty
+  pub IsList : Bool → ℕ → Selectors → Type 0
+  IsList forgiving zero selectors = ⊥
+  IsList forgiving (suc n) end_of_list = forgiving ≡ true
+  IsList forgiving (suc n) (with_selector s selectors) = IsComplex n s × AreComplex n selectors
 
   pub AreComplex : ℕ → Selectors → Type 0
   AreComplex n end_of_list = Unit {0}
@@ -92,11 +93,9 @@ abbrev mutual
   IsComplex n end_of_selector = ⊥
   IsComplex n (with_part k c parts) = (k ≡ Descendant) × IsCompound n c × AreJoined n parts
 
-  -- it has others only where combinators may stand
   pub AreJoined : ℕ → Parts → Type 0
   AreJoined n end_of_selector = Unit {0}
-  AreJoined n (with_part k c parts) =
-      (may_join n ≡ true) × IsCompound n c × AreJoined n parts
+  AreJoined n (with_part k c parts) = IsCompound n c × AreJoined n parts
 
   -- a compound selector in a list has a condition at least
   pub IsCompound : ℕ → Conditions → Type 0

@@ -1,4 +1,5 @@
 //! The components of a selector. Names and values are without the escapes that spell them.
+use crate::specificity::{NOTHING, Specificity};
 use css_matching::Combinator;
 use std::borrow::CowStr;
 
@@ -37,11 +38,13 @@ pub struct Progression {
     pub offset: Signed,
 }
 
-/// A structural pseudo-class.
+/// A structural pseudo-class, or `:scope`.
 #[derive(Clone, Copy, Debug, PartialEq)]
 pub enum Structure {
     /// `:root`
     Root,
+    /// `:scope`: an element that is in the list of number 0.
+    Scope,
     /// `:empty`
     Empty,
     /// `:first-child`
@@ -130,6 +133,21 @@ pub struct ElementName<'a> {
     pub argument: Option<CowStr<'a>>,
 }
 
+/// What `&` stands for: a list of selectors.
+#[derive(Clone, Copy, Debug, PartialEq)]
+pub struct Nesting {
+    /// The number of the list, of which `Element::is_in_list` is asked.
+    pub number: usize,
+    /// What `&` counts: the greatest specificity of the list's selectors.
+    pub specificity: Specificity,
+}
+
+/// What `&` stands for outside of nested rules: `:scope`.
+pub const OUTERMOST: Nesting = Nesting {
+    number: 0,
+    specificity: NOTHING,
+};
+
 /// A simple selector that has no other selectors in it.
 #[derive(Drop)]
 pub enum Simple<'a> {
@@ -155,6 +173,8 @@ pub enum Simple<'a> {
     Function(FunctionCall<'a>),
     /// A pseudo-element after another one. No element satisfies it.
     Element(ElementName<'a>),
+    /// `&`, with the list that it stands for.
+    Nesting(Nesting),
 }
 
 /// A simple selector, or a pseudo-class with a list of complex selectors.

@@ -1,9 +1,10 @@
 //! Reads compound selectors and lists of them.
-ghost use Rattle.std.specs.Prelude.{◌≡◌, ◌∷◌, [], ℕ, List, map, option_map, option_to_list};
+ghost use Rattle.std.specs.Prelude.{◌≡◌, ◌∷◌, ◌++◌, [], ℕ, List, map, IfOk, option_map, option_to_list};
 ghost use Rattle.css_selectors.specs.Grammar.{type_selector, next_simple as next_simple_of, compound as compound_of_text};
 ghost use Rattle.css_selectors.specs.Grammar.{next_part_in as next_part_of, complex as complex_of_text};
-ghost use Rattle.css_selectors.specs.Grammar.{next_complex as next_complex_of, listed as listed_as};
-ghost use Rattle.css_selectors.specs.Grammar.{joined_compound, may_join, list_kind as list_kind_of, function_named as function_of};
+ghost use Rattle.css_selectors.specs.Grammar.{ends_part as ends_part_of, past_part as past_part_of, is_lasting as is_lasting_of, no_selector as no_selector_of, part_end, gap};
+ghost use Rattle.css_selectors.specs.Grammar.{listed_part, next_listed as next_listed_of, selectors_after, is_forgiving as is_forgiving_of, list_by, listed as listed_as};
+ghost use Rattle.css_selectors.specs.Grammar.{list_kind as list_kind_of, function_named as function_of};
 ghost use Rattle.std.specs.Cow.{cow_str_bytes};
 ghost use Rattle.css_selectors.specs.Grammar.{name as name_of, list_within, with_argument, pseudo_condition, begins_pseudo_class as begins_pseudo_class_of};
 ghost use Rattle.css_selectors.specs.Grammar.{next_condition as next_condition_of, conditions as conditions_of};
@@ -14,7 +15,7 @@ ghost use Rattle.css_selectors.specs.Views.{simple_of, condition_of, part_of, co
 
 use crate::Combinator;
 use crate::attribute_selectors::read_attribute;
-use crate::components::{Complex, Condition, ListKind, Part, Simple};
+use crate::components::{Complex, Condition, ListKind, OUTERMOST, Part, Simple};
 use crate::joins::{begins_compound, take_sign};
 use crate::pseudo_classes::{
     function_named, is_old_element, list_kind, plain_pseudo, read_functional,
@@ -24,17 +25,13 @@ use crate::texts::split_ascii;
 use crate::words::{
     begins_name, past_comments, read_closing, read_gap, read_ident_sequence, read_name,
 };
-use css_syntax::texts::past_ascii;
+use css_syntax::texts::{past_ascii, read_value};
 use css_text::readers;
-use std::alloc::Global;
+use std::alloc::{AllocFailed, Global};
 use std::borrow::CowStr;
 
 /// How many lists may be open at once.
 pub(crate) const DEEPEST: usize = 32;
-
-/// How many lists may be open where a combinator stands. A search within a search takes the product
-/// of their times.
-const DEEPEST_JOINED: usize = 1;
 
 /// Reads `*` or a name, if one is next.
 #[tactic(auto, unfolding(crate::specs::Grammar::type_selector))]
@@ -69,6 +66,7 @@ fn next_simple<'a>(
             Ok(Some((Simple::Id(name), rest)))
         }
         Some((b'[', rest)) => Ok(Some(read_attribute(alloc, rest)?)),
+        Some((b'&', rest)) => Ok(Some((Simple::Nesting(OUTERMOST), rest))),
         _ => Ok(None),
     }
 }
@@ -81,6 +79,104 @@ fn listed<'a>(kind: ListKind, selectors: Vec<Complex<'a>>) -> Condition<'a>
         ListKind::Not => Condition::Not(selectors),
         ListKind::Is => Condition::Is(selectors),
         ListKind::Where => Condition::Where(selectors),
+    }
+}
+
+/// Whether a part of a list ends here.
+fn ends_part(text: &str) -> bool
+    ensures { result ≡ ends_part_of text.now }
+{
+    match text.as_bytes() {
+        [] => true,
+        [byte, ..] => *byte == b',' || *byte == b')',
+    }
+}
+
+/// Returns the rest after a part of a list, whatever it is.
+fn past_part(text: &str) -> &str
+    ensures { result.now ≡ past_part_of text.now }
+{
+    let mut rest = text;
+    'values: while !ends_part(rest) {
+        rest = read_value(rest).rest;
+    }
+    rest
+}
+
+/// Whether a list with a part that is refused for this is refused, even if it is forgiving.
+fn is_lasting(why: Why) -> bool
+    ensures { result ≡ is_lasting_of why }
+{
+    match why {
+        Why::TooDeep => true,
+        Why::Memory
+        | Why::NoSelector
+        | Why::NoName
+        | Why::BrokenString
+        | Why::NoOperator
+        | Why::NoValue
+        | Why::UnknownFlag
+        | Why::NoProgression
+        | Why::UnknownFunction
+        | Why::Unsupported
+        | Why::Unexpected => false,
+    }
+}
+
+/// Leaves a part that is no selector out of a forgiving list. In another list, and where lists are too
+/// deep, it is refused.
+fn leave_out<'a>(
+    forgiving: bool,
+    text: &'a str,
+    refusal: Refusal<'a>,
+) -> Result<(Option<Complex<'a>>, &'a str), Refusal<'a>>
+    ensures { Reads (option_map complex_of) result
+        (no_selector_of forgiving text.now refusal.entry.why refusal.entry.rest.now) }
+{
+    if forgiving && !is_lasting(refusal.why) {
+        return Ok((None, past_part(text)));
+    }
+    Err(refusal)
+}
+
+/// Ends a part of a list after the selector that was read of it.
+fn end_part<'a>(
+    forgiving: bool,
+    text: &'a str,
+    selector: Complex<'a>,
+    rest: &'a str,
+) -> Result<(Option<Complex<'a>>, &'a str), Refusal<'a>>
+    ensures { Reads (option_map complex_of) result
+        (part_end forgiving text.now (complex_of selector.entry) (gap rest.now)) }
+{
+    let (_, rest) = read_gap(rest);
+    if ends_part(rest) {
+        return Ok((Some(selector), rest));
+    }
+    leave_out(forgiving, text, Refusal::new(Why::Unexpected, rest))
+}
+
+/// Whether a list of this kind leaves out what is no selector.
+fn is_forgiving(kind: ListKind) -> bool
+    ensures { result ≡ is_forgiving_of kind }
+{
+    match kind {
+        ListKind::Not => false,
+        ListKind::Is | ListKind::Where => true,
+    }
+}
+
+/// Keeps a selector of a list, if the part is one.
+fn keep<'a>(
+    selectors: &mut Vec<Complex<'a>>,
+    selector: Option<Complex<'a>>,
+) -> Result<(), AllocFailed<Complex<'a>>>
+    ensures { IfOk result (λ _. map complex_of selectors.new.items
+        ≡ map complex_of selectors.old.items ++ option_to_list (option_map complex_of selector.entry)) }
+{
+    match selector {
+        Some(selector) => selectors.push(selector),
+        None => Ok(()),
     }
 }
 
@@ -115,23 +211,6 @@ fn read_compound<'a>(
     Ok((conditions, rest))
 }
 
-/// Reads a compound selector after a combinator in a list.
-#[cycle(lists)]
-#[tactic(auto, unfolding(crate::specs::Grammar::joined_compound))]
-fn read_joined<'a>(
-    alloc: Global,
-    depth: usize,
-    text: &'a str,
-) -> Result<(Vec<Condition<'a>>, &'a str), Refusal<'a>>
-    ensures { Reads (λ v. map condition_of v.items) result
-        (joined_compound (may_join depth) (next_condition_of depth) text.now) }
-{
-    if depth < DEEPEST - DEEPEST_JOINED {
-        return Err(Refusal::new(Why::TooDeep, text));
-    }
-    read_compound(alloc, depth, text)
-}
-
 /// Reads a combinator and the compound selector after it, if there is one.
 #[cycle(lists)]
 #[tactic(auto, unfolding(crate::specs::Grammar::next_part_in))]
@@ -140,12 +219,12 @@ fn next_part<'a>(
     depth: usize,
     text: &'a str,
 ) -> Result<Option<(Part<'a>, &'a str)>, Refusal<'a>>
-    ensures { Finds part_of result (next_part_of (may_join depth) (next_condition_of depth) text.now) }
+    ensures { Finds part_of result (next_part_of (next_condition_of depth) text.now) }
 {
     let (spaced, rest) = read_gap(text);
     if let Some((combinator, rest)) = take_sign(rest) {
         let (_, rest) = read_gap(rest);
-        let (conditions, rest) = read_joined(alloc, depth, rest)?;
+        let (conditions, rest) = read_compound(alloc, depth, rest)?;
         let part = Part {
             combinator,
             conditions,
@@ -155,7 +234,7 @@ fn next_part<'a>(
     if !(spaced && begins_compound(rest)) {
         return Ok(None);
     }
-    let (conditions, rest) = read_joined(alloc, depth, rest)?;
+    let (conditions, rest) = read_compound(alloc, depth, rest)?;
     let part = Part {
         combinator: Combinator::Descendant,
         conditions,
@@ -173,7 +252,7 @@ fn read_parts<'a>(
 ) -> Result<(Vec<Part<'a>>, &'a str), Refusal<'a>>
     ensures { Reads (λ v. map part_of v.items) result
         (found_before (part_of first.entry ∷ [])
-        (items (next_part_of (may_join depth) (next_condition_of depth)) text.now)) }
+        (items (next_part_of (next_condition_of depth)) text.now)) }
 {
     let mut parts = Vec::new(alloc);
     parts.push(first)?;
@@ -200,7 +279,7 @@ fn read_complex<'a>(
     depth: usize,
     text: &'a str,
 ) -> Result<(Complex<'a>, &'a str), Refusal<'a>>
-    ensures { Reads complex_of result (complex_of_text (may_join depth) (next_condition_of depth) text.now) }
+    ensures { Reads complex_of result (complex_of_text (next_condition_of depth) text.now) }
 {
     let (conditions, rest) = read_compound(alloc, depth, text)?;
     let first = Part {
@@ -211,44 +290,64 @@ fn read_complex<'a>(
     Ok((Complex { parts }, rest))
 }
 
-/// Reads a comma and a further complex selector, if there is a comma.
+/// Reads a part of a list. In a forgiving list it may be no selector.
 #[cycle(lists)]
-#[tactic(auto, unfolding(crate::specs::Grammar::next_complex))]
-fn next_complex<'a>(
+#[tactic(auto, unfolding(crate::specs::Grammar::listed_part))]
+fn read_listed<'a>(
     alloc: Global,
     depth: usize,
+    forgiving: bool,
     text: &'a str,
-) -> Result<Option<(Complex<'a>, &'a str)>, Refusal<'a>>
-    ensures { Finds complex_of result (next_complex_of (may_join depth) (next_condition_of depth) text.now) }
+) -> Result<(Option<Complex<'a>>, &'a str), Refusal<'a>>
+    ensures { Reads (option_map complex_of) result
+        (listed_part forgiving (next_condition_of depth) text.now) }
 {
-    let (_, rest) = read_gap(text);
-    let Some((b',', rest)) = split_ascii(rest) else {
-        return Ok(None);
-    };
-    let (_, rest) = read_gap(rest);
-    Ok(Some(read_complex(alloc, depth, rest)?))
+    let (_, start) = read_gap(text);
+    match read_complex(alloc, depth, start) {
+        Ok((selector, rest)) => end_part(forgiving, text, selector, rest),
+        Err(refusal) if refusal.why == Why::Memory => Err(refusal),
+        Err(refusal) => leave_out(forgiving, text, refusal),
+    }
 }
 
-/// Reads further complex selectors of a list.
+/// Reads a comma and a further part of a list, if there is a comma.
+#[cycle(lists)]
+#[tactic(auto, unfolding(crate::specs::Grammar::next_listed))]
+fn next_listed<'a>(
+    alloc: Global,
+    depth: usize,
+    forgiving: bool,
+    text: &'a str,
+) -> Result<Option<(Option<Complex<'a>>, &'a str)>, Refusal<'a>>
+    ensures { Finds (option_map complex_of) result
+        (next_listed_of forgiving (next_condition_of depth) text.now) }
+{
+    match split_ascii(text) {
+        Some((b',', rest)) => Ok(Some(read_listed(alloc, depth, forgiving, rest)?)),
+        _ => Ok(None),
+    }
+}
+
+/// Reads further parts of a list, and returns its selectors.
 #[cycle(lists)]
 fn read_selectors<'a>(
     alloc: Global,
     depth: usize,
-    first: Complex<'a>,
+    forgiving: bool,
+    first: Option<Complex<'a>>,
     text: &'a str,
 ) -> Result<(Vec<Complex<'a>>, &'a str), Refusal<'a>>
     ensures { Reads (λ v. map complex_of v.items) result
-        (found_before (complex_of first.entry ∷ [])
-        (items (next_complex_of (may_join depth) (next_condition_of depth)) text.now)) }
+        (selectors_after forgiving (next_condition_of depth) (option_map complex_of first.entry) text.now) }
 {
     let mut selectors = Vec::new(alloc);
-    selectors.push(first)?;
+    keep(&mut selectors, first)?;
     let mut rest = text;
     let mut left = text.len();
     'selectors: while left > 0 {
-        match next_complex(alloc, depth, rest)? {
+        match next_listed(alloc, depth, forgiving, rest)? {
             Some((selector, after)) => {
-                selectors.push(selector)?;
+                keep(&mut selectors, selector)?;
                 rest = after;
             }
             None => return Ok((selectors, rest)),
@@ -265,19 +364,19 @@ fn read_selectors<'a>(
 fn read_list<'a>(
     alloc: Global,
     depth: usize,
+    kind: ListKind,
     opened: &'a str,
     text: &'a str,
 ) -> Result<(Vec<Complex<'a>>, &'a str), Refusal<'a>>
     ensures { Reads (λ v. map complex_of v.items) result
-        (list_within depth opened.now text.now) }
+        (list_within depth kind opened.now text.now) }
 {
     let Some(inner) = depth.checked_sub(1) else {
         return Err(Refusal::new(Why::TooDeep, opened));
     };
-    let (_, rest) = read_gap(text);
-    let (first, rest) = read_complex(alloc, inner, rest)?;
-    let (selectors, rest) = read_selectors(alloc, inner, first, rest)?;
-    let (_, rest) = read_gap(rest);
+    let forgiving = is_forgiving(kind);
+    let (first, rest) = read_listed(alloc, inner, forgiving, text)?;
+    let (selectors, rest) = read_selectors(alloc, inner, forgiving, first, rest)?;
     let (_, rest) = read_closing(b')', rest)?;
     Ok((selectors, rest))
 }
@@ -298,7 +397,7 @@ fn read_argument<'a>(
 {
     match list_kind(name.as_str()) {
         Some(kind) => {
-            let (selectors, rest) = read_list(alloc, depth, opened, text)?;
+            let (selectors, rest) = read_list(alloc, depth, kind, opened, text)?;
             Ok((listed(kind, selectors), rest))
         }
         None => {

@@ -64,6 +64,13 @@ pub trait Element: Drop {
     fn has_content(&self) -> bool
         ensures { result ≡ document.has_content (node self.now) };
 
+    /// Whether one of the selectors of the list of this number matches the element. By number 0 a
+    /// selector asks whether the element is the scoping root, which `:scope` and `&` outside of nested
+    /// rules are: that is the element from which one searches, or else the root. Only lists that were
+    /// numbered for `&` have other numbers; of any else the answer is no.
+    fn is_in_list(&self, number: usize) -> bool
+        ensures { result ≡ document.is_in_list (node self.now) number };
+
     ghost depth_law: { Counts document.parent document.depth };
 
     ghost earlier_law: { Counts document.previous_sibling document.earlier };

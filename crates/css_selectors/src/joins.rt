@@ -39,7 +39,10 @@ pub(crate) fn begins_compound(text: &str) -> bool
         [byte, ..] => {
             byte.is_ascii_alphabetic()
                 || *byte >= 128
-                || matches!(byte, b'_' | b'-' | b'*' | b'.' | b'#' | b'[' | b':' | b'\\')
+                || matches!(
+                    byte,
+                    b'_' | b'-' | b'*' | b'.' | b'#' | b'[' | b':' | b'\\' | b'&'
+                )
         }
     }
 }

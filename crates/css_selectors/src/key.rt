@@ -57,7 +57,8 @@ fn key_of_simple<'s>(simple: &'s Simple<'_>) -> Key<'s>
         | Simple::Language(_)
         | Simple::State(_)
         | Simple::Function(_)
-        | Simple::Element(_) => Key::Any,
+        | Simple::Element(_)
+        | Simple::Nesting(_) => Key::Any,
     }
 }
 

@@ -1,6 +1,6 @@
 //! Modern selectors (Selectors Level 4) and what they mean on elements: all of Level 3, the flags `i`
 //! and `s`, `:is()`, `:where()` and `:not()` with lists of complex selectors, and `:lang()` with lists
-//! of ranges.
+//! of ranges. What is no selector is left out of `:is()` and `:where()`, which may be empty.
 //!
 //! `Selector::parse` and `parse_list` read a text as `specs/Grammar` says, or report why and where it
 //! is refused. Names, keywords and strings are what their escapes spell, comments may be between any two
@@ -14,12 +14,16 @@
 //! with one of these, or with `:host`, is unsupported: `parse` refuses it as such, and `read_list`
 //! reads it.
 //!
+//! `&` stands for a list of selectors by its number, of which the element is asked. `parse` reads it as
+//! what it is outside of nested rules, `:scope`. `parse_nested_list` reads the list of a nested rule, whose
+//! selectors may begin with a combinator (CSS Nesting 1).
+//!
 //! A selector has a specificity, and `matches` is true exactly if there is a placement: an element for
 //! each compound selector, related as the combinators say. An element is any type with the trait
 //! `Element`.
 //!
-//! Lists may be 32 deep within one another, and a combinator may stand within two of them. Namespaces
-//! are not read.
+//! Lists may be 32 deep within one another. A selector with combinators in a list of another that is
+//! in a list is unsupported. Namespaces are not read.
 #![tactic(auto)]
 
 mod ancestor_keys;
@@ -36,6 +40,9 @@ mod languages;
 mod matching;
 mod matching_laws;
 mod meeting;
+mod nested;
+mod nesting;
+mod nesting_laws;
 mod numbers;
 mod occurrences;
 mod printing;
@@ -55,8 +62,8 @@ mod texts;
 mod words;
 
 pub use components::{
-    AttributeTest, Comparison, Complex, Condition, ElementName, FunctionCall, Part, Progression,
-    PseudoElement, Signed, Simple, Structure,
+    AttributeTest, Comparison, Complex, Condition, ElementName, FunctionCall, Nesting, OUTERMOST,
+    Part, Progression, PseudoElement, Signed, Simple, Structure,
 };
 pub use css_matching::{Combinator, Tests};
 pub use element::Element;

@@ -1,15 +1,14 @@
 //! Laws of matching.
-ghost use Rattle.std.specs.Prelude.{ℕ, ◌≡◌, ◌+◌, ◌*◌, ◌<◌, ◌≤◌, ◌↔◌, List, None, length};
+ghost use Rattle.std.specs.Prelude.{ℕ, ◌≡◌, ◌+◌, ◌*◌, ◌<◌, ◌≤◌, ◌↔◌, List, None, length, true};
 ghost use Rattle.std.specs.List.{Contains};
 ghost use Rattle.css_selectors.specs.Components.{Part, Parts, Selector, parts_from, selectors_from};
 ghost use Rattle.css_selectors.specs.LoneSelectors.{of_parts, of_condition};
 ghost use Rattle.css_selectors.specs.Components.Condition.{negation, any_of, where_any};
 ghost use Rattle.css_selectors.specs.Costs.{HasPlainParts, most_questions, most_tests};
 ghost use Rattle.css_selectors.specs.NestedTests.{PartsJoinWithin, parts_size, searches, nested_tests};
-ghost use Rattle.css_selectors.specs.Grammar.{deepest_joined};
+ghost use Rattle.css_selectors.specs.Supported.{deepest_joined, is_supported_selector};
 ghost use Rattle.css_selectors.specs.Meanings.{Matches};
 ghost use Rattle.css_selectors.specs.PlacementLists.{HasPlacementList};
-ghost use Rattle.css_selectors.specs.WellFormed.{IsWellFormed};
 ghost use Rattle.css_selectors.specs.TestBounds.{HasNoSibling, longest_stretch, earlier_siblings};
 
 use crate::Element;
@@ -52,16 +51,16 @@ pub fn list_law<E: Element>()
         ↔ (Matches E.document (of_condition (any_of (selectors_from all))) n → ⊥) }
 {}
 
-/// Each test of a search may make another, as often as lists with combinators are nested. So
-/// `searches` is the most of one search for all compound selectors, those in lists included, and the
-/// tests are at most `searches`, times (those of the lists, plus one). In a selector that was read
-/// a combinator stands within at most one list.
+/// Each test of a search may make another, as deep as selectors with combinators are nested in lists.
+/// So `searches` is the most of one search for all compound selectors, those in lists included, and
+/// the tests are at most `searches`, times (those of the lists, plus one). In a supported selector no
+/// selector with combinators is in a list of another that is in a list.
 pub fn nested_law<E: Element>()
     ensures within { (k : ℕ) (s : Selector) (n : E.Node) → 0 < length s.parts
         → PartsJoinWithin k (parts_from s.parts)
         → most_tests E.document (parts_from s.parts) n
         ≤ nested_tests (k + 1) (searches (parts_size (parts_from s.parts)) (E.document.depth n + 1)
         (earlier_siblings E.document n)) }
-    ensures read { (s : Selector) → IsWellFormed s
+    ensures supported { (s : Selector) → is_supported_selector s ≡ true
         → PartsJoinWithin deepest_joined (parts_from s.parts) }
 {}

@@ -31,6 +31,7 @@ fn is_placed_on<E: Element>(structure: Structure, element: &E) -> bool
 {
     match structure {
         Structure::Root => element.parent().is_none(),
+        Structure::Scope => element.is_in_list(0),
         Structure::Empty => !element.has_content(),
         Structure::FirstChild => element.earlier_siblings() == 0,
         Structure::LastChild => element.later_siblings() == 0,
@@ -92,6 +93,7 @@ fn holds<E: Element>(simple: &Simple<'_>, element: &E) -> bool
         Simple::Language(ranges) => is_in_any(ranges.as_slice(), element),
         Simple::State(name) => element.is_in_state(name.as_str()),
         Simple::Function(_) | Simple::Element(_) => false,
+        Simple::Nesting(list) => element.is_in_list(list.number),
     }
 }
 
@@ -226,6 +228,9 @@ fn is_matched<E: Element>(parts: &[Part<'_>], element: &E, tests: &mut Tests) ->
         + selector_cost E.document (parts_from (map part_of parts.now)) (E.node element.now) }
     ensures counts { tests.old ≤ tests.new }
 {
+    if parts.is_empty() {
+        return false;
+    }
     if parts.len() == 1 {
         return are_met(parts[0].conditions.as_slice(), element, tests);
     }

@@ -133,6 +133,7 @@ fn write_structure<W: fmt::Write>(f: &mut fmt::Formatter<W>, structure: Structur
 {
     match structure {
         Structure::Root => f.write_str(":root"),
+        Structure::Scope => f.write_str(":scope"),
         Structure::Empty => f.write_str(":empty"),
         Structure::FirstChild => f.write_str(":first-child"),
         Structure::LastChild => f.write_str(":last-child"),
@@ -305,6 +306,7 @@ fn write_simple<W: fmt::Write>(f: &mut fmt::Formatter<W>, simple: &Simple) -> fm
         Simple::State(name) => write_named(f, ":", name.as_str()),
         Simple::Function(call) => write_call(f, call),
         Simple::Element(element) => write_element(f, element),
+        Simple::Nesting(_) => f.write_str("&"),
     }
 }
 

@@ -1,13 +1,18 @@
 //! The law of printing.
 ghost use Rattle.std.specs.Prelude.{◌≡◌, ℕ, List, []};
-ghost use Rattle.css_selectors.specs.Components.{Selector};
-ghost use Rattle.css_selectors.specs.Grammar.{selector};
+ghost use Rattle.std.specs.List.{Contains};
+ghost use Rattle.css_selectors.specs.declared.components.Nesting.{Nesting as NestingOf};
+ghost use Rattle.css_selectors.specs.declared.reading.Start.TheVariants.{Relative};
+ghost use Rattle.css_selectors.specs.Components.{Placed, Selector};
+ghost use Rattle.css_selectors.specs.Grammar.{placed_list_by, selector};
+ghost use Rattle.css_selectors.specs.Nested.{absolute, nested_selector};
 ghost use Rattle.css_selectors.specs.Printing.{selector_text};
 ghost use Rattle.css_selectors.specs.Readings.{got};
 ghost use Rattle.css_selectors.specs.WellFormed.{IsWellFormed};
 
 /// A selector that was read from a text reads back from the text that it is printed as. The
-/// well-formed selectors are those that some text reads as.
+/// well-formed selectors are those that some text reads as. So does one of a nested rule, but that `&` is
+/// then what it is outside of nested rules.
 pub fn printing_law()
     ensures read_again { (text rest : List ℕ) (s : Selector)
         → selector text ≡ got s rest
@@ -16,4 +21,7 @@ pub fn printing_law()
         → IsWellFormed s }
     ensures all_well_formed { (s : Selector) → IsWellFormed s
         → selector (selector_text s) ≡ got s [] }
+    ensures nested { (text rest : List ℕ) (all : List Placed) → placed_list_by Relative text ≡ got all rest
+        → (list : NestingOf) (p : Placed) → Contains all p
+        → selector (selector_text (nested_selector list p.selector)) ≡ got (absolute p.selector) [] }
 {}

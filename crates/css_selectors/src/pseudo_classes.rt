@@ -19,12 +19,14 @@ use crate::words::{read_closing, read_gap};
 use std::alloc::Global;
 use std::borrow::CowStr;
 
-/// Returns the structural pseudo-class without an argument of this name, if there is one.
+/// Returns the structural pseudo-class without an argument of this name, or `:scope`, if there is one.
 fn structure_named(name: &str) -> Option<Structure>
     ensures { option_map structure_of result ≡ plain_structure name.now }
 {
     if name.eq_ignore_ascii_case("root") {
         Some(Structure::Root)
+    } else if name.eq_ignore_ascii_case("scope") {
+        Some(Structure::Scope)
     } else if name.eq_ignore_ascii_case("empty") {
         Some(Structure::Empty)
     } else if name.eq_ignore_ascii_case("first-child") {

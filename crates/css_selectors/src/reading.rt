@@ -4,13 +4,14 @@ ghost use Rattle.css_selectors.specs.Grammar.{next_part as next_part_of, parts a
 ghost use Rattle.css_selectors.specs.Readings.{items, found_before};
 ghost use Rattle.css_selectors.specs.Reads.{Reads, Finds};
 ghost use Rattle.css_selectors.specs.Views.{part_of};
-ghost use Rattle.css_selectors.specs.Grammar.{placed, next_placed as next_placed_of};
-ghost use Rattle.css_selectors.specs.ReadSelectors.{ParsesList};
+ghost use Rattle.css_selectors.specs.Grammar.{nesting_part as nesting_part_of, relative_parts, start_parts};
+ghost use Rattle.css_selectors.specs.Grammar.{placed_by, next_placed as next_placed_of, placed_list_by};
+ghost use Rattle.css_selectors.specs.ReadSelectors.{ParsesList, ParsesPlaced};
 ghost use Rattle.css_selectors.specs.ReadViews.{read_of, placed_of};
 ghost use Rattle.css_selectors.specs.Supported.{first_unsupported as first_unsupported_of, if_all};
 ghost use Rattle.css_selectors.specs.declared.refusal.Why.TheVariants.{Memory};
 
-use crate::components::Part;
+use crate::components::{Condition, Nesting, OUTERMOST, Part, Simple};
 use crate::compounds::read_conditions;
 use crate::joins::{begins_compound, take_sign};
 use crate::pseudo_elements::read_pseudo_element;
@@ -19,7 +20,16 @@ use crate::refusal::{Refusal, Why};
 use crate::texts::split_ascii;
 use crate::words::{past_comments, read_gap};
 use crate::{Combinator, Listed, Selector};
-use std::alloc::Global;
+use std::alloc::{AllocError, Global};
+
+/// How a selector may begin.
+#[derive(Clone, Copy)]
+pub(crate) enum Start {
+    /// By a compound selector.
+    Plain,
+    /// By a combinator, too, before which there is an `&`.
+    Relative,
+}
 
 /// Reads a combinator and the compound selector after it, if there is one.
 #[tactic(auto, unfolding(crate::specs::Grammar::next_part))]
@@ -89,13 +99,62 @@ fn read_parts<'a>(alloc: Global, text: &'a str) -> Result<(Vec<Part<'a>>, &'a st
     read_more(alloc, first, rest)
 }
 
+/// Returns `&` as the first compound selector, which stands for this list.
+pub(crate) fn nesting_part<'a>(alloc: Global, list: Nesting) -> Result<Part<'a>, AllocError>
+    ensures { IfOk result (λ part. part_of part ≡ nesting_part_of list) }
+{
+    let mut conditions = Vec::new(alloc);
+    conditions.push(Condition::Simple(Simple::Nesting(list)))?;
+    Ok(Part {
+        combinator: Combinator::Descendant,
+        conditions,
+    })
+}
+
+/// Reads the compound selectors of a relative selector.
+#[tactic(auto, unfolding(crate::specs::Grammar::relative_parts))]
+fn read_relative_parts<'a>(
+    alloc: Global,
+    text: &'a str,
+) -> Result<(Vec<Part<'a>>, &'a str), Refusal<'a>>
+    ensures reads { Reads (λ v. map part_of v.items) result (relative_parts text.now) }
+    ensures some { IfOk result (λ it. 0 < length it.0.items) }
+{
+    match take_sign(text) {
+        None => read_parts(alloc, text),
+        Some(_) => {
+            let first = nesting_part(alloc, OUTERMOST)?;
+            read_more(alloc, first, text)
+        }
+    }
+}
+
+/// Reads the compound selectors of a selector that may begin so.
+fn read_first_parts<'a>(
+    alloc: Global,
+    start: Start,
+    text: &'a str,
+) -> Result<(Vec<Part<'a>>, &'a str), Refusal<'a>>
+    ensures reads { Reads (λ v. map part_of v.items) result (start_parts start text.now) }
+    ensures some { IfOk result (λ it. 0 < length it.0.items) }
+{
+    match start {
+        Start::Plain => read_parts(alloc, text),
+        Start::Relative => read_relative_parts(alloc, text),
+    }
+}
+
 /// Reads a selector and the gaps round it.
-#[tactic(auto, unfolding(crate::specs::Grammar::placed))]
-fn read_placed<'a>(alloc: Global, text: &'a str) -> Result<(Read<'a>, &'a str), Refusal<'a>>
-    ensures { Reads read_of result (placed text.now) }
+#[tactic(auto, unfolding(crate::specs::Grammar::placed_by))]
+fn read_placed<'a>(
+    alloc: Global,
+    start: Start,
+    text: &'a str,
+) -> Result<(Read<'a>, &'a str), Refusal<'a>>
+    ensures { Reads read_of result (placed_by start text.now) }
 {
     let (_, from) = read_gap(text);
-    let (parts, end) = read_parts(alloc, from)?;
+    let (parts, end) = read_first_parts(alloc, start, from)?;
     let at = past_comments(end);
     let (pseudo_element, after) = read_pseudo_element(alloc, at)?;
     let (_, rest) = read_gap(after);
@@ -128,30 +187,35 @@ fn listed_of<'a>(read: Read<'a>) -> Listed<'a>
 
 /// Reads a comma and a further selector, if there is a comma.
 #[tactic(auto, unfolding(crate::specs::Grammar::next_placed))]
-fn next_placed<'a>(alloc: Global, text: &'a str) -> Result<Option<(Read<'a>, &'a str)>, Refusal<'a>>
-    ensures { Finds read_of result (next_placed_of text.now) }
+fn next_placed<'a>(
+    alloc: Global,
+    start: Start,
+    text: &'a str,
+) -> Result<Option<(Read<'a>, &'a str)>, Refusal<'a>>
+    ensures { Finds read_of result (next_placed_of start text.now) }
 {
     let Some((b',', rest)) = split_ascii(text) else {
         return Ok(None);
     };
-    Ok(Some(read_placed(alloc, rest)?))
+    Ok(Some(read_placed(alloc, start, rest)?))
 }
 
 /// Reads the selectors after the first.
 fn read_others<'a>(
     alloc: Global,
+    start: Start,
     first: Read<'a>,
     text: &'a str,
 ) -> Result<(Vec<Listed<'a>>, &'a str), Refusal<'a>>
     ensures { Reads (λ v. map placed_of v.items) result
-        (found_before (read_of first.entry ∷ []) (items next_placed_of text.now)) }
+        (found_before (read_of first.entry ∷ []) (items (next_placed_of start) text.now)) }
 {
     let mut selectors = Vec::new(alloc);
     selectors.push(listed_of(first))?;
     let mut rest = text;
     let mut left = text.len();
     'selectors: while left > 0 {
-        match next_placed(alloc, rest)? {
+        match next_placed(alloc, start, rest)? {
             Some((read, after)) => {
                 selectors.push(listed_of(read))?;
                 rest = after;
@@ -161,6 +225,23 @@ fn read_others<'a>(
         left -= 1;
     }
     Ok((selectors, rest))
+}
+
+/// Reads a text that is a list of selectors, each of which may begin so.
+#[tactic(auto, unfolding(crate::specs::Grammar::placed_list_by))]
+pub(crate) fn read_listed<'a>(
+    alloc: Global,
+    start: Start,
+    text: &'a str,
+) -> Result<Vec<Listed<'a>>, Refusal<'a>>
+    ensures { ParsesPlaced result (placed_list_by start text.now) }
+{
+    let (first, rest) = read_placed(alloc, start, text)?;
+    match read_others(alloc, start, first, rest) {
+        Ok((selectors, rest)) if rest.is_empty() => Ok(selectors),
+        Ok((_, rest)) => Err(Refusal::new(Why::Unexpected, rest)),
+        Err(refusal) => Err(refusal),
+    }
 }
 
 /// Returns what is left of the text where the first selector begins that is unsupported.
@@ -192,7 +273,10 @@ fn selectors_of<'a>(alloc: Global, list: Vec<Listed<'a>>) -> Result<Vec<Selector
 }
 
 /// Returns the selectors of a list, if all are supported.
-fn all_supported<'a>(alloc: Global, list: Vec<Listed<'a>>) -> Result<Vec<Selector<'a>>, Refusal<'a>>
+pub(crate) fn all_supported<'a>(
+    alloc: Global,
+    list: Vec<Listed<'a>>,
+) -> Result<Vec<Selector<'a>>, Refusal<'a>>
     ensures { ParsesList result (if_all (map placed_of list.entry.items) []
         (first_unsupported_of (map placed_of list.entry.items))) }
 {
@@ -212,7 +296,7 @@ impl<'a> Selector<'a> {
     pub fn parse(alloc: Global, text: &'a str) -> Result<Selector<'a>, Refusal<'a>>
         ensures { Parses result (supported_selector text.now) }
     {
-        let (read, rest) = read_placed(alloc, text)?;
+        let (read, rest) = read_placed(alloc, Start::Plain, text)?;
         if !rest.is_empty() {
             return Err(Refusal::new(Why::Unexpected, rest));
         }
@@ -227,16 +311,10 @@ impl<'a> Selector<'a> {
     /// Reads a text that is a list of selectors with commas between them, each with where it is. A
     /// list of which one selector is refused is refused. Unsupported ones are not: what has no meaning
     /// in them is satisfied by no element, and so `:not(:has(a))` by each.
-    #[tactic(auto, unfolding(crate::specs::Grammar::placed_list))]
     pub fn read_list(alloc: Global, text: &'a str) -> Result<Vec<Listed<'a>>, Refusal<'a>>
         ensures { ParsesPlaced result (placed_list text.now) }
     {
-        let (first, rest) = read_placed(alloc, text)?;
-        match read_others(alloc, first, rest) {
-            Ok((selectors, rest)) if rest.is_empty() => Ok(selectors),
-            Ok((_, rest)) => Err(Refusal::new(Why::Unexpected, rest)),
-            Err(refusal) => Err(refusal),
-        }
+        read_listed(alloc, Start::Plain, text)
     }
 
     /// Reads a text that is a list of selectors with commas between them. A list of which one selector

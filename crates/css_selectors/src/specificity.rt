@@ -23,7 +23,7 @@ pub struct Specificity {
 }
 
 /// Nothing is counted.
-const NOTHING: Specificity = Specificity {
+pub(crate) const NOTHING: Specificity = Specificity {
     ids: 0,
     classes: 0,
     names: 0,
@@ -67,6 +67,7 @@ fn of_simple(simple: &Simple<'_>) -> Specificity
 {
     match simple {
         Simple::Universal => NOTHING,
+        Simple::Nesting(list) => list.specificity,
         Simple::TypeName(_) | Simple::Element(_) => Specificity {
             names: 1,
             ..NOTHING

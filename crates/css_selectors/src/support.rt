@@ -3,10 +3,15 @@ ghost use Rattle.std.specs.Prelude.{◌≡◌, ◌&&◌, true, map, option_map};
 ghost use Rattle.css_selectors.specs.Components.{conditions_from, parts_from, selectors_from};
 ghost use Rattle.css_selectors.specs.Supported.{is_supported_simple as is_supported_simple_of, is_supported as is_supported_condition};
 ghost use Rattle.css_selectors.specs.Supported.{have_meaning as have_meaning_of, parts_supported as parts_supported_of, are_supported as are_supported_of};
+ghost use Rattle.css_selectors.specs.NestedTests.{search_count as search_count_of};
 ghost use Rattle.css_selectors.specs.Supported.{is_plain_element as is_plain_element_of};
 ghost use Rattle.css_selectors.specs.Views.{simple_of, complex_of, condition_of, part_of, pseudo_element_of};
 
 use crate::{Complex, Condition, Part, PseudoElement, Selector, Simple};
+
+/// How many selectors with combinators that stand in lists may be within one another. Their tests
+/// multiply.
+const DEEPEST_JOINED: usize = 1;
 
 /// Whether the simple selector has a meaning.
 fn is_supported_simple(simple: &Simple<'_>) -> bool
@@ -22,7 +27,8 @@ fn is_supported_simple(simple: &Simple<'_>) -> bool
         | Simple::HasAttribute(_)
         | Simple::Attribute(_)
         | Simple::Structure(_)
-        | Simple::Language(_) => true,
+        | Simple::Language(_)
+        | Simple::Nesting(_) => true,
     }
 }
 
@@ -33,52 +39,67 @@ fn both(one: bool, other: bool) -> bool
     one && other
 }
 
-/// Whether all complex selectors of a list have a meaning.
+/// Returns the number of searches that a selector of a list makes of its own: one, if it has a
+/// combinator.
+fn search_count(parts: &[Part<'_>]) -> usize
+    ensures { result ≡ search_count_of (parts_from (map part_of parts.now)) }
+{
+    match parts {
+        [] | [_] => 0,
+        _ => 1,
+    }
+}
+
+/// Whether all complex selectors of a list have a meaning, and at most `left` of them and of those in
+/// their lists that have combinators are within one another.
 #[cycle(supporting)]
-fn are_supported(selectors: &[Complex<'_>]) -> bool
-    ensures { result ≡ are_supported_of true (selectors_from (map complex_of selectors.now)) }
+fn are_supported(left: usize, selectors: &[Complex<'_>]) -> bool
+    ensures { result ≡ are_supported_of left true (selectors_from (map complex_of selectors.now)) }
 {
     let mut all = true;
     for selector in selectors {
-        all = parts_supported(all, selector.parts.as_slice());
+        let parts = selector.parts.as_slice();
+        let searches = search_count(parts);
+        let so_far = both(all, searches <= left);
+        all = parts_supported(left.saturating_sub(searches), so_far, parts);
     }
     all
 }
 
 /// Whether the condition has a meaning.
 #[cycle(supporting)]
-fn is_supported(condition: &Condition<'_>) -> bool
-    ensures { result ≡ is_supported_condition (condition_of condition.now) }
+fn is_supported(left: usize, condition: &Condition<'_>) -> bool
+    ensures { result ≡ is_supported_condition left (condition_of condition.now) }
 {
     match condition {
         Condition::Simple(simple) => is_supported_simple(simple),
         Condition::Not(selectors) | Condition::Is(selectors) | Condition::Where(selectors) => {
-            are_supported(selectors.as_slice())
+            are_supported(left, selectors.as_slice())
         }
     }
 }
 
 /// Whether this holds, and the conditions have a meaning.
 #[cycle(supporting)]
-fn have_meaning(so_far: bool, conditions: &[Condition<'_>]) -> bool
+fn have_meaning(left: usize, so_far: bool, conditions: &[Condition<'_>]) -> bool
     ensures { result
-        ≡ have_meaning_of so_far (conditions_from (map condition_of conditions.now)) }
+        ≡ have_meaning_of left so_far (conditions_from (map condition_of conditions.now)) }
 {
     let mut all = so_far;
     for condition in conditions {
-        all = both(all, is_supported(condition));
+        all = both(all, is_supported(left, condition));
     }
     all
 }
 
 /// Whether this holds, and the parts have a meaning.
 #[cycle(supporting)]
-fn parts_supported(so_far: bool, parts: &[Part<'_>]) -> bool
-    ensures { result ≡ parts_supported_of so_far (parts_from (map part_of parts.now)) }
+fn parts_supported(left: usize, so_far: bool, parts: &[Part<'_>]) -> bool
+    ensures { result ≡ parts_supported_of left so_far (parts_from (map part_of parts.now)) }
 {
     let mut all = so_far;
     for part in parts {
-        all = have_meaning(all, part.conditions.as_slice());
+        all = have_meaning(left, all, part.conditions.as_slice());
     }
     all
 }
@@ -98,12 +119,13 @@ impl<'a> Selector<'a> {
     ghost use Rattle.css_selectors.specs.Supported.{is_supported_selector};
 
     /// Whether the selector has a meaning here. A pseudo-class or a pseudo-element with an argument that
-    /// is kept as it is written has none, nor has `:host`, nor what follows a pseudo-element.
+    /// is kept as it is written has none, nor has `:host`, nor what follows a pseudo-element. Nor has
+    /// a selector with combinators in a list of another that is in a list: their tests multiply.
     pub fn is_supported(&self) -> bool
         ensures { result ≡ is_supported_selector self.now }
     {
         both(
-            parts_supported(true, self.parts.as_slice()),
+            parts_supported(DEEPEST_JOINED, true, self.parts.as_slice()),
             is_plain_element(self.pseudo_element.as_ref()),
         )
     }

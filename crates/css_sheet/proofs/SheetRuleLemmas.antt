@@ -1,5 +1,5 @@
 -- Rules that are gathered one after another, and their order.
--- Serves `gathering::push_rules` and `sheet_order::{gather, read_sheet}`.
+-- Serves `gathering::push_rules` and `sheet_order::{push_sheet, read_sheets}`.
 use Rattle.std.proofs.Common.{◌≡◌, ◌<◌, ℕ, ◌+◌, List, [], ◌∷◌, ◌++◌, Option, None, Some, map, refl, sym, ap, ◌∙◌, arith, append-nil}
 use Rattle.std.specs.Prelude.{option_to_list}
 use Rattle.std.specs.List.{cons_option, fold}
@@ -22,13 +22,6 @@ pub record Gathering (before after : List SheetRuleText) (had left : ℕ)
   pub rules : after ++ come ≡ before ++ all
   pub room : had + declarations_in come ≡ left + declarations_in all
 
-pub gathering-none : (after : List SheetRuleText) (had : ℕ) (come all : List SheetRuleText)
-    → after ≡ [] → come ≡ all → Gathering [] after had had come all
-gathering-none after had come all e f = record {
-  rules = ap (λ l. l ++ come) e ∙ f;
-  room = ap (λ (l : List SheetRuleText). had + declarations_in l) f;
-}
-
 module _ (before after : List SheetRuleText) (had left : ℕ) (more come all : List SheetRuleText) where
   pub gathering-more : (after' : List SheetRuleText) (left' : ℕ) → after' ≡ after ++ more
       → left' + declarations_in more ≡ left → Gathering before after had left (more ++ come) all
@@ -41,12 +34,10 @@ module _ (before after : List SheetRuleText) (had left : ℕ) (more come all : L
         room = omega arith;
       }
 
-  pub gathering-over : left < declarations_in more
-      → Gathering before after had left (more ++ come) all → had < declarations_in all
-  gathering-over h g =
-      let sums = sum_by-append (λ (rule : SheetRuleText). declaration_count rule.block) more come in
-      let old = g.room in
-      omega arith
+pub declarations-append : (rules more : List SheetRuleText)
+    → declarations_in (rules ++ more) ≡ declarations_in rules + declarations_in more
+declarations-append rules more =
+    sum_by-append (λ (rule : SheetRuleText). declaration_count rule.block) rules more
 
 pub cons-option : {X : Type 0} (o : Option X) (xs : List X)
     → cons_option o xs ≡ option_to_list o ++ xs
@@ -76,12 +67,3 @@ ranked-from known (rule ∷ rules) n = ranked-from known rules (n + declaration_
 pub ranked-declarations : (known : List LayerText) (rules : List SheetRuleText)
     → declarations_in (map (ranked known) rules) ≡ declarations_in rules
 ranked-declarations known rules = ranked-from known rules 0
-
--- none is to come
-pub gathering-all : (after : List SheetRuleText) (had left : ℕ) (come all : List SheetRuleText)
-    → Gathering [] after had left come all → come ≡ []
-    → (after ≡ all) × (left + declarations_in all ≡ had)
-gathering-all after had left come all g e =
-    let room = g.room in
-    let none : declarations_in come ≡ 0 = ap (λ (l : List SheetRuleText). declarations_in l) e in
-    (sym (append-nil after) ∙ sym (ap (λ l. after ++ l) e) ∙ g.rules, omega (arith, room, none))

@@ -26,7 +26,7 @@ open_of rule = record {
   kind = kind_of rule.kind;
   nesting = nesting_text rule.nesting;
   applies = rule.applies;
-  left = rule.left;
+  place = rule.place;
 }
 
 abbrev pub part_of : Part → SheetPart
@@ -43,9 +43,9 @@ open_in r = map open_of r.around.items
 abbrev pub left_in : SheetParts → List ℕ
 left_in r = r.rest.now
 
--- the parts that are still to come
+-- the parts of the sheet that are still to come
 abbrev pub parts_to_come : (List ℕ → List ℕ → Bool) → SheetParts → List PlacedPart
-parts_to_come holds r = parts_in holds (open_in r) (left_in r)
+parts_to_come holds r = parts_in holds r.later (open_in r) (left_in r)
 
 -- A call returned the first of the parts that were to come, and the others still are; or none was to
 -- come, and none is.

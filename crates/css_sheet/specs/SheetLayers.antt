@@ -1,4 +1,4 @@
--- The layers of a sheet (CSS Cascading 5, section 6.4): those of the `@layer` rules whose group rules
+-- The layers of sheets (CSS Cascading 5, section 6.4): those of the `@layer` rules whose group rules
 -- all hold, in order.
 use Rattle.std.specs.Prelude.{ℕ, Bool, if◌then◌else◌, List, [], ◌∷◌, codes, Option, None, Some}
 use Rattle.std.specs.List.{flat_map}
@@ -8,7 +8,7 @@ use Rattle.css_syntax.specs.Statements.{BlockText, AtRuleText}
 use Rattle.css_syntax.specs.DeclarationLists.{ItemText, declared, at_rule_item, skipped_item}
 use Rattle.css_cascade.specs.Layers.{LayerPart, LayerText, outermost_layer, number_at, or_outermost, with_name}
 use Rattle.css_cascade.specs.LayerNames.{block_name, layer_names}
-use Rattle.css_sheet.specs.SheetParts.{OpenText, RuleKind, style_rule, group_rule, SheetPart, states, begins, ends, stands, PlacedPart, applies_in, sheet_parts}
+use Rattle.css_sheet.specs.SheetParts.{OpenText, RuleKind, style_rule, group_rule, SheetPart, states, begins, ends, stands, PlacedPart, applies_in, all_parts}
 
 abbrev pub is_layer : List ℕ → Bool
 is_layer name = spells (codes "layer") name
@@ -16,7 +16,7 @@ is_layer name = spells (codes "layer") name
 -- What is said of group rules, and of `@layer`: that one holds, if its prelude is a name or nothing.
 abbrev pub with_layers : (List ℕ → List ℕ → Bool) → List ℕ → List ℕ → Bool
 with_layers holds keyword prelude =
-    if is_layer keyword then is_some (block_name prelude 0) else holds keyword prelude
+    if is_layer keyword then is_some (block_name prelude (0 ∷ 0 ∷ [])) else holds keyword prelude
 
 abbrev pub or_none : {A : Type 0} → Option (List A) → List A
 or_none None = []
@@ -25,15 +25,15 @@ or_none (Some all) = all
 -- ---- the layer that something is in
 
 -- The parts of the name of the layer that a rule is, from the layer that it is in on. A layer without a
--- name is told from others by how much of the sheet is left at its contents.
-abbrev pub kind_name : RuleKind → (left : ℕ) → List LayerPart
-kind_name (style_rule prelude) left = []
-kind_name (group_rule keyword prelude) left =
-    if is_layer keyword then or_none (block_name prelude left) else []
+-- name is told from others by the place of its contents.
+abbrev pub kind_name : RuleKind → (place : List ℕ) → List LayerPart
+kind_name (style_rule prelude) place = []
+kind_name (group_rule keyword prelude) place =
+    if is_layer keyword then or_none (block_name prelude place) else []
 
 -- what does not apply is no layer
 abbrev pub open_name : OpenText → List LayerPart
-open_name rule = if rule.applies then kind_name rule.kind rule.left else []
+open_name rule = if rule.applies then kind_name rule.kind rule.place else []
 
 -- the parts of the name of the layer that is innermost in these rules
 abbrev pub layer_parts : List OpenText → List LayerPart
@@ -90,10 +90,10 @@ with_parts known (placed ∷ parts) = with_parts (with_part known placed) parts
 abbrev pub layers_in : List PlacedPart → List LayerText
 layers_in parts = with_parts (outermost_layer ∷ []) parts
 
--- the parts of a sheet, where `holds` says which group rules hold that are no `@layer`
-abbrev pub layered_parts : (List ℕ → List ℕ → Bool) → List ℕ → List PlacedPart
-layered_parts holds text = sheet_parts (with_layers holds) text
+-- the parts of sheets, where `holds` says which group rules hold that are no `@layer`
+abbrev pub layered_parts : (List ℕ → List ℕ → Bool) → List (List ℕ) → List PlacedPart
+layered_parts holds texts = all_parts (with_layers holds) texts
 
--- the layers of a sheet in order
-abbrev pub sheet_layers : (List ℕ → List ℕ → Bool) → List ℕ → List LayerText
-sheet_layers holds text = layers_in (layered_parts holds text)
+-- The layers of sheets in order. One that is named in several of them is one layer.
+abbrev pub sheet_layers : (List ℕ → List ℕ → Bool) → List (List ℕ) → List LayerText
+sheet_layers holds texts = layers_in (layered_parts holds texts)

@@ -1,6 +1,6 @@
--- The style rules of a sheet in the order in which the cascade takes them (CSS Cascading 5, section
+-- The style rules of sheets in the order in which the cascade takes them (CSS Cascading 5, section
 -- 6): the one of the later layer later, in one layer the one with the greater specificity, and of equal
--- ones the one that is later in the sheet.
+-- ones the one that is later in the sheets.
 use Rattle.std.specs.Prelude.{ℕ, Bool, true, false, ◌==◌, if◌then◌else◌, List, [], ◌∷◌, count_by, map, Option, None, Some, Result, Ok, Err}
 use Rattle.std.specs.List.{sum_by, filter_map, flat_map}
 use Rattle.std.specs.Option.{option_map}
@@ -88,7 +88,7 @@ rule_set_rules layer prelude block =
     if declaration_count block == 0 then []
     else unless_invalid layer block (selectors_read prelude)
 
--- ---- the rules of a sheet
+-- ---- the rules of sheets
 
 -- The rules of declarations that stand one after another in style rules: those of the selectors of
 -- the one that they are in. In nested rules they have none, since `&` has no meaning yet.
@@ -115,23 +115,23 @@ placed_rules known placed =
 abbrev pub rules_of_parts : List LayerText → List PlacedPart → List SheetRuleText
 rules_of_parts known all = flat_map (placed_rules known) all
 
--- the rules of a sheet, as they stand there, each with the number of its layer
-abbrev pub numbered_rules : (List ℕ → List ℕ → Bool) → List ℕ → List SheetRuleText
-numbered_rules holds text = rules_of_parts (sheet_layers holds text) (layered_parts holds text)
+-- the rules of sheets, as they stand there, each with the number of its layer
+abbrev pub numbered_rules : (List ℕ → List ℕ → Bool) → List (List ℕ) → List SheetRuleText
+numbered_rules holds texts = rules_of_parts (sheet_layers holds texts) (layered_parts holds texts)
 
 -- the rule with the rank of its layer in the place of the number
 abbrev pub ranked : List LayerText → SheetRuleText → SheetRuleText
 ranked known rule = record rule { layer = place_of rule.layer known }
 
--- The rules of a sheet, as they stand there, each with the rank of its layer, where a group rule that is
+-- The rules of sheets, as they stand there, each with the rank of its layer, where a group rule that is
 -- no `@layer` holds as `holds` says of its keyword and its prelude. A style rule with group rules in it
 -- has rules for the declarations before each, in it, and after it.
-abbrev pub source_rules : (List ℕ → List ℕ → Bool) → List ℕ → List SheetRuleText
-source_rules holds text = map (ranked (sheet_layers holds text)) (numbered_rules holds text)
+abbrev pub source_rules : (List ℕ → List ℕ → Bool) → List (List ℕ) → List SheetRuleText
+source_rules holds texts = map (ranked (sheet_layers holds texts)) (numbered_rules holds texts)
 
--- the rules of a sheet in order
-abbrev pub cascade_rules : (List ℕ → List ℕ → Bool) → List ℕ → List SheetRuleText
-cascade_rules holds text = ordered_by is_before (source_rules holds text)
+-- the rules of sheets in order
+abbrev pub cascade_rules : (List ℕ → List ℕ → Bool) → List (List ℕ) → List SheetRuleText
+cascade_rules holds texts = ordered_by is_before (source_rules holds texts)
 
 -- How many declarations rules have. Those of a rule set count once for each of its selectors.
 abbrev pub declarations_in : List SheetRuleText → ℕ

@@ -1,4 +1,4 @@
--- The parts of a sheet, one after another and in place, each with the rules that are open there: the
+-- The parts of sheets, one after another and in place, each with the rules that are open there: the
 -- style rules that it is nested in, and the group rules (CSS Nesting 1; CSS Conditional Rules 3).
 use Rattle.std.specs.Prelude.{ℕ, zero, suc, ◌-◌, Bool, true, false, ◌&&◌, List, [], ◌∷◌, ◌++◌, length, take, slice_get, Option, Some, None}
 use Rattle.css_text.specs.Reading.{each, before}
@@ -23,13 +23,13 @@ pub data Nesting : Type 0 where
   nested : Nesting
 
 -- A rule that is open; what its contents are in; whether they apply, since it and all group rules
--- that it is in hold; and how many bytes are left of the sheet from its contents on, which tells it
--- from all others.
+-- that it is in hold; and the place of its contents: how many texts follow the one that it is in, and
+-- how many bytes are left of that. The place tells it from all others.
 pub record OpenText : Type 0 where
   pub kind : RuleKind
   pub nesting : Nesting
   pub applies : Bool
-  pub left : ℕ
+  pub place : List ℕ
 
 abbrev pub nesting_at : Option OpenText → Nesting
 nesting_at None = outside
@@ -157,47 +157,61 @@ next_in around text = next_by (nesting_of around) (is_some_open around) text
 
 -- ---- all parts
 
--- the rule that begins where these are open, of which so much is left from its contents on
-abbrev pub opened : (List ℕ → List ℕ → Bool) → List OpenText → RuleKind → (left : ℕ) → OpenText
-opened holds around kind left = record {
+-- the rule that begins where these are open, whose contents have this place
+abbrev pub opened : (List ℕ → List ℕ → Bool) → List OpenText → RuleKind → (place : List ℕ)
+    → OpenText
+opened holds around kind place = record {
   kind = kind;
   nesting = nesting_in kind (nesting_of around);
   applies = applies_in around && kind_holds holds kind;
-  left = left;
+  place = place;
 }
 
--- what is open after a part, where so much is left after it
-abbrev pub open_after : (List ℕ → List ℕ → Bool) → List OpenText → SheetPart → (left : ℕ)
+-- what is open after a part, which ends at this place
+abbrev pub open_after : (List ℕ → List ℕ → Bool) → List OpenText → SheetPart → (place : List ℕ)
     → List OpenText
-open_after holds around (states text) left = around
-open_after holds around (begins kind) left = around ++ opened holds around kind left ∷ []
-open_after holds around ends left = take (length around - 1) around
-open_after holds around (stands item) left = around
+open_after holds around (states text) place = around
+open_after holds around (begins kind) place = around ++ opened holds around kind place ∷ []
+open_after holds around ends place = take (length around - 1) around
+open_after holds around (stands item) place = around
 
 -- A part, and what is open after it, with what it begins.
 pub record PlacedPart : Type 0 where
   pub part : SheetPart
   pub around : List OpenText
 
+-- a place in a text that so many follow, from which on this is left
+abbrev pub place_at : (later : ℕ) → List ℕ → List ℕ
+place_at later rest = later ∷ length rest ∷ []
+
 -- the parts from here on, where these rules are open, by those after the first
-abbrev pub part_then : (List ℕ → List ℕ → Bool) → (List OpenText → List ℕ → List PlacedPart)
-    → List OpenText → Option (SheetPart × List ℕ) → List PlacedPart
-part_then holds more around None = []
-part_then holds more around (Some found) =
-    record { part = found.0; around = open_after holds around found.0 (length found.1) }
-    ∷ more (open_after holds around found.0 (length found.1)) found.1
+abbrev pub part_then : (List ℕ → List ℕ → Bool) → (later : ℕ)
+    → (List OpenText → List ℕ → List PlacedPart) → List OpenText → Option (SheetPart × List ℕ)
+    → List PlacedPart
+part_then holds later more around None = []
+part_then holds later more around (Some found) =
+    record { part = found.0; around = open_after holds around found.0 (place_at later found.1) }
+    ∷ more (open_after holds around found.0 (place_at later found.1)) found.1
 
 -- Each part takes a byte or more, so as many as there are bytes are all.
-unfoldable pub parts_from : (List ℕ → List ℕ → Bool) → ℕ → List OpenText → List ℕ
+unfoldable pub parts_from : (List ℕ → List ℕ → Bool) → (later : ℕ) → ℕ → List OpenText → List ℕ
     → List PlacedPart
-parts_from holds zero around text = []
-parts_from holds (suc n) around text =
-    part_then holds (parts_from holds n) around (next_in around text)
+parts_from holds later zero around text = []
+parts_from holds later (suc n) around text =
+    part_then holds later (parts_from holds later n) around (next_in around text)
 
--- the parts from here on, where these rules are open
-abbrev pub parts_in : (List ℕ → List ℕ → Bool) → List OpenText → List ℕ → List PlacedPart
-parts_in holds around text = parts_from holds (length text) around text
+-- the parts from here on in a text that so many follow, where these rules are open
+abbrev pub parts_in : (List ℕ → List ℕ → Bool) → (later : ℕ) → List OpenText → List ℕ
+    → List PlacedPart
+parts_in holds later around text = parts_from holds later (length text) around text
 
--- the parts of a sheet, where a group rule holds as `holds` says of its keyword and its prelude
-abbrev pub sheet_parts : (List ℕ → List ℕ → Bool) → List ℕ → List PlacedPart
-sheet_parts holds text = parts_in holds [] text
+-- The parts of a sheet that so many follow, where a group rule holds as `holds` says of its keyword and
+-- its prelude.
+abbrev pub sheet_parts : (List ℕ → List ℕ → Bool) → (later : ℕ) → List ℕ → List PlacedPart
+sheet_parts holds later text = parts_in holds later [] text
+
+-- the parts of sheets, one after another; each ends what is open in it
+abbrev pub all_parts : (List ℕ → List ℕ → Bool) → List (List ℕ) → List PlacedPart
+all_parts holds [] = []
+all_parts holds (text ∷ texts) =
+    sheet_parts holds (length texts) text ++ all_parts holds texts

@@ -1,6 +1,6 @@
 -- Which declaration of a property wins on an element (CSS Cascading 5, section 6), of rules as they are
 -- ordered in a sheet.
-use Rattle.std.specs.Prelude.{◌≡◌, ◌↔◌, ℕ, ◌+◌, Bool, true, not, ◌&&◌, if◌then◌else◌, nat_eq, List, [], ◌∷◌, ◌++◌, Option, None, Some, IsTrue}
+use Rattle.std.specs.Prelude.{◌≡◌, ◌↔◌, ℕ, ◌+◌, Bool, true, not, ◌&&◌, if◌then◌else◌, nat_eq, List, [], ◌∷◌, ◌++◌, Option, None, Some, IsTrue, false}
 use Rattle.std.specs.List.{filter_map}
 use Rattle.std.specs.Option.{is_some}
 use Rattle.std.specs.Cmp.Lexicographic.{pointwise}
@@ -46,6 +46,7 @@ abbrev pub contends : (rule_place place : ℕ) → SheetRuleText → Declaration
 contends rule_place place rule one = record {
   weight = record {
     important = one.important;
+    attached = false;
     layer = rule.layer;
     specificity = weight (rule_counts rule);
     place = rule_place ∷ place ∷ [];

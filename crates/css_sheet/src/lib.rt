@@ -2,8 +2,8 @@
 //! and of the blocks of its group rules such as `@media`, in source order, each with the group
 //! rules that it is in. Whether the condition of a group rule holds is for the caller to decide.
 //!
-//! `read_sheet` returns the style rules in the order of the cascade, and `winning` the declaration
-//! of a property that wins on an element.
+//! `read_sheets` returns the style rules of several sheets in the order of the cascade, and `winning`
+//! the declaration of a property that wins on an element.
 #![tactic(auto)]
 
 mod gathering;
@@ -18,9 +18,9 @@ mod sheet_rules;
 mod state;
 mod winners;
 
-pub use selectors::{RuleSelector, read_listed, read_selectors};
+pub use selectors::{RuleSelector, read_listed, read_selectors, read_supported};
 pub use sheet_error::SheetError;
-pub use sheet_order::read_sheet;
+pub use sheet_order::{read_sheet, read_sheets};
 pub use sheet_rules::SheetRule;
 pub use state::{Level, Places, SheetReader};
 pub use winners::winning;

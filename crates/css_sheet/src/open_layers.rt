@@ -1,4 +1,4 @@
-//! The layers of a sheet as far as it is read, and those that are open.
+//! The layers of sheets as far as they are read, and those that are open.
 ghost use Rattle.std.specs.Prelude.{◌≡◌, ◌∷◌, [], IfErr, IfOk, Some, map};
 ghost use Rattle.css_sheet.specs.declared.sheet_error.SheetError.TheVariants.{TooManyDeclarations};
 ghost use Rattle.css_syntax.specs.Views.{at_rule_of, item_of};
@@ -18,7 +18,7 @@ use css_syntax::texts::spells;
 use css_syntax::{AtRule, Item};
 use std::alloc::{AllocError, Global};
 
-/// The layers that a sheet mentions, as far as it is read, and those that are open.
+/// The layers that sheets mention, as far as they are read, and those that are open.
 #[derive(Drop)]
 pub(crate) struct OpenLayers<'a> {
     /// The layers that are mentioned.
@@ -34,24 +34,24 @@ pub(crate) fn is_layer(name: &str) -> bool
     spells("layer", name)
 }
 
-/// Mentions the layer that a rule is, if it is one, in this layer; so much is left of the sheet at its
-/// contents. Returns the number of the layer that is innermost in the rule.
+/// Mentions the layer that a rule is, if it is one, in this layer; its contents have this place. Returns
+/// the number of the layer that is innermost in the rule.
 fn enter_kind<'a>(
     alloc: Global,
     layers: &mut Layers<'a>,
     outer: usize,
     kind: &RuleKind<'a>,
-    left: usize,
+    place: [usize; 2],
 ) -> Result<usize, SheetError>
     ensures known { IfOk result (λ _. known_of layers.new
-        ≡ with_name (known_of layers.old) outer (kind_name (kind_of kind.now) left)) }
+        ≡ with_name (known_of layers.old) outer (kind_name (kind_of kind.now) place)) }
     ensures number { IfOk result (λ number. number_at outer
-        (kind_name (kind_of kind.now) left) (known_of layers.new) ≡ Some number) }
+        (kind_name (kind_of kind.now) place) (known_of layers.new) ≡ Some number) }
     ensures refused { IfErr result (λ error. error ≡ TooManyDeclarations → ⊥) }
 {
     match kind {
         RuleKind::Group(keyword, prelude) if is_layer(*keyword) => {
-            match read_block_name(alloc, *prelude, left)? {
+            match read_block_name(alloc, *prelude, place)? {
                 Some(name) => Ok(layers.mention(outer, name.parts)?),
                 None => Ok(outer),
             }
@@ -74,7 +74,7 @@ fn enter_rule<'a>(
     ensures refused { IfErr result (λ error. error ≡ TooManyDeclarations → ⊥) }
 {
     if rule.applies {
-        enter_kind(alloc, layers, outer, &rule.kind, rule.left)
+        enter_kind(alloc, layers, outer, &rule.kind, rule.place)
     } else {
         Ok(outer)
     }
@@ -135,7 +135,7 @@ fn mention_item<'a>(
 }
 
 impl<'a> OpenLayers<'a> {
-    /// Returns the outermost layer alone.
+    /// Returns the outermost layer alone, in which all is.
     pub(crate) fn new(alloc: Global) -> Result<OpenLayers<'a>, AllocError>
         ensures known { IfOk result (λ layers. known_in layers ≡ outermost_layer ∷ []) }
         ensures numbers { IfOk result (λ layers. numbers_in layers ≡ []) }
@@ -147,6 +147,14 @@ impl<'a> OpenLayers<'a> {
             }),
             Err(error) => Err(error),
         }
+    }
+
+    /// Leaves all that is open.
+    pub(crate) fn leave_all(&mut self)
+        ensures known { known_in self.new ≡ known_in self.old }
+        ensures numbers { numbers_in self.new ≡ [] }
+    {
+        self.numbers.clear();
     }
 
     /// Returns the number of the layer that is innermost.

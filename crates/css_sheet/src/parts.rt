@@ -51,8 +51,9 @@ pub(crate) struct OpenRule<'a> {
     pub(crate) nesting: Nesting<'a>,
     /// Whether they apply, since it and all group rules that it is in hold.
     pub(crate) applies: bool,
-    /// How many bytes are left of the sheet from its contents on.
-    pub(crate) left: usize,
+    /// The place of its contents: how many sheets follow the one that it is in, and how many bytes are
+    /// left of that.
+    pub(crate) place: [usize; 2],
 }
 
 /// A part of a sheet.
@@ -82,6 +83,8 @@ pub(crate) struct SheetParts<'a> {
     pub(crate) around: Vec<OpenRule<'a>>,
     /// What is left of the sheet.
     pub(crate) rest: &'a str,
+    /// How many sheets follow it.
+    pub(crate) later: usize,
 }
 
 /// Returns what the next part is in.
@@ -304,15 +307,16 @@ fn read_next_in<'a>(around: &[OpenRule<'_>], text: &'a str) -> Option<FoundPart<
 }
 
 impl<'a> SheetParts<'a> {
-    /// Returns a reader at the start of a sheet. Allocates nothing.
-    pub(crate) fn new(alloc: Global, text: &'a str) -> SheetParts<'a>
+    /// Returns a reader at the start of a sheet that so many follow. Allocates nothing.
+    pub(crate) fn new(alloc: Global, text: &'a str, later: usize) -> SheetParts<'a>
         ensures open { open_in result ≡ [] }
         ensures parts { (answers : List ℕ → List ℕ → Bool)
-            → parts_to_come answers result ≡ sheet_parts answers text.now }
+            → parts_to_come answers result ≡ sheet_parts answers later text.now }
     {
         SheetParts {
             around: Vec::new(alloc),
             rest: text,
+            later,
         }
     }
 
@@ -330,19 +334,20 @@ impl<'a> SheetParts<'a> {
         applies_in(&self.around)
     }
 
-    /// Opens a rule, from whose contents on so much is left. A group rule is asked about, if all that
-    /// it is in hold.
+    /// Opens a rule, whose contents have this place. A group rule is asked about, if all that it is in
+    /// hold.
     fn begin<C: Fn(&str, &str) -> bool>(
         &mut self,
         kind: RuleKind<'a>,
-        left: usize,
+        place: [usize; 2],
         holds: &C,
     ) -> Result<(), AllocError>
         requires { C.IsAlwaysCallable holds.now }
         ensures rest { left_in self.new ≡ left_in self.old }
+        ensures later { self.new.later ≡ self.old.later }
         ensures around { (answers : List ℕ → List ℕ → Bool) → Answers (C.post holds.now) answers
             → IfOk result (λ _. open_in self.new
-            ≡ open_in self.old ++ opened answers (open_in self.old) (kind_of kind.entry) left ∷ []) }
+            ≡ open_in self.old ++ opened answers (open_in self.old) (kind_of kind.entry) place ∷ []) }
     {
         let nesting = nesting_in(&kind, nesting_of(&self.around));
         let applies = applies_in(&self.around) && kind_holds(&kind, holds);
@@ -350,26 +355,27 @@ impl<'a> SheetParts<'a> {
             kind,
             nesting,
             applies,
-            left,
+            place,
         })?;
         Ok(())
     }
 
-    /// Opens or closes what a part does, after which so much is left.
+    /// Opens or closes what a part does, which ends at this place.
     fn go_through<C: Fn(&str, &str) -> bool>(
         &mut self,
         part: &Part<'a>,
-        left: usize,
+        place: [usize; 2],
         holds: &C,
     ) -> Result<(), AllocError>
         requires { C.IsAlwaysCallable holds.now }
         ensures rest { left_in self.new ≡ left_in self.old }
+        ensures later { self.new.later ≡ self.old.later }
         ensures around { (answers : List ℕ → List ℕ → Bool) → Answers (C.post holds.now) answers
             → IfOk result (λ _. open_in self.new
-            ≡ open_after answers (open_in self.old) (part_of part.now) left) }
+            ≡ open_after answers (open_in self.old) (part_of part.now) place) }
     {
         match part {
-            Part::Begins(kind) => self.begin(*kind, left, holds),
+            Part::Begins(kind) => self.begin(*kind, place, holds),
             Part::Ends => {
                 self.around.pop();
                 Ok(())
@@ -393,7 +399,8 @@ impl<'a> SheetParts<'a> {
         match read_next_in(&self.around, self.rest) {
             None => Ok(None),
             Some(found) => {
-                self.go_through(&found.part, found.rest.len(), holds)?;
+                let place = [self.later, found.rest.len()];
+                self.go_through(&found.part, place, holds)?;
                 self.rest = found.rest;
                 Ok(Some(found.part))
             }

@@ -36,7 +36,7 @@ fn or_any(front: &str) -> &str
 
 /// Reads a text as a selector, or returns `None` if it is none that is supported. Fails only if an
 /// allocation fails.
-fn read_supported<'a>(alloc: Global, text: &'a str) -> Result<Option<Selector<'a>>, AllocError>
+pub fn read_supported<'a>(alloc: Global, text: &'a str) -> Result<Option<Selector<'a>>, AllocError>
     ensures { IfOk result (λ selector. selector ≡ selector_of text.now) }
 {
     match Selector::parse(alloc, text) {

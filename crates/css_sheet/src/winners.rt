@@ -60,6 +60,7 @@ fn contends<'a>(
     Contender {
         weight: Weight {
             important: declaration.important,
+            attached: false,
             layer: rule.layer,
             specificity: [counts.ids, counts.classes, counts.names],
             place: [rule_place, place],

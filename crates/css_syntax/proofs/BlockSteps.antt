@@ -12,7 +12,7 @@ use Rattle.css_syntax.specs.Tokens.{past_gap, past_word}
 use Rattle.css_syntax.specs.Parts.{Stated, ends_at, parts}
 use Rattle.css_syntax.specs.Statements.{at_rule_ends, rule_set_ends, begins_at_rule, ends_block, past_between}
 use Rattle.css_syntax.specs.DeclarationLists.{Declared, declaration, declaration_ends, begins_custom, past_broken, past_separators, separator_part, skipped_item}
-use Rattle.css_syntax.specs.Blocks.{BlockPart, listed, opens_rule, closes, at_rule_begun, at_rule_opened, rule_opened, rule_opened_by, or_opened, block_part, block_part_from, next_block_part, listed_rule, listed_rule_by, rule_part, rule_part_from, next_rule_part}
+use Rattle.css_syntax.specs.Blocks.{listed, opens_rule, closes, at_rule_begun, at_rule_opened, rule_opened, rule_opened_by, or_opened, block_part, block_part_from, next_block_part, listed_rule, listed_rule_by, rule_part, rule_part_from, next_rule_part}
 use Rattle.css_syntax.proofs.Shorter.{past_word_within}
 use Rattle.css_syntax.proofs.PartLemmas.{past_gap-within, parts-within, parts-less, parts-rests}
 use Rattle.css_syntax.proofs.PartTexts.{parts-well}

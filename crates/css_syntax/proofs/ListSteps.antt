@@ -1,6 +1,7 @@
 -- The items of a list and the statements of a sheet, one at a time.
 -- Serves `next` of both iterators, and their constructors (how many are to come at most).
-use Rattle.std.proofs.Common.{◌≡◌, ◌≤◌, ℕ, Bool, List, [], ◌∷◌, length, Some, None, ap}
+use Rattle.std.proofs.Common.{◌≡◌, ◌≤◌, ℕ, Bool, List, [], ◌∷◌, length, Some, None, ap, arith}
+use Rattle.std.specs.Iterator.{MakesProgress, item_count}
 use Rattle.std.proofs.iter.runs.Sources.{from_front}
 use Rattle.css_text.specs.Reading.{each}
 use Rattle.css_text.proofs.reading.EachLemmas.{each-none, each-some}
@@ -10,6 +11,16 @@ use Rattle.css_syntax.specs.DeclarationLists.{ListText, next_item, items}
 use Rattle.css_syntax.specs.Views.{list_part_of, sheet_part_of}
 use Rattle.css_syntax.specs.ListReaders.{GivesItem, GivesItemsInTurn, items_to_come, GivesStatement, GivesStatementsInTurn, statements_to_come}
 use Rattle.css_syntax.proofs.ItemLemmas.{next_item-takes, next_statement-takes}
+
+-- an iterator that gave the first of those that were to come has fewer to come
+pub item_goes : {S A B : Type 0} (can : S → Type 0) (to_come : S → List B) (s : S) (given : A) (t : S)
+    (first : B) → can t → to_come s ≡ first ∷ to_come t
+    → MakesProgress can (item_count to_come) s (Some given) t
+item_goes can to_come s given t first goes is = record {
+  on = λ _. (goes, tt, omega (arith, ap (λ l. length l) is));
+  keeps = goes;
+  rests = λ _. tt;
+}
 
 pub items-some : (in_block : Bool) (text rest : List ℕ) (p : ListText)
     → next_item in_block text ≡ Some (p, rest)

@@ -17,7 +17,7 @@ use Rattle.css_syntax.specs.ComponentValues.{is_opener, mirror, value_inside, en
 use Rattle.css_syntax.proofs.Shorter.{each-rests}
 use Rattle.css_syntax.proofs.RunSteps.{no_name_part, or-both}
 use Rattle.css_syntax.proofs.OpenBlocks.{inside-takes}
-use Rattle.css_syntax.proofs.Parting.{Parting, Quiet, parting-longer, kept-if, Follows, follows-if, Every, each-kept, newline-no_backslash}
+use Rattle.css_syntax.proofs.Parting.{Parting, Quiet, parting-longer, kept-if, Follows, follows-if, Every, each-kept}
 use Rattle.css_syntax.proofs.Parting.Parting.{at, on, pair}
 use Rattle.css_syntax.proofs.PartingTokens.{word-kept, close-less, comment-kept, WholeKept, whole-if, past_string-kept, past_url-less, past_url-kept}
 use Rattle.css_syntax.proofs.PartingUrls.{WordKept, NoLetter, Urls, url-word, url-kept, NoCdo, cdo-none, cdo-kept}

@@ -1,5 +1,5 @@
 -- Component values that were read whole are read again before a closing parenthesis.
-use Rattle.std.proofs.Common.{◌≡◌, ℕ, ◌==◌, Bool, true, false, List, [], ◌∷◌, ◌++◌, length, arith, refl, sym, ap, subst, ◌∙◌}
+use Rattle.std.proofs.Common.{◌≡◌, ℕ, ◌==◌, true, false, List, ◌∷◌, ◌++◌, length, arith, refl, sym, ap, subst, ◌∙◌}
 use Rattle.css_text.specs.AsciiBytes.{close_parenthesis, exclamation_mark, hyphen}
 use Rattle.css_text.specs.Reading.{before, last_or}
 use Rattle.css_text.specs.Bytes.{past, starts_by, starts_two}

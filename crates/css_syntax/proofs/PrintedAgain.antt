@@ -19,7 +19,7 @@ use Rattle.css_syntax.specs.Tokens.{past_one_space, past_hex, past_escape, begin
 use Rattle.css_syntax.specs.Parts.{Stated, ends_at, parts}
 use Rattle.css_syntax.specs.Statements.{begins_plain_ident, starts_ident, begins_at_rule, ends_block, block, at_rule, at_rule_ends}
 use Rattle.css_syntax.specs.DeclarationLists.{DeclarationText, ItemText, declared, at_rule_item, skipped_item, declaration_ends, value_ends, value, important_word, importance, is_custom, is_empty, is_stated, Declared, stated_as, valued, named, declaration, past_broken, begins_custom, or_rule, item, separator_part, past_separators, ListText, with_text, item_from, next_item, items}
-use Rattle.css_syntax.specs.Printing.{ends_lone, important_text, stated_text, declaration_text, DeclarationReadsBack, ItemReadsBack, ItemsReadBack, IsWholeValue, ReadsBackWith, ItemsReadBackWith}
+use Rattle.css_syntax.specs.Printing.{ends_lone, important_text, stated_text, declaration_text, DeclarationReadsBack, ItemReadsBack, ItemsReadBack, ReadsBackWith, ItemsReadBackWith}
 use Rattle.css_syntax.proofs.Shorter.{each-rests, each-goes, gap_part-takes, name_part-takes, word-less}
 use Rattle.css_syntax.proofs.RunSteps.{not-this}
 use Rattle.css_syntax.proofs.PartTexts.{end-well}

@@ -9,7 +9,7 @@ use Rattle.css_syntax.specs.declared.quality.Fault.{Fault}
 use Rattle.css_syntax.specs.declared.quality.Fault.TheVariants.{NoBlock}
 use Rattle.css_syntax.specs.Tokens.{past_gap, past_word}
 use Rattle.css_syntax.specs.Parts.{Stated, parts}
-use Rattle.css_syntax.specs.Statements.{AtRuleText, at_rule_ends, rule_set_ends, begins_at_rule, past_between}
+use Rattle.css_syntax.specs.Statements.{at_rule_ends, rule_set_ends, begins_at_rule, past_between}
 use Rattle.css_syntax.specs.DeclarationLists.{ItemText, declared, at_rule_item, skipped_item, Declared, declaration, begins_custom, past_broken, past_separators}
 
 -- A part of the contents of a block.

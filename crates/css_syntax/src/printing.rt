@@ -1,10 +1,10 @@
 //! Prints declarations.
-ghost use Rattle.std.specs.Prelude.{◌≡◌, ◌++◌, codes};
-ghost use Rattle.std.specs.Fmt.{WritesStyledOnOk};
+ghost use Rattle.std.specs.Prelude.{◌≡◌};
 ghost use Rattle.css_syntax.specs.Printing.{ends_lone as ends_lone_of, lone_end as lone_end_of};
 ghost use Rattle.css_syntax.specs.Printing.{important_text};
 
 use crate::declarations::Declaration;
+use css_text::write_three;
 use std::fmt;
 use std::fmt::Display;
 
@@ -43,16 +43,6 @@ fn important_mark(important: bool) -> &'static str
     if important { "!important" } else { "" }
 }
 
-/// Writes the name, a colon, a space and the value.
-fn write_stated<W: fmt::Write>(f: &mut fmt::Formatter<W>, name: &str, value: &str) -> fmt::Result
-    ensures { WritesStyledOnOk W.write_str_gives f.old result
-        (name.now ++ codes ": " ++ value.now) f.new }
-{
-    f.write_str(name)?;
-    f.write_str(": ")?;
-    f.write_str(value)
-}
-
 /// Prints the name, a colon, a space, the value, `!important` if it is, and a semicolon. Name and
 /// value are printed as they were written; a value that ends in a lone backslash, which the end of
 /// the text makes U+FFFD, has that character after it. Width, fill and flags of the formatter change nothing.
@@ -70,7 +60,7 @@ impl<'a> Display for Declaration<'a> {
     ghost styled_output = { λ d _. Some (declaration_text (declaration_of d)) };
 
     fn fmt<W: fmt::Write>(&self, f: &mut fmt::Formatter<W>) -> fmt::Result {
-        write_stated(f, self.name, self.value)?;
+        write_three(f, self.name, ": ", self.value)?;
         f.write_str(lone_end(self.value))?;
         f.write_str(important_mark(self.important))?;
         f.write_str(";")

@@ -340,7 +340,7 @@ fn past_name_bytes(bytes: &[u8]) -> &[u8]
 }
 
 /// Returns the rest after the first byte, if there is one.
-fn past_one(bytes: &[u8]) -> &[u8]
+pub fn past_one(bytes: &[u8]) -> &[u8]
     ensures { result.now ≡ past_one_of bytes.now }
 {
     match bytes {

@@ -12,5 +12,6 @@ pub mod stream;
 mod text_pos;
 
 pub use error::Error;
+pub use printing::write_three;
 pub use sheet_error::SheetError;
 pub use text_pos::TextPos;

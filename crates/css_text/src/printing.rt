@@ -1,5 +1,6 @@
 //! Prints positions and errors. No option of the formatter changes the text.
 ghost use Rattle.std.specs.Prelude.{◌++◌, IsOk};
+ghost use Rattle.std.specs.Fmt.{WritesStyledOnOk};
 ghost use Rattle.std.specs.Fmt.InlineText.{AppendsIfIntact};
 ghost use Rattle.css_text.specs.Errors.{position_text, error_text};
 
@@ -89,4 +90,18 @@ fn append_at(text: &mut Text, words: &str, pos: TextPos) -> fmt::Result
     ensures { IsOk result → AppendsIfIntact text.old (words.now ++ position_text pos) text.new }
 {
     write!(text, "{words}{}:{}", pos.row, pos.col)
+}
+
+/// Writes three texts one after another.
+pub fn write_three<W: fmt::Write>(
+    f: &mut fmt::Formatter<W>,
+    a: &str,
+    b: &str,
+    c: &str,
+) -> fmt::Result
+    ensures { WritesStyledOnOk W.write_str_gives f.old result (a.now ++ b.now ++ c.now) f.new }
+{
+    f.write_str(a)?;
+    f.write_str(b)?;
+    f.write_str(c)
 }

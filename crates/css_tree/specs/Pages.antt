@@ -1,6 +1,6 @@
 -- The elements of a tree as nodes of a document. Siblings are elements with the same parent, in the
 -- order of the list.
-use Rattle.std.specs.Prelude.{ℕ, suc, ◌+◌, ◌-◌, Bool, false, ◌&&◌, ◌||◌, ◌==◌, nat_lt, if◌then◌else◌, List, [], length, Option, None, Some, bytes_eq, codes, slice_index_or}
+use Rattle.std.specs.Prelude.{ℕ, suc, ◌+◌, ◌-◌, Bool, false, ◌&&◌, ◌||◌, ◌==◌, nat_lt, if◌then◌else◌, List, [], length, Option, None, Some, bytes_eq, codes, slice_index_or, is_none}
 use Rattle.std.specs.Option.{option_map, unwrap_or}
 use Rattle.std.specs.Str.{str_eq_ignore_ascii_case}
 use Rattle.css_selectors.specs.Documents.{Document}
@@ -11,10 +11,12 @@ use Rattle.simplecss_tree.specs.declared.tree.States.{States}
 use Rattle.css_tree.specs.Counts.{count_below, last_below}
 use Rattle.css_tree.specs.Languages.{is_in_range}
 
--- the elements of a tree, and which of them have a text of their own that is not empty
+-- the elements of a tree, which of them have a text of their own that is not empty, and the scoping
+-- root, if one was named
 pub record Page : Type 0 where
   pub rows : List Row
   pub texts : List Bool
+  pub scope : Option ℕ
 
 -- the index of the parent
 abbrev pub parent_index : List Row → ℕ → Option ℕ
@@ -50,6 +52,16 @@ has_content page i =
     slice_index_or page.texts i false
     || nat_lt 0 (count_below (is_child i page.rows) (length page.rows))
 
+-- the element is the one that was named, or if none was a root
+abbrev pub is_scope : Page → ℕ → Option ℕ → Bool
+is_scope page i None = is_none (parent_index page.rows i)
+is_scope page i (Some scope) = i == scope
+
+-- whether the list of a number matches an element: that of number 0 matches the scoping root, and no
+-- other has a number
+abbrev pub is_in_list : Page → ℕ → ℕ → Bool
+is_in_list page i number = number == 0 && is_scope page i page.scope
+
 -- Whether an element with these states is in the state of a name, whatever its case: one of the
 -- five of a tree, or a link, visited or not.
 abbrev pub is_in_state : States → List ℕ → Bool
@@ -81,4 +93,5 @@ page_document = record {
   is_in_state = λ n name. is_in_state (states_at n.0.rows n.1) name;
   is_in_language = λ n range. is_in_range range (language_of n.0.rows n.1);
   has_content = λ n. has_content n.0 n.1;
+  is_in_list = λ n number. is_in_list n.0 n.1 number;
 }

@@ -215,6 +215,7 @@ fn simple_in<'s>(
         Simple::State(name) => Ok(Simple::State(CowStr::Borrowed(name.as_str()))),
         Simple::Function(call) => Ok(Simple::Function(same_call(call))),
         Simple::Element(element) => Ok(Simple::Element(same_element(element))),
+        Simple::Nesting(list) => Ok(Simple::Nesting(*list)),
     }
 }
 

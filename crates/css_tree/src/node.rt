@@ -108,6 +108,10 @@ impl<'n, 'p, 't> Element for NumberedNode<'n, 'p, 't> {
     fn has_content(&self) -> bool {
         self.tree.has_content(self.index)
     }
+
+    fn is_in_list(&self, number: usize) -> bool {
+        number == 0 && self.tree.is_scope(self.index)
+    }
 }
 
 /// Reports the names of the element and of its attributes.

@@ -1,10 +1,10 @@
 //! Trees whose siblings are counted.
 ghost use Rattle.std.specs.Prelude.{◌≡◌, ◌<◌, ◌≤◌, ◌^◌, ℕ, length, slice_index_or};
-ghost use Rattle.std.specs.Prelude.{IfOk, IfErr, IfSome, MatchOption, slice_set, true, false};
+ghost use Rattle.std.specs.Prelude.{IfOk, IfErr, IfSome, MatchOption, slice_set, true, false, None};
 ghost use Rattle.css_matching.specs.ListTrees.{spot};
 ghost use Rattle.css_tree.specs.Counts.{count_below, last_below};
 ghost use Rattle.css_tree.specs.Pages.{parent_index, family, is_sibling, is_alike, count_after};
-ghost use Rattle.css_tree.specs.Pages.{has_content};
+ghost use Rattle.css_tree.specs.Pages.{has_content, is_scope};
 ghost use Rattle.css_tree.specs.Keys.{AreFamilies};
 ghost use Rattle.css_tree.specs.declared.numbered_tree.NumberingError.TheVariants.{TooManyElements};
 ghost use Rattle.css_tree.specs.declared.numbered_tree.NumberingError.TheVariants.{Memory};
@@ -74,6 +74,8 @@ pub struct NumberedTree<'p, 't> {
     kinds: Groups,
     /// Whether each element has a text of its own that is not empty.
     texts: Vec<bool>,
+    /// The index of the scoping root, if one was named.
+    scope: Option<usize>,
 }
 
 impl<'p, 't> Model for NumberedTree<'p, 't> {
@@ -83,7 +85,7 @@ impl<'p, 't> Model for NumberedTree<'p, 't> {
 
     ghost Value = { Page };
 
-    ghost view = { λ t. record { rows = t.tree.now; texts = t.texts.items } };
+    ghost view = { λ t. record { rows = t.tree.now; texts = t.texts.items; scope = t.scope } };
 
     ghost invariant = { λ t. AreFamilies t.tree.now t.families × AreKinds t.tree.now t.kinds
         × (length t.texts.items ≡ length t.tree.now) };
@@ -127,11 +129,13 @@ fn no_texts(alloc: Global, count: usize) -> Result<Vec<bool>, AllocError>
 }
 
 impl<'p, 't> NumberedTree<'p, 't> {
-    /// Counts the siblings of each element of a tree. No element has a text yet.
+    /// Counts the siblings of each element of a tree. No element has a text yet, and none is named as the
+    /// scoping root.
     pub fn new(alloc: Global, tree: &'p Tree<'t>) -> Result<NumberedTree<'p, 't>, NumberingError>
         ensures rows { IfOk result (λ page. page.rows ≡ tree.now) }
         ensures texts { IfOk result (λ page. (i : ℕ) → slice_index_or page.texts i false ≡ false) }
         ensures all { IfOk result (λ page. length page.texts ≡ length tree.now) }
+        ensures scope { IfOk result (λ page. page.scope ≡ None) }
         ensures err { IfErr result (λ error. error ≡ TooManyElements → 2 ^ 32 ≤ length tree.now) }
     {
         if tree.len() > u32::MAX as usize {
@@ -144,6 +148,7 @@ impl<'p, 't> NumberedTree<'p, 't> {
             families,
             kinds: Groups::new(alloc, kinds, tree.len())?,
             texts: no_texts(alloc, tree.len())?,
+            scope: None,
         })
     }
 
@@ -160,8 +165,19 @@ impl<'p, 't> NumberedTree<'p, 't> {
         requires { index < length self.old.rows }
         ensures rows { self.new.rows ≡ self.old.rows }
         ensures texts { self.new.texts ≡ slice_set self.old.texts index true }
+        ensures scope { self.new.scope ≡ self.old.scope }
     {
         self.texts[index] = true;
+    }
+
+    /// Names the element at an index as the scoping root, which `:scope` is. If none is named, it is the
+    /// root.
+    pub fn set_scope(&mut self, scope: Option<usize>)
+        ensures rows { self.new.rows ≡ self.old.rows }
+        ensures texts { self.new.texts ≡ self.old.texts }
+        ensures scope { self.new.scope ≡ scope }
+    {
+        self.scope = scope;
     }
 
     /// Returns the element at an index, if there is one.
@@ -237,5 +253,16 @@ impl<'p, 't> NumberedTree<'p, 't> {
         ensures { result ≡ has_content self.now index }
     {
         self.texts[index] || self.families.count(index + 1) > 0
+    }
+
+    /// Whether the element is the scoping root.
+    pub(crate) fn is_scope(&self, index: usize) -> bool
+        requires { index < length self.now.rows }
+        ensures { result ≡ is_scope self.now index self.now.scope }
+    {
+        match self.scope {
+            Some(scope) => index == scope,
+            None => self.parent(index).is_none(),
+        }
     }
 }

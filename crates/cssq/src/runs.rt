@@ -197,7 +197,7 @@ fn push_line(out: &mut String, number: usize, indices: &[usize]) -> Result<(), A
 
 /// Adds the line of an element: its number, and the value of the declaration that wins there, if
 /// one does.
-fn push_winner(
+pub fn push_winner(
     out: &mut String,
     number: usize,
     winner: Option<Declaration<'_>>,

@@ -113,4 +113,8 @@ impl<'t> Element for Item<'t> {
             Content::Text => true,
         }
     }
+
+    fn is_in_list(&self, number: usize) -> bool {
+        number == 0
+    }
 }

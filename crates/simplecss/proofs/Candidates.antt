@@ -9,7 +9,7 @@ use Rattle.std.proofs.lemmas.List.Sums.{sum_by-cons}
 use Rattle.std.proofs.lemmas.List.Elements.{Contains-get_or, Contains-append_left, Contains-append_right, Contains-append_cases}
 use Rattle.std.proofs.lemmas.Bool.{false≢true}
 use Rattle.simplecss_grammar.specs.Components.{Component}
-use Rattle.simplecss_selector.specs.Buckets.{Bucket, Near, ReportsBuckets, reports_bucket}
+use Rattle.simplecss_selector.specs.Buckets.{Bucket, Near, ReportsBuckets, bucket_of, reports_bucket}
 use Rattle.simplecss_selector.specs.Placements.{HasPlacement}
 use Rattle.simplecss_selector.specs.Trees.{Tree}
 use Rattle.simplecss_selector.proofs.BucketLemmas.{bucket_needed}
@@ -225,6 +225,26 @@ pub known_on_ok : {T E P : Type 0} (r : Result T E) → P → OnOk r P
 known_on_ok (Ok x) p = p
 known_on_ok (Err e) p = tt
 
+-- of the candidates, which pass a test, those are kept that match, and each selector that matches
+-- passes the test
+found_matches : {Node : Type 0} (tree : Tree Node) (n : Node) (test : List Component → Bool)
+    (selectors : List (List Component)) (candidates final : List ℕ)
+    → ((index : ℕ) → HasPlacement tree (selector_at selectors index) n → index < length selectors
+    → IsTrue (test (selector_at selectors index)))
+    → AreTheIndices (λ index. IsTrue (test (selector_at selectors index))) (length selectors) candidates
+    → IsStrictlyIncreasing final
+    → ((index : ℕ) → Contains final index
+    ↔ (Contains candidates index × HasPlacement tree (selector_at selectors index) n))
+    → AreMatches tree n selectors final
+found_matches tree n test selectors candidates final passes are up kept =
+    record {
+      ascending = up;
+      exactly = λ index. (
+        λ c. let h = (kept index).0 c in (((are.exactly index).0 h.0).0, h.1),
+        λ h. (kept index).1 ((are.exactly index).1 (h.0, passes index h.1 h.0), h.1),
+      );
+    }
+
 -- of those that are kept those are matches that have a placement, if the test keeps each of them
 pub kept_matches : {Node : Type 0} (tree : Tree Node) (n : Node) (reported : Near)
     (keeps : List Component → Bool) (selectors : List (List Component))
@@ -236,25 +256,13 @@ pub kept_matches : {Node : Type 0} (tree : Tree Node) (n : Node) (reported : Nea
     → ((index : ℕ) → Contains final index
     ↔ (Contains candidates index × HasPlacement tree (selector_at selectors index) n))
     → AreMatches tree n selectors final
-kept_matches tree n reported keeps selectors candidates final needs reports are up kept =
-    record {
-      ascending = up;
-      exactly = λ index. (
-        λ c. let h = (kept index).0 c in (((are.exactly index).0 h.0).0, h.1),
-        λ h. (kept index).1 (
-          (are.exactly index).1 (
-            h.0,
-            (both_true (reports_bucket reported (key_at selectors index))
-                (keeps (selector_at selectors index))).1 (
-                  reports (key_at selectors index)
-                      (bucket_needed tree (selector_at selectors index) n h.1),
-                  needs index h.1 h.0,
-                ),
-          ),
-          h.1,
-        ),
-      );
-    }
+kept_matches tree n reported keeps selectors candidates final needs reports =
+    found_matches tree n (λ s. reports_bucket reported (bucket_of s) && keeps s) selectors candidates
+    final (λ index h lt. (both_true (reports_bucket reported (key_at selectors index))
+    (keeps (selector_at selectors index))).1 (
+      reports (key_at selectors index) (bucket_needed tree (selector_at selectors index) n h),
+      needs index h lt,
+    ))
 
 -- of the candidates those are kept that match, and no other selector does
 pub are_matches : {Node : Type 0} (tree : Tree Node) (n : Node) (reported : Near)
@@ -264,21 +272,10 @@ pub are_matches : {Node : Type 0} (tree : Tree Node) (n : Node) (reported : Near
     → ((index : ℕ) → Contains final index
     ↔ (Contains candidates index × HasPlacement tree (selector_at selectors index) n))
     → AreMatches tree n selectors final
-are_matches tree n reported selectors candidates final reports are up kept =
-    record {
-      ascending = up;
-      exactly = λ index. (
-        λ c. let h = (kept index).0 c in (((are.exactly index).0 h.0).0, h.1),
-        λ h. (kept index).1 (
-          (are.exactly index).1 (
-            h.0,
-            reports (key_at selectors index)
-                (bucket_needed tree (selector_at selectors index) n h.1),
-          ),
-          h.1,
-        ),
-      );
-    }
+are_matches tree n reported selectors candidates final reports =
+    found_matches tree n (λ s. reports_bucket reported (bucket_of s)) selectors candidates final
+    (λ index h lt. reports (key_at selectors index)
+    (bucket_needed tree (selector_at selectors index) n h))
 
 -- the indices are below the number
 pub indices_within : (IsOne : ℕ → Type 0) (number : ℕ) (indices : List ℕ)

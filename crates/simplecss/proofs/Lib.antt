@@ -24,7 +24,6 @@ pub mod RecentSlots
 pub mod Keeping
 pub mod Reports
 pub mod NeededNumbers
-pub mod Counting
 pub mod OpenPathLemmas
 pub mod OnlyKeyLemmas
 pub mod PlaceLemmas

@@ -6,12 +6,15 @@ use Rattle.std.proofs.lemmas.Bool.Decides.{nat_tests}
 use Rattle.std.specs.List.{filter_map, flat_map}
 use Rattle.css_text.specs.AsciiBytes.{comma}
 use Rattle.css_text.specs.Reading.{Fault, no_comment, got, fails, each}
-use Rattle.css_text.specs.Bytes.{past_one, starts}
+use Rattle.css_text.specs.Bytes.{past_byte, past_one, starts}
 use Rattle.css_text.specs.Characters.{Edition}
 use Rattle.css_text.specs.Comments.{opens_comment, past_blank, blank}
 use Rattle.simplecss_grammar.specs.Components.{Component}
 use Rattle.simplecss_grammar.specs.Statements.{StyleRule, part, part_and_comma, parts, statement, ends_statements, next_statement, statements}
+use Rattle.simplecss_grammar.specs.Skipped.{Skip, add_each, statement_skips, skipped}
 use Rattle.css_text.proofs.reading.EachLemmas.{took, option_cases, each-none, each-some}
+use Rattle.simplecss_grammar.proofs.reading.SkipLemmas.{add_each-append, skipped-some}
+use Rattle.css_text.proofs.bytes.ByteLemmas.{past_byte_there}
 use Rattle.css_text.proofs.bytes.GapLemmas.{past_blank-again}
 use Rattle.simplecss_grammar.proofs.reading.StatementTextLemmas.{part_and_comma-takes, next_statement-takes}
 
@@ -73,6 +76,11 @@ parts-less edition here rest o p e = took (part_and_comma edition) (part_and_com
 pub pair-of : {A B : Type 0} {a : A} {b : B} {r : A × B} → a ≡ r.0 → b ≡ r.1 → r ≡ (a, b)
 pair-of e f = rw (e, f) refl
 
+pub part-less : (edition : Edition) (here rest after : List ℕ) → rest ≡ (part edition here).1
+    → starts comma rest ≡ true → after ≡ past_byte comma rest → length after < length here
+part-less edition here rest after is e past = rw (past, past_byte_there comma rest e)
+    (parts-less edition here rest (part edition here).0 (pair-of {r = part edition here} refl is) e)
+
 -- ---- statements
 
 -- the rules of all statements from here on
@@ -94,11 +102,23 @@ unfolding statements
 rules_from-none edition text e =
     ap (λ r. flat_map (λ rules. rules) r.0) (each-none (next_statement edition) text e)
 
-pub statement-less : (edition : Edition) (text start : List ℕ)
+pub statement-less : (edition : Edition) (text start next : List ℕ)
     → next_statement edition text ≡ Some (statement edition start)
-    → length (statement edition start).1 < length text
-statement-less edition text start e = took (next_statement edition)
-    (next_statement-takes edition) text (statement edition start).1 (statement edition start).0 e
+    → next ≡ (statement edition start).1 → length next < length text
+statement-less edition text start next e is = rw is (took (next_statement edition)
+    (next_statement-takes edition) text (statement edition start).1 (statement edition start).0 e)
+
+-- what is told of a statement and of those after it is told of all from its text on
+pub told-some : {S : Type 0} (tell : S → Skip → S) (edition : Edition) (before after : S)
+    (text start next : List ℕ) → next_statement edition text ≡ Some (statement edition start)
+    → start ≡ past_blank text → next ≡ (statement edition start).1
+    → after ≡ add_each tell before (statement_skips edition start)
+    → add_each tell after (skipped edition next) ≡ add_each tell before (skipped edition text)
+told-some tell edition before after text start next e s is told =
+    ap (λ t. add_each tell t (skipped edition next)) told
+    ∙ sym (add_each-append tell before (statement_skips edition start) (skipped edition next))
+    ∙ ap (λ (t : List ℕ). add_each tell before (statement_skips edition start ++ skipped edition t)) is
+    ∙ ap (add_each tell before) (sym (skipped-some edition text start e s))
 
 -- a blank before statements makes no difference
 pub rules_from-blank : (edition : Edition) (text : List ℕ)

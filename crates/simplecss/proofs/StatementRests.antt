@@ -27,8 +27,7 @@ module _ (text : List ℕ) (offset start end : ℕ)
 
   -- a statement consumes something
   longer : length (drop end text) < length (drop start text)
-  longer = subst (λ (t : List ℕ). length t < length (drop start text)) (sym ends)
-      (statement-less this_edition (drop start text) (drop start text) next_there)
+  longer = statement-less this_edition (drop start text) (drop start text) (drop end text) next_there ends
 
   pub next_range : offset ≤ length text → IsCharBoundary text start → IsCharBoundary text end
       → IsNextRange text offset start end

@@ -7,7 +7,6 @@ pub mod TextIndices
 pub mod LastByBucket
 pub mod NeededKeys
 pub mod OnlyKeys
-pub mod Counted
 pub mod Kept
 pub mod Recents
 pub mod HeadViews

@@ -8,7 +8,6 @@ pub mod laws;
 mod link;
 mod needed_keys;
 mod only_key;
-mod open_keys;
 mod open_path;
 mod recent;
 mod rule_index;

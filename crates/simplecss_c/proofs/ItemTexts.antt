@@ -1,5 +1,5 @@
 -- Objects, arrays and lines of items that are written piece by piece.
--- Serves `items::{push_item, push_items, item_lines}` and `today`.
+-- Serves `items::{push_item, push_items, item_lines}` and `sheets`.
 use Rattle.std.proofs.Common.{◌≡◌, ℕ, Bool, true, false, List, [], ◌∷◌, ◌++◌, refl, sym, ap, ◌∙◌, append_assoc, append-nil}
 use Rattle.std.specs.Prelude.{codes}
 use Rattle.std.specs.List.{flat_map, join_with_byte}

@@ -13,7 +13,7 @@ pub mod PlacedTexts
 pub mod FurtherMembers
 pub mod SheetTexts
 pub mod PageLines
-pub mod Level3Pages
-pub mod Level3Lists
-pub mod Level3Calls
+pub mod ModernPages
+pub mod ModernLists
+pub mod ModernCalls
 pub mod Utf8Tests

@@ -15,7 +15,7 @@ use Rattle.simplecss_c.specs.declared.answer.CallError.{CallError}
 use Rattle.simplecss_c.specs.declared.answer.CallError.TheVariants.{Refused, Tree, Memory, TooManyDeclarations, NotUtf8, AnswerTooLong}
 use Rattle.simplecss_c.specs.Outcomes.{outcome_of}
 use Rattle.simplecss_c.specs.declared.pages.LineContent.TheVariants.{Numbers, Selected}
-use Rattle.simplecss_c.specs.Calls.{HasTexts, IsReadWithin, Passed, passed_tree, IsReadCall, IsPageCall, IsStyleCall, IsSelectCall, IsMatchSelectorsCall, AreSelectorsIn, HasNoSelector, HasBadEnds, IsBrokenUtf8, FailsFor, FailsLonger}
+use Rattle.simplecss_c.specs.Calls.{HasTexts, IsReadWithin, Passed, passed_tree, IsReadCall, IsPageCall, IsStyleCall, IsPortSelectCall, IsPortMatchSelectorsCall, AreSelectorsIn, HasNoSelector, HasBadEnds, IsBrokenUtf8, FailsFor, FailsLonger}
 use Rattle.simplecss_c.specs.AnswerLines.{AreLinesOf, AreWinnerLines}
 use Rattle.simplecss_c.specs.SheetLines.{sheet_lines}
 use Rattle.simplecss_c.proofs.Limits.{fails_within, within_wider, longer_wider}
@@ -69,7 +69,7 @@ pub select_due : {Z : Type 0} (most : ℕ) (text : List ℕ) (passed : Passed)
     → (r : Result (String Z) CallError)
     → MatchResult r (λ text. AreLinesOf most Selected matched rows (Some (string_bytes text)))
     (FailsLonger (AreLinesOf most Selected matched rows None))
-    → IsSelectCall most text passed (outcome_of r)
+    → IsPortSelectCall most text passed (outcome_of r)
 select_due most text passed selectors rows utf8 is strings tree matched are (Ok lines) due = (
   selectors,
   rows,
@@ -99,7 +99,7 @@ pub match_due : {Z : Type 0} (most : ℕ) (buffer ends : List ℕ) (passed : Pas
     → (r : Result (String Z) CallError)
     → MatchResult r (λ text. AreLinesOf most Numbers matched rows (Some (string_bytes text)))
     (FailsLonger (AreLinesOf most Numbers matched rows None))
-    → IsMatchSelectorsCall most buffer ends passed (outcome_of r)
+    → IsPortMatchSelectorsCall most buffer ends passed (outcome_of r)
 match_due most buffer ends passed texts rows has selectors read utf8 tree matched are (Ok lines) due = (
   texts,
   selectors,
@@ -136,7 +136,7 @@ read_due most text read same utf8 (Err failure) due =
 -- why the texts of selectors are none
 pub texts_failed : (most : ℕ) (buffer ends : List ℕ) (passed : Passed) (failure : CallError)
     → FailsFor (HasBadEnds buffer ends) (λ fault. ⊥) (IsBrokenUtf8 buffer ends) failure
-    → IsMatchSelectorsCall most buffer ends passed (Err failure)
+    → IsPortMatchSelectorsCall most buffer ends passed (Err failure)
 texts_failed most buffer ends passed failure h =
     within_wider (λ bad. inl bad) (λ fault is. absurd is) (λ broken. inl broken) (λ is. absurd is)
     (λ is. absurd is) failure
@@ -146,7 +146,7 @@ texts_failed most buffer ends passed failure h =
 pub selectors_failed : (most : ℕ) (buffer ends : List ℕ) (passed : Passed) (texts : List (List ℕ))
     → HasTexts buffer ends texts → (failure : CallError)
     → FailsFor (HasNoSelector selector_in texts) (λ fault. ⊥) ⊥ failure
-    → IsMatchSelectorsCall most buffer ends passed (Err failure)
+    → IsPortMatchSelectorsCall most buffer ends passed (Err failure)
 selectors_failed most buffer ends passed texts has failure h =
     within_wider (λ none. inr (texts, has, none)) (λ fault is. absurd is) (λ is. absurd is)
     (λ is. absurd is) (λ is. absurd is) failure
@@ -155,7 +155,7 @@ selectors_failed most buffer ends passed texts has failure h =
 -- why the tree is none
 pub tree_failed : (most : ℕ) (buffer ends : List ℕ) (passed : Passed) (failure : CallError)
     → FailsFor ⊥ (λ fault. passed_tree passed ≡ Err fault) (¬ (IsUtf8 passed.strings)) failure
-    → IsMatchSelectorsCall most buffer ends passed (Err failure)
+    → IsPortMatchSelectorsCall most buffer ends passed (Err failure)
 tree_failed most buffer ends passed failure h =
     within_wider (λ is. absurd is) (λ fault is. is) (λ broken. inr broken) (λ is. absurd is)
     (λ is. absurd is) failure
@@ -166,8 +166,8 @@ tree_failed most buffer ends passed failure h =
 pub failed : {Z : Type 0} (most : ℕ) (buffer ends : List ℕ) (passed : Passed)
     (r : Result (String Z) CallError)
     (failure : CallError) → IsErrAnd r (λ reported. reported ≡ failure)
-    → IsMatchSelectorsCall most buffer ends passed (Err failure)
-    → IsMatchSelectorsCall most buffer ends passed (outcome_of r)
+    → IsPortMatchSelectorsCall most buffer ends passed (Err failure)
+    → IsPortMatchSelectorsCall most buffer ends passed (outcome_of r)
 failed most buffer ends passed (Ok text) failure is due = absurd is
 failed most buffer ends passed (Err reported) failure is due =
-    subst (λ f. IsMatchSelectorsCall most buffer ends passed (Err f)) (sym is) due
+    subst (λ f. IsPortMatchSelectorsCall most buffer ends passed (Err f)) (sym is) due

@@ -7,6 +7,8 @@ use Rattle.std.specs.Ordering.{nat_cmp, is_eq}
 use Rattle.std.specs.Cmp.Lexicographic.{slice_cmp}
 use Rattle.std.specs.BTreeMap.{is_at}
 use Rattle.std.specs.BTreeSet.{BTreeSet, contains_by, IsEmpty, Updates}
+use Rattle.std.proofs.Math.Bool.{or-true}
+use Rattle.std.proofs.lemmas.Bool.{not-false, not-true}
 use Rattle.std.proofs.lemmas.Map.Text.{is_eq-slice_cmp}
 use Rattle.std.proofs.lemmas.List.Folds.{list_any-append}
 use Rattle.std.proofs.lemmas.List.FromFn.{map-range_with_len_more}
@@ -32,23 +34,11 @@ keys_none fields keys empty = record {
   has = λ key. ap (λ ks. list_any (is_at (λ k. slice_cmp nat_cmp key k.now)) ks) empty;
 }
 
-not_false : (b : Bool) → not b ≡ false → b ≡ true
-not_false true e = refl
-not_false false e = sym e
-
-not_true : (b : Bool) → not b ≡ true → b ≡ false
-not_true true e = sym e
-not_true false e = refl
-
 one_more : (b x : Bool) → cond b true x ≡ x || (b || false)
 one_more true true = refl
 one_more true false = refl
 one_more false true = refl
 one_more false false = refl
-
-or_true : (b : Bool) → b || true ≡ true
-or_true true = refl
-or_true false = refl
 
 -- the key of one attribute more
 keys_next : (fields : List (List ℕ)) (i : ℕ)
@@ -83,9 +73,9 @@ module _ {fields : List (List ℕ)} {i : ℕ} {keys : BTreeSet (Bor (List ℕ))}
       → i < count → repeats_key fields count ≡ true
   had added was old count less =
       let there : has_key (keys_in fields i) (key_in fields i) ≡ true =
-      not_false _ (sym (tested added was) ∙ old) in
+      not-false _ (sym (tested added was) ∙ old) in
       let here : repeats_key fields (i + 1) ≡ true = repeats_next fields i
-      ∙ ap (λ b. repeats_key fields i || b) there ∙ or_true (repeats_key fields i) in
+      ∙ ap (λ b. repeats_key fields i || b) there ∙ or-true (repeats_key fields i) in
       let sum : i + 1 + (count - (i + 1)) ≡ count = omega (arith, less) in
       ap (repeats_key fields) (sym sum) ∙ repeats_more fields (i + 1) (count - (i + 1)) here
 
@@ -107,7 +97,7 @@ module _ {fields : List (List ℕ)} {i : ℕ} {keys : BTreeSet (Bor (List ℕ))}
   keys_more added was new more updates = record {
     new =
         repeats_next fields i ∙ ap (λ b. b || has_key (keys_in fields i) (key_in fields i)) are.new
-        ∙ not_true _ (sym (tested added was) ∙ new);
+        ∙ not-true _ (sym (tested added was) ∙ new);
     has = has_more more updates;
   }
 

@@ -1,5 +1,5 @@
 -- Texts that are selectors, one after another.
--- Serves `calls::read_selectors` and `level3::lists::read_selectors`.
+-- Serves `calls::read_selectors` and `modern::lists::read_selectors`.
 use Rattle.std.proofs.Common.{◌≡◌, ◌≢◌, ℕ, zero, suc, ◌+◌, ◌<◌, List, [], ◌∷◌, ◌++◌, length, take, get_or, map, Option, None, Some, inl, inr, ap, sym, ◌∙◌, arith}
 use Rattle.std.proofs.lemmas.List.{take_more, map-append}
 use Rattle.simplecss_c.specs.Calls.{HasNoSelector}

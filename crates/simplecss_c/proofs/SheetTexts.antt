@@ -1,5 +1,5 @@
 -- Objects of selectors and statements that are written piece by piece.
--- Serves `today::{push_read, push_rule, push_part}` and `level3::lists::push_listed`.
+-- Serves `sheets::{push_read, push_rule, push_part}` and `modern::lists::push_listed`.
 use Rattle.std.proofs.Common.{◌≡◌, ℕ, List, [], ◌∷◌, ◌++◌, sym, ap, ◌∙◌, append_assoc, append-nil}
 use Rattle.std.specs.Prelude.{codes}
 use Rattle.simplecss.specs.AsciiBytes.{comma, colon, newline, open_brace, close_brace}

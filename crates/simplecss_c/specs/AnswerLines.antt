@@ -14,6 +14,8 @@ use Rattle.cssq.specs.Winners.{IsStated, Wins, WinsForItsName, ListsInOrder}
 use Rattle.simplecss_c.specs.JsonLines.{line, declaration_array}
 use Rattle.simplecss_c.specs.declared.pages.LineContent.{LineContent}
 use Rattle.simplecss_c.specs.declared.pages.LineContent.TheVariants.{Numbers, Selected}
+use Rattle.simplecss_c.specs.declared.pages.WonContent.{WonContent}
+use Rattle.simplecss_c.specs.declared.pages.WonContent.TheVariants.{Named, All}
 
 -- A line for each index below the count, where these have at most this number of bytes. Else there is
 -- no answer: already the lines of the first indices have more.
@@ -78,3 +80,14 @@ IsWinnersLine rules rows index text =
 -- the lines of all elements, in order
 abbrev pub AreWinnersLines : (most : ℕ) → List StyleRule → List Row → Option (List ℕ) → Type 0
 AreWinnersLines most rules rows = AreLinesWithin most (IsWinnersLine rules rows) (length rows)
+
+-- the line of what wins on the element at an index: for one name, or of all
+abbrev pub IsWonLine : WonContent → List StyleRule → List Row → ℕ → List ℕ → Type 0
+IsWonLine (Named name) rules rows = IsWinnerLine name.now rules rows
+IsWonLine All rules rows = IsWinnersLine rules rows
+
+-- the lines of all elements, in order
+abbrev pub AreWonLines : (most : ℕ) → WonContent → List StyleRule → List Row → Option (List ℕ)
+    → Type 0
+AreWonLines most content rules rows =
+    AreLinesWithin most (IsWonLine content rules rows) (length rows)

@@ -49,3 +49,15 @@ IsFaultSet (Err Memory) old new = new ≡ old
 IsFaultSet (Err TooManyDeclarations) old new = new ≡ old
 IsFaultSet (Err NotUtf8) old new = new ≡ old
 IsFaultSet (Err AnswerTooLong) old new = new ≡ old
+
+-- One of the outcomes that a call may have is handed over.
+abbrev pub IsAnswered : (Result (List ℕ) CallError → Type 0) → ℕ → List ℕ → List ℕ → ℕ → Type 0
+IsAnswered IsOutcome status old new len =
+    (outcome : Result (List ℕ) CallError) × IsOutcome outcome × Answers outcome status old new len
+
+-- the same of a call over a tree, which sets its fault
+abbrev pub IsAnsweredOfTree : (Result (List ℕ) CallError → Type 0) → ℕ → List ℕ → List ℕ → ℕ
+    → TreeFault → TreeFault → Type 0
+IsAnsweredOfTree IsOutcome status old new len fault_before fault =
+    (outcome : Result (List ℕ) CallError) × IsOutcome outcome × Answers outcome status old new len
+    × IsFaultSet outcome fault_before fault

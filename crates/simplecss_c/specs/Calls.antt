@@ -13,7 +13,7 @@ use Rattle.simplecss_tree.specs.Rows.{Row}
 use Rattle.css_syntax.specs.Printing.{IsClosed}
 use Rattle.cssq.specs.SelectorRuns.{selector_in, selector_line}
 use Rattle.cssq.specs.SheetRuns.{sheet_output}
-use Rattle.simplecss_c.specs.declared.calls.Passed.{Passed as SeenPassed}
+use Rattle.simplecss_c.specs.declared.elements.PassedTree.{PassedTree}
 use Rattle.simplecss_c.specs.declared.elements.ElementFault.{ElementFault}
 use Rattle.simplecss_c.specs.declared.elements.TreeElement.{TreeElement}
 use Rattle.simplecss_c.specs.declared.answer.CallError.{CallError}
@@ -127,17 +127,17 @@ IsSkippedCall text (Ok bytes) =
 IsSkippedCall text (Err failure) = FailsFor ⊥ (λ fault. ⊥) (¬ (IsUtf8 text)) failure
 
 -- a line in JSON for each selector of the list, or why there is none
-abbrev pub IsListCall : List ℕ → Result (List ℕ) CallError → Type 0
-IsListCall text (Ok bytes) =
+abbrev pub IsPortListCall : List ℕ → Result (List ℕ) CallError → Type 0
+IsPortListCall text (Ok bytes) =
     IsUtf8 text × (selectors : List (List Component)) × (list_of this_edition text ≡ Some selectors)
     × (bytes ≡ selector_lines selectors)
-IsListCall text (Err failure) =
+IsPortListCall text (Err failure) =
     FailsFor (list_of this_edition text ≡ None) (λ fault. ⊥) (¬ (IsUtf8 text)) failure
 
 -- the line of why a text is no list of selectors, or nothing where it is one
-abbrev pub IsRefusalCall : List ℕ → Result (List ℕ) CallError → Type 0
-IsRefusalCall text (Ok bytes) = IsUtf8 text × (bytes ≡ read_line (list_read this_edition text))
-IsRefusalCall text (Err failure) = FailsFor ⊥ (λ fault. ⊥) (¬ (IsUtf8 text)) failure
+abbrev pub IsPortRefusalCall : List ℕ → Result (List ℕ) CallError → Type 0
+IsPortRefusalCall text (Ok bytes) = IsUtf8 text × (bytes ≡ read_line (list_read this_edition text))
+IsPortRefusalCall text (Err failure) = FailsFor ⊥ (λ fault. ⊥) (¬ (IsUtf8 text)) failure
 
 -- a line in JSON for each item of the style sheet, in at most this number of bytes
 abbrev pub IsReadCall : (most : ℕ) → List ℕ → Result (List ℕ) CallError → Type 0
@@ -163,7 +163,7 @@ pub record Passed : Type 0 where
   pub ends : List ℕ
 
 -- what contracts see of it
-abbrev pub passed_of : SeenPassed → Passed
+abbrev pub passed_of : PassedTree → Passed
 passed_of p = record { elements = p.elements.now; strings = p.strings.now; ends = p.ends.now }
 
 -- the tree that is passed, or its fault
@@ -204,23 +204,23 @@ abbrev pub AreSelectorsIn : {S : Type 0} → (List ℕ → Option S) → List (L
 AreSelectorsIn selector_in texts selectors = map selector_in texts ≡ map Some selectors
 
 -- which of the selectors of texts match each element, or none within a limit
-abbrev pub AreMatched : (most : ℕ) → List ℕ → List ℕ → Passed → Option (List ℕ) → Type 0
-AreMatched most buffer ends passed answer =
+abbrev pub ArePortMatched : (most : ℕ) → List ℕ → List ℕ → Passed → Option (List ℕ) → Type 0
+ArePortMatched most buffer ends passed answer =
     (texts : List (List ℕ)) × (selectors : List (List Component)) × (rows : List Row)
     × HasTexts buffer ends texts × AreSelectorsIn selector_in texts selectors
     × IsUtf8 passed.strings × (passed_tree passed ≡ Ok rows)
     × AreLinesOf most Numbers selectors rows answer
 
 -- which of the selectors of texts match each element, in at most this number of bytes
-abbrev pub IsMatchSelectorsCall : (most : ℕ) → List ℕ → List ℕ → Passed
+abbrev pub IsPortMatchSelectorsCall : (most : ℕ) → List ℕ → List ℕ → Passed
     → Result (List ℕ) CallError → Type 0
-IsMatchSelectorsCall most buffer ends passed (Ok bytes) =
-    AreMatched most buffer ends passed (Some bytes)
-IsMatchSelectorsCall most buffer ends passed (Err failure) =
+IsPortMatchSelectorsCall most buffer ends passed (Ok bytes) =
+    ArePortMatched most buffer ends passed (Some bytes)
+IsPortMatchSelectorsCall most buffer ends passed (Err failure) =
     FailsWithin (HasBadEnds buffer ends ⊎ HasRefusedText selector_in buffer ends)
     (λ fault. passed_tree passed ≡ Err fault)
     (IsBrokenUtf8 buffer ends ⊎ ¬ (IsUtf8 passed.strings)) ⊥
-    (AreMatched most buffer ends passed None) failure
+    (ArePortMatched most buffer ends passed None) failure
 
 -- which rules match each element, in at most this number of bytes
 abbrev pub IsMatchCall : (most : ℕ) → List ℕ → List ℕ → (limit : ℕ) → Passed
@@ -248,15 +248,15 @@ IsStyleCall most buffer ends limit passed name (Ok bytes) =
     IsUtf8 name × IsPageCall (AreWinnerLines most name) buffer ends limit passed (Ok bytes)
 
 -- which elements one of the selectors of a list matches, or none within a limit
-abbrev pub AreSelected : (most : ℕ) → List ℕ → Passed → Option (List ℕ) → Type 0
-AreSelected most text passed answer =
+abbrev pub ArePortSelected : (most : ℕ) → List ℕ → Passed → Option (List ℕ) → Type 0
+ArePortSelected most text passed answer =
     (selectors : List (List Component)) × (rows : List Row) × IsUtf8 text
     × (list_of this_edition text ≡ Some selectors) × IsUtf8 passed.strings × (passed_tree passed ≡ Ok rows)
     × AreLinesOf most Selected selectors rows answer
 
 -- which elements one of the selectors of a list matches, in at most this number of bytes
-abbrev pub IsSelectCall : (most : ℕ) → List ℕ → Passed → Result (List ℕ) CallError → Type 0
-IsSelectCall most text passed (Ok bytes) = AreSelected most text passed (Some bytes)
-IsSelectCall most text passed (Err failure) =
+abbrev pub IsPortSelectCall : (most : ℕ) → List ℕ → Passed → Result (List ℕ) CallError → Type 0
+IsPortSelectCall most text passed (Ok bytes) = ArePortSelected most text passed (Some bytes)
+IsPortSelectCall most text passed (Err failure) =
     FailsWithin (list_of this_edition text ≡ None) (λ fault. passed_tree passed ≡ Err fault)
-    (¬ (IsUtf8 text) ⊎ ¬ (IsUtf8 passed.strings)) ⊥ (AreSelected most text passed None) failure
+    (¬ (IsUtf8 text) ⊎ ¬ (IsUtf8 passed.strings)) ⊥ (ArePortSelected most text passed None) failure

@@ -39,7 +39,7 @@ selector_members selector =
     ∷ member (codes "specificity") (array (map decimal (specificity selector)))
     ∷ []
 
--- a specificity of level 3 as three numbers
+-- the specificity of a modern selector as three numbers
 abbrev pub counts_array : Counts → List ℕ
 counts_array c = array (decimal c.ids ∷ decimal c.classes ∷ decimal c.names ∷ [])
 

@@ -10,7 +10,9 @@ pub mod SheetLines
 pub mod Shown
 pub mod AnswerLines
 pub mod Calls
+pub mod Grammars
 pub mod Readings
-pub mod Level3Lines
-pub mod Level3Calls
+pub mod ModernLines
+pub mod ModernCalls
+pub mod GrammarCalls
 pub mod Conditions

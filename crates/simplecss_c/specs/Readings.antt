@@ -1,24 +1,15 @@
--- How a document reads the names of selectors, and which selectors of level 3 texts are.
-use Rattle.std.specs.Prelude.{ℕ, Bool, true, false, ◌==◌, if◌then◌else◌, List, Option, None, Some}
+-- How a document reads the names of selectors, and which modern selectors texts are.
+use Rattle.std.specs.Prelude.{ℕ, Bool, true, false, List, Option, None, Some}
 use Rattle.css_selectors.specs.Components.{Selector}
 use Rattle.css_selectors.specs.Supported.{supported_list}
 use Rattle.css_selectors.specs.Readings.{Reading as Reads, got, refused}
 use Rattle.css_selectors.specs.declared.refusal.Why.{Why}
 use Rattle.css_selectors.specs.declared.refusal.Why.TheVariants.{Memory as NoMemory}
 use Rattle.css_tree.specs.Html.{html_selector}
-use Rattle.css_tree.specs.declared.html.HtmlMode.TheVariants.{NoQuirks, Quirks}
 use Rattle.simplecss_c.specs.declared.answer.CallError.{CallError}
 use Rattle.simplecss_c.specs.declared.answer.CallError.TheVariants.{Refused, Memory}
-use Rattle.simplecss_c.specs.declared.level3.reading.Reading.{Reading}
-use Rattle.simplecss_c.specs.declared.level3.reading.Reading.TheVariants.{AsWritten, Html}
-
--- the reading of a number: 0 is as written, 1 as HTML, 2 as HTML in quirks mode
-abbrev pub reading_of : ℕ → Option Reading
-reading_of number =
-    if number == 0 then Some AsWritten
-    else (if number == 1 then Some (Html NoQuirks)
-    else (if number == 2 then Some (Html Quirks)
-    else None))
+use Rattle.simplecss_c.specs.declared.modern.reading.Reading.{Reading}
+use Rattle.simplecss_c.specs.declared.modern.reading.Reading.TheVariants.{AsWritten, Html}
 
 -- a selector as a document reads it
 abbrev pub selector_as : Reading → Selector → Selector

@@ -1,4 +1,4 @@
--- The statements of a style sheet by the grammar of today in JSON, with the offsets of their pieces.
+-- The statements of a style sheet by the modern grammar in JSON, with the offsets of their pieces.
 use Rattle.std.specs.Prelude.{ℕ, ◌+◌, ◌-◌, List, [], ◌∷◌, ◌++◌, codes, decimal, length, map, min, Option, None, Some}
 use Rattle.std.specs.List.{flat_map}
 use Rattle.std.specs.Option.{is_some}
@@ -48,7 +48,7 @@ abbrev pub specificity_value : Option Selector → (pseudo_element : Option (Lis
 specificity_value None pseudo_element = codes "null"
 specificity_value (Some s) pseudo_element = counts_array (with_name (specificity s) pseudo_element)
 
--- A selector with this range, and as it is read: whether it is one of level 3 without its
+-- A selector with this range, and as it is read: whether it is a modern one without its
 -- pseudo-element, its specificity, and its pseudo-element.
 abbrev pub selector_with : (start end : ℕ) → SelectorText → SelectorRead → List ℕ
 selector_with start end form read =

@@ -1,7 +1,7 @@
 -- What contracts see of what a statement is in an answer.
 use Rattle.css_syntax.specs.Views.{prelude_of, block_of, at_rule_of}
-use Rattle.simplecss_c.specs.declared.today.Shown.{Shown}
-use Rattle.simplecss_c.specs.declared.today.Shown.TheVariants as shown
+use Rattle.simplecss_c.specs.declared.sheets.Shown.{Shown}
+use Rattle.simplecss_c.specs.declared.sheets.Shown.TheVariants as shown
 use Rattle.simplecss_c.specs.SheetLines.{ShownText, shown_rule, shown_at_rule, shown_skipped}
 
 abbrev pub shown_text : Shown → ShownText

@@ -147,11 +147,25 @@ pub fn hand_over(outcome: Result<String, CallError>, out: &mut [u8], len: &mut u
 }
 
 /// Sets the fault of a tree, if that is why a call has no answer.
-pub fn set_fault(outcome: &Result<String, CallError>, fault: &mut TreeFault)
+fn set_fault(outcome: &Result<String, CallError>, fault: &mut TreeFault)
     ensures { IsFaultSet (outcome_of outcome.now) fault.old fault.new }
 {
     if let Err(CallError::Tree(found)) = outcome {
         fault.fault = found.number();
         fault.element = found.element();
     }
+}
+
+/// Hands over the answer of a call over a tree, whose fault it sets, and returns its status.
+pub fn hand_over_of_tree(
+    outcome: Result<String, CallError>,
+    out: &mut [u8],
+    len: &mut usize,
+    fault: &mut TreeFault,
+) -> u32
+    ensures answered { Answers (outcome_of outcome) result out.old out.new len.new }
+    ensures faulty { IsFaultSet (outcome_of outcome) fault.old fault.new }
+{
+    set_fault(&outcome, fault);
+    hand_over(outcome, out, len)
 }

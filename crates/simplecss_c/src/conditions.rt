@@ -16,7 +16,7 @@ use crate::texts::{text_of, texts_of};
 use css_conditions::{
     Device, Medium, Pointer, Supported, Truth, media_says, supports_holds, truth_of,
 };
-use css_selectors::{Selector, Why};
+use css_sheet::read_supported;
 use css_syntax::tokens::{past_gap, spells};
 use std::alloc::{AllocError, Global};
 
@@ -131,10 +131,9 @@ fn is_listed(names: &[&str], name: &[u8]) -> bool
 fn is_read(alloc: Global, text: &str) -> Result<bool, AllocError>
     ensures { IfOk result (λ read. read ≡ is_some (selector_of text.now)) }
 {
-    match Selector::parse(alloc, text) {
-        Ok(_) => Ok(true),
-        Err(refusal) if refusal.why == Why::Memory => Err(AllocError),
-        Err(_) => Ok(false),
+    match read_supported(alloc, text) {
+        Ok(selector) => Ok(selector.is_some()),
+        Err(error) => Err(error),
     }
 }
 

@@ -30,6 +30,18 @@ pub struct TreeElement {
     pub states: usize,
 }
 
+/// A tree as a caller passes it.
+#[repr(C)]
+#[derive(Clone, Copy)]
+pub struct PassedTree<'t> {
+    /// Its elements, in document order.
+    pub elements: &'t [TreeElement],
+    /// The bytes of all its strings, one after another.
+    pub strings: &'t [u8],
+    /// Where each string ends.
+    pub ends: &'t [usize],
+}
+
 /// What is wrong with a tree, with the number of the element, the first being 1.
 #[derive(Clone, Copy, Debug, PartialEq)]
 pub enum ElementFault {

@@ -85,7 +85,7 @@ fn push_selector(out: &mut String, alloc: Global, selector: &Selector<'_>) -> Re
     write!(out, ",\"specificity\":[{ids},{others},{types}]")
 }
 
-/// Appends a specificity of level 3 as an array.
+/// Appends the specificity of a modern selector as an array.
 pub fn push_specificity(out: &mut String, specificity: Specificity) -> Result<(), AllocError>
     ensures { OnOk result (string_bytes out.new
         ≡ string_bytes out.old ++ counts_array (counts_of specificity)) }

@@ -2,21 +2,19 @@
 
 ghost use Rattle.std.specs.Prelude.{◌≡◌, ◌+◌, ◌^◌, ◌<◌, ◌++◌, All, OnOk, MatchResult, List, ℕ, None, Some};
 ghost use Rattle.std.specs.Prelude.{length, map, string_bytes};
-ghost use Rattle.std.specs.Option.{option_map};
-ghost use Rattle.simplecss.specs.DeclarationViews.{declaration_of};
 ghost use Rattle.simplecss.specs.RuleViews.{rules_of};
 ghost use Rattle.cssq.specs.MatchRuns.{numbers_line};
-ghost use Rattle.cssq.specs.StyleRuns.{style_line};
 ghost use Rattle.simplecss_c.specs.AnswerLines.{selected_line, indices_line, IsLineOf, AreLinesOf};
-ghost use Rattle.simplecss_c.specs.AnswerLines.{IsWinnerLine, AreWinnerLines};
-ghost use Rattle.simplecss_c.specs.AnswerLines.{IsWinnersLine, AreWinnersLines};
+ghost use Rattle.simplecss_c.specs.AnswerLines.{IsWinnerLine, IsWinnersLine};
+ghost use Rattle.simplecss_c.specs.AnswerLines.{IsWonLine, AreWonLines};
 ghost use Rattle.simplecss_c.specs.Calls.{FailsLonger};
 ghost use Rattle.simplecss_tree.specs.Walks.{IsAlong};
 
 use crate::answer::{CallError, check_length};
 use crate::json::push_declarations;
 use cssq::cascade::{winners_among, winning_among};
-use simplecss::{Declaration, HasSelector, Rule, Tests};
+use cssq::runs::push_winner;
+use simplecss::{HasSelector, Rule, Tests};
 use simplecss_tree::{Node, RuleWalk, Tree};
 use std::alloc::{AllocError, Global};
 use std::fmt::Write as _;
@@ -28,6 +26,15 @@ pub enum LineContent {
     Numbers,
     /// The element's number, if there is a rule.
     Selected,
+}
+
+/// What is written of the declarations that win on an element.
+#[derive(Clone, Copy)]
+pub enum WonContent<'n> {
+    /// The element's number, and the declaration of this name.
+    Named(&'n str),
+    /// All, in JSON.
+    All,
 }
 
 /// Appends an element's number, and the numbers of the rules with these indices.
@@ -70,27 +77,6 @@ pub fn push_indices(
         LineContent::Numbers => push_numbers(out, number, indices),
         LineContent::Selected => push_selected(out, number, indices),
     }
-}
-
-/// Appends an element's number, and the declaration that wins on it, if there is one.
-fn push_winner(
-    out: &mut String,
-    number: usize,
-    winner: Option<Declaration<'_>>,
-) -> Result<(), AllocError>
-    ensures { OnOk result (string_bytes out.new
-        ≡ string_bytes out.old ++ style_line number (option_map declaration_of winner.entry)) }
-{
-    let Some(declaration) = winner else {
-        return writeln!(out, "{number}:");
-    };
-    let value = declaration.value;
-    let mark = if declaration.important {
-        " !important"
-    } else {
-        ""
-    };
-    writeln!(out, "{number}: {value}{mark}")
 }
 
 /// Appends the line of an element, which is given by its index, by a walk. What was in `indices` is
@@ -178,37 +164,6 @@ fn push_winning<'a>(
     push_winner(out, element + 1, winner)
 }
 
-/// The lines of what wins for a name on each element of a tree, in at most this number of bytes.
-pub fn winner_lines(
-    alloc: Global,
-    rules: &[Rule<'_>],
-    tree: &Tree<'_>,
-    name: &str,
-    most: usize,
-) -> Result<String, CallError>
-    ensures { MatchResult result
-        (λ text. AreWinnerLines most name.now (rules_of rules.now) tree.now
-        (Some (string_bytes text)))
-        (FailsLonger (AreWinnerLines most name.now (rules_of rules.now) tree.now None)) }
-{
-    let mut walk = RuleWalk::new(alloc, rules)?;
-    let mut indices = Vec::new(alloc);
-    let mut text = String::new(alloc);
-    for element in 0..tree.len() {
-        push_winning(
-            &mut text,
-            name,
-            &mut walk,
-            rules,
-            tree,
-            element,
-            &mut indices,
-        )?;
-        check_length(&text, most)?;
-    }
-    Ok(text)
-}
-
 /// Appends the line of all that wins on an element, which is given by its index, in JSON, by a walk. What
 /// was in `indices` is dropped.
 fn push_winners<'a>(
@@ -235,24 +190,55 @@ fn push_winners<'a>(
     out.push('\n')
 }
 
-/// The lines of all that wins on each element of a tree, in JSON, in at most this number of bytes.
-pub fn winners_lines(
+/// Appends the line of what wins on an element, which is given by its index, by a walk. What was in
+/// `indices` is dropped.
+fn push_won<'a>(
+    out: &mut String,
     alloc: Global,
+    content: WonContent<'_>,
+    walk: &mut RuleWalk<'a>,
+    rules: &[Rule<'a>],
+    tree: &Tree<'_>,
+    element: usize,
+    indices: &mut Vec<usize>,
+) -> Result<(), AllocError>
+    requires rules { walk.old.selectors ≡ map (λ rule. rule.selector) rules.now }
+    requires element { element < length tree.now }
+    requires number { element + 1 < 2 ^ 64 }
+    requires along { IsAlong tree.now walk.old }
+    ensures written { OnOk result
+        ((line : List ℕ) × IsWonLine content.entry (rules_of rules.now) tree.now element line
+        × (string_bytes out.new ≡ string_bytes out.old ++ line)) }
+    ensures along { OnOk result (IsAlong tree.now walk.new) }
+    ensures selectors { walk.new.selectors ≡ walk.old.selectors }
+{
+    match content {
+        WonContent::Named(name) => push_winning(out, name, walk, rules, tree, element, indices),
+        WonContent::All => push_winners(out, alloc, walk, rules, tree, element, indices),
+    }
+}
+
+/// The lines of what wins on each element of a tree, in at most this number of bytes.
+pub fn won_lines(
+    alloc: Global,
+    content: WonContent<'_>,
     rules: &[Rule<'_>],
     tree: &Tree<'_>,
     most: usize,
 ) -> Result<String, CallError>
     ensures { MatchResult result
-        (λ text. AreWinnersLines most (rules_of rules.now) tree.now (Some (string_bytes text)))
-        (FailsLonger (AreWinnersLines most (rules_of rules.now) tree.now None)) }
+        (λ text. AreWonLines most content.entry (rules_of rules.now) tree.now
+        (Some (string_bytes text)))
+        (FailsLonger (AreWonLines most content.entry (rules_of rules.now) tree.now None)) }
 {
     let mut walk = RuleWalk::new(alloc, rules)?;
     let mut indices = Vec::new(alloc);
     let mut text = String::new(alloc);
     for element in 0..tree.len() {
-        push_winners(
+        push_won(
             &mut text,
             alloc,
+            content,
             &mut walk,
             rules,
             tree,

@@ -16,6 +16,8 @@ use Rattle.css_text.proofs.reading.EndsLemmas.{no_texts, itself, ends-ends, ends
 use Rattle.simplecss_grammar.proofs.reading.OccurrenceLemmas.{blank-occurs, byte-occurs, name-occurs}
 use Rattle.simplecss_grammar.proofs.reading.DeclarationsLawful.{semicolon-takes, term_in_value-takes, trailing-occurs}
 use Rattle.css_text.proofs.reading.EachLemmas.{took, each-none, each-some}
+use Rattle.simplecss_declaration.specs.internal.UnreportedFaults.{Passes}
+use Rattle.simplecss_declaration.proofs.FaultLemmas.{passed}
 
 pub terms-some : (edition : Edition) (text rest : List ℕ) → term edition text ≡ got tt rest
     → each (term_in_value edition) text
@@ -28,10 +30,12 @@ pub terms-none : (edition : Edition) (text rest : List ℕ) (fault : Fault)
 terms-none edition text rest fault e = each-none (term_in_value edition) text (ap after_term e)
 
 -- a term and the blank after it consume a byte or more
-pub term-takes : (edition : Edition) (text rest : List ℕ) → term edition text ≡ got tt rest
-    → length (past_blank rest) < length text
-term-takes edition text rest e = took (term_in_value edition) (term_in_value-takes edition) text
-    (past_blank rest) rest (ap after_term e)
+pub term-takes : (edition : Edition) (text rest next : List ℕ) (result : Bool)
+    → Passes (term edition text) result rest → result ≡ true → next ≡ past_blank rest
+    → length next < length text
+term-takes edition text rest next result reads e is = rw is (took (term_in_value edition)
+    (term_in_value-takes edition) text (past_blank rest) rest
+    (ap after_term (passed (term edition text) result rest reads e)))
 
 -- the value, where the terms from here on end it as those of the whole do, and none begins here
 pub value-done : (edition : Edition) (text end here rest : List ℕ) (fault : Fault)

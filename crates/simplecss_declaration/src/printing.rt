@@ -1,9 +1,9 @@
 //! Prints a declaration.
-ghost use Rattle.std.specs.Prelude.{◌++◌, ◌≡◌, codes};
-ghost use Rattle.std.specs.Fmt.{WritesStyledOnOk};
+ghost use Rattle.std.specs.Prelude.{◌≡◌};
 ghost use Rattle.simplecss_grammar.specs.Printing.{important_text};
 
 use crate::Declaration;
+use css_text::write_three;
 use std::fmt;
 use std::fmt::Display;
 
@@ -19,20 +19,10 @@ impl<'a> Display for Declaration<'a> {
     ghost styled_output = { λ d _. Some (declaration_text (declaration_of d)) };
 
     fn fmt<W: fmt::Write>(&self, f: &mut fmt::Formatter<W>) -> fmt::Result {
-        write_stated(f, self.name, self.value)?;
+        write_three(f, self.name, ":", self.value)?;
         f.write_str(important_mark(self.important))?;
         f.write_str(";")
     }
-}
-
-/// Writes the name, a colon and the value.
-fn write_stated<W: fmt::Write>(f: &mut fmt::Formatter<W>, name: &str, value: &str) -> fmt::Result
-    ensures { WritesStyledOnOk W.write_str_gives f.old result
-        (name.now ++ codes ":" ++ value.now) f.new }
-{
-    f.write_str(name)?;
-    f.write_str(":")?;
-    f.write_str(value)
 }
 
 /// Returns what follows an important value.

@@ -1,5 +1,5 @@
 -- Declarations: a name, a colon, a value, and what may follow the value.
-use Rattle.std.specs.Prelude.{ℕ, Bool, true, false, ◌==◌, eqb, if◌then◌else◌, List, [], ◌∷◌, length, drop, codes, Option, Some, None}
+use Rattle.std.specs.Prelude.{ℕ, Bool, true, false, ◌==◌, eqb, if◌then◌else◌, List, length, drop, codes, Option, Some, None}
 use Rattle.std.specs.Str.{trim}
 use Rattle.std.specs.List.{starts_with}
 use Rattle.css_text.specs.AsciiBytes.{exclamation_mark, asterisk, colon, semicolon as semicolon_byte}

@@ -5,6 +5,7 @@ ghost use Rattle.simplecss_grammar.specs.SkipViews.{why_of};
 ghost use Rattle.simplecss_grammar.specs.Words.{class_text, why_words};
 
 use crate::report::{Refusal, Why};
+use css_text::write_three;
 use std::fmt;
 
 impl Why<'_> {
@@ -51,7 +52,5 @@ impl fmt::Display for Why<'_> {
 fn write_class<W: fmt::Write>(f: &mut fmt::Formatter<W>, name: &str) -> fmt::Result
     ensures { WritesStyledOnOk W.write_str_gives f.old result (class_text name.now) f.new }
 {
-    f.write_str("unknown pseudo-class ':")?;
-    f.write_str(name)?;
-    f.write_str("'")
+    write_three(f, "unknown pseudo-class ':", name, "'")
 }

@@ -12,6 +12,7 @@ ghost use Rattle.simplecss_selector.specs.internal.SelectorViews.{component_of_f
 
 use crate::selector::{Combinator, FlatComponent, Selector, SubSelector};
 use crate::{AttributeOperator, PseudoClass};
+use css_text::write_three;
 use std::fmt;
 
 impl<'a> fmt::Display for PseudoClass<'a> {
@@ -149,13 +150,4 @@ fn write_class<W: fmt::Write>(f: &mut fmt::Formatter<W>, class: PseudoClass) -> 
         PseudoClass::Focus => f.write_str("focus"),
         PseudoClass::Lang(language) => write_three(f, "lang(", language, ")"),
     }
-}
-
-/// Writes three texts one after another.
-fn write_three<W: fmt::Write>(f: &mut fmt::Formatter<W>, a: &str, b: &str, c: &str) -> fmt::Result
-    ensures { WritesStyledOnOk W.write_str_gives f.old result (a.now ++ b.now ++ c.now) f.new }
-{
-    f.write_str(a)?;
-    f.write_str(b)?;
-    f.write_str(c)
 }

@@ -2,7 +2,7 @@
 
 use crate::tree::{mark_texts, read_tree};
 use css_index::{HasSelector, SelectorIndex};
-use css_selectors::{Element, Selector, Tests};
+use css_selectors::{Element, Nesting, Selector, Specificity, Tests};
 use css_tree::{NumberedTree, TreeWalk};
 use simplecss_tree::Tree;
 use std::alloc::Global;
@@ -56,6 +56,24 @@ fn write_list<W: Write>(
             write_found(out, page, selectors.as_slice())?;
             write_printed(out, selectors.as_slice())?;
         }
+        Err(refusal) => write!(out, "refused: {}: {refusal}", refusal.position_in(list))?,
+    }
+    out.write_all(b"\x00")
+}
+
+/// Writes the list of a nested rule as it is serialized, under a rule whose list counts two classes, or
+/// why it is refused; and a NUL byte.
+pub(crate) fn write_nested<W: Write>(alloc: Global, out: &mut W, list: &str) -> io::Result<()> {
+    let around = Nesting {
+        number: 1,
+        specificity: Specificity {
+            ids: 0,
+            classes: 2,
+            names: 0,
+        },
+    };
+    match Selector::parse_nested_list(alloc, around, list) {
+        Ok(selectors) => write_printed(out, selectors.as_slice())?,
         Err(refusal) => write!(out, "refused: {}: {refusal}", refusal.position_in(list))?,
     }
     out.write_all(b"\x00")

@@ -2,8 +2,8 @@
 //! standard input.
 //!
 //! With `tokens` the texts have the byte 1 between them. With `match`, `index` and `walk` they are a tree
-//! and lists of selectors, with a NUL byte between two. With the words of `css::Part` they have a NUL byte
-//! between them.
+//! and lists of selectors, with a NUL byte between two. With `nested` and the words of `css::Part` they have
+//! a NUL byte between them.
 #![tactic(auto)]
 
 mod css;
@@ -60,6 +60,14 @@ fn write_answers<W: Write>(
             for text in input.split(|byte| *byte == 1) {
                 if let Ok(text) = str::from_utf8(text) {
                     tokens::write_tokens(out, text)?;
+                }
+            }
+            return Ok(());
+        }
+        ["nested"] => {
+            for text in input.split(|byte| *byte == 0) {
+                if let Ok(text) = str::from_utf8(text) {
+                    lists::write_nested(alloc, out, text)?;
                 }
             }
             return Ok(());

@@ -83,6 +83,10 @@ impl<'a, 'n, 'p, 't> Element for Counted<'a, 'n, 'p, 't> {
     fn has_content(&self) -> bool {
         self.node.has_content()
     }
+
+    fn is_in_list(&self, number: usize) -> bool {
+        self.node.is_in_list(number)
+    }
 }
 
 /// Selectors of names, so that each test is one for a name; the answer on the last element of the

@@ -5,9 +5,9 @@ use Rattle.css_sheet.specs.declared.sheet_error.SheetError.{SheetError}
 use Rattle.css_sheet.specs.declared.sheet_error.SheetError.TheVariants.{TooManyDeclarations}
 use Rattle.css_sheet.specs.declared.sheet_order.ReadRules.{ReadRules}
 use Rattle.css_sheet.specs.PartViews.{open_in}
-use Rattle.css_sheet.specs.SheetParts.{SheetPart, nesting_of, applies_in}
-use Rattle.css_sheet.specs.SheetLayers.{sheet_layers}
-use Rattle.css_sheet.specs.SheetOrder.{SheetRuleText, declarations_in, part_rules, numbered_rules}
+use Rattle.css_sheet.specs.SheetParts.{SheetPart, PlacedPart, nesting_of, applies_in}
+use Rattle.css_sheet.specs.SheetLayers.{sheet_layers, with_parts}
+use Rattle.css_sheet.specs.SheetOrder.{SheetRuleText, declarations_in, part_rules, numbered_rules, rules_of_parts}
 use Rattle.css_sheet.specs.SheetRuleViews.{gathered_rules}
 use Rattle.css_sheet.specs.internal.OpenViews.{known_in, numbers_in, innermost_of, Goes}
 
@@ -33,12 +33,29 @@ Pushes before (Err error) after part reader =
     → GoesOn before after part reader
     × (before.gathered.left < declarations_in (rules_now after part reader))
 
--- All rules and layers of a sheet were gathered, and the rules are within the limit; or they are beyond
+-- These parts that are to come give the layers and the rules of the sheets that are not gathered yet.
+pub record Awaits (holds : List ℕ → List ℕ → Bool) (texts : List (List ℕ)) (most : ℕ)
+    (read : ReadRules) (more : List PlacedPart) : Type 0 where
+  pub layers : with_parts (known_in read.opened) more ≡ sheet_layers holds texts
+  pub rules : gathered_rules read.gathered ++ rules_of_parts (sheet_layers holds texts) more
+      ≡ numbered_rules holds texts
+  pub room : most + declarations_in (rules_of_parts (sheet_layers holds texts) more)
+      ≡ read.gathered.left + declarations_in (numbered_rules holds texts)
+
+-- So it is after a sheet; or the rules are beyond the limit.
+abbrev pub AwaitsStill : (List ℕ → List ℕ → Bool) → List (List ℕ) → ℕ
+    → Result (Unit {0}) SheetError → ReadRules → List PlacedPart → Type 0
+AwaitsStill holds texts most (Ok done) read more = Awaits holds texts most read more
+AwaitsStill holds texts most (Err error) read more =
+    error ≡ TooManyDeclarations → most < declarations_in (numbered_rules holds texts)
+
+-- All rules and layers of sheets were gathered, and the rules are within the limit; or they are beyond
 -- it.
-abbrev pub GathersAll : ℕ → Result ReadRules SheetError → (List ℕ → List ℕ → Bool) → List ℕ → Type 0
-GathersAll most (Ok read) holds text =
-    (known_in read.opened ≡ sheet_layers holds text)
-    × (gathered_rules read.gathered ≡ numbered_rules holds text)
-    × (read.gathered.left + declarations_in (numbered_rules holds text) ≡ most)
-GathersAll most (Err error) holds text =
-    error ≡ TooManyDeclarations → most < declarations_in (numbered_rules holds text)
+abbrev pub GathersAll : ℕ → Result ReadRules SheetError → (List ℕ → List ℕ → Bool)
+    → List (List ℕ) → Type 0
+GathersAll most (Ok read) holds texts =
+    (known_in read.opened ≡ sheet_layers holds texts)
+    × (gathered_rules read.gathered ≡ numbered_rules holds texts)
+    × (read.gathered.left + declarations_in (numbered_rules holds texts) ≡ most)
+GathersAll most (Err error) holds texts =
+    error ≡ TooManyDeclarations → most < declarations_in (numbered_rules holds texts)

@@ -1,8 +1,9 @@
 -- How the winner is found, a declaration at a time.
-use Rattle.std.specs.Prelude.{if◌then◌else◌, List, [], ◌∷◌, Option, None, Some}
+use Rattle.std.specs.Prelude.{List, Option}
 use Rattle.css_syntax.specs.Views.{declaration_of}
-use Rattle.css_cascade.specs.Cascade.{beats}
+use Rattle.css_cascade.specs.Cascade.{Weighed}
 use Rattle.css_cascade.specs.WeightViews.{weighed}
+use Rattle.css_cascade.specs.internal.Steps.{better as better_by, winner_from as winner_by}
 use Rattle.css_sheet.specs.declared.winners.Contender.{Contender as ContenderCode}
 use Rattle.css_sheet.specs.SheetWinners.{Contender}
 
@@ -10,12 +11,14 @@ use Rattle.css_sheet.specs.SheetWinners.{Contender}
 abbrev pub contender_of : ContenderCode → Contender
 contender_of c = record { weight = weighed c.weight; declaration = declaration_of c.declaration }
 
+-- what the cascade sees of one
+abbrev pub by_weight : Contender → Weighed
+by_weight c = c.weight
+
 -- the later of two, unless the earlier beats it
 abbrev pub better : Option Contender → Contender → Contender
-better None later = later
-better (Some earlier) later = if beats earlier.weight later.weight then earlier else later
+better = better_by by_weight
 
 -- the one that wins of these and of the best before them
 abbrev pub winner_from : Option Contender → List Contender → Option Contender
-winner_from best [] = best
-winner_from best (one ∷ more) = winner_from (Some (better best one)) more
+winner_from = winner_by by_weight

@@ -41,7 +41,7 @@ fn is_match<'a, T: HasSelector<'a>, E: Element>(
 
 /// Keeps the indices of the rules that match, in order, at the front, and returns how many they are.
 /// An exact search does not test the rules that require nothing but their key.
-pub(crate) fn keep_matching<'a, T: HasSelector<'a>, E: Element>(
+fn keep_matching<'a, T: HasSelector<'a>, E: Element>(
     rules: &[T],
     element: &E,
     rule_index: &RuleIndex<'_>,
@@ -81,4 +81,32 @@ pub(crate) fn keep_matching<'a, T: HasSelector<'a>, E: Element>(
         }
     }
     kept
+}
+
+/// Drops the indices of the rules that do not match, as `keep_matching` says.
+#[inline(always)]
+pub(crate) fn drop_others<'a, T: HasSelector<'a>, E: Element>(
+    rules: &[T],
+    element: &E,
+    rule_index: &RuleIndex<'_>,
+    is_exact: bool,
+    indices: &mut Vec<usize>,
+    tests: &mut Tests,
+)
+    requires index { rule_index.now ≡ map T.selector_in rules.now }
+    requires ascending { IsStrictlyIncreasing indices.old.items }
+    requires within { All (λ index. index < length rule_index.now) indices.old.items }
+    requires known { (index : ℕ) → Contains indices.old.items index
+        → IsKnown is_exact rule_index.now index
+        → HasPlacement E.tree (selector_at rule_index.now index) (E.node element.now) }
+    ensures ascending { IsStrictlyIncreasing indices.new.items }
+    ensures exactly { (index : ℕ) → Contains indices.new.items index
+        ↔ (Contains indices.old.items index
+        × HasPlacement E.tree (selector_at rule_index.now index) (E.node element.now)) }
+    ensures counted { tests.new ≤ tests.old + sum_by (λ index. most_tests E.tree
+        (E.node element.now) (selector_at rule_index.now index)) indices.old.items }
+    ensures tested { is_exact ≡ false → tests.old + length indices.old.items ≤ tests.new }
+{
+    let kept = keep_matching(rules, element, rule_index, is_exact, indices, tests);
+    indices.truncate(kept);
 }

@@ -6,8 +6,8 @@ ghost use Rattle.simplecss.specs.OpenPaths.{needed_keys, left, IsOpenTo};
 ghost use Rattle.simplecss.specs.internal.Kept.{top_starts};
 
 use super::find::push_keys_of;
-use super::open_keys::OpenKeys;
 use super::rule_index::RuleIndex;
+use css_open_elements::Numbers;
 use simplecss_selector::Keyed;
 use std::alloc::{AllocError, Global};
 use std::marker::Model;
@@ -32,7 +32,7 @@ use std::snapshot::Snapshot;
 #[derive(Drop)]
 pub struct OpenPath<'a> {
     /// The numbers of the keys that the open elements report.
-    keys: OpenKeys,
+    keys: Numbers,
     /// For all open elements, the last rules that need a parent with a key which they report.
     starts: Vec<usize>,
     /// For each open element, how many numbers and rules there were before it.
@@ -69,7 +69,7 @@ impl<'a> OpenPath<'a> {
         ensures marks { IfOk result (λ path. path.marks ≡ []) }
     {
         Ok(OpenPath {
-            keys: OpenKeys::new(alloc, index.needed.len())?,
+            keys: Numbers::new(alloc, index.needed.len())?,
             starts: Vec::new(alloc),
             marks: Vec::new(alloc),
             found: Vec::new(alloc),
@@ -110,7 +110,7 @@ impl<'a> OpenPath<'a> {
     pub(crate) fn is_open(&self, number: usize) -> bool
         ensures { IsTrue result ↔ Contains self.now.listed number }
     {
-        self.keys.is_open(number)
+        self.keys.is_since(number, 0)
     }
 
     /// Returns the last rules that need a parent with a key which the element that was opened last

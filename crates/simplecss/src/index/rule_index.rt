@@ -14,7 +14,7 @@ ghost use Rattle.simplecss.specs.SelectorIndices.{key_at, selector_at};
 ghost use Rattle.simplecss.specs.Matching.{AreMatches, most_tests, tested_for};
 
 use super::find::{candidates, candidates_open};
-use super::keep::keep_matching;
+use super::keep::drop_others;
 use super::last_by_bucket::LastByBucket;
 use super::link::Link;
 use super::needed_keys::NeededKeys;
@@ -306,8 +306,7 @@ impl<'a> RuleIndex<'a> {
             indices.clear();
             return Err(error);
         }
-        let kept = keep_matching(rules, element, self, is_exact, indices, tests);
-        indices.truncate(kept);
+        drop_others(rules, element, self, is_exact, indices, tests);
         Ok(())
     }
 
@@ -339,8 +338,7 @@ impl<'a> RuleIndex<'a> {
             indices.clear();
             return Err(error);
         }
-        let kept = keep_matching(rules, element, self, false, indices, tests);
-        indices.truncate(kept);
+        drop_others(rules, element, self, false, indices, tests);
         Ok(())
     }
 }

@@ -338,7 +338,7 @@ end_skips-within text =
     (record { from = past_blank text; after = []; why = Why.open_comment } ∷ []) []
     ((ends-past_blank text, ends-nil text, tt), tt) tt
 
-next_statement-found : (edition : Edition) (text : List ℕ)
+pub next_statement-found : (edition : Edition) (text : List ℕ)
     → EndsFound text (next_statement edition text)
 next_statement-found edition text = by (next_statement edition text) refl
   where

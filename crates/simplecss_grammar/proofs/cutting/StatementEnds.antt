@@ -1,8 +1,7 @@
 -- Where blocks, rule sets and at-rules end.
 -- Serves `StyleSheet::parse_more` and `laws::cutting_law` (a text read in pieces),
 -- `StyleSheet::parse` and `laws::edition_law`.
-use Rattle.std.proofs.Common.{Bool, List, arith, None, Some, [], ap, eqb-true, false, if◌then◌else◌, inl, inr, not, one-add, refl, subst, sym, true, ℕ, ◌&&◌, ◌==◌, ◌∙◌, ◌∷◌, ◌≡◌, ◌⊎◌}
-use Rattle.std.specs.List.{prefix_len}
+use Rattle.std.proofs.Common.{Bool, List, arith, None, Some, [], ap, eqb-true, false, if◌then◌else◌, inl, inr, not, refl, subst, sym, true, ℕ, ◌&&◌, ◌==◌, ◌∙◌, ◌∷◌, ◌≡◌, ◌⊎◌}
 use Rattle.css_text.specs.AsciiBytes.{close_brace, comma, open_brace, semicolon}
 use Rattle.css_text.specs.Reading.{Ends, Fault, Reading, each, fails, found, got}
 use Rattle.css_text.specs.Bytes.{is_neither, past, past_byte, past_one, starts}

@@ -18,14 +18,14 @@ use Rattle.css_text.proofs.reading.EndsLemmas.{EndsFound, Occurs, each-ends, end
 use Rattle.simplecss_grammar.proofs.reading.OccurrenceLemmas.{ends-past_blank, gap-occurs, sees_nothing}
 use Rattle.simplecss_grammar.proofs.reading.DeclarationsLawful.{declaration-lawful, declaration_in_block-ends}
 use Rattle.simplecss_grammar.proofs.cutting.StatementEnds.{part_and_comma-ends, parts-ends}
-use Rattle.simplecss_grammar.proofs.cutting.StatementCuts.{next_statement-well}
+use Rattle.simplecss_grammar.proofs.cutting.SkipEnds.{next_statement-found}
 use Rattle.simplecss_grammar.proofs.reading.EditionLaws.{Shared, each-editions, if-editions, name-editions, shared-ends, shared-from}
-use Rattle.simplecss_grammar.specs.Pieces.{Piece, ending, solid_ending, gap_ending, next_kind, next_piece, piece, pieces, solid}
+use Rattle.simplecss_grammar.specs.Pieces.{Piece, ending, solid_ending, gap_ending, next_piece, piece, pieces, solid}
 use Rattle.simplecss_grammar.specs.Neighbours.{Side}
 use Rattle.simplecss_grammar.specs.Neighbours.Side.{open_side}
 use Rattle.simplecss_grammar.specs.TokenSequences.{TokenSequence, sequence, sequence_from}
 use Rattle.simplecss_grammar.specs.Selectors.{outcome, reads, selector_of}
-use Rattle.simplecss_grammar.proofs.reading.SequenceEndLemmas.{PieceOccurs, piece-occurs}
+use Rattle.simplecss_grammar.proofs.reading.SequenceEndLemmas.{PieceOccurs, piece-occurs, piece_with}
 use Rattle.simplecss_grammar.proofs.reading.PiecesLawful.{solid-lawful}
 
 -- ---- selectors
@@ -37,24 +37,12 @@ piece-editions text h = by (gap text) (gap-occurs text)
   where
     solid_then : Edition → Bool → Reader Piece
     solid_then edition spaced start = follow (solid edition start)
-        (λ token after. got (record {
-          spaced = spaced;
-          start = start;
-          kind = next_kind start;
-          token = token;
-          after = after;
-        }) after)
+        (piece_with spaced start)
 
     by : (r : Reading Bool) → Occurs text no_texts r
         → follow r (solid_then first_edition) ≡ follow r (solid_then second_edition)
     by (got spaced start) s = ap (λ r. follow r
-        (λ token after. got (record {
-          spaced = spaced;
-          start = start;
-          kind = next_kind start;
-          token = token;
-          after = after;
-        }) after))
+        (piece_with spaced start))
         ((solid-lawful start start).same (shared-ends text start s.at h))
     by (fails fault after) s = refl
 
@@ -213,14 +201,6 @@ next_statement-editions text h = if-editions (ends_statements (past_blank text))
     (ap (λ (r : List StyleRule × List ℕ). Some r)
     (statement-editions (past_blank text) (shared-ends text (past_blank text)
     (ends-past_blank text) h)))
-
-next_statement-found : (edition : Edition) (text : List ℕ)
-    → EndsFound text (next_statement edition text)
-next_statement-found edition text = by (next_statement edition text) refl
-  where
-    by : (o : Option (List StyleRule × List ℕ)) → next_statement edition text ≡ o → EndsFound text o
-    by None e = tt
-    by (Some x) e = (next_statement-well edition text x.1 x.0 e).0
 
 -- both editions read the same rules from a text of ASCII bytes without a slash
 pub keeps_in_both : (text : List ℕ) → IsCommon text → KeepsInBoth text

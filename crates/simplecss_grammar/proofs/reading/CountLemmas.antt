@@ -20,25 +20,10 @@ use Rattle.simplecss_grammar.specs.Declarations.{next_declaration, declarations}
 use Rattle.simplecss_grammar.proofs.reading.PiecesLawful.{solid-cuts}
 use Rattle.simplecss_grammar.proofs.reading.KindLemmas.{between-case, fault_ending-case}
 use Rattle.css_text.proofs.reading.EachLemmas.{Shrinks, Takes}
+use Rattle.css_text.proofs.reading.LengthLemmas.{length-each}
 use Rattle.css_text.proofs.reading.TakesLemmas.{Cuts, blank_part-takes}
 use Rattle.css_text.proofs.bytes.GapLemmas.{gap_is_closed, gap_is_open}
 use Rattle.simplecss_grammar.proofs.reading.SequenceSteps.{solid_sequence, gap_sequence, sequence_from-by}
-
--- what is read at most n times yields at most n values
-length-up_to : {A : Type 0} (read : List ℕ → Option (A × List ℕ)) (n : ℕ) (text : List ℕ)
-    → length (up_to n read text).0 ≤ n
-length-up_to read zero text = omega arith
-length-up_to {A = A} read (suc n) text = by (λ rest. length-up_to read n rest) (read text)
-  where
-    by : ((rest : List ℕ) → length (up_to n read rest).0 ≤ n) → (o : Option (A × List ℕ))
-        → length (and_then text o (up_to n read)).0 ≤ suc n
-    by more None = omega arith
-    by more (Some x) = omega (arith, more x.1)
-
-length-each : {A : Type 0} (read : List ℕ → Option (A × List ℕ)) (text : List ℕ)
-    → length (each read text).0 ≤ length text
-unfolding each
-length-each read text = length-up_to read (length text) text
 
 -- a text has at most as many declarations as bytes
 pub length-declarations : (edition : Edition) (text : List ℕ)

@@ -31,28 +31,21 @@ pub record ContinuesNothing (edition : Edition) (q : ℕ) : Type 0 where
   pub no_star : (q == asterisk) ≡ false
   pub no_hyphen : (q == hyphen) ≡ false
 
+in_both : (F : Edition → Bool) → F first_edition ≡ false → F second_edition ≡ false
+    → (edition : Edition) → F edition ≡ false
+in_both F first second first_edition = first
+in_both F first second second_edition = second
+
 quiet-by : {q : ℕ} → q < 128 → is_name_char first_edition q ≡ false
     → is_name_char second_edition q ≡ false → is_name_start first_edition q ≡ false
     → is_name_start second_edition q ≡ false → is_digit q ≡ false → is_hex_digit q ≡ false
     → (q == full_stop) ≡ false → (q == percent_sign) ≡ false → (q == open_parenthesis) ≡ false
     → (q == asterisk) ≡ false
     → (q == hyphen) ≡ false → (edition : Edition) → ContinuesNothing edition q
-quiet-by low c d s e digit hex point percent opening star not_hyphen first_edition = record {
+quiet-by {q} low c d s e digit hex point percent opening star not_hyphen edition = record {
   low = low;
-  no_char = c;
-  no_start = s;
-  no_digit = digit;
-  no_hex = hex;
-  no_point = point;
-  no_percent = percent;
-  no_opening = opening;
-  no_star = star;
-  no_hyphen = not_hyphen;
-}
-quiet-by low c d s e digit hex point percent opening star not_hyphen second_edition = record {
-  low = low;
-  no_char = d;
-  no_start = e;
+  no_char = in_both (λ f. is_name_char f q) c d edition;
+  no_start = in_both (λ f. is_name_start f q) s e edition;
   no_digit = digit;
   no_hex = hex;
   no_point = point;

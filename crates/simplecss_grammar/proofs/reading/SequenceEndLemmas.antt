@@ -127,6 +127,16 @@ ending-ends edition text = gap_ending-ends edition text (gap text) (gap-occurs t
 
 -- ---- pieces
 
+-- the piece with this gap, start and token, and what follows it
+abbrev pub piece_with : Bool → List ℕ → Token → List ℕ → Reading Piece
+piece_with spaced start token after = got (record {
+  spaced = spaced;
+  start = start;
+  kind = next_kind start;
+  token = token;
+  after = after;
+}) after
+
 -- A piece that is read: its start is an end of the text, and its token's texts are from there to
 -- what it leaves.
 abbrev pub PieceOccurs : (Token → List (List ℕ)) → List ℕ → Reading Piece → Type 0
@@ -142,26 +152,13 @@ piece-occurs {texts = texts} sees edition whole text good e = by (gap text) (gap
   where
     inner : (spaced : Bool) (start : List ℕ) (r : Reading Token) → Ends text start
         → Occurs start texts r → PieceOccurs texts text
-        (follow r (λ token after. got (record {
-          spaced = spaced;
-          start = start;
-          kind = next_kind start;
-          token = token;
-          after =
-              after;
-        }) after))
+        (follow r (piece_with spaced start))
     inner spaced start (got token after) s h = (s, h.at, ends-same after)
     inner spaced start (fails fault after) s h = ends-ends text start after s h.at
 
     by : (r : Reading Bool) → Occurs text no_texts r
         → PieceOccurs texts text (follow r (λ spaced start. follow (solid edition start)
-        (λ token after. got (record {
-          spaced = spaced;
-          start = start;
-          kind = next_kind start;
-          token = token;
-          after = after;
-        }) after)))
+        (piece_with spaced start)))
     by (got spaced start) h = inner spaced start (solid edition start) h.at
         (solid-occurs sees edition whole start good (ends-ends whole text start e h.at))
     by (fails fault rest) h = h.at

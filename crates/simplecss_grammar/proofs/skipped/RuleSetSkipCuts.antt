@@ -253,25 +253,22 @@ parts_skips-step edition n u v more r s l w h = by (starts comma_byte x) refl
     y : List ℕ
     y = (part edition s).1
 
+    -- a comma follows the first part, which ends past the cut
+    early : starts comma_byte x ≡ true → length x ≤ length (u ++ v) → PartsSkipsSame edition u v r s
+    early e passed =
+        inl (passed-brace (u ++ v) (parts edition r).1 x
+        (omega (
+          arith,
+          ap length (parts-some edition r e),
+          length-parts edition (past_one x),
+          length-past_one x,
+        )) passed)
+
     -- a comma follows the first part
     commas : starts comma_byte x ≡ true → Same (u ++ v) u (part edition r) (part edition s)
         → PartSkipsSame edition u v r s → PartsSkipsSame edition u v r s
-    commas e (inl passed) skips =
-        inl (passed-brace (u ++ v) (parts edition r).1 x
-        (omega (
-          arith,
-          ap length (parts-some edition r e),
-          length-parts edition (past_one x),
-          length-past_one x,
-        )) passed)
-    commas e (inr k) (inl passed) =
-        inl (passed-brace (u ++ v) (parts edition r).1 x
-        (omega (
-          arith,
-          ap length (parts-some edition r e),
-          length-parts edition (past_one x),
-          length-past_one x,
-        )) passed)
+    commas e (inl passed) skips = early e passed
+    commas e (inr k) (inl passed) = early e passed
     commas e (inr k) (inr (inl none)) = absurd (cc (e, none.0))
     commas e (inr k) (inr (inr same)) =
         go (past_one-diverge close_brace (u ++ v) u x y k.1)

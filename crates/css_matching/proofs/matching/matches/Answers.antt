@@ -3,6 +3,10 @@ use Rattle.css_matching.specs.Bounds.{longest_fixed, longest_free, most_levels, 
 use Rattle.css_matching.proofs.Charging.{charged_all}
 use Rattle.css_matching.proofs.matching.matches.Goals as goal
 
+pub search-requires-clause-test : goal.search-requires-clause-test
+search-requires-clause-test g c =
+    record { asks = c.requires.asks; answers = c.requires.answers; costs = c.requires.costs }
+
 pub returns-clause-bounded : goal.returns-clause-bounded
 returns-clause-bounded g c =
     let tree = g.E.Candidate.tree in

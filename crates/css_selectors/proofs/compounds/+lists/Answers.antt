@@ -1,10 +1,12 @@
-use Rattle.std.proofs.Common.{subst, ◌∙◌, arith, rules}
+use Rattle.std.proofs.Common.{map, option_map, subst, ◌∙◌, arith, rules}
 use Rattle.std.proofs.lemmas.Grind.{common_steps}
 use Rattle.std.proofs.lemmas.Result.{err_from_is_err_and}
-use Rattle.css_selectors.specs.Grammar.{next_simple, next_condition, next_part_in, next_complex, may_join}
+use Rattle.css_selectors.specs.Grammar.{next_simple, next_condition, next_part_in, next_listed}
 use Rattle.css_selectors.specs.Reads.{Finds}
 use Rattle.css_selectors.specs.Views.{simple_of, part_of, complex_of, condition_of}
 use Rattle.css_selectors.proofs.ItemLemmas.{loop_item, loop_none, loop_over, loop_stop, finds_some, finds_none}
+use Rattle.css_selectors.specs.Readings.{items}
+use Rattle.css_selectors.proofs.KeptLemmas.{kept_init, kept_item, kept_none, kept_over, kept_stop}
 use Rattle.css_selectors.proofs.NestLemmas.{condition_within, condition_plain}
 use Rattle.css_selectors.proofs.compounds.+lists.Goals as goal
 
@@ -45,7 +47,7 @@ read_more-returns t c =
 
 pub read_parts-returns-in_err-part : goal.read_parts-returns-in_err-part
 read_parts-returns-in_err-part t c =
-    let next = next_part_in (may_join c.args.depth) (next_condition c.args.depth) in
+    let next = next_part_in (next_condition c.args.depth) in
     let p =
     err_from_is_err_and c.from_residual-in_err-part.result c.from_residual-in_err-part.ensures.1 in
     rw (p.1, p.2) (λ ne. loop_stop part_of next c.parts.parts.items c.parts.left c.parts.rest.now
@@ -54,7 +56,7 @@ read_parts-returns-in_err-part t c =
 
 pub read_parts-returns-in-None : goal.read_parts-returns-in-None
 read_parts-returns-in-None t c =
-    let next = next_part_in (may_join c.args.depth) (next_condition c.args.depth) in
+    let next = next_part_in (next_condition c.args.depth) in
     loop_none part_of next c.parts.parts.items c.parts.left c.parts.rest.now _
     c.parts-test.true
     (finds_none part_of (next c.parts.rest.now) c.in_ok-part.field-0 c.in-None.is
@@ -63,7 +65,7 @@ read_parts-returns-in-None t c =
 
 pub read_parts-parts-preserved : goal.read_parts-parts-preserved
 read_parts-parts-preserved t c =
-    let next = next_part_in (may_join c.args.depth) (next_condition c.args.depth) in
+    let next = next_part_in (next_condition c.args.depth) in
     record {
       text = first_of (search rules, grind (arith, common_steps));
       found = rw c.in_ok-push-in-Some.ensures.items (loop_item part_of next c.parts.parts.items
@@ -75,42 +77,51 @@ read_parts-parts-preserved t c =
 
 pub read_parts-returns : goal.read_parts-returns
 read_parts-returns t c =
-    loop_over part_of (next_part_in (may_join c.args.depth) (next_condition c.args.depth)) c.parts.parts.items c.parts.left c.parts.rest.now _
+    loop_over part_of (next_part_in (next_condition c.args.depth)) c.parts.parts.items c.parts.left c.parts.rest.now _
     (omega (arith, c.parts-test.false)) c.parts.invariant.found
+
+pub read_selectors-selectors-init : goal.read_selectors-selectors-init
+read_selectors-selectors-init t c = record {
+  text = first_of (search rules, grind (arith, common_steps));
+  found = kept_init _ _ (option_map complex_of c.args.first)
+      (items (next_listed c.args.forgiving (next_condition c.args.depth)) c.args.text.now)
+      c.in_ok-keep.ensures (search rules);
+}
 
 pub read_selectors-returns-in_err-selector : goal.read_selectors-returns-in_err-selector
 read_selectors-returns-in_err-selector t c =
-    let next = next_complex (may_join c.args.depth) (next_condition c.args.depth) in
+    let next = next_listed c.args.forgiving (next_condition c.args.depth) in
     let p =
     err_from_is_err_and c.from_residual-in_err-selector.result c.from_residual-in_err-selector.ensures.1 in
-    rw (p.1, p.2) (λ ne. loop_stop complex_of next c.selectors.selectors.items c.selectors.left c.selectors.rest.now
+    rw (p.1, p.2) (λ ne. kept_stop next (map complex_of c.selectors.selectors.items) c.selectors.left c.selectors.rest.now
     c.in_err-selector.field-0.0.why c.in_err-selector.field-0.0.rest.now _ c.selectors-test.true
     (c.in_err-selector.ensures ne) c.selectors.invariant.found)
 
 pub read_selectors-returns-in-None : goal.read_selectors-returns-in-None
 read_selectors-returns-in-None t c =
-    let next = next_complex (may_join c.args.depth) (next_condition c.args.depth) in
-    loop_none complex_of next c.selectors.selectors.items c.selectors.left c.selectors.rest.now _
+    let next = next_listed c.args.forgiving (next_condition c.args.depth) in
+    kept_none next (map complex_of c.selectors.selectors.items) c.selectors.left c.selectors.rest.now _
     c.selectors-test.true
-    (finds_none complex_of (next c.selectors.rest.now) c.in_ok-selector.field-0 c.in-None.is
+    (finds_none (option_map complex_of) (next c.selectors.rest.now) c.in_ok-selector.field-0 c.in-None.is
     c.in_ok-selector.ensures)
     c.selectors.invariant.found
 
 pub read_selectors-selectors-preserved : goal.read_selectors-selectors-preserved
 read_selectors-selectors-preserved t c =
-    let next = next_complex (may_join c.args.depth) (next_condition c.args.depth) in
+    let next = next_listed c.args.forgiving (next_condition c.args.depth) in
     record {
       text = first_of (search rules, grind (arith, common_steps));
-      found = rw c.in_ok-push-in-Some.ensures.items (loop_item complex_of next c.selectors.selectors.items
-          c.in-Some.selector c.selectors.left c.selectors.rest.now c.in-Some.after.now _
-          c.selectors-test.true (finds_some complex_of (next c.selectors.rest.now) c.in_ok-selector.field-0
+      found = rw c.in_ok-keep-in-Some.ensures (kept_item next (map complex_of c.selectors.selectors.items)
+          (option_map complex_of c.in-Some.selector) c.selectors.left c.selectors.rest.now c.in-Some.after.now _
+          c.selectors-test.true (finds_some (option_map complex_of) (next c.selectors.rest.now) c.in_ok-selector.field-0
           c.in-Some.selector c.in-Some.after c.in-Some.is c.in_ok-selector.ensures)
           c.selectors.invariant.found);
     }
 
 pub read_selectors-returns : goal.read_selectors-returns
 read_selectors-returns t c =
-    loop_over complex_of (next_complex (may_join c.args.depth) (next_condition c.args.depth)) c.selectors.selectors.items c.selectors.left c.selectors.rest.now _
+    kept_over (next_listed c.args.forgiving (next_condition c.args.depth))
+    (map complex_of c.selectors.selectors.items) c.selectors.left c.selectors.rest.now _
     (omega (arith, c.selectors-test.false)) c.selectors.invariant.found
 
 pub next_condition-returns-then-begins_pseudo_class :

@@ -1,9 +1,9 @@
 use Rattle.std.proofs.Common.{◌≡◌, ◌∷◌, [], map, ◌+◌, ◌*◌}
 use denote.Text.{Utf8}
 use denote.Shadow.{shadow}
-use Rattle.std.specs.Option.{option_to_list}
+use Rattle.std.specs.Option.{option_map, option_to_list}
 use Rattle.css_selectors.specs.Components.Condition.{simple}
-use Rattle.css_selectors.specs.Grammar.{next_condition, next_part_in, next_complex, may_join}
+use Rattle.css_selectors.specs.Grammar.{next_condition, next_part_in, next_listed, selectors_after, keep}
 use Rattle.css_selectors.specs.Readings.{items, items_up_to, found_before}
 use Rattle.css_selectors.specs.Views.{complex_of, part_of, condition_of, simple_of}
 use Rattle.css_selectors.proofs.compounds.+lists.Given as goal
@@ -22,9 +22,9 @@ abbrev pub invariant-read_parts-parts : goal.invariant-read_parts-parts
 invariant-read_parts-parts l = record {
   text : shadow (Utf8 l.rest);
   found : found_before (map part_of l.parts.items)
-      (items_up_to l.left (next_part_in (may_join l.depth) (next_condition l.depth)) l.rest)
+      (items_up_to l.left (next_part_in (next_condition l.depth)) l.rest)
       ≡ found_before (part_of l.fn.first ∷ [])
-      (items (next_part_in (may_join l.fn.depth) (next_condition l.fn.depth)) l.fn.text);
+      (items (next_part_in (next_condition l.fn.depth)) l.fn.text);
 }
 
 abbrev pub decreases-read_parts-parts : goal.decreases-read_parts-parts
@@ -34,9 +34,8 @@ abbrev pub invariant-read_selectors-selectors : goal.invariant-read_selectors-se
 invariant-read_selectors-selectors l = record {
   text : shadow (Utf8 l.rest);
   found : found_before (map complex_of l.selectors.items)
-      (items_up_to l.left (next_complex (may_join l.depth) (next_condition l.depth)) l.rest)
-      ≡ found_before (complex_of l.fn.first ∷ [])
-      (items (next_complex (may_join l.fn.depth) (next_condition l.fn.depth)) l.fn.text);
+      (keep (items_up_to l.left (next_listed l.forgiving (next_condition l.depth)) l.rest))
+      ≡ selectors_after l.fn.forgiving (next_condition l.fn.depth) (option_map complex_of l.fn.first) l.fn.text;
 }
 
 abbrev pub decreases-read_selectors-selectors : goal.decreases-read_selectors-selectors
@@ -61,20 +60,20 @@ decreases-read_more l = 12 * l.depth + 4
 abbrev pub decreases-read_compound : goal.decreases-read_compound
 decreases-read_compound l = 12 * l.depth + 5
 
-abbrev pub decreases-read_joined : goal.decreases-read_joined
-decreases-read_joined l = 12 * l.depth + 6
-
 abbrev pub decreases-next_part : goal.decreases-next_part
-decreases-next_part l = 12 * l.depth + 7
+decreases-next_part l = 12 * l.depth + 6
 
 abbrev pub decreases-read_parts : goal.decreases-read_parts
-decreases-read_parts l = 12 * l.depth + 8
+decreases-read_parts l = 12 * l.depth + 7
 
 abbrev pub decreases-read_complex : goal.decreases-read_complex
-decreases-read_complex l = 12 * l.depth + 9
+decreases-read_complex l = 12 * l.depth + 8
 
-abbrev pub decreases-next_complex : goal.decreases-next_complex
-decreases-next_complex l = 12 * l.depth + 10
+abbrev pub decreases-read_listed : goal.decreases-read_listed
+decreases-read_listed l = 12 * l.depth + 9
+
+abbrev pub decreases-next_listed : goal.decreases-next_listed
+decreases-next_listed l = 12 * l.depth + 10
 
 abbrev pub decreases-read_selectors : goal.decreases-read_selectors
 decreases-read_selectors l = 12 * l.depth + 11

@@ -1,7 +1,7 @@
 use Rattle.std.proofs.Common.{◌<◌, sym, subst}
 use Rattle.css_selectors.specs.Components.{parts_from}
 use Rattle.css_selectors.proofs.NestedCosts.{tests-le}
-use Rattle.css_selectors.proofs.NestedReads.{read_joins}
+use Rattle.css_selectors.proofs.NestedReads.{supported_joins}
 use Rattle.css_selectors.proofs.PlacementListLemmas.{count_from}
 use Rattle.css_selectors.proofs.matching_laws.nested_law.Goals as goal
 
@@ -10,5 +10,5 @@ returns-clause-within g c k s n some joins =
     tests-le g.E.Element.document n k (parts_from s.parts)
     (subst (λ m. 0 < m) (sym (count_from g.E.Element.document s.parts)) some) joins
 
-pub returns-clause-read : goal.returns-clause-read
-returns-clause-read g c s w = read_joins s w
+pub returns-clause-supported : goal.returns-clause-supported
+returns-clause-supported g c s h = supported_joins s h

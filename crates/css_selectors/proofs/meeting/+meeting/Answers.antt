@@ -1,4 +1,4 @@
-use Rattle.std.proofs.Common.{◌<◌, length, map, ap, refl, arith}
+use Rattle.std.proofs.Common.{◌<◌, length, map, sym, ◌∙◌, ap, refl, arith}
 use Rattle.std.proofs.lemmas.Bool.{false≢true}
 use Rattle.css_selectors.specs.Meanings.{MatchesAny}
 use Rattle.css_selectors.specs.Components.{selectors_from}
@@ -88,4 +88,5 @@ is_matched-returns-then-parts-eq1 g t c =
 pub is_matched-returns-clause-bounded : goal.is_matched-returns-clause-bounded
 is_matched-returns-clause-bounded g t c =
     more_charged g.E.Element.document c.args.parts.now (g.E.Element.node c.args.element.now) _ _
+    (sym c.is_empty.ensures ∙ c.if-is_empty.false)
     c.if-parts-eq1.false c.is_placed.ensures.bounded

@@ -9,8 +9,8 @@ use Rattle.css_selectors.proofs.reading.read_others.Given as goal
 abbrev pub invariant-selectors : goal.invariant-selectors
 invariant-selectors l = record {
   text : shadow (Utf8 l.rest);
-  found : found_before (map placed_of l.selectors.items) (items_up_to l.left next_placed l.rest)
-      ≡ found_before (read_of l.fn.first ∷ []) (items next_placed l.fn.text);
+  found : found_before (map placed_of l.selectors.items) (items_up_to l.left (next_placed l.start) l.rest)
+      ≡ found_before (read_of l.fn.first ∷ []) (items (next_placed l.start) l.fn.text);
 }
 
 abbrev pub decreases-selectors : goal.decreases-selectors

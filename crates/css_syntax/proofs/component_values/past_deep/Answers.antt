@@ -1,4 +1,4 @@
-use Rattle.std.proofs.Common.{◌∙◌, ◌≡◌, ◌<◌, ◌≤◌, ℕ, suc, List, length, sym, ap, arith, refl}
+use Rattle.std.proofs.Common.{◌∙◌, ◌≡◌, ◌<◌, ℕ, suc, List, length, sym, ap, arith}
 use Rattle.css_syntax.specs.declared.quality.Quality.{Quality}
 use Rattle.css_syntax.specs.Tokens.{token}
 use Rattle.css_syntax.specs.ComponentValues.{past_open}

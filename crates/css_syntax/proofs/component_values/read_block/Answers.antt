@@ -1,4 +1,4 @@
-use Rattle.std.proofs.Common.{ap, length, [], ◌∙◌, sym, arith, ◌-◌, ◌==◌, ◌%◌, ◌≡◌, ◌<◌, false}
+use Rattle.std.proofs.Common.{ap, length, ◌∙◌, sym, arith, ◌-◌, ◌==◌, ◌%◌, ◌≡◌, ◌<◌, false}
 use Rattle.css_syntax.specs.declared.quality.Quality.{Quality}
 use Rattle.css_syntax.specs.internal.OpenBrackets.{closer_of}
 use Rattle.css_syntax.proofs.OpenBlocks.{open-within, also, resume, resume-start, at-end, step-close, step-open, step-deep, step-token, token-less, digits, fewer, fits, other_byte}

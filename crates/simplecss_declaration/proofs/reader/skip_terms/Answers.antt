@@ -1,4 +1,4 @@
-use Rattle.std.proofs.Common.{◌<◌, length, sym, ap, ◌∙◌, subst, List, ℕ, refl}
+use Rattle.std.proofs.Common.{sym, ap, ◌∙◌, subst, List, ℕ, refl}
 use Rattle.simplecss_grammar.specs.Terms.{term}
 use Rattle.css_text.specs.ThisEdition.{this_edition}
 use Rattle.css_text.specs.Cursor.{rest_of}
@@ -17,11 +17,8 @@ terms-init c = record {
 
 pub terms-smaller : goal.terms-smaller
 terms-smaller c =
-    let read =
-    passed (term this_edition (rest_of c.terms.s)) c.skip_term.result (rest_of c.skip_term.new.s)
-    c.skip_term.ensures.reads c.terms-test.true in
-    subst (λ (t : List ℕ). length t < length (rest_of c.terms.s)) (sym c.skip_gap.ensures.rest)
-    (term-takes this_edition (rest_of c.terms.s) (rest_of c.skip_term.new.s) read)
+    term-takes this_edition (rest_of c.terms.s) (rest_of c.skip_term.new.s) _ c.skip_term.result
+    c.skip_term.ensures.reads c.terms-test.true c.skip_gap.ensures.rest
 
 pub terms-preserved : goal.terms-preserved
 terms-preserved c =

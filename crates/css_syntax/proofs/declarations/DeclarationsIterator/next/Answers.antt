@@ -1,7 +1,7 @@
-use Rattle.std.proofs.Common.{refl, ap, length, List, arith}
-use Rattle.css_syntax.specs.DeclarationLists.{ListText}
+use Rattle.std.proofs.Common.{refl}
+use Rattle.css_syntax.specs.ListReaders.{items_to_come}
 use Rattle.css_syntax.specs.Views.{list_part_of}
-use Rattle.css_syntax.proofs.ListSteps.{items-some, items-none}
+use Rattle.css_syntax.proofs.ListSteps.{items-some, items-none, item_goes}
 use Rattle.css_syntax.proofs.declarations.DeclarationsIterator.next.Goals as goal
 
 pub returns-in-Some-clause-steps : goal.returns-in-Some-clause-steps
@@ -19,13 +19,9 @@ pub returns-in-Some-clause-goes : goal.returns-in-Some-clause-goes
 returns-in-Some-clause-goes c =
     let old = c.args.self.now in
     let found = c.in-Some.found in
-    let step = items-some old.in_block old.rest.now found.rest.now
-    (list_part_of found.part) c.in-Some.ensures.read in
-    record {
-      on = λ _. (tt, tt, omega (arith, ap (λ (l : List ListText). length l) step));
-      keeps = tt;
-      rests = λ _. tt;
-    }
+    item_goes _ items_to_come _ _ _ (list_part_of found.part) tt
+    (items-some old.in_block old.rest.now found.rest.now (list_part_of found.part)
+    c.in-Some.ensures.read)
 
 pub returns-in-None-clause-steps : goal.returns-in-None-clause-steps
 returns-in-None-clause-steps c =

@@ -7,7 +7,7 @@ use Rattle.css_syntax.proofs.printing.DeclarationDisplay.fmt.Goals as goal
 pub returns-clause-styled : goal.returns-clause-styled
 returns-clause-styled g c flush ok =
     let d = c.args.self.now in
-    let stated = c.in_ok-write_stated.ensures flush (refl {a = true}) in
+    let stated = c.in_ok-write_three.ensures flush (refl {a = true}) in
     let ended = c.in_ok-write_str.ensures.styled stated.flush (refl {a = true}) in
     let marked = c.in_ok-write_str-2.ensures.styled ended.flush (refl {a = true}) in
     let closed = c.write_str-3.ensures.styled marked.flush ok in

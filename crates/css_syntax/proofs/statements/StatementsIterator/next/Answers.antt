@@ -1,7 +1,7 @@
-use Rattle.std.proofs.Common.{refl, ap, length, List, arith}
-use Rattle.css_syntax.specs.Statements.{SheetText}
+use Rattle.std.proofs.Common.{refl}
+use Rattle.css_syntax.specs.ListReaders.{statements_to_come}
 use Rattle.css_syntax.specs.Views.{sheet_part_of}
-use Rattle.css_syntax.proofs.ListSteps.{statements-some, statements-none}
+use Rattle.css_syntax.proofs.ListSteps.{statements-some, statements-none, item_goes}
 use Rattle.css_syntax.proofs.statements.StatementsIterator.next.Goals as goal
 
 pub returns-in-Some-clause-steps : goal.returns-in-Some-clause-steps
@@ -19,13 +19,9 @@ pub returns-in-Some-clause-goes : goal.returns-in-Some-clause-goes
 returns-in-Some-clause-goes c =
     let old = c.args.self.now in
     let found = c.in-Some.found in
-    let step = statements-some old.in_block old.rest.now found.rest.now
-    (sheet_part_of found.part) c.in-Some.ensures.read in
-    record {
-      on = λ _. (tt, tt, omega (arith, ap (λ (l : List SheetText). length l) step));
-      keeps = tt;
-      rests = λ _. tt;
-    }
+    item_goes _ statements_to_come _ _ _ (sheet_part_of found.part) tt
+    (statements-some old.in_block old.rest.now found.rest.now (sheet_part_of found.part)
+    c.in-Some.ensures.read)
 
 pub returns-in-None-clause-steps : goal.returns-in-None-clause-steps
 returns-in-None-clause-steps c =

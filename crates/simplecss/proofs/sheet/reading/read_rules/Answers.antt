@@ -1,17 +1,17 @@
-use Rattle.std.proofs.Common.{◌≡◌, ◌+◌, ◌++◌, ◌<◌, List, ℕ, length, map, drop, sym, ◌∙◌, ap, subst, true, false, append_assoc, append-nil, refl, arith}
+use Rattle.std.proofs.Common.{◌≡◌, ◌+◌, ◌++◌, ◌<◌, List, ℕ, map, drop, sym, ◌∙◌, ap, subst, true, false, append_assoc, append-nil, refl, arith}
 use Rattle.css_text.specs.declared.sheet_error.SheetError.TheVariants.{TooManyDeclarations}
 use Rattle.css_text.specs.Reading.{no_comment}
 use Rattle.css_text.specs.Comments.{opens_comment, past_blank}
 use Rattle.simplecss_grammar.specs.Statements.{statement}
-use Rattle.simplecss_grammar.specs.Skipped.{add_each, end_skips, statement_skips, skipped}
-use Rattle.simplecss_grammar.proofs.reading.SkipLemmas.{add_each-append, skipped-some, skipped-none, skipped-blank}
+use Rattle.simplecss_grammar.specs.Skipped.{add_each, end_skips, skipped}
+use Rattle.simplecss_grammar.proofs.reading.SkipLemmas.{skipped-none, skipped-blank}
 use Rattle.css_text.specs.ThisEdition.{this_edition}
 use Rattle.css_text.specs.Cursor.{rest_of}
 use Rattle.simplecss.specs.RuleViews.{rule_of}
 use Rattle.simplecss.specs.internal.SharedBlocks.{rules_read}
 use Rattle.simplecss.specs.DeclarationCounts.{declaration_count, kept_declarations}
 use Rattle.simplecss.proofs.DeclarationSums.{left-more, too_many, kept_declarations-of, kept_declarations-none}
-use Rattle.simplecss.proofs.StatementLemmas.{rules_from, rules_from-some, rules_from-none, rules_from-blank, statement-less, blank-got, blank-open, next_statement-open}
+use Rattle.simplecss.proofs.StatementLemmas.{rules_from, rules_from-some, rules_from-none, rules_from-blank, statement-less, told-some, blank-got, blank-open, next_statement-open}
 use Rattle.simplecss.proofs.Reports.{passed_on}
 use Rattle.simplecss.proofs.sheet.reading.read_rules.Goals as goal
 
@@ -40,19 +40,14 @@ statements-init g c =
 
 pub statements-smaller : goal.statements-smaller
 statements-smaller g c =
-    subst (λ (t : List ℕ). length t < length (rest_of c.statements.s))
-    (sym c.in_ok-consume_statement.ensures.rest)
-    (statement-less this_edition (rest_of c.statements.s)
-    (rest_of c.at_statement.new.s) c.if-not-at_statement.ensures.reads)
+    statement-less this_edition (rest_of c.statements.s) (rest_of c.at_statement.new.s) _
+    c.if-not-at_statement.ensures.reads c.in_ok-consume_statement.ensures.rest
 
 pub statements-preserved : goal.statements-preserved
 statements-preserved g c =
     let read = statement this_edition (rest_of c.at_statement.new.s) in
     let step = rules_from-some this_edition (rest_of c.statements.s)
     (rest_of c.at_statement.new.s) c.if-not-at_statement.ensures.reads in
-    let add = g.P.Report.add in
-    let before = g.P.Report.state c.statements.report in
-    let start = rest_of c.at_statement.new.s in
     let next = rest_of c.consume_statement.new.s in
     let old = map rule_of c.statements.reader.rules.items in
     let more : map rule_of c.keep_rules.new.self.rules.items ≡ old ++ read.0 =
@@ -61,14 +56,10 @@ statements-preserved g c =
     c.consume_statement.ensures.kept
     ∙ ap (λ l. old ++ l) c.in_ok-consume_statement.ensures.rules in
     record {
-      reported = ap (λ t. add_each add t (skipped this_edition next))
-          c.in_ok-consume_statement.ensures.reported
-          ∙ sym (add_each-append add before (statement_skips this_edition start)
-          (skipped this_edition next))
-          ∙ ap (λ (t : List ℕ). add_each add before (statement_skips this_edition start
-          ++ skipped this_edition t)) c.in_ok-consume_statement.ensures.rest
-          ∙ ap (add_each add before) (sym (skipped-some this_edition (rest_of c.statements.s) start
-          c.if-not-at_statement.ensures.reads (c.if-not-at_statement.ensures.rest refl)))
+      reported = told-some g.P.Report.add this_edition (g.P.Report.state c.statements.report) _
+          (rest_of c.statements.s) (rest_of c.at_statement.new.s) next
+          c.if-not-at_statement.ensures.reads (c.if-not-at_statement.ensures.rest refl)
+          c.in_ok-consume_statement.ensures.rest c.in_ok-consume_statement.ensures.reported
           ∙ c.statements.invariant.reported;
       left = subst (λ rules. c.in_ok-left.left + declaration_count rules ≡ c.args.most.now) (sym more)
           (left-more old read.0 c.statements.left c.in_ok-left.left c.args.most.now

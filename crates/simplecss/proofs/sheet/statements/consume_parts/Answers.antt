@@ -1,4 +1,4 @@
-use Rattle.std.proofs.Common.{◌≡◌, ◌++◌, ◌<◌, List, ℕ, Option, length, option_to_list, refl, sym, ◌∙◌, ap, subst, append_assoc}
+use Rattle.std.proofs.Common.{◌≡◌, ◌++◌, List, ℕ, Option, option_to_list, refl, sym, ◌∙◌, ap, append_assoc}
 use Rattle.css_text.specs.AsciiBytes.{comma as comma_byte}
 use Rattle.css_text.specs.Bytes.{past_one}
 use Rattle.simplecss_grammar.specs.Components.{Component}
@@ -8,19 +8,14 @@ use Rattle.simplecss_grammar.proofs.reading.SkipLemmas.{add_each-append, parts_s
 use Rattle.css_text.specs.ThisEdition.{this_edition}
 use Rattle.css_text.specs.Cursor.{rest_of}
 use Rattle.css_text.proofs.bytes.ByteLemmas.{past_byte_there, past_byte_not}
-use Rattle.simplecss.proofs.StatementLemmas.{parts-some, parts-last, parts-less, pair-of}
+use Rattle.simplecss.proofs.StatementLemmas.{parts-some, parts-last, part-less, pair-of}
 use Rattle.simplecss.proofs.sheet.statements.consume_parts.Goals as goal
 
 pub parts-smaller : goal.parts-smaller
 parts-smaller g c =
-    let comma = sym c.skip_byte.ensures.occurs ∙ c.if-not-skip_byte.false in
-    let read : Option (List Component) × List ℕ = part this_edition (rest_of c.parts.s) in
-    let is : read ≡ (read.0, rest_of c.consume_part.new.s) =
-    pair-of {r = read} refl c.in_ok-consume_part.ensures.rest in
-    let after : rest_of c.skip_byte.new.s ≡ past_one (rest_of c.consume_part.new.s) =
-    c.skip_byte.ensures.rest ∙ past_byte_there comma_byte (rest_of c.consume_part.new.s) comma in
-    subst (λ (t : List ℕ). length t < length (rest_of c.parts.s)) (sym after)
-    (parts-less this_edition (rest_of c.parts.s) (rest_of c.consume_part.new.s) read.0 is comma)
+    part-less this_edition (rest_of c.parts.s) (rest_of c.consume_part.new.s) _
+    c.in_ok-consume_part.ensures.rest (sym c.skip_byte.ensures.occurs ∙ c.if-not-skip_byte.false)
+    c.skip_byte.ensures.rest
 
 pub parts-preserved : goal.parts-preserved
 parts-preserved g c =

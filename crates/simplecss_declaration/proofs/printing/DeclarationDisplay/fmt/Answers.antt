@@ -6,7 +6,7 @@ use Rattle.simplecss_declaration.proofs.printing.DeclarationDisplay.fmt.Goals as
 pub returns-clause-styled : goal.returns-clause-styled
 returns-clause-styled g c flush ok =
     let d = c.args.self.now in
-    let stated = c.in_ok-write_stated.ensures flush (refl {a = true}) in
+    let stated = c.in_ok-write_three.ensures flush (refl {a = true}) in
     let marked = c.in_ok-write_str.ensures.styled stated.flush (refl {a = true}) in
     let closed = c.write_str-2.ensures.styled marked.flush ok in
     styled_three g.W.Write.write_str_gives _ _ _ _ _ _ _ _ stated marked closed (ap

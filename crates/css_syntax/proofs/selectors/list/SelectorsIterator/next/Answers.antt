@@ -1,6 +1,7 @@
-use Rattle.std.proofs.Common.{◌≡◌, ◌∙◌, ap, sym, length, List, [], ◌∷◌, Bool, true, arith}
-use Rattle.css_syntax.specs.SelectorLists.{ListedText, selectors_from, selectors_to_come, listed_of}
+use Rattle.std.proofs.Common.{◌≡◌, ◌∙◌, ap, sym, [], ◌∷◌, Bool, true}
+use Rattle.css_syntax.specs.SelectorLists.{selectors_from, selectors_to_come, listed_of}
 use Rattle.css_syntax.proofs.ListLemmas.{more-some, more-none}
+use Rattle.css_syntax.proofs.ListSteps.{item_goes}
 use Rattle.css_syntax.proofs.selectors.list.SelectorsIterator.next.Goals as goal
 
 pub returns-in-Some-clause-steps : goal.returns-in-Some-clause-steps
@@ -25,11 +26,7 @@ returns-in-Some-clause-goes c =
     ap (λ (b : Bool). selectors_from b old.rest.now) begun
     ∙ more-some old.rest.now found.rest.now (listed_of found.selector) c.in-Some.ensures.read
     ∙ ap (λ (b : Bool). listed_of found.selector ∷ selectors_from b found.rest.now) (sym begun) in
-    record {
-      on = λ _. (tt, tt, omega (arith, ap (λ (l : List ListedText). length l) step));
-      keeps = tt;
-      rests = λ _. tt;
-    }
+    item_goes _ selectors_to_come _ _ _ (listed_of found.selector) tt step
 
 pub returns-in-None-clause-steps : goal.returns-in-None-clause-steps
 returns-in-None-clause-steps c =

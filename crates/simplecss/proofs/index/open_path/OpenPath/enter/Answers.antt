@@ -52,5 +52,5 @@ returns-clause-opened g c = λ path.
     )
     c.len.ensures (omega (arith, c.len-2.ensures, c.self.inside.starts.ok.0))
     c.in_ok-push.ensures.items
-    (c.in_ok-add_all.ensures.opened ∙ ap (λ xs. c.self.inside.keys.listed ++ xs)
+    (c.in_ok-add_all.ensures.listed ∙ ap (λ xs. c.self.inside.keys.listed ++ xs)
     c.deref.ensures.value)

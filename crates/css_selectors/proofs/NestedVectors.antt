@@ -1,0 +1,72 @@
+-- Lists of nested rules, computed with the definitions: each as Chromium serializes it.
+use Rattle.std.specs.Prelude.{◌≡◌, refl, ℕ, [], ◌∷◌, List, codes, map}
+use Rattle.css_text.specs.Comments.{blank, comment, gap as gap_before}
+use Rattle.css_text.specs.Reading.{each}
+use Rattle.css_syntax.specs.Tokens.{past_escape, past_comment, name_part, string_part}
+use Rattle.css_syntax.specs.Escapes.{decoded_part, decoded_in}
+use Rattle.css_selectors.specs.declared.components.Nesting.{Nesting}
+use Rattle.css_selectors.specs.declared.refusal.Why.TheVariants.{NoSelector, Unexpected}
+use Rattle.css_selectors.specs.Components.{Placed}
+use Rattle.css_selectors.specs.Grammar.{gap, ident_sequence, name, string, value, comparison, flag, compared, attribute_selector, type_selector, next_simple, compound, next_part_in, complex, past_part, listed_part, next_listed, complex_list, next_condition, conditions, next_part, element_argument, element_name, after_element, pseudo_element, parts, relative_parts, placed_by, next_placed, placed_list_by}
+use Rattle.css_selectors.specs.Nested.{nested_list}
+use Rattle.css_selectors.specs.Printing.{selector_text}
+use Rattle.css_selectors.specs.Readings.{Reading, got, refused}
+
+abbrev parent : Nesting
+parent = record { number = 7; specificity = record { ids = 0; classes = 2; names = 0 } }
+
+-- how each selector prints
+abbrev shown : Reading (List Placed) → Reading (List (List ℕ))
+shown (got all rest) = got (map (λ p. selector_text p.selector) all) rest
+shown (refused why rest) = refused why rest
+
+abbrev read : List ℕ → Reading (List (List ℕ))
+read text = shown (nested_list parent text)
+
+abbrev prints : List ℕ → Reading (List (List ℕ))
+prints text = got (text ∷ []) []
+
+pub joined :
+    (read (codes ".x") ≡ prints (codes "& .x"))
+    × (read (codes "& .x") ≡ prints (codes "& .x"))
+    × (read (codes ".x &") ≡ prints (codes ".x &"))
+    × (read (codes "a&") ≡ prints (codes "a&"))
+    × (read (codes "a b") ≡ prints (codes "& a b"))
+    × (read (codes "::before") ≡ prints (codes "& ::before"))
+    × (read (codes "&::before") ≡ prints (codes "&::before"))
+    × (read (codes "[a='&']") ≡ prints (codes "& [a=\"&\"]"))
+unfolding each past_escape past_comment name_part string_part decoded_part decoded_in blank comment gap_before gap
+    ident_sequence name string value comparison flag compared attribute_selector type_selector next_simple
+    next_condition conditions next_part element_argument element_name after_element pseudo_element parts
+    relative_parts placed_by next_placed placed_list_by lib.Utf8.encode
+joined = (refl, refl, refl, refl, refl, refl, refl, refl)
+
+pub relative :
+    (read (codes "> b") ≡ prints (codes "& > b"))
+    × (read (codes "~b") ≡ prints (codes "& ~ b"))
+    × (read (codes "> & b") ≡ prints (codes "& > & b"))
+    × (read (codes "+ &") ≡ prints (codes "& + &"))
+    × (read (codes ">::before") ≡ prints (codes "& > ::before"))
+    × (read (codes "/**/> /**/ b") ≡ prints (codes "& > b"))
+    × (read (codes ">b,c") ≡ got (codes "& > b" ∷ codes "& c" ∷ []) [])
+    × (read (codes ">> b") ≡ refused NoSelector (codes "> b"))
+    × (read (codes "> ") ≡ refused NoSelector [])
+    × (read (codes "&a") ≡ refused Unexpected (codes "a"))
+    × (read (codes "&*") ≡ refused Unexpected (codes "*"))
+    × (read (codes "&1") ≡ refused Unexpected (codes "1"))
+unfolding each past_escape past_comment name_part decoded_part decoded_in blank comment gap_before gap
+    ident_sequence name type_selector next_simple next_condition conditions next_part element_argument
+    element_name after_element pseudo_element parts relative_parts placed_by next_placed placed_list_by lib.Utf8.encode
+relative = (refl, refl, refl, refl, refl, refl, refl, refl, refl, refl, refl, refl)
+
+pub in_lists :
+    (read (codes ":is(&)") ≡ prints (codes ":is(&)"))
+    × (read (codes ":not(.x)") ≡ prints (codes "& :not(.x)"))
+    × (read (codes ":is(.x, &) y") ≡ prints (codes ":is(.x, &) y"))
+    × (read (codes ":is(:is(&))") ≡ prints (codes ":is(:is(&))"))
+    × (read (codes ":scope > b") ≡ prints (codes "& :scope > b"))
+unfolding each past_escape past_comment name_part decoded_part decoded_in blank comment gap_before gap
+    ident_sequence name type_selector next_simple compound next_part_in complex past_part listed_part
+    next_listed complex_list next_condition conditions next_part element_argument
+    element_name after_element pseudo_element parts relative_parts placed_by next_placed placed_list_by lib.Utf8.encode
+in_lists = (refl, refl, refl, refl, refl)

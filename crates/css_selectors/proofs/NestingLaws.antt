@@ -1,0 +1,345 @@
+-- `&` is `:is()` of the list that it stands for: it matches the same, counts the same, and is printed
+-- as it is read.
+-- Serves `nesting_laws::nesting_law`.
+use Rattle.std.proofs.Common.{◌≡◌, ℕ, zero, suc, ◌+◌, ◌-◌, ◌↔◌, ◌⊎◌, inl, inr, List, [], ◌∷◌, ◌++◌, map, IsTrue, Option, None, Some, refl, sym, ap, ◌∙◌, subst}
+use Rattle.std.specs.Prelude.{codes}
+use Rattle.std.specs.List.{flat_map}
+use Rattle.std.specs.Option.{option_map}
+use Rattle.css_matching.specs.declared.Combinator.{Combinator}
+use Rattle.css_matching.specs.Trees.{Tree}
+use Rattle.css_matching.specs.Placements.{HasPlacement, Relates}
+use Rattle.css_selectors.specs.declared.components.Nesting.{Nesting}
+use Rattle.css_selectors.specs.Documents.{Document, shape}
+use Rattle.css_selectors.specs.Components.{Simple, Condition, Conditions, Parts, Selectors, Part, PseudoElement, Selector, conditions_from, parts_from}
+use Rattle.css_selectors.specs.Components.Simple.{universal, type_name, id, class, has_attribute, attribute, structure, language, state, function, named_element, nesting}
+use Rattle.css_selectors.specs.Components.Condition.{simple, negation, any_of, where_any}
+use Rattle.css_selectors.specs.Components.Conditions.{end_of_compound, with_condition}
+use Rattle.css_selectors.specs.Components.Parts.{end_of_selector, with_part}
+use Rattle.css_selectors.specs.Components.Selectors.{end_of_list, with_selector}
+use Rattle.css_selectors.specs.Meanings.{combinator_at, part_count, IsMet, AreMet, MeetsPart, MatchesAny, IsPlaced, Matches}
+use Rattle.css_selectors.specs.Nested.{simple_under, selector_under}
+use Rattle.css_selectors.specs.Printing.{simple_text, condition_text, compound_text, complex_text, further_parts_text, selectors_text, further_selectors_text, part_text, parts_text, combinator_text, function_text, pseudo_element_text, selector_text}
+use Rattle.css_selectors.specs.Simples.{condition_with, compound_with, complex_with, selectors_with, part_with, pseudo_element_with}
+use Rattle.css_selectors.specs.Specificities.{Counts, nothing, one_name, plus, greater, of_simple, of_condition, of_compound, of_parts, greatest, of_pseudo_element, specificity}
+use Rattle.css_selectors.specs.SpecificityViews.{counts_of}
+use Rattle.css_selectors.specs.SpelledOut.{spelled_simple, spelled_condition, spelled_compound, spelled_complex, spelled_list, spelled_part, spelled_element, spelled_selector}
+use Rattle.css_selectors.proofs.NestingLemmas.{compound_with-from, complex_with-from}
+
+-- ---- as lists
+
+spelled_compound-from : (all : Selectors) (cs : List Condition)
+    → spelled_compound all (conditions_from cs) ≡ conditions_from (map (spelled_condition all) cs)
+spelled_compound-from all [] = refl
+spelled_compound-from all (c ∷ cs) =
+    ap (with_condition (spelled_condition all c)) (spelled_compound-from all cs)
+
+spelled_complex-from : (all : Selectors) (ps : List Part)
+    → spelled_complex all (parts_from ps) ≡ parts_from (map (spelled_part all) ps)
+spelled_complex-from all [] = refl
+spelled_complex-from all (p ∷ ps) =
+    ap (λ x. with_part p.combinator x (spelled_complex all (parts_from ps)))
+    (spelled_compound-from all p.conditions)
+    ∙ ap (with_part p.combinator (conditions_from (map (spelled_condition all) p.conditions)))
+    (spelled_complex-from all ps)
+
+-- ---- matching
+
+either_so : {A B C D : Type 0} → (A → C) → (B → D) → A ⊎ B → C ⊎ D
+either_so f g (inl x) = inl (f x)
+either_so f g (inr x) = inr (g x)
+
+one_more_same : {A B C D : Type 0} → (A ↔ C) → (B ↔ D) → (A ⊎ B) ↔ (C ⊎ D)
+one_more_same k l = (λ h. either_so k.0 l.0 h, λ h. either_so k.1 l.1 h)
+
+-- a placement is one of parts that ask less, joined alike
+placed_so : {Node : Type 0} (tree : Tree Node) (c e : ℕ → Combinator) (M N : ℕ → Node → Type 0)
+    (last : ℕ) (n : Node) → ((i : ℕ) → c i ≡ e i) → ((i : ℕ) (m : Node) → M i m → N i m)
+    → HasPlacement tree c M last n → HasPlacement tree e N last n
+placed_so tree c e M N last n joined asks h = (
+  h.0,
+  record {
+    meets = λ k le. asks k (h.0 k) (h.1.meets k le);
+    relates = λ k lt. subst (λ x. Relates tree x (h.0 k) (h.0 (k + 1))) (joined (k + 1))
+        (h.1.relates k lt);
+    ends = h.1.ends;
+  },
+)
+
+module _ (list : Nesting) (all : Selectors) where
+  joined_same : (ps : Parts) (i : ℕ)
+      → combinator_at (complex_with (simple_under list) ps) i
+      ≡ combinator_at (spelled_complex all ps) i
+  joined_same end_of_selector i = refl
+  joined_same (with_part k c ps) zero = refl
+  joined_same (with_part k c ps) (suc i) = joined_same ps i
+
+  counted_same : (ps : Parts)
+      → part_count (complex_with (simple_under list) ps) ≡ part_count (spelled_complex all ps)
+  counted_same end_of_selector = refl
+  counted_same (with_part k c ps) = ap (λ n. n + 1) (counted_same ps)
+
+  no_element : (e : Option PseudoElement)
+      → (option_map (pseudo_element_with (simple_under list)) e ≡ None)
+      ↔ (option_map (spelled_element all) e ≡ None)
+  no_element None = (λ h. refl, λ h. refl)
+  no_element (Some e) = (λ h. absurd (cc), λ h. absurd (cc))
+
+  module _ {Node : Type 0} (d : Document Node)
+      (answers : (n : Node) → IsTrue (d.is_in_list n list.number) ↔ MatchesAny d all n) where
+    placed_same : (ps : Parts) (n : Node)
+        → ((i : ℕ) (m : Node) → MeetsPart d (complex_with (simple_under list) ps) i m
+        ↔ MeetsPart d (spelled_complex all ps) i m)
+        → IsPlaced d (complex_with (simple_under list) ps) n ↔ IsPlaced d (spelled_complex all ps) n
+    placed_same ps n meets = (
+      λ h. subst (λ k. HasPlacement (shape d) (combinator_at (spelled_complex all ps))
+          (MeetsPart d (spelled_complex all ps)) (k - 1) n) (counted_same ps)
+          (placed_so (shape d) (combinator_at (complex_with (simple_under list) ps))
+          (combinator_at (spelled_complex all ps)) (MeetsPart d (complex_with (simple_under list) ps))
+          (MeetsPart d (spelled_complex all ps))
+          (part_count (complex_with (simple_under list) ps) - 1) n (joined_same ps)
+          (λ i m. (meets i m).0) h),
+      λ h. subst (λ k. HasPlacement (shape d) (combinator_at (complex_with (simple_under list) ps))
+          (MeetsPart d (complex_with (simple_under list) ps)) (k - 1) n) (sym (counted_same ps))
+          (placed_so (shape d) (combinator_at (spelled_complex all ps))
+          (combinator_at (complex_with (simple_under list) ps)) (MeetsPart d (spelled_complex all ps))
+          (MeetsPart d (complex_with (simple_under list) ps))
+          (part_count (spelled_complex all ps) - 1) n (λ i. sym (joined_same ps i))
+          (λ i m. (meets i m).1) h),
+    )
+
+    simple_same : (s : Simple) (n : Node)
+        → IsMet d (simple (simple_under list s)) n ↔ IsMet d (spelled_simple all s) n
+    simple_same universal n = (λ h. h, λ h. h)
+    simple_same (type_name name) n = (λ h. h, λ h. h)
+    simple_same (id text) n = (λ h. h, λ h. h)
+    simple_same (class word) n = (λ h. h, λ h. h)
+    simple_same (has_attribute name) n = (λ h. h, λ h. h)
+    simple_same (attribute name c text ignores) n = (λ h. h, λ h. h)
+    simple_same (structure s) n = (λ h. h, λ h. h)
+    simple_same (language ranges) n = (λ h. h, λ h. h)
+    simple_same (state name) n = (λ h. h, λ h. h)
+    simple_same (function name argument) n = (λ h. h, λ h. h)
+    simple_same (named_element name argument) n = (λ h. h, λ h. h)
+    simple_same (nesting other) n = answers n
+
+    mutual
+      condition_same : (c : Condition) (n : Node)
+          → IsMet d (condition_with (simple_under list) c) n ↔ IsMet d (spelled_condition all c) n
+      condition_same (simple s) n = simple_same s n
+      condition_same (negation ss) n =
+          let k = list_same ss n in (λ f m. f (k.1 m), λ f m. f (k.0 m))
+      condition_same (any_of ss) n = list_same ss n
+      condition_same (where_any ss) n = list_same ss n
+
+      compound_same : (cs : Conditions) (n : Node)
+          → AreMet d (compound_with (simple_under list) cs) n ↔ AreMet d (spelled_compound all cs) n
+      compound_same end_of_compound n = (λ h. h, λ h. h)
+      compound_same (with_condition c cs) n =
+          let k = condition_same c n in
+          let l = compound_same cs n in
+          (λ h. (k.0 h.0, l.0 h.1), λ h. (k.1 h.0, l.1 h.1))
+
+      part_same : (ps : Parts) (i : ℕ) (n : Node)
+          → MeetsPart d (complex_with (simple_under list) ps) i n
+          ↔ MeetsPart d (spelled_complex all ps) i n
+      part_same end_of_selector i n = (λ h. h, λ h. h)
+      part_same (with_part k c ps) zero n = compound_same c n
+      part_same (with_part k c ps) (suc i) n = part_same ps i n
+
+      list_same : (ss : Selectors) (n : Node)
+          → MatchesAny d (selectors_with (simple_under list) ss) n
+          ↔ MatchesAny d (spelled_list all ss) n
+      list_same end_of_list n = (λ h. h, λ h. h)
+      list_same (with_selector ps ss) n =
+          one_more_same (placed_same ps n (part_same ps)) (list_same ss n)
+
+    pub matches_same : (s : Selector) (n : Node)
+        → Matches d (selector_under list s) n ↔ Matches d (spelled_selector all s) n
+    matches_same s n =
+        let k = placed_same (parts_from s.parts) n (part_same (parts_from s.parts)) in
+        let e = no_element s.pseudo_element in (
+          λ h. (
+            e.0 h.0,
+            subst (λ p. IsPlaced d p n) (spelled_complex-from all s.parts)
+                (k.0 (subst (λ p. IsPlaced d p n)
+                (sym (complex_with-from (simple_under list) s.parts)) h.1)),
+          ),
+          λ h. (
+            e.1 h.0,
+            subst (λ p. IsPlaced d p n) (complex_with-from (simple_under list) s.parts)
+                (k.1 (subst (λ p. IsPlaced d p n) (sym (spelled_complex-from all s.parts)) h.1)),
+          ),
+        )
+
+  -- ---- specificity
+
+  module _ (counts : counts_of list.specificity ≡ greatest nothing all) where
+    simple_counts : (s : Simple)
+        → of_simple (simple_under list s) ≡ of_condition (spelled_simple all s)
+    simple_counts universal = refl
+    simple_counts (type_name name) = refl
+    simple_counts (id text) = refl
+    simple_counts (class word) = refl
+    simple_counts (has_attribute name) = refl
+    simple_counts (attribute name c text ignores) = refl
+    simple_counts (structure s) = refl
+    simple_counts (language ranges) = refl
+    simple_counts (state name) = refl
+    simple_counts (function name argument) = refl
+    simple_counts (named_element name argument) = refl
+    simple_counts (nesting other) = counts
+
+    mutual
+      condition_counts : (c : Condition)
+          → of_condition (condition_with (simple_under list) c) ≡ of_condition (spelled_condition all c)
+      condition_counts (simple s) = simple_counts s
+      condition_counts (negation ss) = list_counts ss nothing
+      condition_counts (any_of ss) = list_counts ss nothing
+      condition_counts (where_any ss) = refl
+
+      compound_counts : (cs : Conditions) (so_far : Counts)
+          → of_compound so_far (compound_with (simple_under list) cs)
+          ≡ of_compound so_far (spelled_compound all cs)
+      compound_counts end_of_compound so_far = refl
+      compound_counts (with_condition c cs) so_far =
+          ap (λ x. of_compound (plus so_far x) (compound_with (simple_under list) cs))
+          (condition_counts c)
+          ∙ compound_counts cs (plus so_far (of_condition (spelled_condition all c)))
+
+      parts_count : (ps : Parts) (so_far : Counts)
+          → of_parts so_far (complex_with (simple_under list) ps)
+          ≡ of_parts so_far (spelled_complex all ps)
+      parts_count end_of_selector so_far = refl
+      parts_count (with_part k c ps) so_far =
+          ap (λ x. of_parts x (complex_with (simple_under list) ps)) (compound_counts c so_far)
+          ∙ parts_count ps (of_compound so_far (spelled_compound all c))
+
+      list_counts : (ss : Selectors) (so_far : Counts)
+          → greatest so_far (selectors_with (simple_under list) ss)
+          ≡ greatest so_far (spelled_list all ss)
+      list_counts end_of_list so_far = refl
+      list_counts (with_selector s ss) so_far =
+          ap (λ x. greatest (greater so_far x) (selectors_with (simple_under list) ss))
+          (parts_count s nothing)
+          ∙ list_counts ss (greater so_far (of_parts nothing (spelled_complex all s)))
+
+    element_counts : (e : Option PseudoElement)
+        → of_pseudo_element (option_map (pseudo_element_with (simple_under list)) e)
+        ≡ of_pseudo_element (option_map (spelled_element all) e)
+    element_counts None = refl
+    element_counts (Some e) =
+        ap (of_compound one_name) (sym (compound_with-from (simple_under list) e.after))
+        ∙ compound_counts (conditions_from e.after) one_name
+        ∙ ap (of_compound one_name) (spelled_compound-from all e.after)
+
+    pub specificity_same : (s : Selector)
+        → specificity (selector_under list s) ≡ specificity (spelled_selector all s)
+    specificity_same s =
+        ap (λ x. plus x (of_pseudo_element
+        (option_map (pseudo_element_with (simple_under list)) s.pseudo_element)))
+        (ap (of_parts nothing) (sym (complex_with-from (simple_under list) s.parts))
+        ∙ parts_count (parts_from s.parts) nothing
+        ∙ ap (of_parts nothing) (spelled_complex-from all s.parts))
+        ∙ ap (plus (of_parts nothing (parts_from (map (spelled_part all) s.parts))))
+        (element_counts s.pseudo_element)
+
+-- ---- printing
+
+module _ (list : Nesting) where
+  simple_prints : (s : Simple) → simple_text (simple_under list s) ≡ simple_text s
+  simple_prints universal = refl
+  simple_prints (type_name name) = refl
+  simple_prints (id text) = refl
+  simple_prints (class word) = refl
+  simple_prints (has_attribute name) = refl
+  simple_prints (attribute name c text ignores) = refl
+  simple_prints (structure s) = refl
+  simple_prints (language ranges) = refl
+  simple_prints (state name) = refl
+  simple_prints (function name argument) = refl
+  simple_prints (named_element name argument) = refl
+  simple_prints (nesting other) = refl
+
+  mutual
+    condition_prints : (c : Condition)
+        → condition_text (condition_with (simple_under list) c) ≡ condition_text c
+    condition_prints (simple s) = simple_prints s
+    condition_prints (negation ss) = ap (function_text (codes ":not(")) (list_prints ss)
+    condition_prints (any_of ss) = ap (function_text (codes ":is(")) (list_prints ss)
+    condition_prints (where_any ss) = ap (function_text (codes ":where(")) (list_prints ss)
+
+    compound_prints : (cs : Conditions)
+        → compound_text (compound_with (simple_under list) cs) ≡ compound_text cs
+    compound_prints end_of_compound = refl
+    compound_prints (with_condition c cs) =
+        ap (λ t. t ++ compound_text (compound_with (simple_under list) cs)) (condition_prints c)
+        ∙ ap (λ t. condition_text c ++ t) (compound_prints cs)
+
+    complex_prints : (ps : Parts)
+        → complex_text (complex_with (simple_under list) ps) ≡ complex_text ps
+    complex_prints end_of_selector = refl
+    complex_prints (with_part k c ps) =
+        ap (λ t. t ++ further_parts_text (complex_with (simple_under list) ps)) (compound_prints c)
+        ∙ ap (λ t. compound_text c ++ t) (further_prints ps)
+
+    further_prints : (ps : Parts)
+        → further_parts_text (complex_with (simple_under list) ps) ≡ further_parts_text ps
+    further_prints end_of_selector = refl
+    further_prints (with_part k c ps) =
+        ap (λ t. combinator_text k ++ t ++ further_parts_text (complex_with (simple_under list) ps))
+        (compound_prints c)
+        ∙ ap (λ t. combinator_text k ++ compound_text c ++ t) (further_prints ps)
+
+    list_prints : (ss : Selectors)
+        → selectors_text (selectors_with (simple_under list) ss) ≡ selectors_text ss
+    list_prints end_of_list = refl
+    list_prints (with_selector s ss) =
+        ap (λ t. t ++ further_selectors_text (selectors_with (simple_under list) ss))
+        (complex_prints s)
+        ∙ ap (λ t. complex_text s ++ t) (more_prints ss)
+
+    more_prints : (ss : Selectors)
+        → further_selectors_text (selectors_with (simple_under list) ss) ≡ further_selectors_text ss
+    more_prints end_of_list = refl
+    more_prints (with_selector s ss) =
+        ap (λ t. codes ", " ++ t ++ further_selectors_text (selectors_with (simple_under list) ss))
+        (complex_prints s)
+        ∙ ap (λ t. codes ", " ++ complex_text s ++ t) (more_prints ss)
+
+  row_prints : (cs : List Condition)
+      → flat_map condition_text (map (condition_with (simple_under list)) cs)
+      ≡ flat_map condition_text cs
+  row_prints [] = refl
+  row_prints (c ∷ cs) =
+      ap (λ t. t ++ flat_map condition_text (map (condition_with (simple_under list)) cs))
+      (condition_prints c)
+      ∙ ap (λ t. condition_text c ++ t) (row_prints cs)
+
+  joined_prints : (ps : List Part)
+      → flat_map part_text (map (part_with (simple_under list)) ps) ≡ flat_map part_text ps
+  joined_prints [] = refl
+  joined_prints (p ∷ ps) =
+      ap (λ t. (combinator_text p.combinator ++ t)
+      ++ flat_map part_text (map (part_with (simple_under list)) ps)) (row_prints p.conditions)
+      ∙ ap (λ t. part_text p ++ t) (joined_prints ps)
+
+  parts_print : (ps : List Part)
+      → parts_text (map (part_with (simple_under list)) ps) ≡ parts_text ps
+  parts_print [] = refl
+  parts_print (p ∷ ps) =
+      ap (λ t. t ++ flat_map part_text (map (part_with (simple_under list)) ps))
+      (row_prints p.conditions)
+      ∙ ap (λ t. flat_map condition_text p.conditions ++ t) (joined_prints ps)
+
+  element_prints : (e : Option PseudoElement)
+      → pseudo_element_text (option_map (pseudo_element_with (simple_under list)) e)
+      ≡ pseudo_element_text e
+  element_prints None = refl
+  element_prints (Some e) =
+      ap (λ t. simple_text (named_element e.name e.argument) ++ t) (row_prints e.after)
+
+  pub selector_prints : (s : Selector) → selector_text (selector_under list s) ≡ selector_text s
+  selector_prints s =
+      ap (λ t. t ++ pseudo_element_text
+      (option_map (pseudo_element_with (simple_under list)) s.pseudo_element)) (parts_print s.parts)
+      ∙ ap (λ t. parts_text s.parts ++ t) (element_prints s.pseudo_element)

@@ -1,0 +1,153 @@
+-- What a call for modern selectors answers.
+-- Serves `modern::{list, refusal, page_lines, match_selectors, select}`.
+use Rattle.std.proofs.Common.{◌≡◌, ℕ, List, length, map, Option, None, Some, inl, inr, sym, ap, subst, ◌∙◌}
+use Rattle.std.specs.Prelude.{Result, Ok, Err, MatchResult, string_bytes}
+use Rattle.std.specs.Result.{IsErrAnd}
+use Rattle.std.specs.declared.string.String.{String}
+use Rattle.std.specs.Str.{IsUtf8}
+use Rattle.css_syntax.specs.PlacedSelectors.{placed_selectors}
+use Rattle.css_sheet.specs.RuleSelectors.{selector_of}
+use Rattle.css_selectors.specs.Components.{Selector}
+use Rattle.css_selectors.specs.Supported.{supported_list}
+use Rattle.css_tree.specs.Pages.{Page}
+use Rattle.simplecss_tree.specs.Rows.{Row}
+use Rattle.simplecss_c.specs.declared.answer.CallError.{CallError}
+use Rattle.simplecss_c.specs.declared.answer.CallError.TheVariants.{Memory}
+use Rattle.simplecss_c.specs.declared.modern.reading.Reading.{Reading}
+use Rattle.simplecss_c.specs.declared.pages.LineContent.{LineContent}
+use Rattle.simplecss_c.specs.declared.pages.LineContent.TheVariants.{Numbers, Selected}
+use Rattle.simplecss_c.specs.Outcomes.{outcome_of}
+use Rattle.simplecss_c.specs.Calls.{FailsFor, FailsWithin, FailsLonger, HasTexts, HasNoSelector, AreSelectorsIn, HasBadEnds, IsBrokenUtf8, Passed, passed_tree}
+use Rattle.simplecss_c.specs.ModernCalls.{AreReadLines, IsModernListCall, IsModernRefusalCall, IsModernMatchCall, IsModernSelectCall}
+use Rattle.simplecss_c.specs.ModernLines.{AreListedLines, listed_texts, IsRefusalLine, page_with, AreModernLines}
+use Rattle.simplecss_c.specs.Readings.{selector_as, selectors_of}
+use Rattle.simplecss_c.proofs.ModernPages.{fails_wider}
+use Rattle.simplecss_c.proofs.Limits.{fails_within, within_wider, longer_wider}
+
+-- a failure that is handed on
+pub handed-on : {Z : Type 0} (Is : Result (List ℕ) CallError → Type 0) (r : Result (String Z) CallError)
+    (error : CallError) → IsErrAnd r (λ reported. reported ≡ error) → Is (Err error)
+    → Is (outcome_of r)
+handed-on Is (Ok text) error is due = absurd is
+handed-on Is (Err reported) error is due = subst (λ e. Is (Err e)) (sym is) due
+
+-- the same of a call whose contract has a case for each outcome
+pub handed-match : {V : Type 0} (Is : V → Type 0) (Fails : CallError → Type 0)
+    (r : Result V CallError) (error : CallError) → IsErrAnd r (λ reported. reported ≡ error)
+    → Fails error → MatchResult r Is Fails
+handed-match Is Fails (Ok x) error is due = absurd is
+handed-match Is Fails (Err reported) error is due = subst Fails (sym is) due
+
+-- why there are no lines of a tree that is read
+abbrev pub ReadFails : Passed → (IsLonger : Type 0) → CallError → Type 0
+ReadFails passed IsLonger =
+    FailsWithin ⊥ (λ fault. passed_tree passed ≡ Err fault) (¬ (IsUtf8 passed.strings)) ⊥ IsLonger
+
+-- the lines, or why there are none
+abbrev pub ReadLines : {Z : Type 0} → Result (String Z) CallError → (Option (List ℕ) → Type 0)
+    → Passed → Type 0
+ReadLines r IsAnswer passed =
+    MatchResult r (λ text. IsAnswer (Some (string_bytes text)))
+    (ReadFails passed (IsAnswer None))
+
+-- the lines that are due for a page
+pub lines-due : {Z : Type 0} (most : ℕ) (content : LineContent) (reading : Reading)
+    (selectors : List Selector) (passed : Passed) (rows : List Row) (page : Page) → IsUtf8 passed.strings → passed_tree passed ≡ Ok rows
+    → page ≡ page_with passed.elements rows → (r : Result (String Z) CallError)
+    → MatchResult r (λ text. AreModernLines most content (map (selector_as reading) selectors) page
+    (Some (string_bytes text)))
+    (FailsLonger (AreModernLines most content (map (selector_as reading) selectors) page None))
+    → ReadLines r (AreReadLines most content reading selectors passed) passed
+lines-due most content reading selectors passed rows page utf8 tree same (Ok text) due = (
+  rows,
+  utf8,
+  tree,
+  subst (λ p. AreModernLines most content (map (selector_as reading) selectors) p
+      (Some (string_bytes text))) same due,
+)
+lines-due most content reading selectors passed rows page utf8 tree same (Err error) due =
+    longer_wider _ _ _ _ (λ longer. (
+      rows,
+      utf8,
+      tree,
+      subst (λ p. AreModernLines most content (map (selector_as reading) selectors) p None) same
+          longer,
+    )) error due
+
+-- the lines of the selectors of a list, of a text that was read
+pub listed-due : {Z : Type 0} (text read : List ℕ) → read ≡ text → IsUtf8 text
+    → (r : Result (String Z) CallError)
+    → MatchResult r
+    (λ lines. AreListedLines (length read) (placed_selectors read) (string_bytes lines))
+    (λ error. FailsFor (HasNoSelector selector_of (listed_texts read)) (λ fault. ⊥) ⊥ error)
+    → IsModernListCall text (outcome_of r)
+listed-due text read same utf8 (Ok lines) due = (
+  utf8,
+  subst (λ t. AreListedLines (length t) (placed_selectors t) (string_bytes lines)) same due,
+)
+listed-due text read same utf8 (Err error) due =
+    fails_wider (λ none. subst (λ t. HasNoSelector selector_of (listed_texts t)) same none)
+    (λ fault is. absurd is) (λ is. absurd is) error due
+
+-- the line of a refusal, of a text that was read
+pub refusal-due : {Z : Type 0} (text read : List ℕ) → read ≡ text → IsUtf8 text
+    → (r : Result (String Z) CallError)
+    → MatchResult r (λ line. IsRefusalLine read (supported_list read) (string_bytes line))
+    (λ error. error ≡ Memory)
+    → IsModernRefusalCall text (outcome_of r)
+refusal-due text read same utf8 (Ok line) due =
+    (utf8, subst (λ t. IsRefusalLine t (supported_list t) (string_bytes line)) same due)
+refusal-due text read same utf8 (Err error) due =
+    subst (λ e. IsModernRefusalCall text (Err e)) (sym due) tt
+
+-- the lines that are due for the selectors of texts
+pub match-due : {Z : Type 0} (most : ℕ) (buffer ends : List ℕ) (reading : Reading) (passed : Passed)
+    (texts : List (List ℕ)) (selectors : List Selector) → HasTexts buffer ends texts
+    → AreSelectorsIn selector_of texts selectors → (r : Result (String Z) CallError)
+    → ReadLines r (AreReadLines most Numbers reading selectors passed) passed
+    → IsModernMatchCall most buffer ends reading passed (outcome_of r)
+match-due most buffer ends reading passed texts selectors has read (Ok text) due =
+    (texts, selectors, has, read, due)
+match-due most buffer ends reading passed texts selectors has read (Err error) due =
+    within_wider (λ is. absurd is) (λ fault is. is) (λ broken. inr broken) (λ is. is)
+    (λ longer. (texts, selectors, has, read, longer)) error due
+
+-- why the texts are none
+pub texts-failed : (most : ℕ) (buffer ends : List ℕ) (reading : Reading) (passed : Passed)
+    (error : CallError)
+    → FailsFor (HasBadEnds buffer ends) (λ fault. ⊥) (IsBrokenUtf8 buffer ends) error
+    → IsModernMatchCall most buffer ends reading passed (Err error)
+texts-failed most buffer ends reading passed error h =
+    within_wider (λ bad. inl bad) (λ fault is. absurd is) (λ broken. inl broken) (λ is. is)
+    (λ is. absurd is) error
+    (fails_within (HasBadEnds buffer ends) (λ fault. ⊥) (IsBrokenUtf8 buffer ends) ⊥ ⊥ error h)
+
+-- why the texts are no selectors
+pub selectors-failed : (most : ℕ) (buffer ends : List ℕ) (reading : Reading) (passed : Passed)
+    (texts : List (List ℕ)) → HasTexts buffer ends texts → (error : CallError)
+    → FailsFor (HasNoSelector selector_of texts) (λ fault. ⊥) ⊥ error
+    → IsModernMatchCall most buffer ends reading passed (Err error)
+selectors-failed most buffer ends reading passed texts has error h =
+    within_wider (λ none. inr (texts, has, none)) (λ fault is. absurd is) (λ is. absurd is)
+    (λ is. is) (λ is. absurd is) error
+    (fails_within (HasNoSelector selector_of texts) (λ fault. ⊥) ⊥ ⊥ ⊥ error h)
+
+-- the lines that are due for a list of selectors
+pub select-due : {Z : Type 0} (most : ℕ) (text : List ℕ) (reading : Reading) (passed : Passed)
+    (selectors : List Selector) → IsUtf8 text → selectors_of text ≡ Some selectors
+    → (r : Result (String Z) CallError)
+    → ReadLines r (AreReadLines most Selected reading selectors passed) passed
+    → IsModernSelectCall most text reading passed (outcome_of r)
+select-due most text reading passed selectors utf8 is (Ok lines) due = (selectors, utf8, is, due)
+select-due most text reading passed selectors utf8 is (Err error) due =
+    within_wider (λ is. absurd is) (λ fault is. is) (λ broken. inr broken) (λ is. is)
+    (λ longer. (selectors, utf8, is, longer)) error due
+
+-- why the text is no list
+pub list-failed : (most : ℕ) (text read : List ℕ) (reading : Reading) (passed : Passed) → read ≡ text
+    → (error : CallError) → FailsFor (selectors_of read ≡ None) (λ fault. ⊥) ⊥ error
+    → IsModernSelectCall most text reading passed (Err error)
+list-failed most text read reading passed same error h =
+    within_wider (λ none. ap selectors_of (sym same) ∙ none) (λ fault is. absurd is)
+    (λ is. absurd is) (λ is. is) (λ is. absurd is) error
+    (fails_within (selectors_of read ≡ None) (λ fault. ⊥) ⊥ ⊥ ⊥ error h)

@@ -1,0 +1,133 @@
+-- The elements of a tree as a page, which of them have a text, and the failures of calls over them.
+-- Serves `modern::pages::page_of` and `modern::{page_lines, matches, select, list}`.
+use Rattle.std.proofs.Common.{◌≡◌, ℕ, ◌+◌, ◌<◌, ◌≤◌, Bool, true, false, List, [], ◌∷◌, ◌++◌, length, map, get_or, set, take, drop, Option, None, Some, refl, sym, ap, ◌∙◌, arith}
+use Rattle.std.specs.Prelude.{Result, Ok, Err, if◌then◌else◌}
+use Rattle.std.proofs.lemmas.List.{take_more, take_more_set, map_more, take_all}
+use Rattle.std.proofs.lemmas.Grind.{common_steps}
+use Rattle.simplecss_tree.specs.Rows.{Row}
+use Rattle.css_tree.specs.Pages.{Page}
+use Rattle.simplecss_c.specs.declared.answer.CallError.{CallError}
+use Rattle.simplecss_c.specs.declared.answer.CallError.TheVariants.{Refused, Tree, Memory, TooManyDeclarations, NotUtf8, AnswerTooLong}
+use Rattle.simplecss_c.specs.declared.elements.ElementFault.{ElementFault}
+use Rattle.simplecss_c.specs.declared.elements.TreeElement.{TreeElement}
+use Rattle.simplecss_c.specs.Calls.{FailsFor}
+use Rattle.simplecss_c.specs.Elements.{Strings, has_text, fault_in, limit_after, strings_of, tree_from, tree_of, with_element}
+use Rattle.simplecss_c.specs.ModernLines.{page_with}
+use Rattle.simplecss_c.proofs.Building.{length_with}
+
+-- ---- how many elements a tree has
+
+only-if : (b : Bool) (rows out : List Row) (fault : ElementFault)
+    → (if b then Ok rows else Err fault) ≡ Ok out → rows ≡ out
+only-if true rows out fault is = cc
+only-if false rows out fault is = absurd (cc)
+
+only-sound : (fault : Option ElementFault) (rest : Result (List Row) ElementFault) (out : List Row)
+    → ◌≡◌ {A = Result (List Row) ElementFault} (elim fault [ Some fault ↦ Err fault | None ↦ rest ])
+    (Ok out) → rest ≡ Ok out
+only-sound None rest out is = is
+only-sound (Some fault) rest out is = absurd (cc)
+
+tree_from-length : (rows : List Row) (depths : List ℕ) (left : Strings) (elements : List TreeElement)
+    (out : List Row) → tree_from rows depths left elements ≡ Ok out
+    → length out ≡ length rows + length elements
+tree_from-length rows depths left [] out is =
+    let same = ap length (only-if _ rows out _ is) in omega (arith, same)
+tree_from-length rows depths left (element ∷ elements) out is =
+    let rest = only-sound (fault_in (length rows + 1) (limit_after depths) element left.strings)
+    (tree_from (with_element rows depths element left.strings) (depths ++ element.depth ∷ [])
+    (record { strings = drop (strings_of element) left.strings; are_all = left.are_all }) elements)
+    out is in
+    let more = tree_from-length (with_element rows depths element left.strings)
+    (depths ++ element.depth ∷ [])
+    (record { strings = drop (strings_of element) left.strings; are_all = left.are_all }) elements out
+    rest in
+    let one = length_with rows depths element left.strings in
+    omega (arith, more, one)
+
+-- a tree has as many elements as were passed
+pub tree-length : (elements : List TreeElement) (buffer ends : List ℕ) (rows : List Row)
+    → tree_of elements buffer ends ≡ Ok rows → length elements ≡ length rows
+tree-length elements buffer ends rows is =
+    let all = tree_from-length [] [] _ elements rows is in omega (arith, all)
+
+-- ---- which elements have a text
+
+-- those below an index are known
+pub record TextsSoFar (elements : List TreeElement) (rows : List Row) (index : ℕ) (page : Page)
+    : Type 0 where
+  pub same : page.rows ≡ rows
+  pub all : length page.texts ≡ length elements
+  pub known : take index page.texts ≡ map has_text (take index elements)
+  pub later : (i : ℕ) → index ≤ i → get_or page.texts i false ≡ false
+  pub unscoped : page.scope ≡ None
+
+-- no element has a text yet
+pub texts-none : (elements : List TreeElement) (rows : List Row) (page : Page) → page.rows ≡ rows
+    → length page.texts ≡ length rows → ((i : ℕ) → get_or page.texts i false ≡ false)
+    → length elements ≡ length rows → page.scope ≡ None → TextsSoFar elements rows 0 page
+texts-none elements rows page same all none many unscoped = record {
+  same = same;
+  all = all ∙ sym many;
+  known = refl;
+  later = λ i _. none i;
+  unscoped = unscoped;
+}
+
+module _ {elements : List TreeElement} {rows : List Row} {index : ℕ} {page : Page}
+    (so_far : TextsSoFar elements rows index page) (d : TreeElement) (within : index < length elements)
+  where
+    -- the element has a text
+    pub text-known : (new : Page) → new.rows ≡ page.rows → new.texts ≡ set page.texts index true
+        → new.scope ≡ page.scope → has_text (get_or elements index d) ≡ true
+        → TextsSoFar elements rows (index + 1) new
+    text-known new same texts scope is = record {
+      same = same ∙ so_far.same;
+      all = ap length texts ∙ grind (arith, common_steps, so_far.all);
+      known = ap (take (index + 1)) texts
+          ∙ take_more_set page.texts index true (omega (arith, within, so_far.all))
+          ∙ ap (λ ts. ts ++ true ∷ []) so_far.known
+          ∙ ap (λ b. map has_text (take index elements) ++ b ∷ []) (sym is)
+          ∙ sym (map_more has_text elements index d within);
+      later = λ i less. ap (λ ts. get_or ts i false) texts
+          ∙ grind (arith, common_steps, so_far.later i (omega (arith, less)), less);
+      unscoped = scope ∙ so_far.unscoped;
+    }
+
+    -- the element has no text
+    pub no-text-known : has_text (get_or elements index d) ≡ false
+        → TextsSoFar elements rows (index + 1) page
+    no-text-known is = record {
+      same = so_far.same;
+      all = so_far.all;
+      known = take_more page.texts index false (omega (arith, within, so_far.all))
+          ∙ ap (λ ts. ts ++ get_or page.texts index false ∷ []) so_far.known
+          ∙ ap (λ b. map has_text (take index elements) ++ b ∷ [])
+          (so_far.later index (omega arith) ∙ sym is)
+          ∙ sym (map_more has_text elements index d within);
+      later = λ i less. so_far.later i (omega (arith, less));
+      unscoped = so_far.unscoped;
+    }
+
+-- of all elements it is known
+pub texts-known : (elements : List TreeElement) (rows : List Row) (index : ℕ) (page : Page)
+    → TextsSoFar elements rows index page → index ≡ length elements → page ≡ page_with elements rows
+texts-known elements rows index page so_far all =
+    let texts = sym (take_all index page.texts (omega (arith, all, so_far.all)))
+    ∙ so_far.known ∙ ap (map has_text) (take_all index elements (omega (arith, all))) in
+    ap (λ r. record { rows = r; texts = page.texts; scope = page.scope }) so_far.same
+    ∙ ap (λ ts. record { rows = rows; texts = ts; scope = page.scope }) texts
+    ∙ ap (λ s. record { rows = rows; texts = map has_text elements; scope = s }) so_far.unscoped
+
+-- ---- failures
+
+-- what fails for a reason fails for any wider one
+pub fails_wider : {R R' B B' : Type 0} {F F' : ElementFault → Type 0} → (R → R')
+    → ((fault : ElementFault) → F fault → F' fault) → (B → B') → (error : CallError)
+    → FailsFor R F B error → FailsFor R' F' B' error
+fails_wider r f b Refused h = r h
+fails_wider r f b (Tree fault) h = f fault h
+fails_wider r f b Memory h = tt
+fails_wider r f b TooManyDeclarations h = h
+fails_wider r f b NotUtf8 h = b h
+fails_wider r f b AnswerTooLong h = h

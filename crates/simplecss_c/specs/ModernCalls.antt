@@ -1,0 +1,71 @@
+-- What each call for modern selectors must write, and when it fails.
+use Rattle.std.specs.Prelude.{◌≡◌, ◌⊎◌, ℕ, List, map, length, Option, None, Some, Result, Ok, Err}
+use Rattle.std.specs.Str.{IsUtf8}
+use Rattle.css_syntax.specs.PlacedSelectors.{placed_selectors}
+use Rattle.css_sheet.specs.RuleSelectors.{selector_of}
+use Rattle.css_selectors.specs.Components.{Selector}
+use Rattle.css_selectors.specs.Supported.{supported_list}
+use Rattle.simplecss_tree.specs.Rows.{Row}
+use Rattle.simplecss_c.specs.declared.answer.CallError.{CallError}
+use Rattle.simplecss_c.specs.declared.modern.reading.Reading.{Reading}
+use Rattle.simplecss_c.specs.declared.pages.LineContent.{LineContent}
+use Rattle.simplecss_c.specs.declared.pages.LineContent.TheVariants.{Numbers, Selected}
+use Rattle.simplecss_c.specs.Calls.{FailsFor, FailsWithin, HasTexts, HasBadEnds, IsBrokenUtf8, HasNoSelector, HasRefusedText, AreSelectorsIn, Passed, passed_tree}
+use Rattle.simplecss_c.specs.ModernLines.{AreListedLines, listed_texts, IsRefusalLine, page_with, AreModernLines}
+use Rattle.simplecss_c.specs.Readings.{selector_as, selectors_of}
+
+-- a line in JSON for each selector of the list, or why there is none
+abbrev pub IsModernListCall : List ℕ → Result (List ℕ) CallError → Type 0
+IsModernListCall text (Ok bytes) =
+    IsUtf8 text × AreListedLines (length text) (placed_selectors text) bytes
+IsModernListCall text (Err error) =
+    FailsFor (HasNoSelector selector_of (listed_texts text)) (λ fault. ⊥) (¬ (IsUtf8 text)) error
+
+-- the line of why a text is no list of selectors, or nothing where it is one
+abbrev pub IsModernRefusalCall : List ℕ → Result (List ℕ) CallError → Type 0
+IsModernRefusalCall text (Ok bytes) = IsUtf8 text × IsRefusalLine text (supported_list text) bytes
+IsModernRefusalCall text (Err error) = FailsFor ⊥ (λ fault. ⊥) (¬ (IsUtf8 text)) error
+
+-- which elements of a tree the selectors match, as a document reads them, or none within a limit
+abbrev pub AreReadLines : (most : ℕ) → LineContent → Reading → List Selector → Passed
+    → Option (List ℕ) → Type 0
+AreReadLines most content reading selectors passed answer =
+    (rows : List Row) × IsUtf8 passed.strings × (passed_tree passed ≡ Ok rows)
+    × AreModernLines most content (map (selector_as reading) selectors)
+    (page_with passed.elements rows) answer
+
+-- which of the selectors of texts match each element, or none within a limit
+abbrev pub AreModernMatched : (most : ℕ) → List ℕ → List ℕ → Reading → Passed
+    → Option (List ℕ) → Type 0
+AreModernMatched most buffer ends reading passed answer =
+    (texts : List (List ℕ)) × (selectors : List Selector) × HasTexts buffer ends texts
+    × AreSelectorsIn selector_of texts selectors
+    × AreReadLines most Numbers reading selectors passed answer
+
+-- which of the selectors of texts match each element, in at most this number of bytes
+abbrev pub IsModernMatchCall : (most : ℕ) → List ℕ → List ℕ → Reading → Passed
+    → Result (List ℕ) CallError → Type 0
+IsModernMatchCall most buffer ends reading passed (Ok bytes) =
+    AreModernMatched most buffer ends reading passed (Some bytes)
+IsModernMatchCall most buffer ends reading passed (Err error) =
+    FailsWithin (HasBadEnds buffer ends ⊎ HasRefusedText selector_of buffer ends)
+    (λ fault. passed_tree passed ≡ Err fault)
+    (IsBrokenUtf8 buffer ends ⊎ ¬ (IsUtf8 passed.strings)) ⊥
+    (AreModernMatched most buffer ends reading passed None) error
+
+-- which elements one of the selectors of a list matches, or none within a limit
+abbrev pub AreModernSelected : (most : ℕ) → List ℕ → Reading → Passed → Option (List ℕ)
+    → Type 0
+AreModernSelected most text reading passed answer =
+    (selectors : List Selector) × IsUtf8 text × (selectors_of text ≡ Some selectors)
+    × AreReadLines most Selected reading selectors passed answer
+
+-- which elements one of the selectors of a list matches, in at most this number of bytes
+abbrev pub IsModernSelectCall : (most : ℕ) → List ℕ → Reading → Passed
+    → Result (List ℕ) CallError → Type 0
+IsModernSelectCall most text reading passed (Ok bytes) =
+    AreModernSelected most text reading passed (Some bytes)
+IsModernSelectCall most text reading passed (Err error) =
+    FailsWithin (selectors_of text ≡ None)
+    (λ fault. passed_tree passed ≡ Err fault) (¬ (IsUtf8 text) ⊎ ¬ (IsUtf8 passed.strings)) ⊥
+    (AreModernSelected most text reading passed None) error

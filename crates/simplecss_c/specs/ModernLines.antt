@@ -1,0 +1,94 @@
+-- What is written of modern selectors, and of the elements that they match.
+use Rattle.std.specs.Prelude.{◌≡◌, ℕ, ◌+◌, ◌-◌, List, [], ◌∷◌, ◌++◌, codes, length, map, Option, None, Some, if◌then◌else◌, ◌==◌}
+use Rattle.std.specs.Str.{IsCharBoundary}
+use Rattle.css_text.specs.Errors.{position_of}
+use Rattle.css_text.specs.Reading.{rest_offset}
+use Rattle.css_text.specs.declared.TextPos.{TextPos}
+use Rattle.css_syntax.specs.PlacedSelectors.{PlacedSelector, placed_selectors}
+use Rattle.css_sheet.specs.RuleSelectors.{selector_of}
+use Rattle.std.specs.Option.{option_map}
+use Rattle.css_selectors.specs.Components.{PseudoElement, Selector}
+use Rattle.css_selectors.specs.Printing.{selector_text}
+use Rattle.css_selectors.specs.Readings.{Reading, got, refused}
+use Rattle.css_selectors.specs.RefusalWords.{quote, why_words}
+use Rattle.css_selectors.specs.Specificities.{specificity}
+use Rattle.css_selectors.specs.declared.refusal.Why.{Why}
+use Rattle.css_index.specs.Found.{AreMatches}
+use Rattle.css_tree.specs.Pages.{Page, page_document}
+use Rattle.css_matching.specs.ListTrees.{spot}
+use Rattle.simplecss_tree.specs.Rows.{Row}
+use Rattle.simplecss_c.specs.declared.elements.TreeElement.{TreeElement}
+use Rattle.simplecss_c.specs.declared.pages.LineContent.{LineContent}
+use Rattle.simplecss_c.specs.AnswerLines.{indices_line, AreLinesWithin}
+use Rattle.simplecss_c.specs.Elements.{has_text}
+use Rattle.simplecss_c.specs.Json.{string, member, object}
+use Rattle.simplecss_c.specs.JsonLines.{line, counts_array, position_line}
+use Rattle.simplecss_c.specs.Ranges.{extent}
+
+-- ---- lists of selectors
+
+-- a string, or null
+abbrev pub string_or_null : Option (List ℕ) → List ℕ
+string_or_null None = codes "null"
+string_or_null (Some text) = string text
+
+-- the name of a pseudo-element
+abbrev pub element_name : Option PseudoElement → Option (List ℕ)
+element_name element = option_map (λ e. e.name) element
+
+-- the line of a selector of a list whose text ends at this offset
+abbrev pub listed_line : (end : ℕ) → PlacedSelector → Selector → List ℕ
+listed_line end placed s =
+    line (object
+    (member (codes "text") (extent (end - length placed.from) (length placed.listed.text))
+    ∷ member (codes "selector") (string (selector_text s))
+    ∷ member (codes "specificity") (counts_array (specificity s))
+    ∷ member (codes "pseudo_element") (string_or_null (element_name s.pseudo_element))
+    ∷ []))
+
+-- the lines of selectors, in order, each of which is read
+abbrev pub AreListedLines : (end : ℕ) → List PlacedSelector → List ℕ → Type 0
+AreListedLines end [] bytes = bytes ≡ []
+AreListedLines end (placed ∷ more) bytes =
+    (s : Selector) × (rest : List ℕ) × (selector_of placed.listed.text ≡ Some s)
+    × AreListedLines end more rest × (bytes ≡ listed_line end placed s ++ rest)
+
+-- the texts of the selectors of a list
+abbrev pub listed_texts : List ℕ → List (List ℕ)
+listed_texts text = map (λ placed. placed.listed.text) (placed_selectors text)
+
+-- ---- refusals
+
+-- what is quoted of the rest, and why in words
+abbrev pub refusal_text : Why → (rest : List ℕ) → List ℕ
+refusal_text why rest =
+    if length (quote why rest) == 0
+    then codes "a blank or the end of the text " ++ why_words why
+    else codes "`" ++ (quote why rest ++ (codes "` " ++ why_words why))
+
+-- Nothing of a list of selectors; of any other text the line of why it is none, with the position of
+-- the rest.
+abbrev pub IsRefusalLine : List ℕ → Reading (List Selector) → List ℕ → Type 0
+IsRefusalLine text (got selectors rest) bytes = bytes ≡ []
+IsRefusalLine text (refused why rest) bytes =
+    (pos : TextPos) × (IsCharBoundary text (rest_offset text rest) → pos ≡ position_of text rest)
+    × (bytes ≡ position_line pos (refusal_text why rest))
+
+-- ---- elements
+
+-- the elements of a tree as a page
+abbrev pub page_with : List TreeElement → List Row → Page
+page_with elements rows =
+    record { rows = rows; texts = map has_text elements; scope = None }
+
+-- the line of the element at an index, by the indices of the selectors that match it, in order
+abbrev pub IsModernLine : LineContent → List Selector → Page → ℕ → List ℕ → Type 0
+IsModernLine content selectors page index bytes =
+    (indices : List ℕ) × AreMatches page_document (spot page index) selectors indices
+    × (bytes ≡ indices_line content (index + 1) indices)
+
+-- the lines of all elements, in order
+abbrev pub AreModernLines : (most : ℕ) → LineContent → List Selector → Page → Option (List ℕ)
+    → Type 0
+AreModernLines most content selectors page =
+    AreLinesWithin most (IsModernLine content selectors page) (length page.rows)

@@ -1,0 +1,138 @@
+//! Which elements of a tree selectors match.
+
+ghost use Rattle.std.specs.Prelude.{◌≡◌, ◌+◌, ◌^◌, ◌<◌, ◌++◌, OnOk, MatchResult, List, ℕ, None, Some};
+ghost use Rattle.std.specs.Prelude.{length, map, string_bytes};
+ghost use Rattle.css_tree.specs.Walks.{IsOpenAt};
+ghost use Rattle.simplecss_c.specs.ModernLines.{page_with, IsModernLine, AreModernLines};
+ghost use Rattle.simplecss_c.specs.Calls.{FailsLonger};
+ghost use Rattle.simplecss_c.specs.Readings.{selector_as};
+ghost use Rattle.simplecss_c.specs.declared.answer.CallError.TheVariants.{Memory};
+
+use super::reading::{Reading, html_selectors};
+use crate::answer::{CallError, check_length};
+use crate::elements::{TreeElement, has_text};
+use crate::pages::{LineContent, push_indices};
+use css_selectors::{Selector, Tests};
+use css_tree::{NumberedTree, NumberingError, TreeWalk};
+use simplecss_tree::Tree;
+use std::alloc::{AllocError, Global};
+
+/// A tree of 2^32 elements or more is too large for memory.
+impl From<NumberingError> for CallError {
+    ghost use Rattle.std.specs.Prelude.{◌≡◌};
+    ghost use Rattle.simplecss_c.specs.declared.answer.CallError.TheVariants.{Memory};
+
+    ghost from_gives = { λ _ error. error ≡ Memory };
+
+    fn from(_error: NumberingError) -> CallError {
+        CallError::Memory
+    }
+}
+
+/// The tree whose siblings are counted, and which of its elements have a text.
+pub fn page_of<'p, 't>(
+    alloc: Global,
+    tree: &'p Tree<'t>,
+    elements: &[TreeElement],
+) -> Result<NumberedTree<'p, 't>, CallError>
+    requires { length elements.now ≡ length tree.now }
+    ensures { MatchResult result (λ page. page ≡ page_with elements.now tree.now)
+        (λ error. error ≡ Memory) }
+{
+    let mut page = NumberedTree::new(alloc, tree)?;
+    for index in 0..elements.len() {
+        if has_text(elements[index]) {
+            page.set_text(index);
+        }
+    }
+    Ok(page)
+}
+
+/// Appends the line of an element, which is given by its index, by a walk. What was in `indices` is
+/// dropped.
+fn push_line(
+    out: &mut String,
+    content: LineContent,
+    walk: &mut TreeWalk<'_, '_>,
+    page: &NumberedTree<'_, '_>,
+    element: usize,
+    indices: &mut Vec<usize>,
+) -> Result<(), AllocError>
+    requires element { element < length page.now.rows }
+    requires number { element + 1 < 2 ^ 64 }
+    requires fits { length walk.old.walk.selectors < 2 ^ 63 }
+    requires opened { IsOpenAt page.now walk.old.walk walk.old.place }
+    ensures written { OnOk result ((line : List ℕ)
+        × IsModernLine content walk.old.walk.selectors page.now element line
+        × (string_bytes out.new ≡ string_bytes out.old ++ line)) }
+    ensures opened { IsOpenAt page.now walk.new.walk walk.new.place }
+    ensures selectors { walk.new.walk.selectors ≡ walk.old.walk.selectors }
+{
+    walk.matching(page, element, indices, &mut Tests::new())?;
+    push_indices(out, content, element + 1, indices.as_slice())
+}
+
+/// The lines of the elements of a page, by a walk.
+fn lines_by(
+    alloc: Global,
+    content: LineContent,
+    walk: &mut TreeWalk<'_, '_>,
+    page: &NumberedTree<'_, '_>,
+    most: usize,
+) -> Result<String, CallError>
+    requires fits { length walk.old.walk.selectors < 2 ^ 63 }
+    requires opened { IsOpenAt page.now walk.old.walk walk.old.place }
+    ensures { MatchResult result
+        (λ text. AreModernLines most content walk.old.walk.selectors page.now
+        (Some (string_bytes text)))
+        (FailsLonger (AreModernLines most content walk.old.walk.selectors page.now None)) }
+{
+    let mut indices = Vec::new(alloc);
+    let mut text = String::new(alloc);
+    for element in 0..page.len() {
+        push_line(&mut text, content, walk, page, element, &mut indices)?;
+        check_length(&text, most)?;
+    }
+    Ok(text)
+}
+
+/// The lines of the elements of a page, by which selectors match each.
+fn lines_as_written(
+    alloc: Global,
+    content: LineContent,
+    selectors: &[Selector<'_>],
+    page: &NumberedTree<'_, '_>,
+    most: usize,
+) -> Result<String, CallError>
+    requires { length selectors.now < 2 ^ 63 }
+    ensures { MatchResult result
+        (λ text. AreModernLines most content selectors.now page.now (Some (string_bytes text)))
+        (FailsLonger (AreModernLines most content selectors.now page.now None)) }
+{
+    let mut walk = TreeWalk::new(alloc, selectors)?;
+    lines_by(alloc, content, &mut walk, page, most)
+}
+
+/// The lines of the elements of a page, by which selectors match each as a document reads them.
+pub fn lines(
+    alloc: Global,
+    content: LineContent,
+    reading: Reading,
+    selectors: &[Selector<'_>],
+    page: &NumberedTree<'_, '_>,
+    most: usize,
+) -> Result<String, CallError>
+    requires { length selectors.now < 2 ^ 63 }
+    ensures { MatchResult result (λ text. AreModernLines most content
+        (map (selector_as reading) selectors.now) page.now (Some (string_bytes text)))
+        (FailsLonger (AreModernLines most content (map (selector_as reading) selectors.now)
+        page.now None)) }
+{
+    match reading {
+        Reading::AsWritten => lines_as_written(alloc, content, selectors, page, most),
+        Reading::Html(mode) => {
+            let selectors = html_selectors(alloc, mode, selectors)?;
+            lines_as_written(alloc, content, &selectors, page, most)
+        }
+    }
+}

@@ -1,0 +1,32 @@
+//! How a document reads the names of selectors.
+
+ghost use Rattle.std.specs.Prelude.{◌≡◌, IfOk, map};
+ghost use Rattle.css_tree.specs.Html.{html_selector};
+
+use css_selectors::Selector;
+use css_tree::html::{HtmlMode, html_selector};
+use std::alloc::{AllocError, Global};
+
+/// How a document reads the names of selectors.
+#[derive(Clone, Copy, Debug, PartialEq)]
+pub enum Reading {
+    /// As they are written.
+    AsWritten,
+    /// As an HTML document in this mode does.
+    Html(HtmlMode),
+}
+
+/// The selectors as an HTML document in this mode reads them.
+pub fn html_selectors<'s>(
+    alloc: Global,
+    mode: HtmlMode,
+    selectors: &'s [Selector<'_>],
+) -> Result<Vec<Selector<'s>>, AllocError>
+    ensures { IfOk result (λ read. read.items ≡ map (html_selector mode) selectors.now) }
+{
+    let mut read = Vec::with_capacity(alloc, selectors.len())?;
+    for selector in selectors {
+        read.push(html_selector(alloc, mode, selector)?)?;
+    }
+    Ok(read)
+}
