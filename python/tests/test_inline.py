@@ -4,11 +4,12 @@ import os
 import sys
 import tempfile
 import unittest
+import unittest.mock
 
 sys.path.insert(0, os.path.join(os.path.dirname(__file__), "..", "src"))
 
 import simplecss  # noqa: E402
-from simplecss import inline  # noqa: E402
+from simplecss import _library, inline  # noqa: E402
 
 
 def style_of(css, page="<p class='a b' id=x>", **options):
@@ -49,8 +50,9 @@ class Declarations(unittest.TestCase):
 
     def test_the_end_of_the_text_closes_a_block(self):
         self.assertEqual(style_of("p { n: 1; m: 2"), "n: 1; m: 2")
+        # The parenthesis takes in all that follows.
+        self.assertEqual(inline("<p>", "p { n: 1; m: f(2; o: 3 } p { q: 4 }"), '<p style="n: 1">')
         for css in (
-            "p { n: 1; m: f(2; o: 3 } p { q: 4 }",
             "p:hover { n: 1",
             "@media x { p { n: 1 }",
         ):
@@ -71,7 +73,7 @@ class Declarations(unittest.TestCase):
         self.assertEqual(style_of("p { --A: 1; --a: 2 }"), "--A: 1; --a: 2")
 
     def test_the_earlier_values_of_a_block_stay(self):
-        self.assertEqual(style_of("p { n: 1; m: 2; n: f(3) }"), "m: 2; n: 1; n: f(3)")
+        self.assertEqual(style_of("p { n: 1; m: 2; n: f(3) }"), "n: 1; m: 2; n: f(3)")
         self.assertEqual(style_of("p { n: 1; n: 2 } p { n: 3 }"), "n: 3")
 
     def test_a_shorthand_keeps_its_place(self):
@@ -308,7 +310,7 @@ class Important(unittest.TestCase):
             ),
             (
                 "a{n:1} a:hover{n:2/* ; */ ;}",
-                ("a:hover{n:2/* ; */ !important ;}", "n: 1"),
+                ("a:hover{n:2 !important/* ; */ ;}", "n: 1"),
             ),
             (
                 "a:hover,a{n:1} a:hover{n:2}",
@@ -452,6 +454,11 @@ class KeptRules(unittest.TestCase):
             ("a:hover { margin-top: 1px } a { margin: 0 }", ""),
             ("a { n: 1 } @media x { a { n: 2 } }", ""),
             ("a { n: 1 } a { & b { n: 2 } }", ""),
+            ("a { n: 1; m: 2 } b { & i { n: 2 } }", "m: 2"),
+            ("a { n: 1 } a { m: 2; & b { o: 2 } }", "n: 1"),
+            ("a { n: 1; m: 2; o: 3 } b { @media x { i { & u { n: 2 } } m: 3 } }", "o: 3"),
+            ("a { n: 1; m: 2 } a { n: {{ x }}; o: 3 }", "n: 1; m: 2"),
+            ("a { n: 1; m: f({}); o: '{' }", "n: 1; m: f({}); o: '{'"),
             ("a { n: 1 !important } @layer x { a { n: 2 !important } }", ""),
             ("a { n: 1 } a:not(:hover) { n: 2 }", ""),
             ("a { n: 1 } a:not(.b):hover { n: 2 }", ""),
@@ -474,6 +481,19 @@ class KeptRules(unittest.TestCase):
         )
         self.assertEqual(style_of(".a { n: flex } p.b { n: grid }"), "n: flex; n: grid")
         self.assertEqual(style_of(".a { n: flex } p.b { n: block }"), "n: block")
+        # What is beaten is before all that is stronger.
+        self.assertEqual(
+            style_of("p { padding: 1px } .a { padding-left: 7px; padding: f(1) }"),
+            "padding: 1px; padding-left: 7px; padding: f(1)",
+        )
+        self.assertEqual(
+            style_of("p { padding: 1px; padding-left: 7px; padding: f(1) }"),
+            "padding: 1px; padding-left: 7px; padding: f(1)",
+        )
+        self.assertEqual(
+            style_of("p { padding: 1px } .a { padding-left: 7px } .b { padding: f(1) }"),
+            "padding: 1px; padding-left: 7px; padding: f(1)",
+        )
 
     def test_lists_that_browsers_drop(self):
         for selector in (
@@ -602,6 +622,10 @@ class Options(unittest.TestCase):
         page = r"<style>.a\:b:hover { n: 1 }</style><p class='a:b c'>"
         self.assertIn("class='a:b c'", inline(page, remove_classes=True))
 
+    def test_a_link_with_a_class(self):
+        page = "<body><link class=x rel=stylesheet href='data:text/css,p{n:1}'><p class=x>"
+        self.assertEqual(inline(page, remove_classes=True), '<body><style></style><p style="n: 1">')
+
     def test_attributes(self):
         self.assertEqual(
             inline(
@@ -636,6 +660,153 @@ class Options(unittest.TestCase):
                 ("a", "a rule that stays could override it"),
             ],
         )
+
+    def test_ignore(self):
+        page = "<style>p{n:1} .x{m:2} b{n:1}</style><p class='x y'>1<p class=y>2<b>3</b>"
+        self.assertEqual(
+            inline(page, ignore="p.x", remove_classes=True, base_url="http://h/"),
+            "<style>\np { n: 1 }\n.x { m: 2 }\n</style>"
+            '<p class=\'x y\'>1<p style="n: 1">2<b style="n: 1">3</b>',
+        )
+        self.assertEqual(
+            inline("<a href=x>1</a><a href=y>2</a>", ignore="[href=x]", base_url="http://h/"),
+            '<a href=x>1</a><a href="http://h/y">2</a>',
+        )
+        report = []
+        inline("<p id=a><p>", "p{n:1} p:hover{n:2}", ignore="#a", report=report)
+        self.assertEqual(
+            [tuple(each) for each in report],
+            [
+                ("p", "it matches an element without a tag of its own, or one that is ignored"),
+                ("p:hover", "it depends on a state of the page"),
+            ],
+        )
+        with self.assertRaises(simplecss.SelectorError):
+            inline("<p>", ignore="p:")
+
+    def test_as_attributes(self):
+        for css, tag, expected in (
+            ("rect{fill:red}", "rect/", 'rect fill="red"/'),
+            ("rect{fill:red;n:1}", "rect/", 'rect style="n: 1" fill="red"/'),
+            ("rect{fill:red}", "rect fill=blue /", 'rect fill="red" /'),
+            ("rect{fill:red} #a{fill:lime}", "rect id=a /", 'rect id=a fill="lime" /'),
+            ("rect{x:1px;r:2px;width:3px}", "rect/", 'rect style="r: 2px" x="1px" width="3px"/'),
+            # A number is no length in a sheet; a stroke has one.
+            ("rect{x:1;stroke-width:1}", "rect/", 'rect style="x: 1" stroke-width="1"/'),
+            ("path{d:path('M0')}", "path/", "path style=\"d: path('M0')\"/"),
+            ("g{transform:rotate(1deg)}", "g/", 'g style="transform: rotate(1deg)"/'),
+            ("g{fill:red!important}", "g/", 'g style="fill: red !important"/'),
+            ("g{fill:red;fill:oklch(0 0 0)}", "g/", 'g style="fill: red; fill: oklch(0 0 0)"/'),
+            # All of a family, or nothing.
+            ("g{font:1px x;font-size:2px}", "g/", 'g style="font: 1px x; font-size: 2px"/'),
+            ("g{all:unset;fill:red}", "g/", 'g style="all: unset; fill: red"/'),
+            ("g{fill:red}", 'g style="n:1"/', 'g style="n:1" fill="red"/'),
+            ("set{fill:freeze}", "set/", 'set style="fill: freeze"/'),
+        ):
+            text = inline(f"<svg><style>{css}</style><{tag}></svg>", as_attributes=True)
+            self.assertEqual(text, f"<svg><{expected}></svg>", css)
+
+    def test_attributes_that_rules_beat(self):
+        for css, expected in (
+            # A rule that stays beats any attribute, so that it needs no mark for that.
+            ("g{fill:red} g:hover{fill:blue}", '<g fill="red"/>'),
+            ("@media x{g{fill:blue}} #a g,g{fill:red}", '<g style="fill: red"/>'),
+            ("@layer x{g{fill:blue}} g{fill:red}", '<g style="fill: red"/>'),
+            ("@media x{g{fill:blue!important}} g{fill:red}", '<g fill="red"/>'),
+            ("@media x{g{all:unset}} g{fill:red}", '<g style="fill: red"/>'),
+        ):
+            text = inline(f"<svg><style>{css}</style><g/></svg>", as_attributes=True)
+            self.assertIn(expected, text, css)
+        page = "<p><svg><style>p,g{fill:red}</style><g/></svg>"
+        self.assertEqual(
+            inline(page, as_attributes=True), '<p style="fill: red"><svg><g fill="red"/></svg>'
+        )
+        page = '<svg xmlns="http://www.w3.org/2000/svg"><style>g{fill:red}</style><g/></svg>'
+        self.assertEqual(
+            inline(page, as_attributes=True, is_xml=True),
+            '<svg xmlns="http://www.w3.org/2000/svg"><g fill="red"/></svg>',
+        )
+        self.assertIn(
+            '<g style="fill: red"/>',
+            inline(
+                "<svg><style>g{fill:blue}</style><g/></svg>",
+                "#a,svg g{fill:red}",
+                as_attributes=True,
+                keep_style=True,
+            ),
+        )
+
+    def test_parts(self):
+        for text, names, expected in (
+            ("<p>1</p> 2", "p", '<p style="n: 1">1</p> 2'),
+            ("<tr><td>1</td></tr>", "tr,td", '<tr style="n: 1"><td style="n: 1">1</td></tr>'),
+            (" <!-- a --><th>1", "th", ' <!-- a --><th style="n: 1">1'),
+            ("<thead><tr>", "thead,tr", '<thead style="n: 1"><tr style="n: 1">'),
+            ("<col><col>", "col", '<col style="n: 1"><col style="n: 1">'),
+            ("<caption>1", "caption", '<caption style="n: 1">1'),
+            ("<template><tr></template><td>", "td", '<template><tr></template><td style="n: 1">'),
+            ("", "p", ""),
+        ):
+            self.assertEqual(inline(text, names + "{n:1}", is_part=True), expected)
+        # As the page that it is of is not here, rules for it stay.
+        self.assertEqual(
+            inline("<tr>\r\n<td>", "table{n:1} td{n:2} tr:hover td{n:3}", is_part=True),
+            "<style>\r\ntable { n: 1 }\r\ntr:hover td{n:3 !important}\r\n</style>"
+            '<tr>\r\n<td style="n: 2">',
+        )
+        self.assertEqual(inline("<tr><td>", "td{n:1}"), "<tr><td>")
+        self.assertEqual(inline(b"<td>", "td{n:1}", is_part=True), b'<td style="n: 1">')
+        self.assertEqual(
+            inline(b"\xef\xbb\xbf<td>", "td{n:1} td:hover{m:1}", is_part=True),
+            b'\xef\xbb\xbf<style>\ntd:hover{m:1}\n</style><td style="n: 1">',
+        )
+        with self.assertRaises(ValueError):
+            inline("<g/>", is_part=True, is_xml=True)
+
+
+class ManyDocuments(unittest.TestCase):
+    """One sheet and many documents."""
+
+    CSS = (
+        "a{n:1} .b{n:2} a:hover{n:3} a:link{m:1} #outlook a{m:2} @media x{.c{n:4}}"
+        " .d{n:5!important} p{all:unset} @keyframes k{50%{m:3}}"
+    )
+    TAGS = ("a", "a class=b", "a class='b c'", "p", "p class=d", "a href=x", "b")
+
+    def test_each_is_as_alone(self):
+        inliner = simplecss.Inliner(self.CSS, remove_classes=True)
+        for number in range(200):
+            tag = self.TAGS[number % len(self.TAGS)]
+            own = f"<style>.b{{m:{number}}} a:visited{{m:1}}</style>" * (number % 3 == 0)
+            page = f"{own}<{tag}>{number}"
+            report, other = [], []
+            text = inliner.inline(page, report=report)
+            self.assertEqual(text, inline(page, self.CSS, remove_classes=True, report=other), page)
+            self.assertEqual(report, other, page)
+
+    def test_the_sheet_is_read_once(self):
+        inliner = simplecss.Inliner(self.CSS)
+        call = _library.call
+        with unittest.mock.patch.object(_library, "call", side_effect=call) as calls:
+            texts = [inliner.inline(f"<a>{number}") for number in range(200)]
+        names = [each.args[0] for each in calls.call_args_list]
+        # The sheet, and the block in it that is one of rules.
+        self.assertLessEqual(names.count("simplecss_read"), 4)
+        self.assertEqual(texts[7].rpartition("</style>")[2], '<a style="n: 1">7')
+
+    def test_options_of_each(self):
+        sheets = {"http://h/x/a.css": "b{m:2}", "http://h/y/a.css": "b{m:3}"}
+        inliner = simplecss.Inliner("@import 'a.css'; b{n:1}", load=sheets.get)
+        for folder, value in (("x", 2), ("y", 3)):
+            at = f"http://h/{folder}/page.html"
+            self.assertEqual(inliner.inline("<b>", at=at), f'<b style="m: {value}; n: 1">')
+        self.assertEqual(
+            simplecss.Inliner("b{n:1}").inline("<B/><b/>", is_xml=False),
+            '<B style="n: 1"/><b style="n: 1"/>',
+        )
+        self.assertEqual(simplecss.Inliner("b{n:1}").inline(b"<b>"), b'<b style="n: 1">')
+        with self.assertRaises(ValueError):
+            simplecss.Inliner("style.css")
 
 
 class Injection(unittest.TestCase):

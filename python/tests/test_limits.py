@@ -15,7 +15,7 @@ sys.path.insert(0, os.path.join(os.path.dirname(os.path.abspath(__file__)), ".."
 
 import simplecss  # noqa: E402
 from simplecss import __main__ as command  # noqa: E402
-from simplecss import _families, _inline, _jobs, _lint, _staying, _urls  # noqa: E402
+from simplecss import _families, _inline, _jobs, _lint, _split, _staying, _urls  # noqa: E402
 from simplecss import _library as library  # noqa: E402
 from simplecss._linked import Shelf  # noqa: E402
 from simplecss._port import PortReading  # noqa: E402
@@ -123,6 +123,21 @@ LINEAR = (
         lambda n: "@font-face{" * n,
         2_000,
     ),
+    (
+        "states of selectors",
+        lambda css: simplecss.StyleSheet(css).unused(simplecss.Tree.from_html("<p>")),
+        lambda n: ",".join(f".x{i}:checked" for i in range(n)) + ":hover" * n + "{}",
+        500,
+    ),
+    ("unknown names of a selector", simplecss.lint, lambda n: ":x" * n + "{}", 2_000),
+    ("unknown names", simplecss.lint, lambda n: f"a{{{''.join(f'x{i}:y;' for i in range(n))}", 500),
+    ("strings that are open", simplecss.lint, lambda n: "a{" + 'b:"x\n;' * n, 500),
+    (
+        "comments that turn kinds off",
+        simplecss.lint,
+        lambda n: "/*simplecss-ignore b*/a{}" * n,
+        500,
+    ),
 )
 # Sizes at which these take milliseconds, since they are linear.
 SIZES = {
@@ -149,16 +164,16 @@ PATTERNS = (
     ("quotes", without_pseudo_classes, lambda n: ":a(" + "'" * n),
     (
         "numbers",
-        _inline._is_known_selector,
+        _split._is_known_selector,
         lambda n: ":nth-child(" + " " * n + "n" + " " * n,
     ),
-    ("digits", _inline._is_known_selector, lambda n: ":nth-child(" + "1" * n),
-    ("functions", _inline._is_known_selector, lambda n: ":not(" * n),
+    ("digits", _split._is_known_selector, lambda n: ":nth-child(" + "1" * n),
+    ("functions", _split._is_known_selector, lambda n: ":not(" * n),
     ("points", _families.is_known, lambda n: "1." * n),
     ("classes", _inline._ESCAPED_CLASS.search, lambda n: ".a" * n),
     ("names of classes", _inline._CLASS.findall, lambda n: "." + "a" * n),
-    ("clients", _inline._CLIENTS.search, lambda n: "u " * n),
-    ("blanks of clients", _inline._CLIENTS.search, lambda n: "u" + " " * n),
+    ("clients", _split._CLIENTS.search, lambda n: "u " * n),
+    ("blanks of clients", _split._CLIENTS.search, lambda n: "u" + " " * n),
 )
 
 
@@ -513,8 +528,8 @@ class White(unittest.TestCase):
     def test_case(self):
         # The sign for kelvin is a K to Unicode.
         self.assertEqual(simplecss.declarations("\u212a:x")[0].name, "\u212a")
-        self.assertFalse(_inline._is_known_selector("a:lin\u212a"))
-        self.assertTrue(_inline._is_known_selector("a:LINK"))
+        self.assertFalse(_split._is_known_selector("a:lin\u212a"))
+        self.assertTrue(_split._is_known_selector("a:LINK"))
         self.assertFalse(_families.is_known("blac\u212a"))
 
     def test_classes_of_any_name_stay(self):
@@ -668,6 +683,10 @@ class Products(unittest.TestCase):
             len(simplecss.Tree.from_html("".join(f"<b id={i}>" for i in range(3000)))),
             3003,
         )
+        # Each is compared with the 120 before it, whatever the attributes are.
+        long = " ".join(f"a{i}" for i in range(31))
+        text = "".join(f"<b {long} id={i % 40}>" for i in range(7000))
+        self.assertEqual(len(simplecss.Tree.from_html(text)), 7003)
 
     def test_what_is_out_of_proportion(self):
         with self.assertRaises(simplecss.TreeError):

@@ -139,6 +139,22 @@ class Names(unittest.TestCase):
         element = simplecss.Tree.from_html("<p\0q a\0='b\0' A\ufffd=c>")[3]
         self.assertEqual((element.name, element.attributes), ("p\ufffdq", {"a\ufffd": "b\ufffd"}))
 
+    def test_tags_that_differ_in_values_only(self):
+        tags = {
+            """<i x='""'>""": {"x": '""'},
+            """<i x='"b"'>""": {"x": '"b"'},
+            """<i x="1" y='2'>""": {"x": "1", "y": "2"},
+            """<i x="3" y='4'>""": {"x": "3", "y": "4"},
+            """<i x="1" x="2">""": {"x": "1"},
+            """<i x="3" x="4">""": {"x": "3"},
+            """<i x="1" y>""": {"x": "1", "y": ""},
+            """<i x="&lt;" y>""": {"x": "<", "y": ""},
+            """<i x="3" y=z>""": {"x": "3", "y": "z"},
+            """<i x="a>b" y>""": {"x": "a>b", "y": ""},
+        }
+        tree = simplecss.Tree.from_html("</i>".join(tags), is_part=True)
+        self.assertEqual([each.attributes for each in tree], list(tags.values()))
+
     def test_names_of_mathml(self):
         element = simplecss.Tree.from_html("<math DefinitionURL=x>", is_part=True)[0]
         self.assertEqual(element.attributes, {"definitionURL": "x"})
@@ -205,7 +221,12 @@ SARIF = {
     ),
     "descriptor": (
         ("id",),
-        {"id": TEXT, "name": TEXT, "shortDescription": "multiformat"},
+        {
+            "id": TEXT,
+            "name": TEXT,
+            "shortDescription": "multiformat",
+            "fullDescription": "multiformat",
+        },
     ),
     "multiformat": (("text",), {"text": TEXT, "markdown": TEXT}),
     "result": (
@@ -260,7 +281,7 @@ class Reports(unittest.TestCase):
         self.addCleanup(folder.cleanup)
         self.names = [os.path.join(folder.name, name) for name in ("a b:%é.css", "b.css", "c.css")]
         for name, text in zip(
-            self.names, ("@x;\na { b }\n@y 'é\u0001';", "@x; a { b", "a { b: c }")
+            self.names, ("@x;\na { b }\n@y 'é\u0001';", "@x; a { b", "a { top: 0 }")
         ):
             with open(name, "w", encoding="utf-8") as file:
                 file.write(text)
@@ -323,6 +344,24 @@ class CommandLine(unittest.TestCase):
             err.getvalue(),
             f"simplecss: cannot read {page}x: No such file or directory\n",
         )
+
+    def test_options_of_inline(self):
+        sheet = self.page("a.css", "td { color: red } g { fill: red } .x { margin: 0 }")
+        for words, text, expected in (
+            (("--part",), "<td>", '<td style="color: red">'),
+            (("--as-attributes",), "<svg><g/></svg>", '<svg><g fill="red"/></svg>'),
+            (
+                ("--ignore", "#i"),
+                "<p class=x id=i><p class=x>",
+                "<style>\n.x { margin: 0 }\n</style>"
+                '<p class=x id=i><p class=x style="margin: 0">',
+            ),
+        ):
+            page = self.page("a.html", text)
+            result = os.path.join(self.folder, "b.html")
+            self.assertEqual(command.main(["inline", *words, "-o", result, page, sheet]), 0)
+            with open(result, encoding="utf-8", newline="") as file:
+                self.assertEqual(file.read(), expected)
 
     def test_paths_of_wide_pages(self):
         page = self.page("a.html", "<p>" * 20_000)

@@ -14,13 +14,16 @@ if TYPE_CHECKING:
     from ._declaration import Declaration
     from ._device import Device
     from ._elements import TreeError
-    from ._inline import NotWritten, inline
+    from ._inline import Inliner, inline
     from ._library import LibraryError, LimitError, __version__, is_proved, library_path
     from ._linked import Unread
+    from ._lint import Finding, lint
     from ._reading import AtRule, Condition, declarations
     from ._selectors import Selector, SelectorError
     from ._sheet import Rule, Skipped, StyleSheet, Unsupported
+    from ._split import NotWritten
     from ._tree import Element, Item, Tree
+    from ._unused import Unused
 
     Unmatched = Unsupported
 
@@ -30,6 +33,8 @@ __all__ = [
     "Declaration",
     "Device",
     "Element",
+    "Finding",
+    "Inliner",
     "Item",
     "LibraryError",
     "LimitError",
@@ -43,11 +48,13 @@ __all__ = [
     "TreeError",
     "Unread",
     "Unsupported",
+    "Unused",
     "__version__",
     "declarations",
     "inline",
     "is_proved",
     "library_path",
+    "lint",
 ]
 
 if not TYPE_CHECKING:
@@ -56,13 +63,16 @@ if not TYPE_CHECKING:
         "_declaration": "Declaration",
         "_device": "Device",
         "_elements": "TreeError",
-        "_inline": "NotWritten inline",
+        "_inline": "Inliner inline",
         "_library": "LibraryError LimitError __version__ is_proved library_path",
         "_linked": "Unread",
+        "_lint": "Finding lint",
         "_reading": "AtRule Condition declarations",
         "_selectors": "Selector SelectorError",
         "_sheet": "Rule Skipped StyleSheet Unsupported",
+        "_split": "NotWritten",
         "_tree": "Element Item Tree",
+        "_unused": "Unused",
     }
     _MODULES = {name: module for module in _NAMES for name in _NAMES[module].split()}
 

@@ -1,4 +1,4 @@
-"""The command line: `python3 -m simplecss match|select|style|inline|lint`."""
+"""The command line: `python3 -m simplecss match|select|style|inline|lint|unused`."""
 
 from __future__ import annotations
 
@@ -38,9 +38,12 @@ from ._jobs import (
     Outcome,
 )
 from ._library import LibraryError, LimitError, __version__
-from ._output import printable, printable_lines
+from ._output import json_line, printable, printable_lines
 from ._selectors import MODERN, PORT, TODAY, SelectorError
-from ._tree import Tree
+from ._sheet import StyleSheet, usage_of
+from ._tree import Tree, elements_of
+from ._words import words_of
+from ._xml import is_xml
 
 INTERRUPTED = 130
 
@@ -260,6 +263,45 @@ def _lint_files(words: argparse.Namespace) -> int:
     return status or (REFUSED if found else DONE)
 
 
+def _linked_files(words: argparse.Namespace, pages: Sequence[_File]) -> Tuple[int, List[str]]:
+    """Returns the status, and the files of the sheets that pages link to."""
+    status, files = DONE, []
+    for outcome in _each(_jobs.Linked(words, False), [each.name for each in pages]):
+        _say_all(outcome)
+        status = max(status, outcome.status)
+        files += outcome.output.decode("utf-8").split("\0")[:-1]
+    _progress.done = 0
+    return status, list(dict.fromkeys(files))
+
+
+def _unused(words: argparse.Namespace) -> int:
+    pages, names = _parted(words.files, -1)
+    status = DONE
+    if not names:
+        status, names = _linked_files(words, pages)
+    if status != DONE:
+        return status
+    usage = usage_of(StyleSheet(*map(_jobs.read, names)))
+    _progress.count = len(pages)
+    for name, _ in pages:
+        tree = _jobs.tree_of(name, _jobs.read_page(name), words.xml or is_xml(name))
+        usage.see(elements_of(tree))
+        _progress.done += 1
+    if words.print:
+        _write("".join(usage.used()).encode("utf-8"))
+        return DONE
+    for each in usage.unused():
+        file = names[each.source]
+        if words.json:
+            sys.stdout.write(json_line({"file": file, **each._asdict()}))
+            continue
+        place = _bold(f"{printable(file)}:{each.row}:{each.column}")
+        text = printable(" ".join(words_of(each.selector)))
+        more = "" if each.is_whole else ", and others of its rule do"
+        sys.stdout.write(f"{place}: '{text}' matches nothing{more}\n")
+    return DONE
+
+
 _Run = Callable[[argparse.Namespace], int]
 
 
@@ -298,7 +340,20 @@ def _parser() -> argparse.ArgumentParser:
     text = "Write style sheets into the style attributes of pages."
     _add_inline(add("inline", _inline, _jobs.Inline, text))
     text = "Show the mistakes in style sheets, and in those of pages."
-    _add_lint(add("lint", _lint_files, _jobs.Lint, text))
+    command = add("lint", _lint_files, _jobs.Lint, text)
+    command.formatter_class = argparse.RawDescriptionHelpFormatter
+    command.epilog = (
+        f"kinds:\n{_lint.kinds()}\nThe comment `/* simplecss-ignore KIND.. */` leaves these kinds"
+        " out on its line."
+    )
+    _add_lint(command)
+    text = "Show the selectors of style sheets that match nothing on any of the pages."
+    command = add("unused", _unused, _jobs.Job, text)
+    text = "write the sheets without the rules that match nothing"
+    command.add_argument("--print", action="store_true", help=text)
+    _add_folder(command)
+    text = "style sheets (the linked ones without any), and pages, folders or patterns of them"
+    command.add_argument("files", nargs="+", metavar="FILE", help=text)
     return parser
 
 
@@ -368,10 +423,13 @@ def _add_inline(command: Any) -> None:
     command.add_argument("-o", dest="output", metavar="PATH", help=text)
     command.add_argument("--base-url", metavar="URL", help="what relative urls are taken from")
     command.add_argument("--preserve", metavar="SELECTORS", help="style elements that stay")
+    command.add_argument("--ignore", metavar="SELECTORS", help="elements that stay as they are")
     for name, text in (
         ("keep-style", "leave all style elements"),
         ("remove-classes", "remove the classes that no rule needs any more"),
         ("attributes", "write `width`, `bgcolor` and the like beside styles"),
+        ("as-attributes", "write attributes of SVG, as `fill`, in place of styles"),
+        ("part", "take pages as parts of others, as the rows of a table"),
         (
             "no-important",
             "leave what a rule that stays could override, in place of `!important`",
@@ -394,6 +452,8 @@ def _add_lint(command: Any) -> None:
     )
     command.add_argument("--ignore", action="append", metavar="KIND", help="leave these kinds out")
     command.add_argument("--all", action="store_true", help="report what is unsupported, too")
+    text = "correct in the files of sheets what has one right answer"
+    command.add_argument("--fix", action="store_true", help=text)
     _add_grammar(command)
     _add_folder(command)
     command.add_argument("sheets", nargs="+", metavar="FILE")

@@ -4,7 +4,7 @@ from __future__ import annotations
 
 import ctypes
 import functools
-from pathlib import Path
+import os
 from typing import Any, Callable, NamedTuple, Tuple, Union
 
 from . import _library as library
@@ -118,5 +118,7 @@ def _properties() -> Tuple[bytes, Any]:
 
 def property_names() -> Tuple[str, ...]:
     """Returns the names of the properties that browsers know."""
-    text = Path(__file__).with_name("properties.txt").read_text(encoding="utf-8")
+    path = os.path.join(os.path.dirname(__file__), "properties.txt")
+    with open(path, encoding="utf-8") as file:
+        text = file.read()
     return tuple(line for line in text.splitlines() if not line.startswith("#"))

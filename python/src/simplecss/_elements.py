@@ -26,9 +26,18 @@ from typing import (
 
 from . import _library as library
 from ._port import PortReading, has_lines, prepared
-from ._selectors import MODERN, PORT, Reading, grammar_of, matched, selector_error
+from ._selectors import (
+    MODERN,
+    NUMBERS,
+    PORT,
+    Reading,
+    grammar_of,
+    lines_of,
+    matched,
+    selector_error,
+)
 from ._xml import XmlDocument
-from .html import HTML, RAW, SVG, Node, Text, decode, with_line_feeds
+from .html import HTML, RAW, SVG, Builder, Made, Node, Text, decode, with_line_feeds
 
 # The states of an element that selectors test, as numbers of the library.
 STATES = {"link": 1, "visited": 2, "hover": 4, "active": 8, "focus": 16}
@@ -156,13 +165,14 @@ class Elements:
         self.depths.append(0 if parent < 0 else self.depths[parent] + 1)
         return len(self.names) - 1
 
-    def take_nodes(
-        self, root: Node, text: str, *, is_quirky: bool, is_part: bool = False
-    ) -> List[Node]:
+    def take_nodes(self, builder: Builder, *, is_part: bool = False) -> List[Node]:
         """Takes the elements of a document in HTML, and returns them in order."""
-        self.reading = Reading.QUIRKS if is_quirky else Reading.HTML
-        self.source = text
-        taken = self._walk(root.children if is_part else [root])
+        self.reading = Reading.QUIRKS if builder.is_quirky else Reading.HTML
+        self.source = builder.text
+        if builder.made is not None:
+            taken = self._take_made(builder.made)
+        else:
+            taken = self._walk(builder.root.children if is_part else [builder.root])
         self.names = [node.name for node in taken]
         self.attributes = [node.attributes for node in taken]
         self.spans = [(node.start, node.inner, node.outer_end) for node in taken]
@@ -172,6 +182,20 @@ class Elements:
             if node.space != HTML:
                 (self.drawn if node.space == SVG else self.formulas).add(index)
         return taken
+
+    def _take_made(self, made: Made) -> List[Node]:
+        """Takes the texts, and where each element is, in the order in which they were made."""
+        texts, parents, depths = self.texts, self.parents, self.depths
+        texts.begun = array.array("l", made.begun)
+        texts.owners = array.array("l", made.owners)
+        texts.values = made.texts
+        for node in made.nodes:
+            parent = -1 if node.parent is None else node.parent.index
+            # Without its parent it goes as soon as it is no longer used.
+            node.parent = None
+            parents.append(parent)
+            depths.append(depths[parent] + 1 if parent >= 0 else 0)
+        return made.nodes
 
     def _walk(self, top: Sequence[Union[Node, Text]]) -> List[Node]:
         """Takes the texts, and where each element is. Returns the elements in order."""
@@ -333,25 +357,26 @@ class Elements:
 
     def _find(self, selectors: str, grammar: str) -> List[int]:
         arrays = self._arrays(grammar)
-        if grammar == PORT:
-            name = "simplecss_select"
-            words = [library.encode(prepared(selectors, self.port_reading)), arrays]
-        else:
-            name = "simplecss_select_level3"
-            words = [library.encode(selectors), self.reading, arrays]
+        text = prepared(selectors, self.port_reading) if grammar == PORT else selectors
+        words = [library.encode(text), self._number_of(grammar), arrays]
+        name = "simplecss_select"
         # Each element is written once at most.
         most = library.NO_LIMIT
         answer = library.call(name, *words, room=1024 + 8 * len(self), with_fault=True, most=most)
         if answer.status == library.REFUSED:
             raise selector_error(selectors, grammar)
-        return [int(line) - 1 for line in library.output_of(name, answer).split()]
+        return [number - 1 for number in lines_of(library.output_of(name, answer))]
 
     def matched(self, selectors: Sequence[str], limit: int, grammar: str = MODERN) -> List[bytes]:
         """Returns for each element the numbers of the selectors that match it, which begin at 1,
         with spaces between them. Those of the grammar of the Rust crate are as they are read for
         the tree. More numbers than `limit` raise `LimitError`."""
-        reading = None if grammar == PORT else self.reading
-        return matched(self._arrays(grammar), selectors, reading, limit)
+        return matched(self._arrays(grammar), selectors, self._number_of(grammar), limit)
+
+    def _number_of(self, grammar: str) -> int:
+        """Returns the number of a grammar for the library: of the modern one as the document reads
+        it."""
+        return NUMBERS[grammar] if grammar == PORT else self.reading
 
     @property
     def port_reading(self) -> PortReading:
@@ -374,24 +399,43 @@ class Elements:
         return arrays[grammar]
 
     def _make_arrays(self, grammar: str) -> library.TreeArrays:
-        shapes = array.array(library.SIZE)
+        pairs = self._compared_attributes(self.port_reading if grammar == PORT else None)
+        compared = [pairs[id(attributes)] for attributes in self.attributes]
+        counts = [len(each) // 2 for each in compared]
+        shaped = zip(self.depths, counts, self._numbered_states())
+        shapes = array.array(library.SIZE, itertools.chain.from_iterable(shaped))
+        names = {name: self.reading.compared_name(name) for name in set(self.names)}
         strings: List[str] = []
+        for name, each in zip(self.names, compared):
+            strings.append(names[name])
+            strings += each
+        return library.TreeArrays(shapes, strings)
+
+    def _compared_attributes(self, port: Optional[PortReading]) -> Dict[int, List[str]]:
+        """Returns the keys and values of attributes as they are compared, by their identity: equal
+        tags have the same."""
         reading = self.reading
-        port = self.port_reading if grammar == PORT else None
-        texts = set(self.texts.owners)
-        names = {name: reading.compared_name(name) for name in set(self.names)}
-        changing = reading.may_change(set(itertools.chain.from_iterable(self.attributes)))
-        for index, attributes in enumerate(self.attributes):
+        every = {id(attributes): attributes for attributes in self.attributes}
+        changing = reading.may_change(set(itertools.chain.from_iterable(every.values())))
+        found: Dict[int, List[str]] = {}
+        for key, attributes in every.items():
             if not changing.isdisjoint(attributes):
                 attributes = reading.attributes(attributes)
             if port is not None:
                 attributes = port.attributes(attributes)
-            states = sum(map(STATES.__getitem__, self.states.get(index, NO_STATES)))
-            states += _HAS_TEXT * (index in texts)
-            shapes.extend((self.depths[index], len(attributes), states))
-            strings.append(names[self.names[index]])
-            strings.extend(itertools.chain.from_iterable(attributes.items()))
-        return library.TreeArrays(shapes, strings)
+            found[key] = list(itertools.chain.from_iterable(attributes.items()))
+        return found
+
+    def _numbered_states(self) -> List[int]:
+        """Returns the states of each element, as the library numbers them."""
+        numbers = [0] * len(self)
+        for owner in set(self.texts.owners):
+            # That of a text without an element is -1.
+            if owner >= 0:
+                numbers[owner] = _HAS_TEXT
+        for index, states in self.states.items():
+            numbers[index] += sum(map(STATES.__getitem__, states))
+        return numbers
 
 
 def _is_link(node: Node) -> bool:

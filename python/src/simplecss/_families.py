@@ -2,12 +2,15 @@
 
 from __future__ import annotations
 
+import functools
 import re
 from typing import AbstractSet
 
+from ._patterns import pattern
+
 # The family of `all`, which sets what every property does.
 EVERYTHING = "*"
-PREFIX = re.compile(r"-(?:webkit|moz|ms|o)-|[*_]")
+PREFIX = pattern(r"-(?:webkit|moz|ms|o)-|[*_]")
 # The beginnings of names of which one property may set another, by the family that they are of.
 _FAMILIES = {
     "line": "font",
@@ -41,8 +44,10 @@ _LONG_FAMILIES = {
     "text-wrap": "white",
     "white-space": "white",
 }
+# How long a name is that is not kept.
+_LONG = 64
 # A value that every browser knows, as far as its form shows.
-_PLAIN_VALUE = re.compile(
+_PLAIN_VALUE = pattern(
     r"(?:(?:[-+]?(?:[0-9]+(?:\.[0-9]+)?|\.[0-9]+)(?:%|px|em|ex|pt|pc|in|cm|mm)?"
     r"|#(?:[0-9a-f]{3}|[0-9a-f]{6})"
     r"""|"[^"]*"|'[^']*'|url\([^()]*\)|rgb\([0-9%, ]*\)"""
@@ -59,8 +64,7 @@ _PLAIN_VALUE = re.compile(
 )
 
 
-def family_of(name: str) -> str:
-    """Returns the family of a property: two that may set the same have one."""
+def _family_of(name: str) -> str:
     if name.startswith("--"):
         return name
     if name == "all":
@@ -69,6 +73,14 @@ def family_of(name: str) -> str:
     words = plain.split("-")
     family = _LONG_FAMILIES.get("-".join(words[:2])) or _FAMILIES.get(words[0])
     return family or plain
+
+
+_usual_family_of = functools.lru_cache(maxsize=1024)(_family_of)
+
+
+def family_of(name: str) -> str:
+    """Returns the family of a property: two that may set the same have one."""
+    return _usual_family_of(name) if len(name) < _LONG else _family_of(name)
 
 
 def is_in(name: str, families: AbstractSet[str]) -> bool:

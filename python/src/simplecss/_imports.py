@@ -39,7 +39,7 @@ class ReadSheet:
         for each, has_layer in self.staying:
             yield from each.rules(number, animated, is_layered or has_layer)
         for source, statement in self.placed:
-            place = Place(number, None, animated, is_layered)
+            place = Place(number, False, animated, is_layered)
             yield from rules_of(source, [statement], place)
 
 

@@ -7,6 +7,7 @@ from __future__ import annotations
 
 import os
 import re
+import weakref
 from typing import (
     AbstractSet,
     Dict,
@@ -28,7 +29,7 @@ from . import _library as library
 from ._declaration import Declaration, cascaded
 from ._families import EVERYTHING, family_of, is_in, is_known
 from ._imports import LOSES, ReadSheet, SheetReader
-from ._linked import Load, Name, Shelf
+from ._linked import Load, Name, Shelf, has_imports
 from ._marking import (
     BACK,
     HIGHEST,
@@ -43,36 +44,12 @@ from ._marking import (
     goes_back,
     raised_by,
 )
-from ._page import Content, Page
-from ._reading import (
-    ReadAtRule,
-    ReadDeclaration,
-    ReadSelector,
-    RuleSet,
-    Source,
-    Span,
-    Statement,
-    read_block,
-)
-from ._selectors import (
-    NAMING,
-    OPAQUE,
-    Numbers,
-    Specificity,
-    states_in,
-)
-from ._staying import (
-    GREATEST,
-    Block,
-    LeftBlock,
-    Place,
-    StayingRule,
-    ends_of,
-    has_rules,
-    marked,
-    rules_of,
-    rules_with,
-)
+from ._page import Content, Page, written
+from ._reading import ReadDeclaration, ReadSelector, Source, read_block
+from ._selectors import NAMING, Specificity, states_in
+from ._presenting import attributes_of, is_presentable
+from ._split import Leftover, NotWritten, Rule, SplitSheet, SplitStatement, ended, statements_of
+from ._staying import GREATEST, Block, LeftBlock, Place, StayingRule, marked, rules_of
 from ._urls import joined
 from ._words import BLANKS, lower, words_of
 from ._xml import is_xml as is_xml_name
@@ -81,41 +58,6 @@ from .html import decode_page
 if TYPE_CHECKING:
     from ._sheet import StyleSheet
 
-# The pseudo-classes and pseudo-elements that browsers know. A rule set whose selectors have others,
-# or a namespace, stays whole, since a browser may drop all of it.
-_KNOWN = frozenset(
-    "before after first-line first-letter placeholder selection marker"
-    " hover active focus focus-within focus-visible link visited any-link target root empty"
-    " first-child last-child only-child first-of-type last-of-type only-of-type"
-    " enabled disabled checked required optional valid invalid read-only read-write".split()
-)
-_KNOWN_FUNCTIONS = frozenset(("not", "has", "is", "where"))
-_BLANK = r"[ \t\n\r\f]"
-_NTH = re.compile(
-    rf"{_BLANK}*(?:odd|even|[-+]?[0-9]*n(?:{_BLANK}*[-+]{_BLANK}*[0-9]+)?|[-+]?[0-9]+){_BLANK}*\)",
-    re.IGNORECASE | re.ASCII,
-)
-_LANGUAGE = re.compile(rf"{_BLANK}*[-\w]+{_BLANK}*\)", re.ASCII)
-_ARGUMENTS = {
-    "nth-child": _NTH,
-    "nth-last-child": _NTH,
-    "nth-of-type": _NTH,
-    "nth-last-of-type": _NTH,
-    "lang": _LANGUAGE,
-}
-# A pseudo-class or a pseudo-element up to its arguments, a namespace, and a parenthesis of nothing.
-_PSEUDO = re.compile(
-    rf"{OPAQUE}|(?P<colons>::?)(?P<name>{NAMING}*)(?P<open>\(?)|(?P<other>\|(?!=)|\()",
-    re.DOTALL | re.ASCII,
-)
-# The ids, classes and attributes that mail clients add to a page, whose rules match nothing yet.
-_CLIENTS = re.compile(
-    r"#(?:outlook|MessageViewBody|MessageWebViewDiv|body)\b"
-    r"|\.(?:ExternalClass|ReadMsgBody|yshortcuts|moz-text-html|gmail\w*|Mso\w+|aolmail\w*)\b"
-    r"|\[(?:data-ogsc|data-ogsb|data-outlook-cycle"
-    rf"|x-apple-data-detectors|owa)|\bu{_BLANK}*\+",
-    re.IGNORECASE | re.ASCII,
-)
 # Characters that a sheet has, and the name of a file usually has not.
 _OF_SHEETS = frozenset("{}()@;\"'<\n")
 _URL_ATTRIBUTES = frozenset(("href", "src", "background", "action", "poster"))
@@ -135,238 +77,25 @@ _ATTRIBUTES: Dict[str, Tuple[Tuple[str, FrozenSet[str], Pattern[str]], ...]] = {
     "vertical-align": (("valign", _CELLS, re.compile("(top|middle|bottom|baseline)")),),
 }
 
-# The states of links, and what the names of properties that set a colour have.
-_LINKS = frozenset(("link", "any-link"))
+# What the names of properties that set a colour have.
 _COLORED = "color background border outline fill stroke column text caret -webkit --".split()
 
 Document = TypeVar("Document", str, bytes)
 _ALL_FAMILIES = frozenset((EVERYTHING,))
 
 
-class _SplitStatement:
-    """A statement of a sheet: what of it is written into attributes, and what stays."""
-
-    def __init__(self, number: int, source: Source, span: Span, title: str, reason: str) -> None:
-        self.number = number
-        # What it is called in a report, and why all of it stays.
-        self.title = title
-        self.reason = reason
-        self.is_whole = True
-        # The statements that it has, if it is a group rule, or itself, and what they are in.
-        self.inner: List[Statement] = []
-        self.source = source
-        self.span = span
-        # Where of that `!important` is put, and the families of what is left that get it.
-        self.marks: Set[int] = set()
-        self.marked_left: Set[str] = set()
-        # The selectors that are written into attributes, and those that stay.
-        self.going: List[Tuple[str, Specificity]] = []
-        self.staying: List[ReadSelector] = []
-        # Where the block of a rule set is, and what closes it.
-        self.block = (0, 0)
-        self.end = ""
-        self.declarations: Tuple[Declaration, ...] = ()
-        # The families of the declarations that stay, too.
-        self.left: Set[str] = set()
-        self.families: FrozenSet[str] = frozenset()
-
-    def groups(self) -> List[Group]:
-        """Returns the declarations by name and importance, each where its last one is."""
-        groups: Dict[Tuple[str, bool], List[Declaration]] = {}
-        for declaration in self.declarations:
-            key = (declaration.name, declaration.important)
-            group = groups.pop(key, [])
-            group.append(declaration)
-            groups[key] = group
-        return [Group(tuple(group), (0, 0, 0), self.number) for group in groups.values()]
-
-    def kept(self) -> List[str]:
-        """Returns the text that stays."""
-        if self.is_whole or not self.going:
-            return [marked(self.source, self.span, self.marks)]
-        staying = ", ".join(each.text for each in self.staying)
-        block = marked(self.source, self.block, self.marks).strip(BLANKS) + self.end
-        texts = [f"{staying} {block}"] if staying else []
-        left = [
-            each._replace(important=each.important or family_of(each.name) in self.marked_left)
-            for each in self.left_declarations()
-        ]
-        if left:
-            texts.append(f"{self._selectors()} {{ {'; '.join(map(str, left))} }}")
-        return texts
-
-    def left_declarations(self) -> List[Declaration]:
-        """Returns the declarations that stay, too."""
-        return [each for each in self.declarations if family_of(each.name) in self.left]
-
-    def not_written(self) -> Iterator["NotWritten"]:
-        """Yields what of it is not written into attributes, and why."""
-        if self.is_whole:
-            yield NotWritten(self.title, self.reason)
-            return
-        for each in self.staying:
-            yield NotWritten(each.text, _reason_of(each))
-        if self.left:
-            yield NotWritten(self._selectors(), "a rule that stays could override it")
-
-    def _selectors(self) -> str:
-        return ", ".join(text for text, _ in self.going)
-
-    def keep_clients(self) -> None:
-        """Keeps the selectors for mail clients."""
-        clients = [each for each in self.going if _CLIENTS.search(each[0])]
-        more = [
-            ReadSelector(text, text, None, specificity, (0, 0)) for text, specificity in clients
-        ]
-        self.staying = more + self.staying
-
-
-class _Sheet:
-    """A sheet with those that it imports: its statements, and the `style` element that it is in, if
-    any."""
-
-    def __init__(self, read: ReadSheet, content: Optional[Content], start: int) -> None:
-        self.content = content
-        self.statements: List[_SplitStatement] = []
-        self._start = start
-        group: Tuple[Optional[Source], Span] = (None, (0, 0))
-        for source, each in read.placed:
-            if not each.levels:
-                self._take(source, each, read.reasons.get((source, each.span), "an at-rule"))
-            elif (source, each.levels[0].span) != group:
-                group = (source, each.levels[0].span)
-                title = str(each.levels[0].condition)
-                self._add(source, group[1], title, "an at-rule").inner = [each]
-            else:
-                self.statements[-1].inner.append(each)
-
-    def _add(self, source: Source, span: Span, title: str, reason: str) -> _SplitStatement:
-        number = self._start + len(self.statements)
-        statement = _SplitStatement(number, source, span, title, reason)
-        self.statements.append(statement)
-        return statement
-
-    def _take(self, source: Source, found: Statement, reason: str) -> None:
-        """Takes a statement that is in no group rule; one of an at-rule stays for the reason."""
-        if isinstance(found, ReadAtRule):
-            title = f"@{found.rule.name} {found.rule.prelude}".rstrip(BLANKS)
-            self._add(source, found.span, title, reason).inner = [found]
-        elif isinstance(found, RuleSet):
-            title = source.at(found.head)
-            statement = self._add(source, found.span, title, "a browser may drop the list")
-            statement.inner = [found]
-            _sort(statement, found, source)
-        elif source.at(found.span).endswith("}"):
-            title = source.at(found.span).partition("{")[0].strip(BLANKS)
-            self._add(source, found.span, title, found.reason)
-
-    def kept(self, newline: str) -> str:
-        """Returns the text that stays."""
-        return newline.join(text for each in self.statements for text in each.kept())
-
-    def has_written(self) -> bool:
-        """Whether a statement is written into attributes."""
-        return any(each.going for each in self.statements)
-
-    def is_marked(self) -> bool:
-        """Whether something in it gets `!important`."""
-        return any(each.marks for each in self.statements)
-
-
-class NotWritten(NamedTuple):
-    """What `inline` leaves in a sheet: the selectors or the at-rule, and why."""
-
-    text: str
-    reason: str
-
-
-def _reason_of(selector: ReadSelector) -> str:
-    """Returns why a selector stays."""
-    if _CLIENTS.search(selector.text):
-        return "it is for a mail client"
-    if selector.pseudo_element is not None:
-        return "it has a pseudo-element"
-    if selector.specificity is None:
-        return "it is unsupported"
-    return "it depends on a state of the page"
-
-
-def _is_known_selector(selector: str) -> bool:
-    """Whether every browser knows the pseudo-classes of a selector, and it has no namespace."""
-    for found in _PSEUDO.finditer(selector):
-        if found["other"]:
-            return False
-        name = lower(found["name"] or "")
-        if not found["colons"] or not found["open"] and name in _KNOWN:
-            continue
-        arguments = _ARGUMENTS.get(name)
-        is_known = arguments is not None and arguments.match(selector, found.end()) is not None
-        if not found["open"] or not is_known and name not in _KNOWN_FUNCTIONS:
-            return False
-    return True
-
-
-def _sort(statement: _SplitStatement, found: RuleSet, source: Source) -> None:
-    """Sorts the selectors of a rule set, unless it stays whole."""
-    if not all(_is_known_selector(each.text) for each in found.selectors):
-        return
-    if has_rules(found.items, source):
-        statement.reason = "it has rules in it"
-        return
-    for each in found.selectors:
-        if each.specificity is None or states_in(each.text):
-            statement.staying.append(each)
-        else:
-            statement.going.append((each.text, each.specificity))
-    statement.block = (found.head[1], found.span[1])
-    block = source.at(statement.block).strip(BLANKS)
-    if statement.staying and (_is_open(found) or not found.is_closed and _is_escaping(block)):
-        # No brace would close what stays.
-        statement.going, statement.staying = [], []
-        statement.reason = "the end of the text closes it"
-        return
-    statement.is_whole = False
-    statement.end = "}" * (not found.is_closed)
-    statement.declarations = tuple(
-        _ended(each, source) for each in found.items if isinstance(each, ReadDeclaration)
-    )
-    statement.families = frozenset(family_of(each.name) for each in found.declarations)
-
-
-def _is_open(found: RuleSet) -> bool:
-    """Whether the end of the text closes a declaration of a rule set."""
-    return any(isinstance(each, ReadDeclaration) and not each.is_closed for each in found.items)
-
-
-def _is_escaping(text: str) -> bool:
-    """Whether a text ends with a backslash that escapes what follows it."""
-    return (len(text) - len(text.rstrip("\\"))) % 2 == 1
-
-
-def _ended(found: ReadDeclaration, source: Source) -> Declaration:
-    """Returns a declaration after which others may be written: no backslash at the end of its value
-    takes them in."""
-    declaration = found.declaration
-    value = declaration.value
-    if not _is_escaping(value):
-        return declaration
-    # The end of the text makes it an escape of U+FFFD; a newline, which is all else that ends a
-    # value after it, none.
-    is_last = source.data[found.span[1] - 1 :] == b"\\"
-    return declaration._replace(value=value + ("\ufffd" if is_last else "\n"))
-
-
 class _Options(NamedTuple):
     """What `inline` is asked for beside its main work."""
 
-    at: Optional[Name] = None
     folder: Optional[Name] = None
     load: Optional[Load] = None
     base_url: Optional[str] = None
     preserve: Optional[str] = None
+    ignore: Optional[str] = None
     keep_style: bool = False
     remove_classes: bool = False
     attributes: bool = False
+    as_attributes: bool = False
     important: bool = True
     limit: int = library.USUAL_LIMIT
     answer_limit: int = library.USUAL_ANSWER_LIMIT
@@ -376,39 +105,66 @@ class _Options(NamedTuple):
 _Families = Dict[Tuple[str, bool], FrozenSet[Declaration]]
 
 
-def _back_of(rules: List[List[Group]]) -> Dict[int, Set[str]]:
-    """Returns by the number of a rule the families in which it goes back to what sheets say."""
-    found: Dict[int, Set[str]] = {}
-    for at, groups in enumerate(rules):
-        back = {family_of(each.name) for each in groups if goes_back(each.declarations)}
-        if back:
-            found[at] = back
-    return found
+# What is read of a sheet, and its statements.
+_Found = Tuple[ReadSheet, List[SplitStatement]]
+_found_of: "weakref.WeakKeyDictionary[StyleSheet, Dict[Optional[str], _Found]]"
+_found_of = weakref.WeakKeyDictionary()
 
 
-class _Inliner:
+class _Prepared:
+    """A sheet and options for any number of pages."""
+
+    def __init__(self, css: "Union[str, StyleSheet]", options: _Options) -> None:
+        self.css = _text_of(css)
+        self.options = options
+        # What is found of the sheet, by the base of its urls: of a `StyleSheet` once for all.
+        self._found: Dict[Optional[str], _Found] = {}
+        if not isinstance(css, str):
+            self._found = _found_of.setdefault(css, self._found)
+
+    def reader(self, page: Page, at: Optional[Name]) -> SheetReader:
+        """Returns what reads the sheets of a page, which is there."""
+        options = self.options
+        shelf = Shelf(at, options.folder, options.load, options.answer_limit)
+        shelf.take_base(page.elements)
+        return SheetReader(shelf, options.base_url)
+
+    def sheet(self, reader: SheetReader) -> _Found:
+        """Returns what is read of the sheet: once, if it imports nothing."""
+        base = self.options.base_url
+        if base in self._found:
+            reader.texts.append(self.css)
+            return self._found[base]
+        read = reader.read(self.css, None)
+        found = read, statements_of(read, 0)
+        if not has_imports(self.css):
+            self._found[base] = found
+        return found
+
+
+class _PageInliner:
     """Writes sheets into the attributes of a page."""
 
-    def __init__(self, page: Page, css: str, options: _Options) -> None:
+    def __init__(self, page: Page, prepared: _Prepared, at: Optional[Name]) -> None:
         self.page = page
-        self.options = options
-        shelf = Shelf(options.at, options.folder, options.load, options.answer_limit)
-        shelf.take_base(page.elements)
-        self.reader = SheetReader(shelf, options.base_url)
+        self.options = options = prepared.options
+        self.reader = prepared.reader(page, at)
         # Whether what stays is made important, where that lets something be written.
         self.is_marking = options.important and not options.keep_style
-        self.sheets: List[_Sheet] = []
+        self.sheets: List[SplitSheet] = []
         # Whether an `@import` stays.
         self.has_staying = False
-        # What `@keyframes` set, and the sheets that stay where they are, with where they are marked.
+        # What `@keyframes` set, and the sheets that stay where they are, with their numbers.
         self.animated: Set[str] = set()
-        self.others: List[Tuple[Content, Source, Set[int]]] = []
+        self.others: List[Tuple[Content, Source, int]] = []
         self.kept: List[StayingRule] = []
-        self._read_all(css)
+        ignore = options.ignore
+        self.ignored = page.elements.found_set(ignore) if ignore else frozenset()
+        self._read_all(prepared)
+        if self.is_marking and not page.is_xml:
+            self._take_links()
         self.statements = [each for sheet in self.sheets for each in sheet.statements]
         self.numbered = {each.number: each for each in self.statements}
-        # How many declarations the rules may hold yet.
-        self.room = options.limit
         # How many declarations may yet be compared, and how many characters the page may yet grow
         # by.
         self.compared = library.Room(options.answer_limit)
@@ -416,49 +172,54 @@ class _Inliner:
         self.rules: List[List[Group]] = []
         self.selectors: List[str] = []
         self._prepare()
-        self.winners: Dict[bytes, List[Group]] = {}
-        self.as_it_is: Dict[Tuple[bytes, bytes], FrozenSet[str]] = {}
+        self.winners: Dict[int, List[Group]] = {}
+        self.as_it_is: Dict[Tuple[int, int], FrozenSet[str]] = {}
         self.families: Dict[int, _Families] = {}
         self.owned: Dict[str, Optional[List[Declaration]]] = {}
-        # The numbers of rules and of rules that stay, by lines that the library writes.
-        self.rule_numbers = Numbers(range(len(self.rules)))
-        self.rival_numbers = Numbers(range(len(self.kept)))
-        # The families in which declarations of a rule go back to what sheets say.
-        self.back = _back_of(self.rules)
+        # The sets of rules, and of rules that stay, that match elements.
+        self.rule_sets: List[List[int]] = []
+        self.rival_sets: List[List[int]] = []
         # The elements of each kind, the families that are left of it, and what it has.
         self.kinds: Dict[Kind, List[int]] = {}
         self.left_of: Dict[Kind, Set[str]] = {}
         self.views: Dict[Kind, View] = {}
-        self.rivals: Dict[Tuple[bytes, Tuple[Tuple[int, Rank], ...]], Rivals] = {}
+        self.rivals: Dict[Tuple[int, Tuple[Tuple[int, Rank], ...]], Rivals] = {}
         self.left_blocks: Dict[int, LeftBlock] = {}
+        self.leftover = Leftover()
         # The order of blocks that stay.
         blocks = dict.fromkeys(each.block for each in self.kept)
         self.places: Dict[Block, int] = {block: at for at, block in enumerate(blocks, 1)}
 
-    def _read_all(self, css: str) -> None:
+    def _read_all(self, prepared: _Prepared) -> None:
         """Reads a sheet and those of the page."""
         page, preserve = self.page, self.options.preserve
         preserved = page.elements.found_set(preserve) if preserve else frozenset()
-        number = self._add(self.reader.read(css, None), None, 0)
+        read, statements = prepared.sheet(self.reader)
+        number = self._add(read, statements, None, 0)
         for content in page.sources():
-            read = self._read(content) if page.is_style_sheet(content) else None
-            if read is None:
+            found = self._read(content) if page.is_style_sheet(content) else None
+            if found is None:
                 continue
             may_change = content.element not in preserved
             if page.is_plain(content) and may_change:
-                number = self._add(read, content, number)
+                number = self._add(found, statements_of(found, number), content, number)
             else:
-                self._keep_whole(read, content, number, may_change)
+                self._keep_whole(found, content, number, may_change)
                 number += 1
 
-    def _add(self, read: ReadSheet, content: Optional[Content], number: int) -> int:
-        """Adds a sheet whose first statement has a number. Returns the next number."""
-        sheet = _Sheet(read, content, number)
-        self.sheets.append(sheet)
+    def _add(
+        self,
+        read: ReadSheet,
+        statements: List[SplitStatement],
+        content: Optional[Content],
+        number: int,
+    ) -> int:
+        """Adds a sheet of these statements, whose first has a number. Returns the next number."""
+        self.sheets.append(SplitSheet(statements, content))
         self.has_staying = self.has_staying or bool(read.reasons)
         for each, has_layer in read.staying:
             self.kept.extend(each.rules(number, self.animated, has_layer))
-        return number + len(sheet.statements)
+        return number + len(statements)
 
     def _keep_whole(self, read: ReadSheet, content: Content, number: int, may_mark: bool) -> None:
         """Notes the rules of a sheet that stays where it is."""
@@ -468,10 +229,9 @@ class _Inliner:
         if not (may_mark and is_alone and is_same):
             self.kept.extend(read.rules(number, self.animated))
             return
-        marks: Set[int] = set()
-        self.others.append((content, source, marks))
+        self.others.append((content, source, number))
         statements = (statement for _, statement in read.placed)
-        self.kept.extend(rules_of(source, statements, Place(number, marks, self.animated)))
+        self.kept.extend(rules_of(source, statements, Place(number, True, self.animated)))
 
     def _read(self, content: Content) -> Optional[ReadSheet]:
         """Reads the sheet of an element. Returns `None` for a link to one that cannot be read."""
@@ -482,67 +242,56 @@ class _Inliner:
 
     def _prepare(self) -> None:
         """Makes the rules that are written into attributes, in the order of the cascade."""
-        if self.is_marking and not self.page.is_xml:
-            self._take_links()
-        rules: List[Tuple[str, Specificity, List[Group]]] = []
-        for sheet in self.sheets:
-            for statement in sheet.statements:
-                self._keep(statement)
-                groups = statement.groups()
-                self.room -= len(groups) * len(statement.going)
-                if self.room < 0:
-                    raise library.LimitError(
-                        "the rules would hold more declarations than the limit"
-                    )
-                rules.extend((*each, groups) for each in statement.going if groups)
-        rules.sort(key=lambda rule: rule[1])
-        self.selectors = [text for text, _, _ in rules]
-        self.rules = [
-            [each._replace(specificity=specificity) for each in groups]
-            for _, specificity, groups in rules
-        ]
+        rules: List[Rule] = []
+        room = self.options.limit
+        for statement in self.statements:
+            kept, animated = statement.kept_rules
+            self.kept.extend(kept)
+            self.animated |= animated
+            room -= len(statement.groups) * len(statement.going)
+            if room < 0:
+                raise library.LimitError("the rules would hold more declarations than the limit")
+            rules.extend(statement.rules)
+        rules.sort(key=lambda rule: rule.specificity)
+        self.selectors = [rule.selector for rule in rules]
+        self.rules = [rule.groups for rule in rules]
 
     def _take_links(self) -> None:
         """Takes rules for links among those that are written, where visited links stay as they
         are."""
         later = {
             lower(each.text): statement
-            for statement in self.statements
+            for sheet in self.sheets
+            for statement in sheet.statements
             for each in statement.staying
         }
-        for statement in self.statements:
-            for each in statement.staying.copy():
-                if each.specificity is None or not _LINKS.issuperset(states_in(each.text)):
-                    continue
-                visited = later.get(lower(each.text).replace(":link", ":visited"))
-                if "link" not in states_in(each.text) or _is_of_links(statement, visited):
-                    statement.staying.remove(each)
-                    statement.going.append((each.text, each.specificity))
+        for sheet in self.sheets:
+            sheet.statements = [
+                self._with_links(each, later) if each.links else each for each in sheet.statements
+            ]
 
-    def _keep(self, statement: _SplitStatement) -> None:
-        """Notes the rules of a statement that stay."""
-        number, source = statement.number, statement.source
-        place = Place(number, statement.marks, self.animated)
-        if statement.is_whole:
-            self.kept.extend(rules_of(source, statement.inner, place))
-            return
-        declared = list(statement.declarations)
-        sets = (each for each in statement.inner if isinstance(each, RuleSet))
-        block = Block(declared, statement.marks, ends_of(next(sets).items, source))
-        self.kept.extend(rules_with(statement.staying, declared, number, False, block))
+    def _with_links(
+        self, statement: SplitStatement, later: Dict[str, SplitStatement]
+    ) -> SplitStatement:
+        """Returns a statement whose rules for links are written, if visited links stay as they
+        are."""
+        going = []
+        for each in statement.links:
+            visited = later.get(lower(each.text).replace(":link", ":visited"))
+            if "link" not in states_in(each.text) or _is_of_links(statement, visited):
+                going.append(each)
+        return statement.with_going(going) if going else statement
 
     def write(self) -> None:
         """Writes what wins on each element into its attribute, and what stays into style
         elements."""
         self._sort_elements()
         marking = self._decide()
+        self.leftover.marks = marking.marks
         for kind, indices in self.kinds.items():
             if kind.has_tag:
                 self._write_kind(kind, indices, marking)
-        used = {
-            self.rules[rule][0].number for rules in self.rule_numbers.values() for rule in rules
-        }
-        self._keep_clients(used)
+        self._keep_clients()
         if self.options.base_url is not None:
             self._rebase_attributes(self.options.base_url)
         if self.options.remove_classes:
@@ -551,18 +300,37 @@ class _Inliner:
 
     def _sort_elements(self) -> None:
         """Sorts the elements that are shown by their kinds."""
-        limit = self.options.answer_limit
-        matching = self.page.elements.matched(self.selectors, limit)
-        rivals = self.page.elements.matched([rule.selector for rule in self.kept], limit)
+        matching, self.rule_sets = self._matched(self.selectors)
+        rivals, self.rival_sets = self._matched([rule.selector for rule in self.kept])
+        elements, tags, ignored = self.page.elements, self.page.tags, self.ignored
+        attributes = elements.attributes
+        drawn = elements.drawn if self._has_attributes() else frozenset()
         for index, is_shown in enumerate(self.page.shown()):
-            rules = self.rule_numbers[matching[index]]
-            own = self.page.elements.attributes[index].get("style", "")
-            own = own if self.is_marking or BACK in lower(own) else ""
-            has_tag = self.page.tags[index] is not None
-            is_alone = not rules and not own and not (self.is_marking and rivals[index])
-            if is_shown and not is_alone:
-                kind = Kind(matching[index], rivals[index], own, has_tag)
+            if not is_shown:
+                continue
+            own = attributes[index].get("style", "")
+            own = own if own and (self.is_marking or BACK in lower(own)) else ""
+            rules, others = matching[index], rivals[index]
+            is_rivaled = self.is_marking and self.rival_sets[others]
+            if own or is_rivaled or self.rule_sets[rules]:
+                has_tag = tags[index] is not None and index not in ignored
+                name = elements.names[index] if index in drawn else ""
+                kind = Kind(rules, others, own, has_tag, name)
                 self.kinds.setdefault(kind, []).append(index)
+
+    def _has_attributes(self) -> bool:
+        """Whether drawings get attributes in place of styles. Where all sheets stay, these would beat
+        what another sheet says."""
+        is_beaten = self.options.keep_style and bool(self.sheets[0].statements)
+        return self.options.as_attributes and not is_beaten
+
+    def _matched(self, selectors: List[str]) -> Tuple[List[int], List[List[int]]]:
+        """Returns for each element the number of the set of selectors that match it, and the sets,
+        of which most elements share few."""
+        numbers: Dict[bytes, int] = {}
+        lines = self.page.elements.matched(selectors, self.options.answer_limit)
+        found = [numbers.setdefault(line, len(numbers)) for line in lines]
+        return found, [[int(each) - 1 for each in line.split()] for line in numbers]
 
     def _decide(self) -> Marking:
         """Decides what is left in sheets of each kind of element, and what gets `!important`."""
@@ -575,7 +343,7 @@ class _Inliner:
             self._leave(kind, self._back(kind))
             if not self.is_marking:
                 self._leave(kind, self._left_as_it_is(kind))
-        texts = (self.page.text, *self.reader.texts)
+        texts = (self.page.text, *self.reader.texts) if self.animated else ()
         is_animating = any("animation" in lower(text) or "\\" in text for text in texts)
         animated = self.animated if is_animating else set()
         while True:
@@ -589,11 +357,12 @@ class _Inliner:
                 self._leave(kind, families)
             self.views.clear()
             self.rivals.clear()
+            self.left_blocks.clear()
 
     def _back(self, kind: Kind) -> Set[str]:
         """Returns the families in which a declaration goes back to what sheets say."""
-        rules = self.rule_numbers[kind.rules]
-        found = {each for rule in rules if rule in self.back for each in self.back[rule]}
+        rules = self.rule_sets[kind.rules]
+        found = {each for rule in rules for each in self._statement(rule).back}
         if rules and BACK in lower(kind.own):
             own = self._own(kind.own)
             is_all = own is None or any(each.name == "all" for each in self._winners(kind.rules))
@@ -606,7 +375,7 @@ class _Inliner:
         key = (kind.rules, kind.rivals)
         if key not in self.as_it_is:
             winners = self._winners(kind.rules)
-            rivals = _strongest(self.kept[each] for each in self.rival_numbers[kind.rivals])
+            rivals = _strongest(self.kept[each] for each in self.rival_sets[kind.rivals])
             self.compared.take(len(winners) + sum(1 + len(each.declarations) for each in rivals))
             declared = [(each, self._families(each)) for each in rivals]
             self.as_it_is[key] = _left_families(winners, declared)
@@ -630,7 +399,7 @@ class _Inliner:
         key = (kind.rivals, tuple(ranks.items()))
         if key not in self.rivals:
             blocks: Dict[Block, List[StayingRule]] = {}
-            for at in self.rival_numbers[kind.rivals]:
+            for at in self.rival_sets[kind.rivals]:
                 blocks.setdefault(self.kept[at].block, []).append(self.kept[at])
             self.compared.take(len(blocks) + len(ranks))
             every = [self._rival(block, rules) for block, rules in blocks.items()]
@@ -653,24 +422,25 @@ class _Inliner:
     def _left_ranks(self, kind: Kind) -> Dict[int, Rank]:
         """Returns the ranks of what is left of the rule sets that match a kind of element."""
         found: Dict[int, Rank] = {}
-        for rule in self.rule_numbers[kind.rules]:
+        for rule in self.rule_sets[kind.rules]:
             group = self.rules[rule][0]
-            if self.numbered[group.number].left:
+            if group.number in self.leftover.families:
                 found[group.number] = max(group.rank, found.get(group.number, group.rank))
         return found
 
     def _left_block(self, number: int) -> LeftBlock:
         """Returns the block of what is left of a rule set."""
-        statement = self.numbered[number]
-        block = self.left_blocks.setdefault(number, LeftBlock(statement.marked_left))
-        block.take(statement.left_declarations())
-        return block
+        if number not in self.left_blocks:
+            declared = self.numbered[number].left_declarations(self.leftover)
+            important = self.leftover.important.setdefault(number, set())
+            self.left_blocks[number] = LeftBlock(declared, important)
+        return self.left_blocks[number]
 
     def _own(self, text: str) -> Optional[List[Declaration]]:
         """Returns the declarations of an attribute `style`, or `None` if it has something else."""
         if text not in self.owned:
             source, items = read_block(text)
-            found = [_ended(each, source) for each in items if isinstance(each, ReadDeclaration)]
+            found = [ended(each, source) for each in items if isinstance(each, ReadDeclaration)]
             self.owned[text] = found if len(found) == len(items) else None
         return self.owned[text]
 
@@ -688,18 +458,52 @@ class _Inliner:
         own = (self._own(kind.own) or []) if above else []
         if all(each.important or family_of(each.name) not in above for each in own):
             own = []
+        if kind.drawn:
+            apart = self._presented(kind, groups)
+            groups = [each for each in groups if each not in apart]
+            self._present(apart, indices)
         texts = self._texts(kind, groups, own, raised, demoted)
-        for index in indices:
-            if texts:
-                self.growth.take(sum(map(len, texts)))
-                self.page.add_declarations(index, texts, has_own=bool(own))
-            if self.options.attributes:
-                _set_attributes(self.page, index, groups)
+        if texts:
+            self.growth.take(sum(map(len, texts)) * len(indices))
+            self.page.add_declarations(indices, texts, has_own=bool(own))
+        for index in indices if self.options.attributes else ():
+            _set_attributes(self.page, index, groups)
 
-    def _winners(self, key: bytes) -> List[Group]:
-        """Returns what wins of the rules of a line."""
+    def _presented(self, kind: Kind, groups: List[Group]) -> List[Group]:
+        """Returns what is written into presentation attributes, which all rules beat: what is weaker
+        than all that stays and may apply, and has no other value before it. Of a family all is, or
+        nothing."""
+        names = attributes_of(kind.drawn)
+        named = self._named(groups, kind)
+        rivals = self._view(kind).rivals
+        families: Dict[str, List[Group]] = {}
+        for each in groups:
+            families.setdefault(family_of(each.name), []).append(each)
+        found: List[Group] = []
+        for family, those in families.items():
+            is_plain = all(
+                each.name in names
+                and is_presentable(each)
+                and not _beaten(each, named.get(each.name, []))
+                for each in those
+            )
+            if is_plain and EVERYTHING not in families:
+                top = max(each.rank for each in those)
+                found += those if not rivals.may_lose(family, top) else ()
+        return found
+
+    def _present(self, groups: List[Group], indices: List[int]) -> None:
+        """Writes declarations into presentation attributes."""
+        for group in groups:
+            value = written(group.declarations[0].value)
+            self.growth.take((len(group.name) + len(value)) * len(indices))
+            for index in indices:
+                self.page.set_attribute(index, group.name, value)
+
+    def _winners(self, key: int) -> List[Group]:
+        """Returns what wins of a set of rules."""
         if key not in self.winners:
-            rules = self.rule_numbers[key]
+            rules = self.rule_sets[key]
             self.compared.take(sum(len(self.rules[rule]) for rule in rules))
             self.winners[key] = cascaded(each for rule in rules for each in self.rules[rule])
         return self.winners[key]
@@ -716,7 +520,8 @@ class _Inliner:
 
     def _rebase_attributes(self, base: str) -> None:
         for index, attributes in enumerate(self.page.elements.attributes):
-            for name in _URL_ATTRIBUTES & attributes.keys():
+            is_ignored = index in self.ignored
+            for name in () if is_ignored else _URL_ATTRIBUTES & attributes.keys():
                 if attributes[name] != joined(base, attributes[name]):
                     self.page.set_attribute(index, name, joined(base, attributes[name]))
 
@@ -727,7 +532,7 @@ class _Inliner:
         if self.has_staying or not links <= written:
             # What they name is in no text that is here.
             return
-        kept = " ".join(sheet.kept("\n") for sheet in self.sheets)
+        kept = " ".join(sheet.kept("\n", self.leftover) for sheet in self.sheets)
         kept += " ".join(
             self.page.sheet_of(each) for each in self.page.styles() if each not in written
         )
@@ -736,7 +541,7 @@ class _Inliner:
             return
         named = frozenset(_CLASS.findall(kept))
         for index, attributes in enumerate(self.page.elements.attributes):
-            if "class" in attributes:
+            if "class" in attributes and index not in self.ignored:
                 words = [each for each in words_of(attributes["class"]) if each in named]
                 self.page.set_attribute(index, "class", " ".join(words) or None)
 
@@ -745,7 +550,7 @@ class _Inliner:
         for url, reason in self.reader.shelf.unread:
             yield NotWritten(url, f"{reason}: {LOSES}")
         for statement in self.statements:
-            yield from statement.not_written()
+            yield from statement.not_written(self.leftover)
 
     def _leave(self, kind: Kind, families: AbstractSet[str]) -> None:
         """Notes that the declarations of families stay, of all rules that match a kind. Where `all`
@@ -754,17 +559,27 @@ class _Inliner:
             families = _ALL_FAMILIES
         self.left_of[kind] |= families
         is_all = EVERYTHING in families
-        for number in {self.rules[rule][0].number for rule in self.rule_numbers[kind.rules]}:
-            statement = self.numbered[number]
-            for family in statement.families if families else ():
-                if is_all or family in families or family == EVERYTHING:
-                    statement.left.add(family)
+        for rule in self.rule_sets[kind.rules] if families else ():
+            statement = self._statement(rule)
+            those = {
+                family
+                for family in statement.families
+                if is_all or family in families or family == EVERYTHING
+            }
+            if those:
+                self.leftover.families.setdefault(statement.number, set()).update(those)
+            if those and not kind.has_tag:
+                self.leftover.untouched.add(statement.number)
+
+    def _statement(self, rule: int) -> SplitStatement:
+        """Returns the statement that a rule is of."""
+        return self.numbered[self.rules[rule][0].number]
 
     def _named(self, groups: List[Group], kind: Kind) -> Dict[str, List[Group]]:
         """Returns what the rules of a kind have of the names whose values a browser may not know."""
         unknown = {each.name for each in groups if not is_known(each.declarations[0].value)}
         named: Dict[str, List[Group]] = {name: [] for name in unknown}
-        rules = self.rule_numbers[kind.rules] if unknown else []
+        rules = self.rule_sets[kind.rules] if unknown else []
         self.compared.take(sum(len(self.rules[rule]) for rule in rules))
         for rule in rules:
             for each in self.rules[rule]:
@@ -780,38 +595,54 @@ class _Inliner:
         raised: Dict[str, Rank],
         demoted: Set[Tuple[Rank, str]],
     ) -> List[str]:
-        """Returns the declarations of the winners, each after those that it would beat if a browser
-        may not know it, and then the own ones; those that are important last."""
+        """Returns the declarations of the winners and of what these would beat if a browser may not
+        know them, in the order of the cascade, and then the own ones; those that are important
+        last."""
         named = self._named(groups, kind)
+        beaten = [one for each in groups for one in _beaten(each, named.get(each.name, []))]
         found: List[Tuple[int, Declaration]] = []
-        for group in groups:
-            for each in (*_beaten(group, named.get(group.name, [])), group):
-                is_raised = each.rank > raised.get(family_of(each.name), HIGHEST)
-                is_demoted = (each.rank, each.name) in demoted
-                found += [(_level(one, is_raised, is_demoted), one) for one in each.declarations]
+        for each, one in self._placed([*groups, *beaten]):
+            is_raised = each.rank > raised.get(family_of(each.name), HIGHEST)
+            is_demoted = (each.rank, each.name) in demoted
+            found.append((_level(one, is_raised, is_demoted), one))
         found += [(_level(one, family_of(one.name) in raised, False), one) for one in own]
         if raised or demoted:
             found.sort(key=lambda each: each[0])
         return [str(one._replace(important=level > _DEMOTED)) for level, one in found]
 
-    def _keep_clients(self, used: Set[int]) -> None:
+    def _placed(self, groups: List[Group]) -> List[Tuple[Group, Declaration]]:
+        """Returns the declarations of groups in the order of the cascade, of which importance is
+        apart."""
+        found = [
+            ((group.specificity, group.number, place), group, each)
+            for group in groups
+            for place, each in zip(self.numbered[group.number].places_of(group), group.declarations)
+        ]
+        found.sort(key=lambda each: each[0])
+        return [(group, each) for _, group, each in found]
+
+    def _keep_clients(self) -> None:
         """Keeps the rules for mail clients that match nothing in the page."""
-        for statement in self.statements:
-            if statement.number not in used and not statement.is_whole:
-                statement.keep_clients()
+        used = {self.rules[rule][0].number for rules in self.rule_sets for rule in rules}
+        self.leftover.unmatched = {
+            each.number for each in self.statements if each.clients and each.number not in used
+        }
 
     def _write_sheets(self) -> None:
         newline = self.page.newline
         for sheet in self.sheets:
-            kept = sheet.kept(newline)
+            kept = sheet.kept(newline, self.leftover)
             if sheet.content is None:
                 if kept:
                     self.page.add_sheet(kept)
             elif not self.options.keep_style and (
-                sheet.has_written() or sheet.is_marked() or sheet.content.href is not None
+                sheet.has_written()
+                or sheet.is_marked(self.leftover)
+                or sheet.content.href is not None
             ):
                 self.page.set_sheet(sheet.content, kept)
-        for content, source, marks in self.others:
+        for content, source, number in self.others:
+            marks = self.leftover.marks.get(number)
             if marks:
                 self.page.set_sheet(content, marked(source, (0, len(source.data)), marks))
 
@@ -849,7 +680,7 @@ def _level(declaration: Declaration, is_raised: bool, is_demoted: bool) -> int:
     return _RAISED if is_raised else _PLAIN
 
 
-def _is_of_links(statement: _SplitStatement, visited: Optional[_SplitStatement]) -> bool:
+def _is_of_links(statement: SplitStatement, visited: Optional[SplitStatement]) -> bool:
     """Whether visited links look the same if what a statement says of links is said of them, too:
     of visited links only colours are taken, which another statement sets."""
     names = {each.name for each in statement.declarations if _has_color(each.name)}
@@ -933,6 +764,71 @@ def _set_attributes(page: Page, index: int, groups: Iterable[Group]) -> None:
                 page.set_attribute(index, attribute, found.group(1))
 
 
+class Inliner:
+    """Writes style sheets into the `style` attributes of documents: `inline` with a sheet and options
+    that are taken once, for any number of documents."""
+
+    def __init__(
+        self,
+        css: "Union[str, StyleSheet]" = "",
+        *,
+        folder: Optional[Name] = None,
+        load: Optional[Load] = None,
+        base_url: Optional[str] = None,
+        preserve: Optional[str] = None,
+        ignore: Optional[str] = None,
+        keep_style: bool = False,
+        remove_classes: bool = False,
+        attributes: bool = False,
+        as_attributes: bool = False,
+        important: bool = True,
+        limit: Optional[int] = library.USUAL_LIMIT,
+        answer_limit: Optional[int] = library.USUAL_ANSWER_LIMIT,
+    ) -> None:
+        """Takes what `inline` does. The sheet is read at the first document."""
+        text = _text_of(css)
+        text.encode("utf-8")
+        _expect_no_name(text)
+        limits = library.limit_of(limit), library.limit_of(answer_limit)
+        named = folder, load, base_url, preserve, ignore
+        chosen = keep_style, remove_classes, attributes, as_attributes, important
+        self._prepared = _Prepared(css, _Options(*named, *chosen, *limits))
+
+    def inline(
+        self,
+        html: Document,
+        *,
+        at: Optional[Name] = None,
+        is_xml: Optional[bool] = None,
+        is_part: bool = False,
+        report: Optional[List[NotWritten]] = None,
+    ) -> Document:
+        """Returns a document with the sheets written into `style` attributes, as `inline` does."""
+        has_xml = is_xml_name(os.fspath(at or "")) if is_xml is None else is_xml
+        if has_xml and is_part:
+            raise ValueError("a part of a document is one of HTML")
+        if isinstance(html, bytes):
+            text, encode = decode_page(html)
+            encode.expect_same(text, html)
+            page = Page(text, encode.lacks, is_xml=has_xml, is_part=is_part)
+            return encode(self._inlined(page, at, report))
+        library.expect_text(html)
+        html.encode("utf-8")
+        page = Page(html, is_xml=has_xml, is_part=is_part)
+        return self._inlined(page, at, report)
+
+    def _inlined(self, page: Page, at: Optional[Name], report: Optional[List[NotWritten]]) -> str:
+        if page.is_doubtful:
+            raise ValueError(
+                "browsers read the document in different ways: NUL, `search` or end tags"
+            )
+        inliner = _PageInliner(page, self._prepared, at)
+        inliner.write()
+        if report is not None:
+            report.extend(inliner.not_written())
+        return page.edited()
+
+
 def inline(
     html: Document,
     css: "Union[str, StyleSheet]" = "",
@@ -942,11 +838,14 @@ def inline(
     load: Optional[Load] = None,
     base_url: Optional[str] = None,
     preserve: Optional[str] = None,
+    ignore: Optional[str] = None,
     keep_style: bool = False,
     remove_classes: bool = False,
     attributes: bool = False,
+    as_attributes: bool = False,
     important: bool = True,
     is_xml: Optional[bool] = None,
+    is_part: bool = False,
     report: Optional[List[NotWritten]] = None,
     limit: Optional[int] = library.USUAL_LIMIT,
     answer_limit: Optional[int] = library.USUAL_ANSWER_LIMIT,
@@ -959,38 +858,44 @@ def inline(
     of the page (`:hover`), unsupported ones, and at-rules stay in a `style` element, as does one
     for some media only. They get `!important` where they override what is written, and so does what
     overrides them; where that would not be exact on all elements, or with `important=False`, what
-    they could override stays, too. Everything else is unchanged, byte for byte. A document in bytes is returned in bytes. `ValueError` is raised for one in bytes that
-    would be written otherwise, and for css that no escape keeps in its `style` element.
+    they could override stays, too. Everything else is unchanged, byte for byte. A document in bytes
+    is returned in bytes. `ValueError` is raised for one in bytes that would be written otherwise, and
+    for css that no escape keeps in its `style` element.
 
     Sheets that `link rel=stylesheet` and `@import` name are written, too, if they are files in
     `folder`, or `load` returns them for their urls; `at` says where the document is, as a path or a
     url, which is the folder itself if it is not said. Nothing is ever fetched. `base_url` is what
     relative urls are taken from. `style` elements that the selectors `preserve` match stay as they
-    are, and with `keep_style` all do. `remove_classes` removes the classes that no rule needs any
-    more. `attributes` writes `width`, `bgcolor` and the like beside styles. `is_xml` says whether the
-    document is XML, as XHTML and SVG are, if the name in `at` does not say it; one that is not
-    well-formed raises `TreeError`. `report` gets what could not be written.
+    are, and with `keep_style` all do. Elements that the selectors `ignore` match stay as they are,
+    and so do the rules for them. `remove_classes` removes the classes that no rule needs any more.
+    `attributes` writes `width`, `bgcolor` and the like beside styles. With `as_attributes` drawings
+    get presentation attributes, as `fill`, in place of styles. `is_xml` says whether the document is
+    XML, as XHTML and SVG are, if the name in `at` does not say it; one that is not well-formed raises
+    `TreeError`. `is_part` says that it is a part of a page in HTML, also one of a table, as a row.
+    `report` gets what could not be written.
 
     Sheets whose rules would hold more declarations than `limit` raise `LimitError`. So do more
     rules than `answer_limit`, each counted once for each element that it matches, and a page that
     would grow by more characters. `None` is no limit.
 
-    For many documents, `css` may be a `StyleSheet` of one text, which is read once.
+    For many documents, an `Inliner` reads the sheet once.
     """
-    css = _text_of(css)
-    css.encode("utf-8")
-    _expect_no_name(css)
-    limits = library.limit_of(limit), library.limit_of(answer_limit)
-    more = base_url, preserve, keep_style, remove_classes, attributes, important
-    options = _Options(at, folder, load, *more, *limits)
-    has_xml = is_xml_name(os.fspath(at or "")) if is_xml is None else is_xml
-    if isinstance(html, bytes):
-        text, encode = decode_page(html)
-        encode.expect_same(text, html)
-        return encode(_inlined(Page(text, encode.lacks, is_xml=has_xml), css, options, report))
-    library.expect_text(html)
-    html.encode("utf-8")
-    return _inlined(Page(html, is_xml=has_xml), css, options, report)
+    inliner = Inliner(
+        css,
+        folder=folder,
+        load=load,
+        base_url=base_url,
+        preserve=preserve,
+        ignore=ignore,
+        keep_style=keep_style,
+        remove_classes=remove_classes,
+        attributes=attributes,
+        as_attributes=as_attributes,
+        important=important,
+        limit=limit,
+        answer_limit=answer_limit,
+    )
+    return inliner.inline(html, at=at, is_xml=is_xml, is_part=is_part, report=report)
 
 
 def _text_of(css: "Union[str, StyleSheet]") -> str:
@@ -1012,13 +917,3 @@ def _expect_no_name(css: str) -> None:
             f"{name!r} is the name of a style sheet, not its text: pass what open(..) reads, or"
             " folder= for the sheets that the document links to"
         )
-
-
-def _inlined(page: Page, css: str, options: _Options, report: Optional[List[NotWritten]]) -> str:
-    if page.is_doubtful:
-        raise ValueError("browsers read the document in different ways: NUL, `search` or end tags")
-    inliner = _Inliner(page, css, options)
-    inliner.write()
-    if report is not None:
-        report.extend(inliner.not_written())
-    return inliner.page.edited()

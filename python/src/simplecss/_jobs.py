@@ -3,6 +3,7 @@
 from __future__ import annotations
 
 import argparse
+import codecs
 import os
 import sys
 from pathlib import Path
@@ -10,14 +11,16 @@ from typing import Any, Iterator, List, NamedTuple, Optional
 
 from . import _lint
 from ._device import Device
+from ._fixes import fixed
 from ._elements import TreeError
 from ._imports import LOSES
-from ._inline import NotWritten, inline
+from ._inline import inline
 from ._library import LibraryError, LimitError, Room, most_written
-from ._linked import Name, Shelf, Unread
+from ._linked import Name, Shelf, Unread, sheets_of
 from ._output import json_line, printable, printable_lines
 from ._selectors import SelectorError
 from ._sheet import StyleSheet
+from ._split import NotWritten
 from ._tree import Element, Tree, elements_of
 from ._words import words_of
 from ._xml import is_xml
@@ -109,10 +112,7 @@ class Job:
 
     def _tree(self, name: str, text: str) -> Tree:
         """Returns the tree of a page."""
-        try:
-            return Tree.from_xml(text) if self._is_xml(name) else Tree.from_html(text)
-        except TreeError as error:
-            raise Failure(f"{name}:{error}", REFUSED) from None
+        return tree_of(name, text, self._is_xml(name))
 
     def _sheet(self, name: str, tree: Tree) -> StyleSheet:
         """Returns the sheet of files, or of a page if there are none."""
@@ -260,11 +260,14 @@ class Inline(Job):
                 folder=self._folder(name),
                 base_url=words.base_url,
                 preserve=words.preserve,
+                ignore=words.ignore,
                 keep_style=words.keep_style,
                 remove_classes=words.remove_classes,
                 attributes=words.attributes,
+                as_attributes=words.as_attributes,
                 important=not words.no_important,
-                is_xml=self._is_xml(name),
+                is_xml=self._is_xml(name) and not words.part,
+                is_part=words.part,
                 report=left,
             )
         except UnicodeDecodeError as error:
@@ -283,10 +286,8 @@ class Lint(Job):
     def _do(self, name: str) -> Outcome:
         words = self.words
         if not _lint.is_page(name):
-            return Outcome(
-                name,
-                mistakes=_lint.findings(name, read(name), words.all, words.grammar),
-            )
+            text = self._fixed(name, read(name)) if words.fix else read(name)
+            return Outcome(name, mistakes=_lint.findings(name, text, words.all, words.grammar))
         shelf = Shelf(self._place(name), self._folder(name))
         try:
             text = read_page(name)
@@ -302,6 +303,32 @@ class Lint(Job):
             raise Failure(f"{name}:{error}", UNREADABLE) from None
         self._say_unread(name, tuple(shelf.unread))
         return self._outcome(name, mistakes=found)
+
+    def _fixed(self, name: str, text: str) -> str:
+        """Corrects the sheet of a file in place, and returns it."""
+        result = fixed(text)
+        if result != text and name != INPUT:
+            has_mark = read_bytes(name).startswith(codecs.BOM_UTF8)
+            try:
+                Path(name).write_bytes(codecs.BOM_UTF8 * has_mark + result.encode("utf-8"))
+            except OSError as error:
+                raise Failure(f"cannot write {name}: {error.strerror}", UNREADABLE) from None
+        return result
+
+
+class Linked(Job):
+    """Writes the files of the sheets that a page links to, each with a NUL after it."""
+
+    def _do(self, name: str) -> Outcome:
+        elements = elements_of(self._tree(name, read_page(name)))
+        shelf = Shelf(self._place(name), self._folder(name))
+        for _ in sheets_of(elements, shelf):
+            # Each is read as it is asked for.
+            pass
+        self._say_unread(name, tuple(shelf.unread))
+        for file in shelf.files.values():
+            self._write(f"{os.path.relpath(file)}\0")
+        return self._outcome(name)
 
 
 def read_bytes(name: str) -> bytes:
@@ -330,6 +357,14 @@ def read_page(name: str) -> str:
         return decode_page(read_bytes(name))[0]
     except UnicodeDecodeError as error:
         raise Failure(f"cannot read {name}: not {error.encoding}", UNREADABLE) from None
+
+
+def tree_of(name: str, text: str, has_xml: bool) -> Tree:
+    """Returns the tree of a page."""
+    try:
+        return Tree.from_xml(text) if has_xml else Tree.from_html(text)
+    except TreeError as error:
+        raise Failure(f"{name}:{error}", REFUSED) from None
 
 
 def _taken(room: Room, text: str) -> str:

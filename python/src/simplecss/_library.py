@@ -11,7 +11,7 @@ import sys
 from typing import Any, Iterable, List, NamedTuple, Optional, Sequence, Tuple
 
 # That of the library, which `include/simplecss.h` states.
-__version__ = "0.1.0"
+__version__ = "0.2.0"
 
 DONE = 0
 REFUSED = 1
@@ -103,8 +103,19 @@ class _Element(ctypes.Structure):
     ]
 
 
+class _Tree(ctypes.Structure):
+    _fields_ = [
+        ("elements", ctypes.POINTER(_Element)),
+        ("elements_count", ctypes.c_size_t),
+        ("strings", ctypes.c_char_p),
+        ("strings_len", ctypes.c_size_t),
+        ("string_ends", ctypes.POINTER(ctypes.c_size_t)),
+        ("string_ends_count", ctypes.c_size_t),
+    ]
+
+
 class TreeArrays:
-    """The arrays of a tree, which a call takes as three arguments."""
+    """The arrays of a tree, which a call takes as a structure."""
 
     def __init__(self, shapes: Sequence[int], strings: Sequence[str]) -> None:
         """Takes the depth, the number of attributes and the states of each element, and the strings
@@ -113,24 +124,21 @@ class TreeArrays:
         The strings of an element are its name, and a key and a value for each attribute. A lone
         surrogate raises `UnicodeEncodeError`.
         """
-        self._elements = (_Element * (len(shapes) // 3)).from_buffer_copy(_sizes(shapes))
-        self._strings = "".join(strings).encode("utf-8")
-        is_ascii = len(self._strings) == sum(map(len, strings))
-        self._ends = ends_of(len(each if is_ascii else each.encode("utf-8")) for each in strings)
-
-    def __len__(self) -> int:
-        """The number of bytes of all strings."""
-        return len(self._strings)
-
-    @property
-    def count(self) -> int:
-        """The number of elements."""
-        return len(self._elements)
-
-    @property
-    def arguments(self) -> Tuple[Any, Any, Any]:
-        """The elements, the strings and their ends."""
-        return (self._elements, self._strings, self._ends)
+        self.count = len(shapes) // 3
+        elements = (_Element * self.count).from_buffer_copy(_sizes(shapes))
+        joined = "".join(strings).encode("utf-8")
+        is_ascii = len(joined) == sum(map(len, strings))
+        ends = ends_of(
+            map(len, strings) if is_ascii else (len(each.encode("utf-8")) for each in strings)
+        )
+        self.structure = _Tree(
+            ctypes.cast(elements, ctypes.POINTER(_Element)),
+            self.count,
+            joined,
+            len(joined),
+            ctypes.cast(ends, ctypes.POINTER(ctypes.c_size_t)),
+            len(ends),
+        )
 
 
 def library_path() -> str:
@@ -238,8 +246,7 @@ def call(
 ) -> Answer:
     """Calls a function of the library.
 
-    An argument is a text, an array of ends, the arrays of a tree, a structure, or a number. `room` is
-    the length
+    An argument is a text, an array of ends, a tree, a structure, or a number. `room` is the length
     of the first buffer; a call that needs a longer one is made again. `most` is passed last to a
     function that takes it: an answer of more bytes raises `LimitError`.
     """
@@ -249,13 +256,12 @@ def call(
         if isinstance(argument, int):
             words.append(ctypes.c_size_t(argument))
             continue
-        if isinstance(argument, ctypes.Structure):
-            words.append(ctypes.byref(argument))
+        if isinstance(argument, (ctypes.Structure, TreeArrays)):
+            structure = argument.structure if isinstance(argument, TreeArrays) else argument
+            words.append(ctypes.byref(structure))
             continue
-        parts = argument.arguments if isinstance(argument, TreeArrays) else (argument,)
-        for part in parts:
-            words.append(part)
-            words.append(ctypes.c_size_t(len(part)))
+        words.append(argument)
+        words.append(ctypes.c_size_t(len(argument)))
     if most is not None:
         words.append(ctypes.c_size_t(most))
     found = _TreeFault()

@@ -2,12 +2,9 @@
 
 from __future__ import annotations
 
-import base64
 import os
-import re
-import urllib.parse
-from pathlib import Path, PurePosixPath
 from typing import (
+    TYPE_CHECKING,
     Callable,
     Dict,
     Iterable,
@@ -21,14 +18,18 @@ from typing import (
 
 from . import _library as library
 from ._elements import Elements
+from ._patterns import pattern
 from ._reading import Condition, Fault, ReadAtRule, Source, Statement, read_sheet
 from ._urls import SCHEME, import_of, joined
 from ._words import BLANKS, lower, words_of
 
+if TYPE_CHECKING:
+    from pathlib import Path
+
 # How deep sheets import one another.
 _DEEPEST = 16
-_OPENING = re.compile(r"\A([\t\n\f\r ]*)<!--")
-_CLOSING = re.compile(r"-->([\t\n\f\r ]*)\Z")
+_OPENING = pattern(r"\A([\t\n\f\r ]*)<!--")
+_CLOSING = pattern(r"-->([\t\n\f\r ]*)\Z")
 _DATA = "data:"
 
 Name = Union[str, "os.PathLike[str]"]
@@ -51,11 +52,18 @@ def _url_of(name: Name) -> str:
     text = os.fspath(name)
     # A letter and a colon begin a path on Windows.
     has_scheme = SCHEME.match(text) and not text[1:2] == ":"
-    return text if has_scheme else Path(os.path.abspath(text)).as_uri()
+    if has_scheme:
+        return text
+    from pathlib import Path
+
+    return Path(os.path.abspath(text)).as_uri()
 
 
 def _of_data(url: str) -> str:
     """Returns the sheet that a url of data has."""
+    import base64
+    import urllib.parse
+
     kind, comma, text = url[len(_DATA) :].partition("#")[0].partition(",")
     data = urllib.parse.unquote_to_bytes(text)
     words = [each.strip(BLANKS) for each in lower(kind).split(";")]
@@ -76,7 +84,12 @@ class Shelf:
         limit: int = library.USUAL_ANSWER_LIMIT,
     ) -> None:
         """Takes where the page is, which is the folder itself if it is not said."""
-        self._folder = None if folder is None else Path(folder).resolve()
+        self._folder: Optional[Path] = None
+        if folder is not None:
+            # This module and some others take long to import.
+            from pathlib import Path
+
+            self._folder = Path(folder).resolve()
         self._load = load
         top = "" if folder is None else _url_of(folder).rstrip("/") + "/"
         self._base = top if at is None else _url_of(at)
@@ -141,6 +154,9 @@ class Shelf:
         a style sheet. One that the system refuses raises an error."""
         if self._folder is None:
             raise _Refused("no folder is named that it could be in")
+        import urllib.parse
+        from pathlib import PurePosixPath
+
         is_of_top = url.startswith("/") and not url.startswith("//")
         found = urllib.parse.urlsplit(url if is_of_top else self.place_of(url))
         base = urllib.parse.urlsplit(self._base)

@@ -20,46 +20,35 @@ from typing import (
 )
 from xml.sax.saxutils import escape, quoteattr
 
-from ._device import UNKNOWN, Device, says
-from ._elements import STATES
 from ._library import __version__
 from ._linked import Shelf, sheets_of
+from ._mistakes import KINDS, problems_of_block, problems_of_sheet
 from ._output import json_line, printable
 from ._page import Page
-from ._reading import (
-    BlockItem,
-    Fault,
-    ReadDeclaration,
-    RuleSet,
-    Source,
-    Span,
-    Statement,
-    read_block,
-    read_sheet,
-)
-from ._selectors import MODERN, PORT, states_in
+from ._reading import Source, is_read_as, read_block, read_sheet
+from ._selectors import MODERN, PORT, grammar_of
 from ._sheet import StyleSheet
 from ._words import lower, words_of
 from ._xml import is_xml
 from .html import attributes_of, decode_value
 
 _PAGES = (".html", ".htm")
-# Why the library skips a rule within a block, which is no mistake.
-_NESTED = "nested rule"
-# The at-rules whose blocks have declarations.
-_DECLARING = frozenset(
-    "counter-style font-face font-palette-values page property view-transition viewport".split()
-)
-# The states that elements of trees may have.
-_KNOWN_STATES = frozenset((*STATES, "any-link"))
 _NOT_OF_XML = re.compile("[\ud800-\udfff\ufffe\uffff]")
+# What a comment has that turns kinds off for its line: those whose names, or the beginnings of
+# whose names, are after it, or every one.
+_IGNORE = "simplecss-ignore"
 # How many characters of a text a message has.
 _SHOWN = 60
 
 
+def kind_of(reason: str) -> str:
+    """Returns a reason as one word."""
+    return reason.replace("'", "").replace(" ", "-")
+
+
 class Finding(NamedTuple):
-    """A part of a sheet: its file, where it begins, why it is reported, its text, and where it
-    ends."""
+    """A part of a sheet: its file, where it begins, why it is reported, its text, where it ends,
+    and what was meant, as far as that is near."""
 
     file: str
     row: int
@@ -68,16 +57,19 @@ class Finding(NamedTuple):
     text: str
     end_row: int
     end_column: int
+    hint: Optional[str] = None
 
     @property
     def kind(self) -> str:
         """The reason as one word, as `broken-declaration`."""
-        return self.reason.replace("'", "").replace(" ", "-")
+        return kind_of(self.reason)
 
     @property
     def message(self) -> str:
         text = printable(" ".join(words_of(self.text)))
-        return f"'{text if len(text) <= _SHOWN else text[:_SHOWN] + '..'}': {self.reason}"
+        shown = text if len(text) <= _SHOWN else text[:_SHOWN] + ".."
+        meant = f" (did you mean '{self.hint}'?)" if self.hint else ""
+        return f"'{shown}': {self.reason}{meant}"
 
 
 class _SheetText(NamedTuple):
@@ -89,115 +81,47 @@ class _SheetText(NamedTuple):
     is_attribute: bool = False
 
 
-# Why something is reported, and the offsets of the bytes where it begins and ends.
-_Problem = Tuple[str, Span]
+# Why something is reported, the offsets of the characters where it begins and ends, and what was
+# meant.
+_Report = Tuple[str, int, int, Optional[str]]
 
 
-def _problems_of_sheet(statements: Iterable[Statement], shows_all: bool) -> Iterator[_Problem]:
-    """Yields the mistakes of statements, and with `shows_all` also what is unsupported."""
-    groups: Set[Span] = set()
-    for statement in statements:
-        for level in statement.levels if shows_all else ():
-            if level.span in groups:
-                continue
-            groups.add(level.span)
-            if says(level.condition, Device()) == UNKNOWN:
-                yield "unsupported condition", level.head
-        if isinstance(statement, RuleSet):
-            yield from _problems_of_rule(statement, shows_all)
-        else:
-            yield from _problems_of_item(statement, shows_all)
-
-
-def _problems_of_rule(rule: RuleSet, shows_all: bool) -> Iterator[_Problem]:
-    if not rule.is_closed:
-        yield "block not closed", rule.head
-    for each in rule.selectors if shows_all else ():
-        if each.specificity is None:
-            yield "unsupported selector", each.span
-        elif not _KNOWN_STATES.issuperset(states_in(each.front)):
-            yield "unsupported pseudo-class", each.span
-    for item in rule.items:
-        yield from _problems_of_item(item, shows_all)
-
-
-def _problems_of_item(
-    item: BlockItem, shows_all: bool, is_within: bool = False
-) -> Iterator[_Problem]:
-    """Yields the mistakes of an item. One within an at-rule that has declarations has no block of
-    its own that is read: none is valid there."""
-    if isinstance(item, Fault):
-        if item.reason != _NESTED:
-            yield item.reason, item.span
-        elif shows_all:
-            yield "unsupported nested rule", item.span
-    elif isinstance(item, ReadDeclaration):
-        if not item.is_closed:
-            yield "value not closed", item.span
-    else:
-        if not item.is_closed:
-            yield "block not closed", item.span
-        if shows_all:
-            yield "unsupported at-rule", item.span
-        if not is_within and item.rule.block is not None and item.rule.name in _DECLARING:
-            for each in read_block(item.rule.block)[1]:
-                for reason, (start, end) in _problems_of_item(each, shows_all, True):
-                    yield reason, (item.inner[0] + start, item.inner[0] + end)
-
-
-def _open_groups(source: Source, statements: Sequence[Statement]) -> Iterator[_Problem]:
-    """Yields the group rules that the end of the text closes: the last statement is in them."""
-    ends = [each.span[1] for each in statements[-1:]]
-    for level in reversed(statements[-1].levels if statements else ()):
-        # Its last byte is that of what is in it, or it is no brace.
-        if level.span[1] in ends or source.data[level.span[1] - 1 : level.span[1]] != b"}":
-            yield "block not closed", level.head
-        ends.append(level.span[1])
-
-
-def _end_of(statements: Iterable[Statement]) -> int:
-    """Returns where the last statement ends, or the group rule that it is in."""
-    ends = (each.levels[0].span[1] if each.levels else each.span[1] for each in statements)
-    return max(ends, default=0)
-
-
-def _open_comment(text: str, start: int) -> Iterator[Tuple[str, int, int]]:
-    """Yields the comment that is not closed after the last statement, if there is one."""
-    start = text.find("/*", start)
-    while start >= 0:
-        end = text.find("*/", start + 2)
-        if end < 0:
-            yield "comment not closed", start, len(text)
-            return
-        start = text.find("/*", end + 2)
-
-
-def _reported(part: _SheetText, shows_all: bool) -> Iterator[Tuple[str, int, int]]:
-    """Yields why something is reported, and the offsets of the characters where it begins and
-    ends."""
+def _reported(part: _SheetText, shows_all: bool) -> Iterator[_Report]:
+    """Yields what is reported by the modern grammar."""
     if part.is_attribute:
         source, items = read_block(part.css)
-        problems = [each for item in items for each in _problems_of_item(item, shows_all)]
-        end = max((item.span[1] for item in items), default=0)
+        found = problems_of_block(source, items, shows_all)
     else:
         source, statements = read_sheet(part.css)
-        problems = [
-            *_problems_of_sheet(statements, shows_all),
-            *_open_groups(source, statements),
-        ]
-        end = _end_of(statements)
-    for reason, span in problems:
-        yield reason, source.offset(span[0]), source.offset(span[1])
-    yield from _open_comment(source.text, source.offset(end))
+        found = problems_of_sheet(source, statements, shows_all)
+    for reason, span, hint in found:
+        yield reason, source.offset(span[0]), source.offset(span[1]), hint
 
 
-def _reported_by_port(part: _SheetText) -> Iterator[Tuple[str, int, int]]:
+def _reported_by_port(part: _SheetText) -> Iterator[_Report]:
     """Yields what the grammar "simplecss" skips, as a whole text in braces for a style
     attribute."""
     added = 2 * part.is_attribute
     css = "x{" + part.css + "}" if part.is_attribute else part.css
     for each in StyleSheet(css, grammar=PORT).skipped:
-        yield each.reason, max(each.start - added, 0), min(each.end - added, len(part.css))
+        yield each.reason, max(each.start - added, 0), min(each.end - added, len(part.css)), None
+
+
+def _ignored(part: _SheetText) -> Dict[int, Set[str]]:
+    """Returns the beginnings of the kinds that comments turn off, by the rows of the comments in a
+    sheet. The words are in comments if the sheet with line breaks for them is read as the same.
+    """
+    css = part.css
+    if _IGNORE not in css or not is_read_as(
+        css, css.replace(_IGNORE, "\n" * len(_IGNORE)), part.is_attribute
+    ):
+        return {}
+    rows: Dict[int, Set[str]] = {}
+    for row, line in enumerate(css.split("\n"), 1):
+        for text in line.split(_IGNORE)[1:]:
+            words = words_of(text.partition("*/")[0].replace(",", " "))
+            rows.setdefault(row, set()).update(words or [""])
+    return rows
 
 
 def is_page(name: str) -> bool:
@@ -231,9 +155,14 @@ def _findings_of(name: str, part: _SheetText, shows_all: bool, grammar: str) -> 
         row, column = source.position(offset)
         return row + part.row - 1, column + (part.column - 1) * (row == 1)
 
+    ignored = _ignored(part)
     found = _reported_by_port(part) if grammar == PORT else _reported(part, shows_all)
-    for reason, start, end in found:
-        yield Finding(name, *position(start), reason, part.css[start:end], *position(end))
+    for reason, start, end, hint in found:
+        begins, text = position(start), part.css[start:end]
+        each = Finding(name, *begins, reason, text, *position(end), hint)
+        words = ignored.get(begins[0] - part.row + 1, ())
+        if not any(each.kind[:length] in words for length in range(len(each.kind) + 1)):
+            yield each
 
 
 def findings(
@@ -260,6 +189,17 @@ def findings(
     for file, css in _linked(page, shelf, os.path.isabs(name)) if shelf else ():
         found += found_in(file, [_SheetText(css, 1, 1)])
     return found
+
+
+def lint(
+    text: str, *, ignore: Iterable[str] = (), unsupported: bool = False, grammar: str = MODERN
+) -> List[Finding]:
+    """Returns the mistakes of a style sheet, in order, without those of the kinds that are left
+    out: `"unknown-property"`, or the beginning of one. With `unsupported` also what is valid, and
+    what this library does nothing with."""
+    kinds = (ignore,) if isinstance(ignore, str) else tuple(ignore)
+    found = findings("", text, unsupported, grammar_of(grammar))
+    return [each for each in found if not each.kind.startswith(kinds)]
 
 
 def _linked(page: Page, shelf: Shelf, is_whole: bool) -> Iterator[Tuple[str, str]]:
@@ -327,13 +267,16 @@ def as_sarif(found: Sequence[Finding]) -> str:
         }
         for each in found
     ]
-    rules = [{"id": kind, "shortDescription": {"text": reason}} for kind, reason in reasons.items()]
+    rules = [
+        {
+            "id": kind,
+            "shortDescription": {"text": reason},
+            "fullDescription": {"text": KINDS.get(reason, reason)},
+        }
+        for kind, reason in reasons.items()
+    ]
     driver = {"name": "simplecss", "version": __version__, "rules": rules}
-    run = {
-        "tool": {"driver": driver},
-        "columnKind": "unicodeCodePoints",
-        "results": results,
-    }
+    run = {"tool": {"driver": driver}, "columnKind": "unicodeCodePoints", "results": results}
     log = {
         "$schema": "https://json.schemastore.org/sarif-2.1.0.json",
         "version": "2.1.0",
@@ -363,6 +306,12 @@ def as_checkstyle(found: Sequence[Finding]) -> str:
 def _of_xml(text: str) -> str:
     """Returns the text with U+FFFD for each character that XML does not have, and for controls."""
     return _NOT_OF_XML.sub("\ufffd", printable(text))
+
+
+def kinds() -> str:
+    """Returns a line for each kind, which says what it is."""
+    width = max(map(len, KINDS)) + 2
+    return "".join(f"  {kind_of(each):{width}}{text}\n" for each, text in KINDS.items())
 
 
 FORMATS: Dict[str, Callable[[Sequence[Finding]], str]] = {

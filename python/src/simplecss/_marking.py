@@ -27,7 +27,7 @@ from . import _library as library
 from ._declaration import Declaration
 from ._families import EVERYTHING, family_of, is_known
 from ._selectors import Specificity
-from ._staying import GREATEST, Block
+from ._staying import GREATEST, Block, Marks
 from ._words import lower
 
 # How strong a rule is: its specificity, the number of its statement, and its place in that.
@@ -66,13 +66,15 @@ class Group(NamedTuple):
 
 
 class Kind(NamedTuple):
-    """Elements of which all is decided alike: the rules that match, those that stay and may match,
-    the own `style`, and whether they have a tag that can be written into."""
+    """Elements of which all is decided alike: the numbers of the set of rules that match, and of that
+    of those that stay and may match, the own `style`, whether they have a tag that can be written
+    into, and the name of what has attributes in place of styles."""
 
-    rules: bytes
-    rivals: bytes
+    rules: int
+    rivals: int
     own: str
     has_tag: bool
+    drawn: str
 
 
 class Rival(NamedTuple):
@@ -97,6 +99,13 @@ class Rivals:
         self.whole = self.by_family.get(EVERYTHING, [])
         # The families of which it is not decided yet what they say where nothing is written.
         self.waiting = set(self.by_family)
+
+    def may_lose(self, family: str, rank: Rank) -> bool:
+        """Whether one that has a family, or all, may be below a rank, or is in a layer."""
+        return any(
+            (each.is_layered or each.least < rank) and each.block.has_plain(family)
+            for each in (*self.by_family.get(family, ()), *self.whole)
+        )
 
     def count(self, family: str) -> int:
         """Returns how many have a family, or all."""
@@ -312,8 +321,9 @@ class Marking:
         self._forbidden: Set[Rivals] = set()
         self._needed: List[Tuple[Kind, str, List[Unit]]] = []
         self._conflicts: Dict[Kind, Set[str]] = {}
-        # What is important, and of each kind what need not be any more.
+        # What is important, where that is, and of each kind what need not be any more.
         self.marked: Set[Unit] = set()
+        self.marks: Marks = {}
         self.demoted: Dict[Kind, Set[Tuple[Rank, str]]] = {}
 
     def solve(self, left_as_it_is: Callable[[Kind], FrozenSet[str]]) -> Dict[Kind, Set[str]]:
@@ -330,7 +340,7 @@ class Marking:
             needed = (unit for _, _, musts in self._needed for unit in musts)
             self.marked = self._clauses.closed(needed)
             for block, family in self.marked:
-                block.mark(family)
+                block.mark(family, self.marks)
         return self._conflicts
 
     def _conflict(self, kind: Kind, families: AbstractSet[str]) -> None:

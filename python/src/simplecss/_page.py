@@ -8,6 +8,7 @@ from typing import (
     Callable,
     Dict,
     FrozenSet,
+    Iterable,
     List,
     Match,
     NamedTuple,
@@ -18,6 +19,7 @@ from typing import (
 
 from ._elements import Elements, TreeError
 from ._linked import is_alternate, is_sheet_link, without_marks
+from ._patterns import pattern
 from ._words import BLANKS, lower
 from ._xml import XmlError, read_xml
 from .html import (
@@ -39,26 +41,26 @@ _RAW = frozenset("iframe noembed noframes noscript script style textarea title x
 # The element of which older browsers take the tags of a `style` away.
 _SELECT = "select"
 # The parts of a sheet in which a backslash escapes: strings, comments and the contents of `url()`.
-_ESCAPABLE = re.compile(
+_ESCAPABLE = pattern(
     r"""/\*.*?(?:\*/|\Z)|"[^"\\]*(?:\\.[^"\\]*)*"?|'[^'\\]*(?:\\.[^'\\]*)*'?|url\([^)"']*""",
     re.DOTALL | re.IGNORECASE | re.ASCII,
 )
 # What is written as an escape of CSS: control characters, which XML may not have, and which some
 # encodings read as marks.
 _CONTROLS = r"\0-\x08\x0b\x0e-\x1f\x7f-\x9f\ufffe\uffff"
-_CONTROL_IN_VALUE = re.compile(r"[\x01-\x08\x0b\x0e-\x1f\x7f]")
-_DECLARED = re.compile(r"\ufeff?[\t\n\r ]*<\?xml[\t\n\r ]")
+_CONTROL_IN_VALUE = pattern(r"[\x01-\x08\x0b\x0e-\x1f\x7f]")
+_DECLARED = pattern(r"\ufeff?[\t\n\r ]*<\?xml[\t\n\r ]")
 # What begins a tag, a comment or another declaration.
-_MARKUP = re.compile("<(?=[A-Za-z/!?])")
-_MARKUP_OF_NAME = re.compile("<(?=[A-Za-z])")
+_MARKUP = pattern("<(?=[A-Za-z/!?])")
+_MARKUP_OF_NAME = pattern("<(?=[A-Za-z])")
 # The same in a string, after a backslash that makes it an escape, and what is another escape.
-_MARKUP_IN_STRING = re.compile(rf"(\\[^<])|\\?{_MARKUP.pattern}", re.DOTALL)
+_MARKUP_IN_STRING = pattern(r"(\\[^<])|\\?<(?=[A-Za-z/!?])", re.DOTALL)
 # What a page has if not all browsers may take the tag of a `style` for one of HTML.
-_DRAWN = re.compile("<(?:svg|math|frameset|select)", re.IGNORECASE | re.ASCII)
-_NOSCRIPT = re.compile("<noscript", re.IGNORECASE | re.ASCII)
+_DRAWN = pattern("<(?:svg|math|frameset|select)", re.IGNORECASE | re.ASCII)
+_NOSCRIPT = pattern("<noscript", re.IGNORECASE | re.ASCII)
 _CDATA = "<![CDATA["
-_SECTION = re.compile(r"<!\[CDATA\[(.*?)(?:\]\]>|\Z)", re.DOTALL)
-_TAG_NAME = re.compile(r"<[^\t\n\f\r />]+")
+_SECTION = pattern(r"<!\[CDATA\[(.*?)(?:\]\]>|\Z)", re.DOTALL)
+_TAG_NAME = pattern(r"<[^\t\n\f\r />]+")
 
 Span = Tuple[int, int]
 _NONE: FrozenSet[str] = frozenset()
@@ -79,8 +81,9 @@ class Content(NamedTuple):
 
 
 # A control character, or one that is not ASCII. With a backslash before it, it is an escape.
-_CONTROL = re.compile(rf"(\\[^{_CONTROLS}])|\\?([{_CONTROLS}])", re.DOTALL)
-_FOREIGN = re.compile(r"(\\[\t\n\f\r -~])|\\?([^\t\n\f\r -~])", re.DOTALL)
+_HAS_CONTROL = pattern(f"[{_CONTROLS}]")
+_CONTROL = pattern(rf"(\\[^{_CONTROLS}])|\\?([{_CONTROLS}])", re.DOTALL)
+_FOREIGN = pattern(r"(\\[\t\n\f\r -~])|\\?([^\t\n\f\r -~])", re.DOTALL)
 
 
 def _escaped(found: Match[str]) -> str:
@@ -96,10 +99,10 @@ def written(css: str, lacking: FrozenSet[str] = _NONE) -> str:
         is_kept = character is None or character not in lacking and not _CONTROL.match(character)
         return found.group() if is_kept else _escaped(found)
 
-    # What is printable has no control character.
-    if css.isprintable() and not lacking:
-        return css
-    css = _FOREIGN.sub(escaped, css) if lacking else _CONTROL.sub(_escaped, css)
+    if lacking:
+        css = _FOREIGN.sub(escaped, css)
+    elif not css.isprintable() and _HAS_CONTROL.search(css):
+        css = _CONTROL.sub(_escaped, css)
     return css.replace("\f", "\n")
 
 
@@ -114,6 +117,8 @@ def style_text(css: str, names: FrozenSet[str], is_drawn: bool = False) -> str:
     """
     if not names:
         return css.replace("&", "&amp;").replace("<", "&lt;").replace("]]>", "]]&gt;")
+    if "<" not in css:
+        return css
     if is_drawn:
         text = _ESCAPABLE.sub(lambda part: _MARKUP_IN_STRING.sub(_marked, part.group()), css)
         # As in `(400px<width)`.
@@ -183,6 +188,35 @@ class _Other:
         )
 
 
+# A mark of the order of bytes.
+_MARK = "\ufeff"
+# What a part of a table is in, by the name of its first element.
+_FRONTS = {
+    **dict.fromkeys(("caption", "colgroup", "tbody", "tfoot", "thead"), "<table>"),
+    "col": "<table><colgroup>",
+    "tr": "<table><tbody>",
+    **dict.fromkeys(("td", "th"), "<table><tbody><tr>"),
+}
+
+
+def _front_of(text: str) -> str:
+    """Returns what a part of a page is read after: it is HTML of the standard, and may be of a
+    table."""
+    try:
+        waiting = [Builder("<template>" + text).build()]
+    except TooDeep:
+        # Reading what is after it says so.
+        waiting = []
+    while waiting:
+        node = waiting.pop()
+        inner = [each for each in node.children if isinstance(each, Node)]
+        if node.name == "template":
+            names = (each.name for each in inner if each.name not in _HEAD_PARTS)
+            return "<!DOCTYPE html>" + _FRONTS.get(next(names, ""), "")
+        waiting += reversed(inner)
+    return "<!DOCTYPE html>"
+
+
 class Page:
     """A document in HTML or XML."""
 
@@ -192,8 +226,15 @@ class Page:
         lacks: Callable[[str], bool] = lambda character: False,
         *,
         is_xml: bool = False,
+        is_part: bool = False,
     ) -> None:
-        """Takes a text, which characters its encoding lacks, and whether it is XML."""
+        """Takes a text, which characters its encoding lacks, whether it is XML, and whether it is a
+        part of a page."""
+        # Where what is before a part, and is not of it, begins and ends.
+        start = len(_MARK) if is_part and text.startswith(_MARK) else 0
+        front = _front_of(text[start:]) if is_part else ""
+        self._front = (start, start + len(front))
+        text = text[:start] + front + text[start:]
         self.text = text
         self.is_xml = is_xml
         # Whether browsers may read the document in different ways.
@@ -212,8 +253,8 @@ class Page:
         self.elements = Elements()
         # The sheets of `style` elements of SVG.
         self._drawn: Dict[int, str] = {}
-        self._edits: Dict[Span, List[str]] = {}
-        self._declared: Dict[int, List[str]] = {}
+        self._edits: List[Tuple[Span, str]] = []
+        self._declared: Dict[int, Tuple[str, ...]] = {}
         # The elements whose own declarations are among those.
         self._with_own: Set[int] = set()
         self._changes: Dict[int, Dict[str, Optional[str]]] = {}
@@ -229,16 +270,18 @@ class Page:
     def _read_html(self) -> None:
         builder = Builder(self.text)
         try:
-            root = builder.build()
+            builder.build()
             other = _Other(self.text, True) if _NOSCRIPT.search(self.text) else None
         except TooDeep as error:
             raise TreeError(str(error), None, None) from None
         self.is_doubtful = builder.is_doubtful
-        nodes = self.elements.take_nodes(root, self.text, is_quirky=builder.is_quirky)
+        nodes = self.elements.take_nodes(builder)
         self._head_end = len(self.text) if builder.head_end is None else builder.head_end
+        self._head_end = max(self._head_end, self._front[1])
         seen = set()
         for index, node in enumerate(nodes):
-            tag = node.tag if node.tag not in seen else None
+            is_own = node.tag not in seen and (node.tag is None or node.tag[0] >= self._front[1])
+            tag = node.tag if is_own else None
             seen.add(tag)
             self._note(index, node)
             if other is not None and tag is not None:
@@ -346,7 +389,8 @@ class Page:
     def _style_text(self, css: str, index: int) -> str:
         """Returns css as the content of the `style` element of this index, or that takes its
         place."""
-        lacking = (each for each in set(css) if not each.isascii() and self._lacks(each))
+        others = () if css.isascii() else set(css)
+        lacking = (each for each in others if not each.isascii() and self._lacks(each))
         css = written(css, frozenset(lacking))
         if self._spaces[index] != HTML:
             return style_text(css, _NONE)
@@ -455,51 +499,57 @@ class Page:
             found.append((parent < 0 or found[parent]) and name not in _HEAD_PARTS)
         return found
 
-    def add_declarations(self, index: int, declarations: List[str], *, has_own: bool) -> None:
-        """Writes declarations into the `style` attribute of an element, before its own, or in place
+    def add_declarations(
+        self, indices: Iterable[int], declarations: List[str], *, has_own: bool
+    ) -> None:
+        """Writes declarations into the `style` attributes of elements, before their own, or in place
         of them if they are among these."""
-        self._declared[index] = list(map(written, declarations))
+        texts = tuple(map(written, declarations))
+        self._declared.update(dict.fromkeys(indices, texts))
         if has_own:
-            self._with_own.add(index)
+            self._with_own.update(indices)
 
     def set_attribute(self, index: int, name: str, value: Optional[str]) -> None:
         """Sets an attribute of an element that has a tag, or removes it for `None`."""
         self._changes.setdefault(index, {})[name] = value
 
     def _edit(self, span: Span, text: str) -> None:
-        self._edits.setdefault(span, []).append(text)
+        self._edits.append((span, text))
 
     def edited(self) -> str:
         """Returns the text with all edits."""
         # Many elements have the same tag, and get the same.
         made: Dict[Tuple[object, ...], str] = {}
-        for index in sorted({*self._declared, *self._changes}):
+        for index in {*self._declared, *self._changes}:
             tag = self.tags[index]
-            if tag is not None:
-                changes = self._changes.get(index, {})
-                text = self.text[tag[0] : tag[1]]
-                declared = self._declared.get(index, [])
-                # That of a second tag of the element, if its own tag has none.
-                own = self.elements.attributes[index].get("style", "")
-                own_or_none = None if index in self._with_own else own
-                key = (text, own_or_none, tuple(declared), tuple(changes.items()))
-                if key not in made:
-                    made[key] = _new_tag(text, declared, changes, own_or_none, self.is_xml)
-                self._edit(tag, made[key])
+            if tag is None:
+                continue
+            changes = self._changes.get(index, {})
+            text = self.text[tag[0] : tag[1]]
+            declared = self._declared.get(index, ())
+            # That of a second tag of the element, if its own tag has none.
+            own = self.elements.attributes[index].get("style", "")
+            own_or_none = None if index in self._with_own else own
+            # Elements of a kind have the same tuple.
+            key = (text, own_or_none, id(declared), tuple(changes.items()) if changes else ())
+            if key not in made:
+                made[key] = _new_tag(text, declared, changes, own_or_none, self.is_xml)
+            self._edit(tag, made[key])
         parts = []
         last = 0
-        for (start, end), texts in sorted(self._edits.items()):
+        # Of two that replace the same, the first.
+        for (start, end), text in sorted(self._edits, key=lambda each: each[0]):
             if start >= last:
-                parts.append(self.text[last:start])
-                parts.extend(texts)
+                parts += [self.text[last:start], text]
                 last = end
         parts.append(self.text[last:])
-        return "".join(parts)
+        text = "".join(parts)
+        return text[: self._front[0]] + text[self._front[1] :]
 
 
 def _new_tag(
     tag: str,
-    declarations: List[str],
+    declarations: Tuple[str, ...],
     changes: Dict[str, Optional[str]],
     own: Optional[str],
     has_case: bool,
@@ -537,7 +587,7 @@ def _new_tag(
         if tag[last : last + 1] not in (*BLANKS, *slash, ">", "") and value is None:
             parts.append(" ")
     if "style" in missing and declarations:
-        both = [*declarations, own] if own and own.strip(BLANKS) else declarations
+        both = (*declarations, own) if own and own.strip(BLANKS) else declarations
         parts.append(f' style="{_escape("; ".join(both), chr(34))}"')
     for key, value in missing.items():
         if value is not None:
@@ -545,7 +595,7 @@ def _new_tag(
     return "".join(parts) + tag[last:]
 
 
-def _with_declarations(own: Attribute, declarations: List[str], has_both: bool) -> str:
+def _with_declarations(own: Attribute, declarations: Tuple[str, ...], has_both: bool) -> str:
     """Returns an attribute `style` with declarations before its own, or in place of these."""
     value = own.value or ""
     quote = value[0] if value[:1] in ("'", '"') else '"'

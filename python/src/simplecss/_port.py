@@ -9,14 +9,15 @@ import functools
 import re
 from typing import Dict, Match, NamedTuple
 
+from ._patterns import pattern
 from ._selectors import PORT, Reading, SelectorError, listed
 
 # The parts of a printed selector: what an attribute must be, and the rest.
-_PART = re.compile(
+_PART = pattern(
     r"\[([^\[\]=~|']+)(?:([~|]?=)'(.*?)')?\](?=[\[: ]|\Z)" r"|[^\[]+|\[",
     re.DOTALL,
 )
-_WHITE_SPACE = re.compile("[\t\n\f\r]")
+_WHITE_SPACE = pattern("[\t\n\f\r]")
 # The attribute that has a class as it is, where the words of `class` are parted by spaces.
 _WHOLE_CLASS = "-whole-class"
 

@@ -5,7 +5,6 @@ from __future__ import annotations
 import bisect
 import functools
 import itertools
-import json
 import re
 import weakref
 from typing import (
@@ -23,7 +22,7 @@ from typing import (
 
 from . import _library as library
 from ._declaration import Declaration
-from ._selectors import Specificity, specificity_of
+from ._selectors import Specificity, lines_of, specificity_of
 from ._words import lower
 
 Span = Tuple[int, int]
@@ -31,6 +30,8 @@ Span = Tuple[int, int]
 # The bytes of UTF-8 that begin no character, and how many bytes are counted at once.
 _CONTINUING = bytes(range(0x80, 0xC0))
 _BLOCK = 4096
+# How many lines are read at once.
+_RUN = 100
 
 
 class Condition(NamedTuple):
@@ -112,11 +113,13 @@ class ReadSelector(NamedTuple):
 
 
 class ReadDeclaration(NamedTuple):
-    """A declaration, and whether nothing of it is open at the end of the text."""
+    """A declaration, whether nothing of it is open at the end of the text, where it is, and where its
+    value ends."""
 
     declaration: Declaration
     is_closed: bool
     span: Span
+    end: int
 
 
 class Level(NamedTuple):
@@ -194,7 +197,10 @@ class _Reader:
         """Yields what a call writes of the text."""
         data = self.source.data
         answer = library.call(name, data, room=1024 + 16 * len(data), most=most)
-        return map(json.loads, library.output_of(name, answer).splitlines())
+        lines = library.output_of(name, answer).splitlines(keepends=True)
+        # Some at once, which takes less time than each alone, and less memory than all.
+        for start in range(0, len(lines), _RUN):
+            yield from lines_of(b"".join(lines[start : start + _RUN]))
 
     def statements(self) -> Iterator[Statement]:
         """Yields the statements of the text, and the group rules that have none, which the library
@@ -283,7 +289,8 @@ class _Reader:
         text = self.source.at(value["value"])
         text = text if value["closed"] else _closed(text)
         declaration = Declaration(name, text, value["important"])
-        return ReadDeclaration(declaration, value["closed"], (value["start"], value["end"]))
+        span = (value["start"], value["end"])
+        return ReadDeclaration(declaration, value["closed"], span, value["value"][1])
 
     def _fault(self, value: Dict[str, Any], levels: Tuple[Level, ...]) -> Fault:
         start = value["start"]
@@ -334,6 +341,17 @@ def read_block(text: str) -> Tuple[Source, List[BlockItem]]:
     """Returns what a style attribute or the block of a rule has."""
     reader = _Reader(text)
     return reader.source, list(map(reader.item, reader.lines("simplecss_declarations")))
+
+
+def is_read_as(text: str, other: str, is_block: bool = False) -> bool:
+    """Whether a text has the same statements at the same places as another one, or the same
+    items."""
+    name = "simplecss_declarations" if is_block else "simplecss_read"
+    data, others = library.encode(text), library.encode(other)
+    most = None if is_block else library.most_written(len(data))
+    room = 1024 + 16 * len(data)
+    found = [library.call(name, each, room=room, most=most) for each in (data, others)]
+    return found[0] == found[1]
 
 
 def declarations(text: str) -> List[Declaration]:

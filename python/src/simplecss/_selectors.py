@@ -3,7 +3,7 @@
 from __future__ import annotations
 
 import enum
-import json
+import functools
 import re
 from typing import (
     TYPE_CHECKING,
@@ -20,6 +20,7 @@ from typing import (
 
 from . import _library as library
 from ._deprecated import warn_of_old
+from ._patterns import pattern
 from ._words import lower
 
 if TYPE_CHECKING:
@@ -49,9 +50,9 @@ OPAQUE = (
 )
 # A character of a name: any but these of ASCII.
 NAMING = r"[^\0-,./:-@\[-^`{-\x7f]"
-_PSEUDO_NAME = re.compile(rf"{OPAQUE}|:({NAMING}*)", re.DOTALL | re.ASCII)
+_PSEUDO_NAME = pattern(rf"{OPAQUE}|:({NAMING}*)", re.DOTALL | re.ASCII)
 # The pseudo-classes that depend only on the tree.
-_OF_TREE = frozenset(
+OF_TREE = frozenset(
     "root empty first-child last-child only-child first-of-type last-of-type only-of-type nth-child"
     " nth-last-child nth-of-type nth-last-of-type lang not is where".split()
 )
@@ -74,8 +75,9 @@ class SelectorError(ValueError):
 
 
 class Reading(enum.IntEnum):
-    """How names and values are compared, as the library numbers it. In HTML a tree is passed with
-    names, and values that compare without case, in lower case."""
+    """How names and values of modern selectors are compared, as the library numbers it among its
+    grammars. In HTML a tree is passed with names, and values that compare without case, in lower
+    case."""
 
     AS_WRITTEN = 0
     HTML = 1
@@ -112,6 +114,10 @@ _CASELESS: Dict[Reading, FrozenSet[str]] = {
 }
 
 
+# The grammars, as the library numbers them where no document is read.
+NUMBERS = {MODERN: int(Reading.AS_WRITTEN), PORT: 3}
+
+
 def grammar_of(grammar: str) -> str:
     """Returns the name of a grammar. What is none raises `ValueError`."""
     if grammar == TODAY:
@@ -124,6 +130,8 @@ def grammar_of(grammar: str) -> str:
 
 def lines_of(output: bytes) -> List[Any]:
     """Returns the values of lines of JSON."""
+    import json
+
     found: List[Any] = json.loads(b"[" + output[:-1].replace(b"\n", b",") + b"]")
     return found
 
@@ -150,8 +158,8 @@ def listed(text: str, grammar: str = MODERN) -> List[Listed]:
     """Returns the selectors of a list. A text that is no list raises `SelectorError`."""
     grammar = grammar_of(grammar)
     data = library.encode(text)
-    name = "simplecss_list" if grammar == PORT else "simplecss_list_level3"
-    answer = library.call(name, data, room=256 + 8 * len(data))
+    name = "simplecss_list"
+    answer = library.call(name, data, NUMBERS[grammar], room=256 + 8 * len(data))
     if answer.status == library.REFUSED:
         raise selector_error(text, grammar)
     return [
@@ -164,22 +172,34 @@ def listed(text: str, grammar: str = MODERN) -> List[Listed]:
     ]
 
 
+class SelectorTexts(List[str]):
+    """The texts of selectors, which must not be changed, as calls of the library take them."""
+
+    @functools.cached_property
+    def encoded(self) -> Tuple[bytes, Any]:
+        """The texts one after another, and where each ends."""
+        joined = "".join(self)
+        # The length of a text of ASCII is that of its bytes.
+        is_ascii = joined.isascii()
+        ends = library.ends_of(len(each if is_ascii else library.encode(each)) for each in self)
+        return library.encode(joined), ends
+
+
 def matched(
     tree: library.TreeArrays,
     selectors: Sequence[str],
-    reading: Optional[Reading],
+    number: int,
     limit: int,
 ) -> List[bytes]:
     """Returns for each element the numbers of the selectors that match it, which begin at 1, with
-    spaces between them. Without a reading, the selectors are of the grammar of the Rust crate. More
-    numbers than `limit` raise `LimitError`."""
-    texts = [library.encode(each) for each in selectors]
-    ends = library.ends_of(map(len, texts))
-    name = "simplecss_match_selectors" if reading is None else "simplecss_match_level3"
-    words = [b"".join(texts), ends, *([] if reading is None else [reading]), tree]
+    spaces between them. The selectors are of the grammar of this number. More numbers than `limit`
+    raise `LimitError`."""
+    texts = selectors if isinstance(selectors, SelectorTexts) else SelectorTexts(selectors)
+    name = "simplecss_match_selectors"
+    words = [*texts.encoded, number, tree]
     # A line is the number of an element, a colon, the numbers with a space before each, and its
     # end.
-    numbers = limit * (1 + len(str(len(texts))))
+    numbers = limit * (1 + len(str(len(selectors))))
     most = min(tree.count * (2 + len(str(tree.count))) + numbers, library.NO_LIMIT)
     room = library.Room(limit)
     try:
@@ -188,7 +208,8 @@ def matched(
         raise room.passed() from None
     output = library.output_of(name, answer)
     room.take(output.count(b" "))
-    return [line.partition(b":")[2] for line in output.split(b"\n")[:-1]]
+    # The numbers of elements, of which nothing more is needed, and the lines are in turn.
+    return output.replace(b":", b"\n").split(b"\n")[1::2]
 
 
 class Numbers(Dict[bytes, List[int]]):
@@ -206,8 +227,8 @@ class Numbers(Dict[bytes, List[int]]):
 
 def selector_error(text: str, grammar: str) -> SelectorError:
     """Returns the error of a list of selectors that was refused."""
-    name = "simplecss_refusal" if grammar == PORT else "simplecss_refusal_level3"
-    answer = library.call(name, library.encode(text), room=4096)
+    number = NUMBERS[grammar]
+    answer = library.call("simplecss_refusal", library.encode(text), number, room=4096)
     found = lines_of(answer.output)
     if not found:
         return SelectorError("refused", 1, 1)
@@ -217,8 +238,10 @@ def selector_error(text: str, grammar: str) -> SelectorError:
 def states_in(selector: str) -> List[str]:
     """Returns the names of the pseudo-classes of a selector that depend on more than the tree, in
     lower case. One with an escape is cut, and so is none of the tree."""
+    if ":" not in selector:
+        return []
     names = (found[1] for found in _PSEUDO_NAME.finditer(selector))
-    return [lower(name) for name in names if name is not None and lower(name) not in _OF_TREE]
+    return [lower(name) for name in names if name is not None and lower(name) not in OF_TREE]
 
 
 class Selector:

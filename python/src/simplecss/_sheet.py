@@ -39,6 +39,7 @@ from ._selectors import (
     MODERN,
     PORT,
     Numbers,
+    SelectorTexts,
     Specificity,
     grammar_of,
     lines_of,
@@ -46,6 +47,7 @@ from ._selectors import (
 )
 from ._specified import Inherit, inherited, specified_by
 from ._tree import Element, Tree, elements_of
+from ._unused import Unused, Usage
 
 T = TypeVar("T")
 
@@ -216,7 +218,7 @@ class StyleSheet:
         return self._contents
 
     def _contents_of_port(self) -> _Contents:
-        output = self._call("simplecss_rules", 1024 + 8 * sum(map(len, self._texts)))
+        output = self._call("simplecss_port_rules", 1024 + 8 * sum(map(len, self._texts)))
         return _Contents(tuple(map(_rule_of_port, lines_of(output))), (), ())
 
     def _contents_of_modern(self) -> _Contents:
@@ -275,8 +277,8 @@ class StyleSheet:
     def _skipped_of_port(self) -> Iterator[Skipped]:
         for number, text in enumerate(self._texts):
             source = Source(text.decode("utf-8"))
-            answer = library.call("simplecss_skipped", text, room=1024 + 2 * len(text))
-            for value in lines_of(library.output_of("simplecss_skipped", answer)):
+            answer = library.call("simplecss_port_skipped", text, room=1024 + 2 * len(text))
+            for value in lines_of(library.output_of("simplecss_port_skipped", answer)):
                 row, column, part = value["row"], value["column"], value["text"]
                 start = source.lines[row - 1] + column - 1
                 yield Skipped(row, column, value["reason"], part, number, start, start + len(part))
@@ -284,7 +286,7 @@ class StyleSheet:
     def __str__(self) -> str:
         if self._grammar == PORT:
             room = 1024 + 4 * sum(map(len, self._texts))
-            return self._call("simplecss_sheet", room).decode("utf-8")[:-1]
+            return self._call("simplecss_port_sheet", room).decode("utf-8")[:-1]
         # Printing obeys the limit, too.
         self._all()
         return "\n".join(
@@ -295,6 +297,24 @@ class StyleSheet:
 
     def __repr__(self) -> str:
         return f"<StyleSheet of {len(self._texts)} texts>"
+
+    def unused(self, *trees: Tree) -> "List[Unused]":
+        """Returns the selectors that match no element of any of the trees, in order.
+
+        Pseudo-elements, states as `:hover`, and the conditions of group rules are taken as met. A
+        selector that is not supported, or of whose states that cannot be said, is used. The sheet
+        is of the grammar "modern".
+        """
+        usage = self._usage()
+        for tree in trees:
+            usage.see(elements_of(tree))
+        return list(usage.unused())
+
+    def _usage(self) -> Usage:
+        """Returns what is not used yet."""
+        if self._grammar == PORT:
+            raise ValueError("a sheet of the modern grammar is expected")
+        return Usage(self._statements(), self._answer_limit)
 
     def _match(self, tree: Tree, media: Media) -> Tuple["_Selectors", List[bytes]]:
         """Returns the selectors that are asked for, and for each element the numbers of those that
@@ -397,6 +417,11 @@ class StyleSheet:
         )
 
 
+def usage_of(sheet: StyleSheet) -> Usage:
+    """Returns which selectors of a sheet are used, of which none is so far."""
+    return sheet._usage()
+
+
 def text_of(sheet: StyleSheet) -> str:
     """Returns the text of a sheet, of which `read_sheet` returns what the sheet has read."""
     return sheet._text()
@@ -417,9 +442,8 @@ class _Selectors:
                 groups[rule.conditions] = all(map(apply, rule.conditions))
             if groups[rule.conditions] and rule.pseudo_element is None:
                 indices.append(index)
-        self.texts = [rules[index].selector for index in indices]
-        if reading is not None:
-            self.texts = list(map(reading.rewrite, self.texts))
+        texts = (rules[index].selector for index in indices)
+        self.texts = SelectorTexts(texts if reading is None else map(reading.rewrite, texts))
         self.rules = Numbers(indices)
 
 

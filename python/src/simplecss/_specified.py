@@ -7,6 +7,7 @@ from typing import Dict, FrozenSet, Iterable, List, Tuple, Union
 
 from ._declaration import Declaration, cascaded
 from ._library import Room, expect_text
+from ._presenting import presented_by
 from ._reading import declarations
 from ._tree import Element, Tree, elements_of
 from ._words import BLANKS, lower
@@ -25,32 +26,6 @@ INHERITED: FrozenSet[str] = frozenset(
     " stroke-dashoffset stroke-linecap stroke-linejoin stroke-miterlimit stroke-opacity"
     " stroke-width text-anchor text-rendering writing-mode glyph-orientation-vertical".split()
 )
-# The attributes of SVG that are properties, too (SVG 2, "Presentation attributes"): of every
-# element, and of some only.
-_PRESENTATION: FrozenSet[str] = frozenset(
-    "alignment-baseline baseline-shift clip-path clip-rule color color-interpolation"
-    " color-interpolation-filters cursor direction display dominant-baseline fill fill-opacity"
-    " fill-rule filter flood-color flood-opacity font-family font-size font-size-adjust"
-    " font-stretch font-style font-variant font-weight glyph-orientation-vertical image-rendering"
-    " letter-spacing lighting-color marker-end marker-mid marker-start mask mask-type opacity"
-    " overflow paint-order pointer-events shape-rendering stop-color stop-opacity stroke"
-    " stroke-dasharray stroke-dashoffset stroke-linecap stroke-linejoin stroke-miterlimit"
-    " stroke-opacity stroke-width text-anchor text-decoration text-overflow text-rendering"
-    " transform transform-origin unicode-bidi vector-effect visibility white-space word-spacing"
-    " writing-mode".split()
-)
-
-_PLACED: FrozenSet[str] = frozenset(("x", "y", "width", "height"))
-_GEOMETRY: Dict[str, FrozenSet[str]] = {
-    "circle": frozenset(("cx", "cy", "r")),
-    "ellipse": frozenset(("cx", "cy", "rx", "ry")),
-    "path": frozenset(("d",)),
-    "rect": _PLACED | {"rx", "ry"},
-    **dict.fromkeys(("foreignObject", "image", "svg", "symbol", "use"), _PLACED),
-}
-# Of these `fill` is something else.
-_ANIMATIONS: FrozenSet[str] = frozenset(("animate", "animateMotion", "animateTransform", "set"))
-
 # Which properties are handed down: the table above, some, or none.
 Inherit = Union[bool, Iterable[str]]
 
@@ -65,9 +40,7 @@ def _presented(element: Element) -> List[Declaration]:
     """Returns the declarations of presentation attributes."""
     if not element.is_drawn:
         return []
-    known = _PRESENTATION | _GEOMETRY.get(element.name, frozenset())
-    if element.name in _ANIMATIONS:
-        known -= {"fill"}
+    known = presented_by(element.name)
     return [
         Declaration(name, value.strip(BLANKS), False)
         for name, value in element.attributes.items()

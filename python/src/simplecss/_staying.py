@@ -2,8 +2,20 @@
 
 from __future__ import annotations
 
+import functools
 import re
-from typing import Dict, Iterable, Iterator, List, Match, NamedTuple, Optional, Set
+from typing import (
+    Callable,
+    Dict,
+    Iterable,
+    Iterator,
+    List,
+    Match,
+    NamedTuple,
+    Optional,
+    Set,
+    Tuple,
+)
 
 from ._declaration import Declaration
 from ._families import EVERYTHING, PREFIX, family_of
@@ -17,6 +29,8 @@ from ._reading import (
     Source,
     Span,
     Statement,
+    declarations_in,
+    read_block,
     read_sheet,
 )
 from ._selectors import NAMING, OPAQUE, SelectorError, Specificity, listed, states_in
@@ -33,14 +47,20 @@ _EVERY = "*"
 _ANY = ":is(*)"
 # A specificity above all.
 GREATEST: Specificity = (2**32, 0, 0)
+# How long a text is of which nothing is kept.
+_LONG = 200
 # How deep at-rules are looked into.
 _DEEPEST = 16
 # What a rule may say that is not looked into.
 _ANYTHING = [Declaration("all", "", False), Declaration("all", "", True)]
-# What ends a declaration, and is no part of it.
-_ENDING = b" \t\r\n\f;"
-# What a brace may be in.
-_UNCLEAR = ('"', "'", "/*", "\\", "(", "[")
+# Why the library skips what may have rules in a block.
+_NESTED = frozenset(("nested rule", "too deep"))
+# What makes an at-rule of a rule, whose block the library reads whatever is before it.
+_AS_AT_RULE = "@x "
+
+
+# Where `!important` is put, by the number of the statement in whose text it is.
+Marks = Dict[int, Set[int]]
 
 
 class Block:
@@ -50,15 +70,31 @@ class Block:
     def __init__(
         self,
         declared: Iterable[Declaration],
-        marks: Optional[Set[int]] = None,
-        ends: Optional[Dict[str, List[int]]] = None,
+        owner: Optional[int] = None,
+        ends: Callable[[], Dict[str, List[int]]] = dict,
     ) -> None:
-        """Takes declarations; where of the text `!important` is put; and the ends by family."""
-        self.families: Dict[str, List[Declaration]] = {}
-        for each in declared:
-            self.families.setdefault(family_of(each.name), []).append(each)
-        self._marks = marks
-        self._ends = ends or {}
+        """Takes declarations, the number of the statement that may be marked, and what finds the
+        ends in it by family."""
+        self._declared = tuple(declared)
+        self._owner = owner
+        self._find_ends = ends
+
+    @functools.cached_property
+    def families(self) -> Dict[str, List[Declaration]]:
+        """The declarations by family."""
+        found: Dict[str, List[Declaration]] = {}
+        for each in self._declared:
+            found.setdefault(family_of(each.name), []).append(each)
+        return found
+
+    @functools.cached_property
+    def _ends(self) -> Dict[str, List[int]]:
+        return self._find_ends()
+
+    def has_plain(self, family: str) -> bool:
+        """Whether something of a family, or all, is not important."""
+        declared = (*self.families.get(family, ()), *self.families.get(EVERYTHING, ()))
+        return not all(each.important for each in declared)
 
     def can_mark(self, family: str) -> bool:
         """Whether all of the family can be made important."""
@@ -67,28 +103,30 @@ class Block:
             return False
         # What goes back to other declarations goes back to others if it is important.
         is_back = any(lower(each.value).startswith("revert") for each in declared)
-        return not is_back and self._marks is not None and family in self._ends
+        return not is_back and self._has_ends(family)
 
-    def mark(self, family: str) -> None:
-        """Makes all of the family important."""
-        if self._marks is not None:
-            self._marks.update(self._ends[family])
+    def _has_ends(self, family: str) -> bool:
+        return self._owner is not None and family in self._ends
+
+    def mark(self, family: str, marks: Marks) -> None:
+        """Notes that all of the family is important."""
+        if self._owner is not None:
+            marks.setdefault(self._owner, set()).update(self._ends[family])
 
 
 class LeftBlock(Block):
     """What is left of a rule set that is written else."""
 
-    def __init__(self, marked: Set[str]) -> None:
-        """Takes the families of it that are important."""
-        super().__init__(())
+    def __init__(self, declared: Iterable[Declaration], marked: Set[str]) -> None:
+        """Takes the declarations that are left, and the families of these that are important."""
+        super().__init__(declared)
         self._marked = marked
 
-    def take(self, declared: Iterable[Declaration]) -> None:
-        """Takes the declarations that are left."""
-        super().__init__(declared, set(), {family_of(each.name): [] for each in declared})
+    def _has_ends(self, family: str) -> bool:
+        return True
 
-    def mark(self, family: str) -> None:
-        """Makes all of the family important."""
+    def mark(self, family: str, marks: Marks) -> None:
+        """Notes that all of the family is important."""
         self._marked.add(family)
 
 
@@ -109,12 +147,12 @@ class StayingRule(NamedTuple):
 
 
 class Place(NamedTuple):
-    """Where statements that stay are: the number of the one that they are in, where `!important` may
-    be put, if it may be, what is animated, and how deep in at-rules they are, whose text begins at an
+    """Where statements that stay are: the number of the one that they are in, whether `!important`
+    may be put there, what is animated, and how deep in at-rules they are, whose text begins at an
     offset."""
 
     number: int
-    marks: Optional[Set[int]]
+    may_mark: bool
     animated: Set[str]
     is_layered: bool = False
     level: int = 0
@@ -138,24 +176,52 @@ def ends_of(items: Iterable[BlockItem], source: Source, offset: int = 0) -> Dict
     for each in items:
         if isinstance(each, ReadDeclaration):
             family = family_of(each.declaration.name)
-            start, end = each.span
-            text = source.data[start:end].rstrip(_ENDING)
-            if not each.is_closed or text.endswith(b"\\"):
+            if not each.is_closed or source.data.endswith(b"\\", 0, each.end):
                 is_open.add(family)
-            found.setdefault(family, []).append(offset + start + len(text))
+            found.setdefault(family, []).append(offset + each.end)
     return {family: ends for family, ends in found.items() if family not in is_open}
 
 
-def has_rules(items: Iterable[BlockItem], source: Source) -> bool:
-    """Whether a block has rules in it, as newer browsers read it, or what they may read as some."""
-    for item in items:
-        if isinstance(item, ReadDeclaration):
-            name, value = item.declaration.name, item.declaration.value
-            if "{" in value and not name.startswith("--"):
-                return True
-        elif "{" in source.at(item.span):
-            return True
-    return False
+def has_rules(items: Iterable[BlockItem]) -> bool:
+    """Whether a block has rules in it."""
+    return any(
+        each.rule.block is not None if isinstance(each, ReadAtRule) else each.reason in _NESTED
+        for each in items
+        if not isinstance(each, ReadDeclaration)
+    )
+
+
+def _block_of(text: str) -> Optional[str]:
+    """Returns the block of a rule that the library skips, or `None` if it has other text, too."""
+    items = read_block(_AS_AT_RULE + text)[1]
+    is_alone = len(items) == 1 and isinstance(items[0], ReadAtRule)
+    return items[0].rule.block if is_alone and isinstance(items[0], ReadAtRule) else None
+
+
+def _within(text: str) -> Tuple[Source, Tuple[BlockItem, ...]]:
+    """Returns what the block of a rule has."""
+    source, statements = read_sheet(_EVERY + "{" + text)
+    sets = [each for each in statements if isinstance(each, RuleSet)]
+    return source, sets[0].items if sets else ()
+
+
+def _declared_within(
+    items: Iterable[BlockItem], source: Source, level: int = 0
+) -> Optional[List[Declaration]]:
+    """Returns the declarations of the rules that a block has, or `None` if that is not clear."""
+    found: List[Declaration] = []
+    for each in items:
+        if isinstance(each, ReadDeclaration) or not has_rules((each,)):
+            continue
+        block = each.rule.block if isinstance(each, ReadAtRule) else _block_of(source.at(each.span))
+        if block is None or level > _DEEPEST:
+            return None
+        inner, inside = _within(block)
+        within = _declared_within(inside, inner, level + 1)
+        if within is None:
+            return None
+        found += [*declarations_in(inside), *within]
+    return found
 
 
 def _wider(selector: ReadSelector) -> str:
@@ -171,16 +237,26 @@ def _wider(selector: ReadSelector) -> str:
         return text if is_kept else _ANY
 
     text = _PSEUDO_CLASS.sub(kept, selector.text)
+    is_read = _is_short_selector(text) if len(text) < _LONG else _is_selector(text)
+    return text if is_read else _EVERY
+
+
+def _is_selector(text: str) -> bool:
+    """Whether a text is one selector that the library reads."""
     try:
-        return text if len(listed(text)) == 1 else _EVERY
+        return len(listed(text)) == 1
     except SelectorError:
-        return _EVERY
+        return False
 
 
-def _anything(declared: List[Declaration], number: int, is_layered: bool) -> StayingRule:
-    """Returns a rule that may say anything of any element, beside these declarations."""
-    every = declared + _ANYTHING
-    return StayingRule(_EVERY, GREATEST, number, every, is_layered, False, False, Block(every))
+# Many rules differ in states only.
+_is_short_selector = functools.lru_cache(maxsize=1024)(_is_selector)
+
+
+def _of_any(declared: List[Declaration], number: int, is_layered: bool) -> StayingRule:
+    """Returns a rule that may say these declarations of any element."""
+    block = Block(declared)
+    return StayingRule(_EVERY, GREATEST, number, declared, is_layered, False, False, block)
 
 
 def rules_of(
@@ -199,12 +275,17 @@ def rules_of(
 def _rules_of_set(source: Source, found: RuleSet, place: Place) -> Iterator[StayingRule]:
     """Yields the rules of a rule set."""
     declared = list(found.declarations)
-    if has_rules(found.items, source):
-        # What rules within it say is not looked at.
-        yield _anything(declared, place.number, place.is_layered)
+    within = _declared_within(found.items, source)
+    if within is None:
+        yield _of_any(declared + _ANYTHING, place.number, place.is_layered)
         return
-    block = Block(declared, place.marks, ends_of(found.items, source, place.offset))
+    owner = place.number if place.may_mark and not has_rules(found.items) else None
+    ends = functools.partial(ends_of, found.items, source, place.offset)
+    block = Block(declared, owner, ends)
     yield from rules_with(found.selectors, declared, place.number, place.is_layered, block)
+    if within:
+        # Which elements the rules within it match is not looked at.
+        yield _of_any(within, place.number, place.is_layered)
 
 
 def _rules_in(found: ReadAtRule, text: str, place: Place) -> Iterator[StayingRule]:
@@ -215,7 +296,7 @@ def _rules_in(found: ReadAtRule, text: str, place: Place) -> Iterator[StayingRul
         for each in statements:
             place.animated.update(_framed(source, each))
     elif place.level > _DEEPEST:
-        yield _anything([], place.number, place.is_layered)
+        yield _of_any(_ANYTHING, place.number, place.is_layered)
     else:
         level, offset = place.level + 1, place.offset + found.inner[0]
         yield from rules_of(source, statements, place._replace(level=level, offset=offset))
@@ -224,17 +305,17 @@ def _rules_in(found: ReadAtRule, text: str, place: Place) -> Iterator[StayingRul
 def _framed(source: Source, found: Statement) -> Iterator[str]:
     """Yields the families that a keyframe sets, or that of all if that is not clear. Most are not
     read, as `50%` is no selector."""
-    if isinstance(found, Fault):
-        front, brace, _ = source.at(found.span).partition("{")
-        if not brace or any(each in front for each in _UNCLEAR):
+    if isinstance(found, RuleSet):
+        items: Iterable[BlockItem] = found.items
+    elif isinstance(found, Fault):
+        block = _block_of(source.at(found.span))
+        if block is None:
             yield EVERYTHING
             return
-        start = found.span[0] + len(front.encode("utf-8"))
-        _, statements = read_sheet(_EVERY + source.at((start, found.span[1])))
-        sets = [each for each in statements if isinstance(each, RuleSet)]
+        items = read_block(block)[1]
     else:
-        sets = [found] if isinstance(found, RuleSet) else []
-    yield from (family_of(one.name) for each in sets for one in each.declarations)
+        return
+    yield from (family_of(each.name) for each in declarations_in(items))
 
 
 def rules_with(

@@ -3,6 +3,7 @@
 from __future__ import annotations
 
 import bisect
+import itertools
 from typing import (
     Any,
     Dict,
@@ -231,11 +232,11 @@ class Tree:
         library.expect_text(text)
         builder = Builder(text, is_part)
         try:
-            root = builder.build()
+            builder.read()
         except TooDeep as error:
             raise TreeError(str(error), None, None) from None
         tree = cls()
-        tree._elements.take_nodes(root, text, is_quirky=builder.is_quirky, is_part=is_part)
+        tree._elements.take_nodes(builder, is_part=is_part)
         return tree._with_states(states)
 
     @classmethod
@@ -349,7 +350,8 @@ class Tree:
         The selectors are separated by commas. A text that is no such list raises `SelectorError`.
         `grammar` is that of `Selector`.
         """
-        return [Element(self, index) for index in self._elements.found(selectors, grammar)]
+        found = self._elements.found(selectors, grammar)
+        return list(map(Element, itertools.repeat(self), found))
 
     def iselect(self, selectors: str, *, grammar: str = MODERN) -> Iterator[Element]:
         """Yields the elements that one of the selectors matches, in order."""

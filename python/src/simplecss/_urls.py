@@ -3,17 +3,17 @@
 from __future__ import annotations
 
 import re
-import urllib.parse
 from typing import Match, NamedTuple, Optional
 
 from . import _library as library
+from ._patterns import pattern
 from ._selectors import COMMENT, NAMING
 from ._words import BLANKS
 
 _BLANK = r"[ \t\n\r\f]"
 # A url in `url()` or after `@import`, in quotes or without; or what has none: an escape, a comment
 # or a string, which ends with its line.
-_URL = re.compile(
+_URL = pattern(
     rf"""(?<!{NAMING})(?P<before>url\({_BLANK}*)(?P<quote>["'])"""
     r"""(?P<url>(?:(?!(?P=quote))[^\\\n\r\f])*)(?P=quote)"""
     rf"""|(?<!{NAMING})(?P<bare_before>url\({_BLANK}*)"""
@@ -31,7 +31,7 @@ _URL_GROUPS = (
     ("bare_before", "", "bare"),
     ("import", "import_quote", "imported"),
 )
-SCHEME = re.compile(r"[a-z][-+.a-z0-9]*:", re.IGNORECASE | re.ASCII)
+SCHEME = pattern(r"[a-z][-+.a-z0-9]*:", re.IGNORECASE | re.ASCII)
 # The characters that would end a url in a sheet.
 _ENDING = str.maketrans({each: f"%{ord(each):02X}" for each in "\"'()\\<> \t\n\r\f"})
 
@@ -66,6 +66,9 @@ def joined(base: str, url: str) -> str:
 
 def _related(base: str, url: str) -> str:
     """Returns a url taken from a base, which may begin above the folder that it is taken from."""
+    # A module that takes long to import.
+    import urllib.parse
+
     found = urllib.parse.urlsplit(base)
     is_inner = not found.path.startswith("/") and not url.startswith("/")
     above = (base + url).count("..") if base and is_inner and not found.netloc else 0

@@ -2,12 +2,13 @@
 
 from __future__ import annotations
 
-import re
 from typing import List
+
+from ._patterns import pattern
 
 BLANKS = "\t\n\f\r "
 
-_BLANK = re.compile(r"[\t\n\f\r ]+")
+_BLANK = pattern(r"[\t\n\f\r ]+")
 
 
 def lower(name: str) -> str:

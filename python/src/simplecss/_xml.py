@@ -2,10 +2,9 @@
 
 from __future__ import annotations
 
-import re
 from typing import Dict, List, NamedTuple, Optional, Tuple
-from xml.parsers import expat
 
+from ._patterns import pattern
 from ._words import lower
 
 # How many characters entities may add to a document, and attributes of their own beside those that
@@ -86,10 +85,10 @@ class _Offsets:
         return self.character
 
 
-_TAG = re.compile(r"""<(?:[^"'>]|"[^"]*"|'[^']*')*>""")
+_TAG = pattern(r"""<(?:[^"'>]|"[^"]*"|'[^']*')*>""")
 # The entities of every document, each of one character.
 _OF_XML = frozenset(("amp", "lt", "gt", "apos", "quot"))
-_REFERENCE = re.compile("&([^#&;< ][^&;< ]*);")
+_REFERENCE = pattern("&([^#&;< ][^&;< ]*);")
 
 
 class _Reader:
@@ -105,6 +104,9 @@ class _Reader:
         self.entities: Dict[str, int] = {}
         self.room = len(text) + _MOST_ADDED
         self.spaces: Dict[str, str] = {}
+        # A module that is not needed for HTML.
+        from xml.parsers import expat
+
         # Names are not kept by the parser, which would repeat the namespace in each.
         self.parser = expat.ParserCreate("utf-8", "}", None)
         self.parser.namespace_prefixes = True
@@ -119,10 +121,12 @@ class _Reader:
 
     def read(self) -> XmlDocument:
         """Reads the document."""
+        from xml.parsers.expat import ErrorString, ExpatError
+
         try:
             self.parser.Parse(self.text.encode("utf-8"), True)
-        except expat.ExpatError as error:
-            reason = expat.ErrorString(error.code) or "not well-formed"
+        except ExpatError as error:
+            reason = ErrorString(error.code) or "not well-formed"
             raise XmlError(reason, error.lineno, error.offset + 1) from None
         return XmlDocument(self.tags, self.texts)
 

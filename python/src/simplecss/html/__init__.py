@@ -3,7 +3,7 @@
 The other modules of the package use the names here.
 """
 
-from ._builder import HTML, MATH, RAW, SVG, VOID, Builder, Node, Text, TooDeep
+from ._builder import HTML, MATH, RAW, SVG, VOID, Builder, Made, Node, Text, TooDeep
 from ._encoding import Encoding, decode_page
 from ._tokens import Attribute, attributes_of, decode, decode_value, with_line_feeds
 
@@ -13,6 +13,7 @@ __all__ = [
     "Encoding",
     "HTML",
     "MATH",
+    "Made",
     "Node",
     "RAW",
     "SVG",

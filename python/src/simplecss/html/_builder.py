@@ -7,18 +7,28 @@ do.
 from __future__ import annotations
 
 import re
-from collections import Counter
-from sys import intern
-from typing import Callable, Collection, Dict, FrozenSet, List, Optional, Tuple, Union
+from collections import Counter, defaultdict
+from typing import (
+    Callable,
+    Collection,
+    Dict,
+    FrozenSet,
+    List,
+    NamedTuple,
+    Optional,
+    Tuple,
+    Union,
+)
 
+from .._patterns import pattern
 from .._words import BLANKS, lower
 from ._tokens import (
     DOCTYPE,
     END,
     EOF,
-    PLAIN_TAG,
     START,
     TEXT,
+    PlainTags,
     Token,
     Tokenizer,
     decode,
@@ -48,6 +58,17 @@ _BLOCKS = _words(
 )
 _ENDED = (_BLOCKS - {"p"}) | {"button", "listing", "pre", "select"}
 _OBJECTS = _words("applet marquee object")
+# The ways in which tags are taken in a body; the last is that of all which are not plain.
+(
+    _ENDING,
+    _ENDING_FORMATTING,
+    _STARTING,
+    _STARTING_BLOCK,
+    _STARTING_FORMATTING,
+    _STARTING_LINK,
+    _STARTING_BY_HANDLER,
+    _OTHERWISE,
+) = range(8)
 _SPECIAL = (
     _BLOCKS
     | _HEADINGS
@@ -142,13 +163,13 @@ _QUIRKS = (
     "-//w3o//dtd w3 html",
     "-//webtechs//dtd mozilla html",
 )
-_DOCTYPE = re.compile(
+_DOCTYPE = pattern(
     r"""<!doctype[\t\n\f\r ]*([^\t\n\f\r >]*)[\t\n\f\r ]*(?:(public|system)[\t\n\f\r ]*"""
     r"""("[^">]*"|'[^'>]*')[\t\n\f\r ]*("[^">]*"|'[^'>]*')?)?[\t\n\f\r ]*(>?)""",
     re.IGNORECASE | re.ASCII,
 )
 # A newline, or what stands for one.
-_NEWLINE = re.compile(r"\r\n?|\n|&NewLine;|&#0*10(?:;|(?![0-9]))|&#[xX]0*[aA](?:;|(?![0-9A-Fa-f]))")
+_NEWLINE = pattern(r"\r\n?|\n|&NewLine;|&#0*10(?:;|(?![0-9]))|&#[xX]0*[aA](?:;|(?![0-9A-Fa-f]))")
 
 
 def is_quirky(doctype: str) -> bool:
@@ -176,6 +197,19 @@ def is_quirky(doctype: str) -> bool:
 
 
 Text = Tuple[int, int]
+# The name and the attributes of an element.
+Key = Tuple[str, FrozenSet[Tuple[str, str]]]
+
+
+class Made(NamedTuple):
+    """The elements and the texts of a document in the order in which they were made: the elements;
+    for each text how many elements were made before it, and the index of the one that it is in; and
+    the texts."""
+
+    nodes: List["Node"]
+    begun: List[int]
+    owners: List[int]
+    texts: List[Text]
 
 
 class Node:
@@ -193,26 +227,37 @@ class Node:
         "inner_end",
         "outer_end",
         "is_open",
+        "index",
+        "key",
     )
+
+    # Elements, and of each text where it begins and ends; while a `Builder` makes elements in
+    # order, they have none.
+    children: List[Union["Node", Text]]
+    inner_end: int
+    outer_end: int
 
     def __init__(
         self,
         name: str,
         attributes: Dict[str, str],
+        parent: Optional["Node"] = None,
         space: int = HTML,
         start: int = -1,
         inner: int = -1,
+        index: int = -1,
     ) -> None:
         self.name = name
         self.attributes = attributes
+        self.parent = parent
         self.space = space
-        self.parent: Optional[Node] = None
-        # Elements, and of each text where it begins and ends.
-        self.children: List[Union[Node, Text]] = []
         self.start = start
         self.inner = inner
-        self.inner_end = self.outer_end = 0
-        self.is_open = False
+        # Its number among the elements in the order in which they were made.
+        self.index = index
+        self.is_open = True
+        # What equal formatting elements have in common, if they are compared.
+        self.key: Optional[Key] = None
 
     @property
     def tag(self) -> Optional[Text]:
@@ -234,16 +279,22 @@ class Builder:
         self.text = text
         self.has_scripts = has_scripts
         self.tokens = Tokenizer(text)
-        self.root = Node("html", {})
+        self.tags = PlainTags(_way_of)
+        # The content of a part has no parent.
+        self.root = Node("html", {}, index=-1 if is_part else 0)
+        # What was made, while this is the order of the document, and all of it is of the document.
+        self.made: Optional[Made] = Made([] if is_part else [self.root], [], [], [])
         self.has_root = False
         self.is_quirky = not is_part
         self.open: List[Node] = []
         # How many elements of each name are open.
-        self.counts: Counter[str] = Counter()
+        self.counts: Dict[str, int] = defaultdict(int)
         # The formatting elements that are not ended yet; `None` is a marker. If they are many, at
         # least how many are equal.
         self.formatting: List[Optional[Node]] = []
-        self.alike: Counter[Tuple[str, FrozenSet[Tuple[str, str]]]] = Counter()
+        self.alike: Counter[Key] = Counter()
+        # The keys of formatting elements so far: equal ones are one object.
+        self.keys: Dict[Key, Key] = {}
         self.head: Optional[Node] = None
         self.form: Optional[Node] = None
         self.may_be_frames = True
@@ -265,6 +316,12 @@ class Builder:
 
     def build(self) -> Node:
         """Reads the document. Returns its root element."""
+        self.read()
+        self._leave_order()
+        return self.root
+
+    def read(self) -> None:
+        """Reads the document. If all is in order then, it is in `made` only."""
         tokens = self.tokens
         while True:
             if self.open and not (tokens.reads_otherwise() or self.skips_newline):
@@ -274,69 +331,107 @@ class Builder:
             if token.kind == EOF:
                 while self.open:
                     self._pop()
-                return self.root
+                return
             tokens.has_cdata = bool(self.open) and self.open[-1].space != HTML
 
     # ---- what most of a page is
 
     def _read_plainly(self) -> None:
-        """Takes texts and tags as most are written, up to what is not, as `_process` would."""
-        tokens, opened = self.tokens, self.open
-        is_body, last = self._is_body(), tokens.offset
-        for found in PLAIN_TAG.finditer(self.text, last):
-            offset, end = found.span()
-            slash, name, inner, closing = found.groups()
-            if last < offset and is_body:
-                if self.formatting:
-                    self._reconstruct()
-                opened[-1].children.append((last, offset))
-            elif last < offset:
-                self.token = Token(TEXT, last, offset)
-                self.mode(self, self.token)
-            tokens.offset = last = offset if name is None else end
-            if name is None:
+        """Takes texts and plain tags, up to what is neither, as `_process` would."""
+        tokens, opened, formatting = self.tokens, self.open, self.formatting
+        tags, counts = self.tags, self.counts
+        is_body, last, place = self._is_body(), tokens.offset, tokens.place
+        for piece in tokens.pieces:
+            start = place
+            place += 1 + len(piece)
+            if start < last:
+                continue
+            if last < start:
+                self._read_text((last, start), is_body)
+                is_body = is_body or self._is_body()
+            inner, closing, _ = piece.partition(">")
+            token = tags[inner]
+            if token is None or not closing:
+                last = start
                 break
-            handler = None
-            if slash:
-                if is_body and self._end_plainly(name, offset, end):
-                    if opened[-1].space != HTML:
-                        break
+            last = start + len(inner) + 2
+            way = token.way
+            if is_body:
+                if way <= _ENDING_FORMATTING:
+                    node = opened[-1]
+                    if node.name == token.name and (
+                        way == _ENDING or formatting and formatting[-1] is node
+                    ):
+                        if way != _ENDING:
+                            formatting.pop()
+                        opened.pop()
+                        counts[node.name] -= 1
+                        node.is_open = False
+                        node.inner_end, node.outer_end = start, last
+                        is_body = opened[-1].space == HTML
+                        continue
+                elif way < _OTHERWISE:
+                    token.start, token.end = start, last
+                    self._start_plainly(token)
+                    is_body = opened[-1].space == HTML
                     continue
-            elif is_body:
-                handler = _PLAIN_STARTS.get(name, Builder._start_other)
-            attributes = tokens.attributes_in(inner) if inner else {}
-            kind = END if slash else START
-            token = self.token = Token(kind, offset, end, intern(name), attributes, bool(closing))
-            if handler:
-                handler(self, token)
-            else:
-                self.mode(self, token)
-                is_body = self._is_body()
-                # Something is read otherwise, or was read on.
-                if tokens.raw_name or self.skips_newline or tokens.offset != end:
-                    break
-            if opened[-1].space != HTML:
+            token.start, token.end = start, last
+            tokens.offset = last
+            self._process(token)
+            is_body = self._is_body()
+            # Something is read otherwise, or was read on.
+            if tokens.reads_otherwise() or self.skips_newline or tokens.offset != last:
+                last = tokens.offset
                 break
+        tokens.offset, tokens.place = last, place
         tokens.has_cdata = opened[-1].space != HTML
+
+    def _read_text(self, text: Text, is_body: bool) -> None:
+        """Takes a text, of a body or not."""
+        if not is_body:
+            self._process(Token(TEXT, *text))
+            return
+        formatting, made = self.formatting, self.made
+        if formatting and not (formatting[-1] is None or formatting[-1].is_open):
+            self._reconstruct()
+        parent = self.open[-1]
+        if made is None:
+            parent.children.append(text)
+        else:
+            made.begun.append(len(made.nodes))
+            made.owners.append(parent.index)
+            made.texts.append(text)
+
+    def _start_plainly(self, token: Token) -> None:
+        """Adds the element of a start tag to a body."""
+        way, opened, made, formatting = token.way, self.open, self.made, self.formatting
+        if way > _STARTING_LINK or way == _STARTING_LINK and formatting:
+            self.token = token
+            _PLAIN_STARTS[token.name](self, token)
+            return
+        if way == _STARTING_BLOCK:
+            if self.counts["p"]:
+                self.token = token
+                self._close_p()
+        elif formatting and not (formatting[-1] is None or formatting[-1].is_open):
+            self._reconstruct()
+        parent, name = opened[-1], token.name
+        if made is None:
+            node = Node(name, token.attributes, parent, HTML, token.start, token.end)
+            node.children = []
+            parent.children.append(node)
+        else:
+            nodes = made.nodes
+            node = Node(name, token.attributes, parent, HTML, token.start, token.end, len(nodes))
+            nodes.append(node)
+        opened.append(node)
+        self.counts[name] += 1
+        if way >= _STARTING_FORMATTING:
+            self._push_formatting(node)
 
     def _is_body(self) -> bool:
         """Whether a text, and a tag as it is most often, are taken by the rules for a body."""
-        return self.mode in _BODY_MODES and not self.may_be_frames
-
-    def _end_plainly(self, name: str, offset: int, end: int) -> bool:
-        """Ends the innermost element, if an end tag of the name does only this."""
-        node, formatting = self.open[-1], self.formatting
-        if node.name != name or name in _ENDED_OTHERWISE:
-            return False
-        if name in _FORMATTING:
-            if not formatting or formatting[-1] is not node:
-                return False
-            formatting.pop()
-        self.open.pop()
-        self.counts[name] -= 1
-        node.is_open = False
-        node.inner_end, node.outer_end = offset, end
-        return True
+        return self.mode in _BODY_MODES and not self.may_be_frames and self.open[-1].space == HTML
 
     # ---- the open elements
 
@@ -436,9 +531,9 @@ class Builder:
 
     # ---- new elements
 
-    def _place(self, parent: Optional[Node] = None) -> Tuple[Node, Optional[Node]]:
-        """Returns the parent of what comes next, and the child before which it goes, if any."""
-        target = parent or self.open[-1]
+    def _place(self, target: Node) -> Tuple[Node, Optional[Node]]:
+        """Returns the parent of what is to go into an element, and the child before which it goes,
+        if any."""
         if not (self.is_fostering and target.space == HTML and target.name in _FOSTERING):
             return target, None
         for index in range(len(self.open) - 1, -1, -1):
@@ -454,42 +549,86 @@ class Builder:
                 return self.open[index - 1], None
         return self.open[0], None
 
-    def _append(self, child: Union[Node, Text], parent: Optional[Node] = None) -> None:
-        """Adds an element or a text at its place."""
-        if not self.is_fostering:
-            target = parent or self.open[-1]
+    def _append(self, child: Union[Node, Text]) -> None:
+        """Adds a new element or a text at its place."""
+        if self.is_fostering:
+            self._leave_order()
             if isinstance(child, Node):
-                child.parent = target
-            target.children.append(child)
+                child.children = []
+            self._move(child, *self._place(self.open[-1]))
+        elif isinstance(child, Node):
+            self._add(child, self.open[-1])
+        else:
+            self._add_text_to(self.open[-1], child)
+
+    def _add(self, node: Node, parent: Node) -> None:
+        """Adds a new element as the last child."""
+        node.parent = parent
+        if self.made is not None:
+            node.index = len(self.made.nodes)
+            self.made.nodes.append(node)
+        else:
+            node.children = []
+            parent.children.append(node)
+
+    def _add_text_to(self, parent: Node, text: Text) -> None:
+        """Adds a text as the last child."""
+        if self.made is None:
+            parent.children.append(text)
+        elif text[0] < text[1]:
+            nodes, begun, owners, texts = self.made
+            begun.append(len(nodes))
+            owners.append(parent.index)
+            texts.append(text)
+
+    def _leave_order(self) -> None:
+        """Gives all elements their children, if they are only in order so far."""
+        if self.made is None:
             return
-        target, before = self._place(parent)
+        (nodes, begun, owners, texts), self.made = self.made, None
+        self.root.children = []
+        at = 0
+        for node in nodes:
+            node.children = []
+            while at < len(texts) and begun[at] <= node.index:
+                parent = nodes[owners[at]] if owners[at] >= 0 else self.root
+                parent.children.append(texts[at])
+                at += 1
+            if node.parent is not None:
+                node.parent.children.append(node)
+        for owner, text in zip(owners[at:], texts[at:]):
+            (nodes[owner] if owner >= 0 else self.root).children.append(text)
+
+    def _move(self, child: Union[Node, Text], parent: Node, before: Optional[Node]) -> None:
+        """Adds an element or a text before a child, or as the last one."""
         if isinstance(child, Node):
-            child.parent = target
-        if before is None:
-            target.children.append(child)
-            return
-        index = len(target.children)
-        while index > 0:
+            child.parent = parent
+        children = parent.children
+        index = len(children)
+        while before is not None and index > 0:
             index -= 1
             self._spend(1)
-            if target.children[index] is before:
+            if children[index] is before:
                 break
-        target.children.insert(index, child)
+        children.insert(index, child)
 
     def _insert(self, token: Token, space: int = HTML) -> Node:
         """Adds the element of a start tag, and opens it."""
-        name = token.name
-        node = Node(name, token.attributes, space, token.start, token.end)
-        if self.is_fostering:
-            self._append(node)
+        if space == HTML and token.name in _TEXTS:
+            self.tokens.raw_name = token.name
+        return self._make(token, space)
+
+    def _make(self, token: Token, space: int) -> Node:
+        name, parent, made = token.name, self.open[-1], self.made
+        if made is not None and not self.is_fostering:
+            nodes = made.nodes
+            node = Node(name, token.attributes, parent, space, token.start, token.end, len(nodes))
+            nodes.append(node)
         else:
-            node.parent = self.open[-1]
-            node.parent.children.append(node)
-        node.is_open = True
+            node = Node(name, token.attributes, None, space, token.start, token.end)
+            self._append(node)
         self.open.append(node)
         self.counts[name] += 1
-        if space == HTML and name in _TEXTS:
-            self.tokens.raw_name = name
         return node
 
     def _insert_implied(self, name: str) -> Node:
@@ -509,6 +648,7 @@ class Builder:
 
     def _detach(self, node: Node) -> None:
         """Takes an element from its parent."""
+        self._leave_order()
         if node.parent is None:
             return
         siblings = node.parent.children
@@ -533,28 +673,34 @@ class Builder:
             self._drop_alike(node)
         self.formatting.append(node)
 
+    def _key_of(self, node: Node) -> Key:
+        """Returns what equal elements have in common, which is one object."""
+        key = node.key
+        if key is None:
+            key = node.name, frozenset(node.attributes.items())
+            key = node.key = self.keys.setdefault(key, key)
+        return key
+
     def _count_alike(self, node: Node) -> int:
         """Counts an element. Returns at least how many equal it among those remembered and it."""
         if not self.alike:
-            self.alike.update(map(_key_of, filter(None, self.formatting)))
-        key = _key_of(node)
+            self.alike.update(map(self._key_of, filter(None, self.formatting)))
+        key = self._key_of(node)
         self.alike[key] += 1
         return self.alike[key]
 
     def _drop_alike(self, node: Node) -> None:
         """Forgets the first of three elements, since the last marker, that equal another."""
-        equal = []
-        for index in range(len(self.formatting) - 1, -1, -1):
+        key, count, index = self._key_of(node), 0, len(self.formatting)
+        while index > 0 and count < 3:
+            index -= 1
             other = self.formatting[index]
             if other is None:
                 break
-            self._spend(1)
-            if other.name == node.name and len(other.attributes) == len(node.attributes):
-                self._spend(len(node.attributes))
-                if other.attributes == node.attributes:
-                    equal.append(index)
-        if len(equal) >= 3:
-            del self.formatting[equal[-1]]
+            count += self._key_of(other) is key
+        self._spend(len(self.formatting) - index)
+        if count == 3:
+            del self.formatting[index]
 
     def _clear_formatting(self) -> None:
         """Forgets the formatting elements up to the last marker."""
@@ -582,7 +728,10 @@ class Builder:
     def _clone(self, node: Node) -> Node:
         """Returns another element of the same tag. Each has its attributes, however long."""
         self._spend(20 + sum(len(key) + len(value) for key, value in node.attributes.items()))
-        return Node(node.name, node.attributes, HTML, node.start, node.inner)
+        clone = Node(node.name, node.attributes, None, HTML, node.start, node.inner)
+        clone.children = []
+        clone.key = node.key
+        return clone
 
     def _formatting_index(self, node: Node) -> int:
         """Returns where an element is among the formatting ones, or -1."""
@@ -660,11 +809,12 @@ class Builder:
                 pass
             self._forget(formatted)
             return False
+        self._leave_order()
         ancestor = self.open[at - 1]
         mark = self._formatting_index(formatted)
         last, mark = self._adopt_between(formatted, block, mark)
         self._detach(last)
-        self._append(last, ancestor)
+        self._move(last, *self._place(ancestor))
         clone = self._clone(formatted)
         clone.children = block.children
         for child in clone.children:
@@ -868,7 +1018,7 @@ class Builder:
         token = self.tokens.next()
         if token.kind == TEXT:
             if node.name != "textarea" or self._skip_newline(token):
-                node.children.append((token.start, token.end))
+                self._add_text_to(node, (token.start, token.end))
             token = self.tokens.next()
         self.token = token
         self._pop()
@@ -908,6 +1058,7 @@ class Builder:
                 return
             if token.name in _HEAD_PARTS and self.head is not None:
                 self._push(self.head)
+                self._leave_order()
                 self._in_head(token)
                 self._remove(self.head)
                 return
@@ -1093,8 +1244,7 @@ class Builder:
         self.may_be_frames = False
 
     def _start_image(self, token: Token) -> None:
-        token.name = "img"
-        self._start_void(token)
+        self._start_void(Token(START, token.start, token.end, "img", token.attributes))
 
     def _start_textarea(self, token: Token) -> None:
         self._insert(token)
@@ -1210,6 +1360,7 @@ class Builder:
 
     def _start_template(self, token: Token) -> None:
         self._insert(token)
+        self._leave_order()
         self.formatting.append(None)
         self.may_be_frames = False
         self.templates.append(Builder._in_template)
@@ -1501,15 +1652,14 @@ class Builder:
     # ---- SVG and MathML
 
     def _insert_foreign(self, token: Token, space: int) -> None:
+        name, attributes = token.name, token.attributes
         if space == SVG:
-            token.name = _SVG_NAMES.get(token.name, token.name)
-            token.attributes = {
-                _SVG_ATTRIBUTES.get(key, key): value for key, value in token.attributes.items()
-            }
-        elif "definitionurl" in token.attributes:
-            token.attributes = dict(token.attributes)
-            token.attributes["definitionURL"] = token.attributes.pop("definitionurl")
-        self._insert(token, space)
+            name = _SVG_NAMES.get(name, name)
+            attributes = {_SVG_ATTRIBUTES.get(key, key): value for key, value in attributes.items()}
+        elif "definitionurl" in attributes:
+            attributes = dict(attributes)
+            attributes["definitionURL"] = attributes.pop("definitionurl")
+        self._insert(Token(START, token.start, token.end, name, attributes), space)
         if token.is_closed:
             self._pop()
 
@@ -1556,11 +1706,6 @@ class Builder:
                 return
 
 
-def _key_of(node: Node) -> Tuple[str, FrozenSet[Tuple[str, str]]]:
-    """Returns what equal elements have in common."""
-    return node.name, frozenset(node.attributes.items())
-
-
 def _is_special(node: Node) -> bool:
     if node.space == HTML:
         return node.name in _SPECIAL
@@ -1598,8 +1743,8 @@ _MODES: Dict[str, Handler] = {
 _BODY_MODES = (Builder._in_body, Builder._in_cell)
 _STARTS: Dict[str, Handler] = {}
 _ENDS: Dict[str, Handler] = {}
-# Of the first, those that leave the mode as it is, and `None`.
-_PLAIN_STARTS: Dict[str, Optional[Handler]] = {}
+# Of the first, those that leave the mode as it is.
+_PLAIN_STARTS: Dict[str, Handler] = {}
 
 
 def _set(table: Dict[str, Handler], handler: Handler, names: "FrozenSet[str]") -> None:
@@ -1651,5 +1796,21 @@ _ENDS.update(
     template=Builder._end_template,
 )
 _PLAIN_STARTS.update(
-    (name, handler if name in _PLAINLY_STARTED else None) for name, handler in _STARTS.items()
+    (name, handler) for name, handler in _STARTS.items() if name in _PLAINLY_STARTED
 )
+
+
+def _way_of(kind: int, name: str) -> int:
+    """Returns in which way a plain tag is taken in a body."""
+    if kind == END:
+        is_plain = name not in _ENDED_OTHERWISE
+        return _ENDING_FORMATTING if name in _FORMATTING else _ENDING if is_plain else _OTHERWISE
+    if name not in _STARTS:
+        return _STARTING
+    if name in _BLOCKS:
+        return _STARTING_BLOCK
+    if name == "a":
+        return _STARTING_LINK
+    if name in _FORMATTING - {"nobr"}:
+        return _STARTING_FORMATTING
+    return _STARTING_BY_HANDLER if name in _PLAIN_STARTS else _OTHERWISE

@@ -6,6 +6,7 @@ import codecs
 import re
 from typing import Dict, Iterator, Match, Optional, Tuple
 
+from .._patterns import pattern
 from .._words import BLANKS, lower
 from ._builder import HTML, Builder, Node, TooDeep
 from ._tokens import attributes_from
@@ -114,15 +115,13 @@ _LABELS: Dict[str, str] = {
 }
 # How far a page is looked through for what names its encoding, whether or not that is an element.
 _FRONT = 1024
-_XML = re.compile(
-    r"""<\?xml[\t\n\f\r ][^>]*?encoding[\t\n\f\r ]*=[\t\n\f\r ]*("[^">]*"|'[^'>]*')"""
-)
+_XML = pattern(r"""<\?xml[\t\n\f\r ][^>]*?encoding[\t\n\f\r ]*=[\t\n\f\r ]*("[^">]*"|'[^'>]*')""")
 # Of what is passed over: a comment, the front of a tag, and another declaration.
-_PASSED = re.compile(
+_PASSED = pattern(
     r"<!--(?:>|->|.*?(?:-->|\Z))|<(meta)(?=[\t\n\f\r /])|</?[a-z][^\t\n\f\r >]*|<[!/?][^>]*",
     re.DOTALL | re.IGNORECASE | re.ASCII,
 )
-_CHARSET = re.compile(
+_CHARSET = pattern(
     r"""charset[\t\n\f\r ]*=[\t\n\f\r ]*(?:"([^"]*)"|'([^']*)'|([^\t\n\f\r ;"'][^\t\n\f\r ;]*))""",
     re.IGNORECASE | re.ASCII,
 )

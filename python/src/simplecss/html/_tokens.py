@@ -8,34 +8,35 @@ from __future__ import annotations
 import functools
 import re
 import sys
-from typing import Dict, Iterator, List, Match, NamedTuple, Optional, Pattern, Tuple
+from typing import Callable, Dict, Iterator, List, Match, NamedTuple, Optional, Pattern, Tuple
 
+from .._patterns import pattern
 from .._words import BLANKS, lower
 
 TEXT, START, END, DOCTYPE, EOF = range(5)
 
-_ATTRIBUTE = re.compile(
+_ATTRIBUTE = pattern(
     r"""[\t\n\f\r /]*([^\t\n\f\r />][^\t\n\f\r />=]*)"""
     r"""(?:[\t\n\f\r ]*=[\t\n\f\r ]*("[^"]*"|'[^']*'|[^\t\n\f\r >"'][^\t\n\f\r >]*|(?=>)))?"""
 )
-_EQUALS = re.compile(r"[\t\n\f\r ]*=")
-_TAG_NAME = re.compile(r"[A-Za-z][^\t\n\f\r />]*")
-_SHORT_TAG = re.compile(r"<(/?)([a-z][a-z0-9]*)>")
-_TAG_END = re.compile(r"[\t\n\f\r /]*>")
-# A tag as most are written, with names in lower case and no blanks beside `=`, and its attributes;
-# or the `<` of another.
-PLAIN_TAG = re.compile(
-    r"""<(?:(/?)([a-z][a-z0-9]*)((?:[\t\n\f\r ]+[a-z][-a-z0-9_:]*"""
-    r"""(?:=(?:"[^"]*"|'[^']*'|[^\t\n\f\r "'<=>`]+))?)*)[\t\n\f\r ]*(/?)>)?"""
+_EQUALS = pattern(r"[\t\n\f\r ]*=")
+_TAG_NAME = pattern(r"[A-Za-z][^\t\n\f\r />]*")
+_SHORT_TAG = pattern(r"<(/?)([a-z][a-z0-9]*)>")
+_TAG_END = pattern(r"[\t\n\f\r /]*>")
+# What is between `<` and `>` of a tag as most are written, with names in lower case and no blanks
+# beside `=`; and its attributes.
+_PLAIN_TAG = pattern(
+    r"""(/?)([a-z][a-z0-9]*)((?:[\t\n\f\r ]+[a-z][-a-z0-9_:]*"""
+    r"""(?:=(?:"[^"]*"|'[^']*'|[^\t\n\f\r "'<=>`]+))?)*)[\t\n\f\r ]*(/?)"""
 )
-_PLAIN_ATTRIBUTE = re.compile(
+_PLAIN_ATTRIBUTE = pattern(
     r"""([a-z][-a-z0-9_:]*)(?:=(?:"([^"]*)"|'([^']*)'|([^\t\n\f\r "'<=>`]+)))?"""
 )
-_COMMENT_END = re.compile(r"--!?>")
+_COMMENT_END = pattern(r"--!?>")
 # Letters of HTML are those of ASCII: without the flag, the long s would be one of `</script`.
 _ANY_CASE = re.IGNORECASE | re.ASCII
-_SCRIPT = re.compile(r"<!--|-->|<(/?)script(?=[\t\n\f\r />])", _ANY_CASE)
-_REFERENCE = re.compile(r"&(?:#([0-9]+);?|#[xX]([0-9A-Fa-f]+);?|([A-Za-z][A-Za-z0-9]*;?))")
+_SCRIPT = pattern(r"<!--|-->|<(/?)script(?=[\t\n\f\r />])", _ANY_CASE)
+_REFERENCE = pattern(r"&(?:#([0-9]+);?|#[xX]([0-9A-Fa-f]+);?|([A-Za-z][A-Za-z0-9]*;?))")
 # The longest name of a character reference.
 _LONGEST = 32
 # What the numbers from 128 to 159 denote.
@@ -43,9 +44,10 @@ _WINDOWS = dict(zip(range(128, 160), "€\x81‚ƒ„…†‡ˆ‰Š‹Œ\x8dŽ
 
 
 class Token:
-    """A token: its kind, name and attributes, and where its text begins and ends."""
+    """A token: its kind, name and attributes, and where its text begins and ends. `way` is set by
+    whoever builds a tree."""
 
-    __slots__ = ("kind", "name", "attributes", "start", "end", "is_closed")
+    __slots__ = ("kind", "name", "attributes", "start", "end", "is_closed", "way")
 
     def __init__(
         self,
@@ -62,6 +64,7 @@ class Token:
         self.name = name
         self.attributes: Dict[str, str] = {} if attributes is None else attributes
         self.is_closed = is_closed
+        self.way = -1
 
 
 class Attribute(NamedTuple):
@@ -170,6 +173,55 @@ def attributes_of(tag: str) -> List[Attribute]:
     ]
 
 
+# The kind and the name of a plain tag, its keys, and whether a `/` ends it.
+Shape = Tuple[int, str, Tuple[str, ...], bool]
+
+
+class PlainTags(Dict[str, Optional[Token]]):
+    """The plain tags of a document by what is between `<` and `>`, and `None` for others. One token
+    stands for all tags of equal text, at the place of the last."""
+
+    def __init__(self, way_of: Callable[[int, str], int]) -> None:
+        """Takes what says in which way a tag of this kind and name is taken."""
+        super().__init__()
+        self._way_of = way_of
+        # What tags have in common that differ only in values in double quotes.
+        self._shapes: Dict[Tuple[str, ...], Shape] = {}
+
+    def __missing__(self, inner: str) -> Optional[Token]:
+        parts = inner.split('"')
+        shape = self._shapes.get(tuple(parts[::2]))
+        if shape is None:
+            token = self._read(inner, parts)
+        else:
+            kind, name, keys, is_closed = shape
+            values = parts[1::2]
+            if "&" in inner or "\r" in inner:
+                values = list(map(decode_value, values))
+            token = Token(kind, 0, 0, name, dict(zip(keys, values)), is_closed)
+        if token is not None:
+            token.way = self._way_of(token.kind, token.name)
+        self[inner] = token
+        return token
+
+    def _read(self, inner: str, parts: List[str]) -> Optional[Token]:
+        """Returns a tag if it is plain, and remembers its shape."""
+        found = _PLAIN_TAG.fullmatch(inner)
+        if not found:
+            return None
+        kind, name, is_closed = END if found[1] else START, sys.intern(found[2]), bool(found[4])
+        attributes: Dict[str, str] = {}
+        words = _PLAIN_ATTRIBUTE.findall(found[3])
+        for key, *values in words:
+            value = values[0] or values[1] or values[2]
+            attributes.setdefault(sys.intern(key), decode_value(value))
+        shape = tuple(parts[::2])
+        has_alike = len(words) > len(attributes) or "'" in "".join(shape)
+        if not has_alike and len(shape) == len(attributes) + 1:
+            self._shapes[shape] = kind, name, tuple(attributes), is_closed
+        return Token(kind, 0, 0, name, attributes, is_closed)
+
+
 class Tokenizer:
     """Reads the tokens of a document. `raw_name` and `has_cdata` are set by whoever builds a
     tree."""
@@ -183,8 +235,10 @@ class Tokenizer:
         self.has_cdata = False
         # Where what the end of the document closes begins: a tag, a comment or another declaration.
         self.unclosed = len(text)
+        # What is after each `<` that is not passed yet, and where the first of these is.
+        self.pieces = iter(text.split("<"))
+        self.place = len(next(self.pieces))
         self._ends: Dict[str, Pattern[str]] = {}
-        self._attributes: Dict[str, Dict[str, str]] = {}
         self._has_nul = "\0" in text
 
     def next(self) -> Token:
@@ -203,19 +257,7 @@ class Tokenizer:
 
     def reads_otherwise(self) -> bool:
         """Whether a text or a tag is not as it is in most places."""
-        return self.raw_name is not None or self.has_cdata or self._has_nul
-
-    def attributes_in(self, inner: str) -> Dict[str, str]:
-        """Returns the attributes of a plain tag, which those of an equal tag are, too."""
-        found = self._attributes.get(inner)
-        if found is None:
-            has_references = "&" in inner or "\r" in inner
-            found = self._attributes[inner] = {}
-            for key, *values in _PLAIN_ATTRIBUTE.findall(inner):
-                value = values[0] or values[1] or values[2]
-                if key not in found:
-                    found[sys.intern(key)] = decode_value(value) if has_references else value
-        return found
+        return self.raw_name is not None or self._has_nul
 
     def _text_until(self, end: int) -> Token:
         start = self.offset

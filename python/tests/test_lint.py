@@ -1,0 +1,352 @@
+"""What `lint` calls a mistake: names that no standard has, declarations that are lost, rules without
+declarations, and slips of the pen. And which selectors `unused` says to match nothing. The expected
+values are from the standards.
+
+    python3 -m unittest discover python/tests
+"""
+
+import io
+import json
+import os
+import sys
+import tempfile
+import unittest
+from contextlib import redirect_stderr, redirect_stdout
+from pathlib import Path
+
+sys.path.insert(0, str(Path(__file__).resolve().parents[1] / "src"))
+import simplecss  # noqa: E402
+from simplecss import __main__ as command, _fixes, _lint, _mistakes, _names  # noqa: E402
+
+# A sheet for each of 19 mistakes that people make, and what is to be reported of it first: the kind,
+# where it begins in the sheet, and what was meant.
+PLANTED = (
+    (".a { colr: red }", "unknown-property", "colr", "color"),
+    (".a { background-colour: red }", "unknown-property", "background", "background-color"),
+    ("a:hoverr { top: 0 }", "unknown-pseudo-class", ":hoverr", ":hover"),
+    ("li:nth-chidl(2n) { top: 0 }", "unknown-pseudo-class", ":nth", ":nth-child"),
+    ("p::befor { top: 0 }", "unknown-pseudo-element", "::befor", "::before"),
+    ("@medai print { a { top: 0 } }", "unknown-at-rule", "@medai", "@media"),
+    ("@media (min-widht: 3px) { a { top: 0 } }", "unknown-media-feature", "min-", "min-width"),
+    ("a { top: 0; left: 0; top: 1px }", "repeated-declaration", "top: 0", None),
+    ("a { }", "empty-rule", "a", None),
+    ("a { background: url(x.png; top: 0 }\nb { left: 0 }", "bad-url", "url(", None),
+    ("a { content: 'x; top: 0 }\nb { left: 0 }", "bad-string", "'x", None),
+    ("a { top: 0 } /* b { left: 0 }", "comment-not-closed", "/*", None),
+    ("a { top: 0; /* b }\nc { left: 0 }", "comment-not-closed", "/*", None),
+    ("a { top: 0 !importnat }", "misspelt-important", "!importnat", "!important"),
+    ("a { top: 0\n left: 0 }", "semicolon-missing", "top", None),
+    ("a { top 0; left: 0 }", "broken-declaration", "top 0", None),
+    ("a { top: 0; // left\n }", "broken-declaration", "//", None),
+    ("a { top: 0 } }\nb { left: 0 }", "stray-bracket", "}\nb", None),
+    ("a, { top: 0 }", "invalid-selector", "a,", None),
+)
+# What is right, or meant: that is not reported.
+RIGHT = (
+    "a { --colr: red; -webkit-colr: red; COLOR: red; zoom: 1 }",
+    "a:HOVER, a:before, a::-moz-focus-inner, a:-ms-input-placeholder, a::slotted(b) { top: 0 }",
+    "a[href=':hoverr'], a\\:hoverr, a/*:hoverr*/, :lang(':x') { top: 0 }",
+    "a:is(b:focus-within, :not(:dir(rtl))):nth-child(2n of .c):has(> :checked) { top: 0 }",
+    "@layer a, b; @layer a { } @page :first { size: a4; @top-left { content: 'x' } }",
+    "@font-face { src: url(a.eot); src: url(b.woff); font-family: x }",
+    "@-moz-document url() { a { top: 0 } } @property --x { syntax: '*'; inherits: true }",
+    "@media (width > 3px) and (-webkit-min-device-pixel-ratio: 2), (foo: bar) { a { top: 0 } }",
+    "@keyframes x { from { top: 0 } to { top: 1px } }",
+    # Browsers take the last value that they support.
+    "a { display: block; display: grid; color: red; color: rgb(1 2 3 / 4) }",
+    "a { background: #fff; top: 0; background: linear-gradient(red, blue) }",
+    "a { text-decoration: x; -webkit-text-decoration: y; text-decoration: z }",
+    "a { top: 0; top: 1px !important }",
+    "a { --x: very important; --y: a top: b }",
+    # Hacks, for browsers of which each has its own.
+    "a { *zoom: 1; _height: 1px }",
+    "a { /* nothing yet */ }",
+    "a { background: url(data:x) no-repeat; filter: progid:X.Y(a=1) }",
+    "a { content: 'top: 0 left: 0'; font-family: important }",
+)
+# New sheets: what is in a rule of another one is not read, and no mistake.
+NESTED = """
+.card { color: red; &:hover { color: blue; & > .x { top: 0 } } .title & { top: 0 }
+  > h2 { top: 0; + p { left: 0 } } &.wide, &.high { top: 0 } margin: 0;
+  @media (width > 40em) { padding: 0; .x { top: 0 } } @supports (top: 0) { & { top: 0 } }
+  :hover { top: 0 } a:hover { left: 0 } ::before { top: 0 } [href="x"] { top: 0 }
+  &[data-a='b'] { top: 0 } * { top: 0 } #i { top: 0 } span:hover { top: 0 } left: 0 }
+@layer base { .a { .b { top: 0 } } } @container (width > 3px) { .a { & .b { top: 0 } } }
+@scope (.a) to (.b) { :scope { top: 0 } img { left: 0; &:hover { top: 0 } } }
+"""
+
+
+class Mistakes(unittest.TestCase):
+    def test_planted(self):
+        for text, kind, begins, meant in PLANTED:
+            found = [each for each in simplecss.lint(text) if each.kind == kind]
+            with self.subTest(text):
+                self.assertEqual(len(found), 1)
+                at = text.index(begins)
+                row = text.count("\n", 0, at) + 1
+                column = at - (text.rfind("\n", 0, at) + 1) + 1
+                self.assertEqual(found[0][1:3], (row, column))
+                self.assertEqual(found[0].hint, meant)
+                if meant is not None:
+                    self.assertTrue(found[0].message.endswith(f"(did you mean '{meant}'?)"))
+
+    def test_right(self):
+        for text in (*RIGHT, NESTED):
+            self.assertEqual(simplecss.lint(text), [], text)
+
+    def test_unknown_names(self):
+        for text, expected in (
+            ("é { bottm: 0; x1y2z3: 0 }", [("bottm", "bottom"), ("x1y2z3", None)]),
+            (
+                "é:placeholder, é::hover { top: 0 }",
+                [(":placeholder", "::placeholder"), ("::hover", ":hover")],
+            ),
+            (
+                "a:not(:hovr):fist-child { top: 0 }",
+                [(":hovr", ":hover"), (":fist-child", ":first-child")],
+            ),
+            ("@page { top: 0; @top-lef { top: 0 } }", [("@top-lef", "@top-left")]),
+            ("@font-face { srcc: url(a) }", [("srcc", "src")]),
+            ("a { @media print { tpo: 0 } }", [("tpo", "top")]),
+            ("@scope (a) { b { tpo: 0 } }", [("tpo", "top")]),
+            (
+                "@media é, (hover) and (MIN-WIDHT: 1px) { a { top: 0 } }",
+                [("MIN-WIDHT", "min-width")],
+            ),
+            ("@media (oreintation: portrait) { a { top: 0 } }", [("oreintation", "orientation")]),
+            # Which of the two is meant is not known.
+            ("a { src: url(b) }", [("src", None)]),
+        ):
+            found = [(each.text, each.hint) for each in simplecss.lint(text)]
+            self.assertEqual(found, expected, text)
+
+    def test_lost_declarations(self):
+        for text, expected in (
+            ("a { top: 0; top: 0 }", ["top: 0"]),
+            ("a { top: 0 !important; top: 1px }", ["top: 1px"]),
+            ("a { TOP: 0; left: 0; top: 1px; top: 2px; top: 2px }", ["TOP: 0", "top: 2px"]),
+            ("a { --x: 0; top: 0; --x: 1 }", ["--x: 0"]),
+        ):
+            found = [each.text for each in simplecss.lint(text)]
+            self.assertEqual(found, expected, text)
+
+    def test_overridden_declarations(self):
+        for text, expected in (
+            ("a { margin-top: 0; margin: 1px }", ["margin-top: 0"]),
+            (
+                "a { border-color: red; border-top: 0; border: 0; border-left: 1px }",
+                ["border-color: red", "border-top: 0"],
+            ),
+            ("a { line-height: 2; font: 12px x !important }", ["line-height: 2"]),
+            ("a { margin-top: 0 !important; margin: 1px; margin-left: 0 }", []),
+            ("a { background-color: #fff; background: rgba(0, 0, 0, .5) }", []),
+            ("a { grid-gap: 0; gap: 0 }", []),
+        ):
+            found = [each.text for each in simplecss.lint(text)]
+            self.assertEqual(found, expected, text)
+
+    def test_where_it_begins(self):
+        for text, kind, expected in (
+            ("a { content: 'b' \"é;\n; top: 0 }", "bad-string", '"é;'),
+            ("a { background: url(a), url(b c) }", "bad-url", "url(b c)"),
+            ("a { content: 'url(' url(b c) }", "bad-url", "url(b c)"),
+            ("a { content: 'b' 'c", "value-not-closed", "'c"),
+            ("a { content: 'é' 'c", "value-not-closed", "'c"),
+            ("a { content: 'é' calc(1px + 'é'", "value-not-closed", "content: 'é' calc(1px + 'é'"),
+            ("a { content: 'é' 'x; top: 0 }\nb { left: 0 }", "bad-string", "'x; top: 0 }"),
+            ("a { content: 'é' /* b }", "comment-not-closed", "/* b }"),
+            ("é:hover, é:hovré { top: 0 }", "unknown-pseudo-class", ":hovré"),
+            ("a { top: 0 IMPORTANT }", "misspelt-important", "IMPORTANT"),
+            ("a { /* b }", "comment-not-closed", "/* b }"),
+            ("a { top: 0 /* b }", "comment-not-closed", "/* b }"),
+            ("@media print { a { top: 0 /* b }", "comment-not-closed", "/* b }"),
+            ("a { top: 0 important }", "misspelt-important", "important"),
+            ("a { top: 0 !!important }", "misspelt-important", "!important"),
+            ("a { color: red background: blue !important }", "semicolon-missing", "color: red"),
+            ("@media print { }", "empty-rule", "@media print { }"),
+        ):
+            found = [each.text for each in simplecss.lint(text) if each.kind == kind]
+            self.assertEqual(found, [expected], text)
+
+    def test_style_attributes(self):
+        found = _lint.findings("a.html", "<p style='colr: red; top: 0; top: 0'>")
+        self.assertEqual([each.text for each in found], ["colr", "top: 0"])
+
+
+class Kinds(unittest.TestCase):
+    def test_ignore(self):
+        text = "a { colr: red } b { }"
+        kinds = [each.kind for each in simplecss.lint(text)]
+        self.assertEqual(kinds, ["unknown-property", "empty-rule"])
+        for ignore, count in (("unknown", 1), (["empty-rule", "unknown-property"], 0), ((), 2)):
+            self.assertEqual(len(simplecss.lint(text, ignore=ignore)), count)
+
+    def test_comments(self):
+        for text, count in (
+            ("a { colr: red } /* simplecss-ignore unknown-property */", 0),
+            ("a { colr: red; } /* simplecss-ignore empty, unknown */ b { }", 0),
+            ("a { colr: red; /* simplecss-ignore empty */ }", 1),
+            ("a { colr: red /* simplecss-ignore */ }", 0),
+            ("/* simplecss-ignore */\na { colr: red }", 1),
+            ("\n\na:hoverr { top: 0 } /* simplecss-ignore */\nb { }", 1),
+            # What is no comment turns nothing off.
+            ("a { colr: red; content: 'simplecss-ignore' }", 1),
+            ("a { colr: simplecss-ignore }", 1),
+        ):
+            self.assertEqual(len(simplecss.lint(text)), count, text)
+        page = "<style>\na { colr: red } /* simplecss-ignore */</style><p style='tpo: 0'>"
+        self.assertEqual([each.text for each in _lint.findings("a.html", page)], ["tpo"])
+
+    def test_each_is_explained(self):
+        reasons = {kind for _, kind, _, _ in PLANTED}
+        self.assertLessEqual(reasons, {_lint.kind_of(each) for each in _mistakes.KINDS})
+        page = Path(__file__).parents[1].joinpath("README.md").read_text(encoding="utf-8")
+        for reason, text in _mistakes.KINDS.items():
+            self.assertIn(f"  {_lint.kind_of(reason)} ", _lint.kinds())
+            self.assertIn(f"| `{_lint.kind_of(reason)}` | {text} |\n", page)
+
+
+# Selectors, of which each page has an element or none has.
+PAGES = (
+    "<!doctype html><div class=a><a href=x>y</a><p class=b>c<input type=checkbox></div>",
+    "<!doctype html><main><a>x</a></main>",
+)
+USED = """p, .a, main, a:link, a:visited, a:hover, .a::before, ::before, p::first-line, input:checked,
+div:hover > p:not(:hover), div:not(.x):hover, a:not(:visited), main a:not(:link), :is(.b, .x):focus-within, :root:hover,
+p:not(:empty):active, main:not(.a:hover), x:has(b)"""
+UNUSED = """p.x, .x, .x:hover, p:visited, .y:checked, .x::after, [href=':hover'], div:not(.a):hover,
+.x:not(:hover), p:not(:hover).x, p:empty, :is(.x,.y):focus-within, main a:link, div main, .a:focus ~ main, nav:target,
+a:-moz-focusring.x, .x:hover::before"""
+
+
+class Usage(unittest.TestCase):
+    def setUp(self):
+        self.trees = list(map(simplecss.Tree.from_html, PAGES))
+
+    def unused(self, text):
+        sheet = simplecss.StyleSheet(text)
+        return [each.selector for each in sheet.unused(*self.trees)]
+
+    def test_selectors(self):
+        self.assertEqual(self.unused(f"{USED} {{ top: 0 }}"), [])
+        found = self.unused(f"{UNUSED} {{ top: 0 }}")
+        self.assertEqual(found, UNUSED.replace("\n", " ").split(", "))
+
+    def test_rules(self):
+        text = "é { top: 0 }\n@media print { p, .x { top: 0 } } @font-face { src: url(a) }"
+        found = simplecss.StyleSheet("main { }", text).unused(*self.trees)
+        self.assertEqual(
+            found,
+            [
+                simplecss.Unused("é", 1, 1, True, 1, 0, 1),
+                simplecss.Unused(".x", 2, 19, False, 1, 31, 33),
+            ],
+        )
+        self.assertEqual(text[31:33], ".x")
+        self.assertEqual(len(simplecss.StyleSheet(text).unused()), 3)
+        with self.assertRaises(ValueError):
+            simplecss.StyleSheet(text, grammar="simplecss").unused(*self.trees)
+
+    def test_command(self):
+        with tempfile.TemporaryDirectory() as folder:
+            sheet = os.path.join(folder, "a.css")
+            text = "a { top: 0 }\n.x { top: 0 }\n@media print { .y, .z { top: 0 } p, .x { left: 0 } }\n"
+            Path(sheet).write_text(text, encoding="utf-8")
+            for number, page in enumerate(PAGES):
+                Path(folder, f"{number}.html").write_text(page, encoding="utf-8")
+            lines = [
+                f"{sheet}:2:1: '.x' matches nothing",
+                f"{sheet}:3:16: '.y' matches nothing",
+                f"{sheet}:3:20: '.z' matches nothing",
+                f"{sheet}:3:37: '.x' matches nothing, and others of its rule do",
+            ]
+            self.assertEqual(self.run_command(sheet, folder), (0, "\n".join(lines) + "\n"))
+            found = [
+                json.loads(it) for it in self.run_command("--json", sheet, folder)[1].splitlines()
+            ]
+            self.assertEqual([each["selector"] for each in found], [".x", ".y", ".z", ".x"])
+            self.assertEqual(
+                self.run_command("--print", sheet, folder),
+                (0, "a { top: 0 }\n\n@media print {  p, .x { left: 0 } }\n"),
+            )
+            # Without a sheet, those that the pages link to.
+            self.assertEqual(self.run_command(folder), (0, ""))
+            page = Path(folder, "2.html")
+            page.write_text("<link rel=stylesheet href=a.css><i class=z>", encoding="utf-8")
+            lines = [
+                each.replace(sheet, os.path.relpath(sheet)) for each in lines if ".z" not in each
+            ]
+            lines[1] += ", and others of its rule do"
+            self.assertEqual(self.run_command(folder), (0, "\n".join(lines) + "\n"))
+            self.assertEqual(self.run_command(sheet, os.path.join(folder, "none.html"))[0], 4)
+
+    def run_command(self, *words):
+        out = io.StringIO()
+        with redirect_stdout(out), redirect_stderr(io.StringIO()):
+            status = command.main(["unused", *words])
+        return status, out.getvalue()
+
+
+class Fixes(unittest.TestCase):
+    def test_fixes(self):
+        for text, expected in (
+            ("a { colr: red; TPO: 0 }", "a { color: red; top: 0 }"),
+            (
+                "a { top: 0 ! importnat; left: 0 important }",
+                "a { top: 0 !important; left: 0 !important }",
+            ),
+            ("a { top: 0\n left: 0\n right: 0 }", "a { top: 0;\n left: 0;\n right: 0 }"),
+            ("é { colr: red\n top: 0 }", "é { color: red;\n top: 0 }"),
+            (
+                "@medai print { a:hovr::befor { top: 0 } }",
+                "@media print { a:hover::before { top: 0 } }",
+            ),
+            ("a:placeholder { top: 0 }", "a::placeholder { top: 0 }"),
+            # Two known names are near, or none is, or something else may be meant.
+            ("a { foat: 0; hight: 0; scale-x: 0 }", None),
+            ("a { top: 0; left: 0; top: 1px } b { } c { d }", None),
+            ("a { colr: red } /* simplecss-ignore */", None),
+        ):
+            self.assertEqual(_fixes.fixed(text), expected or text)
+
+    def test_command(self):
+        with tempfile.TemporaryDirectory() as folder:
+            sheet = os.path.join(folder, "a.css")
+            Path(sheet).write_bytes("\ufeffé { colr: red;\r\n src: x }\r\n".encode("utf-8"))
+            out = io.StringIO()
+            with redirect_stdout(out):
+                self.assertEqual(command.main(["lint", "--fix", sheet]), 1)
+            self.assertEqual(out.getvalue(), f"{sheet}:2:2: 'src': unknown property\n")
+            expected = "\ufeffé { color: red;\r\n src: x }\r\n".encode("utf-8")
+            self.assertEqual(Path(sheet).read_bytes(), expected)
+
+
+class Names(unittest.TestCase):
+    def test_lists(self):
+        """Each name is in one list, and none that Chromium knows is among the others."""
+        for kind in ("pseudo-classes", "pseudo-elements"):
+            both = (*_names.names_of(kind), *_names.names_of(f"other {kind}"))
+            self.assertEqual(len(both), len(set(both)))
+        others = _names.names_of("properties")
+        self.assertEqual(set(others) & set(_names.property_names()), set())
+        self.assertEqual(len(others), len(set(others)))
+
+    def test_nearest(self):
+        known = _names.Names(("left", "float", "flow", "order"))
+        for name, expected in (
+            ("lef", "left"),
+            ("lfet", "left"),
+            ("lest", "left"),
+            ("leeft", "left"),
+            ("flot", "float"),
+            ("flo", "flow"),
+            ("boat", None),
+            ("odrer", "order"),
+            ("", None),
+            ("x" * 1000, None),
+        ):
+            self.assertEqual(known.nearest(name), expected, name)
+
+
+if __name__ == "__main__":
+    unittest.main()
