@@ -278,6 +278,12 @@ MODERN: List[Input] = [
     ("compounds, siblings", 20_000, list_of(lambda n: "~".join(["a"] * n))),
     ("classes of a compound", 40_000, list_of(lambda n: ".a" * n)),
     ("a list in a function", 20_000, list_of(lambda n: ":is(" + ",".join(["b"] * n) + ")")),
+    ("a list that leaves out parts", 20_000, list_of(lambda n: ":is(" + "5 a," * n + "b)")),
+    (
+        "lists that leave out a part, 32 deep",
+        20_000,
+        list_of(lambda n: ":is(" * 32 + "a," * n + "5 )" + " 5)" * 31),
+    ),
     ("functions of a compound", 10_000, list_of(lambda n: ":is(a)" * n)),
     ("digits of An+B", 100_000, list_of(lambda n: f":nth-child({'9' * n}n+{'9' * n})")),
     (

@@ -1,5 +1,5 @@
 /* The C library as a program, for bench/speed.py: `json SHEET` writes what simplecss_read does, and `match SELECTORS TREE`, with
- * a selector a line and a tree as `cssq` takes it, what simplecss_match_level3 does. */
+ * a selector a line and a tree as `cssq` takes it, what simplecss_match_selectors does. */
 #include <stdio.h>
 #include <stdlib.h>
 #include <string.h>
@@ -81,9 +81,10 @@ static int match(text selectors, text tree, uint8_t *out) {
     strings rules = lines_of(selectors), found = strings_for(tree, lines + 2 * count_of(tree, '\t'));
     size_t count = read_tree(tree, elements, &found);
     simplecss_tree_fault fault;
-    uint32_t status = simplecss_match_level3(
-        rules.all.data, rules.all.len, rules.ends, rules.count, 0, elements, count, found.all.data, found.all.len, found.ends,
-        found.count, SIMPLECSS_NO_LIMIT, out, ROOM, &len, &fault);
+    simplecss_tree page = {elements, count, found.all.data, found.all.len, found.ends, found.count};
+    uint32_t status = simplecss_match_selectors(
+        rules.all.data, rules.all.len, rules.ends, rules.count, SIMPLECSS_MODERN, &page, SIMPLECSS_NO_LIMIT, out, ROOM, &len,
+        &fault);
     return write_answer(status, out, len);
 }
 

@@ -7,6 +7,8 @@ import time
 from typing import Any, List, Sequence, Tuple
 
 SIZE = ctypes.c_size_t
+# The grammars.
+MODERN, PORT = 0, 3
 # The most bytes of an answer, and the room for it.
 ROOM = 1 << 27
 
@@ -31,8 +33,21 @@ def buffer_of(texts: Sequence[str]) -> List[Any]:
     return [whole, SIZE(len(whole)), ends, SIZE(len(parts))]
 
 
-def tree_of(text: str) -> List[Any]:
-    """The words of a call for a page, by its lines of `cssq`."""
+class TreeArrays(ctypes.Structure):
+    """A tree: its elements, its strings, and where each ends, each with its length."""
+
+    _fields_ = [
+        ("elements", ctypes.POINTER(TreeElement)),
+        ("elements_count", SIZE),
+        ("strings", ctypes.c_char_p),
+        ("strings_len", SIZE),
+        ("string_ends", ctypes.POINTER(SIZE)),
+        ("string_ends_count", SIZE),
+    ]
+
+
+def tree_of(text: str) -> Any:
+    """The word of a call for a page, by its lines of `cssq`."""
     shapes: List[Tuple[int, int, int]] = []
     strings: List[str] = []
     for line in text.splitlines():
@@ -42,7 +57,10 @@ def tree_of(text: str) -> List[Any]:
         for attribute in attributes:
             strings += attribute.split("=", 1) if "=" in attribute else [attribute, ""]
     elements = (TreeElement * len(shapes))(*(TreeElement(*shape) for shape in shapes))
-    return [elements, SIZE(len(shapes)), *buffer_of(strings)]
+    whole, length, ends, count = buffer_of(strings)
+    first = ctypes.cast(elements, ctypes.POINTER(TreeElement))
+    last = ctypes.cast(ends, ctypes.POINTER(SIZE))
+    return ctypes.byref(TreeArrays(first, len(shapes), whole, length, last, count))
 
 
 class Library:
@@ -75,6 +93,5 @@ class Library:
     def match(self, selectors: Sequence[str], page: str, is_modern: bool, runs: int = 5) -> float:
         """The time of matching selectors on a page, by the grammar of CSS 2.1 or as written in a modern
         sheet."""
-        name = "simplecss_match_level3" if is_modern else "simplecss_match_selectors"
-        reading = [SIZE(0)] if is_modern else []
-        return self.milliseconds(name, [*buffer_of(selectors), *reading, *tree_of(page)], runs)
+        words = [*buffer_of(selectors), SIZE(MODERN if is_modern else PORT), tree_of(page)]
+        return self.milliseconds("simplecss_match_selectors", words, runs)

@@ -49,8 +49,14 @@ VOID = {
     "wbr",
 }
 # fmt: on
-# As the script `cssq` sets it; and Servo's program reports what is skipped, as `cssq` does.
-ENVIRONMENT = {**os.environ, "GLIBC_TUNABLES": "glibc.malloc.hugetlb=1", "PEER_WARN": "1"}
+# As the script `cssq` sets it; and Servo's program reports what is skipped, as `cssq` does. Modules
+# of Python are compiled once, as those of an installed package are.
+ENVIRONMENT = {
+    **os.environ,
+    "GLIBC_TUNABLES": "glibc.malloc.hugetlb=1",
+    "PEER_WARN": "1",
+    "PYTHONDONTWRITEBYTECODE": "",
+}
 # What takes the Rust crate a minute and more.
 SLOW = ("20,000 rule sets", "children of", "a chain")
 # After this many seconds a row has no more than three runs.
@@ -614,6 +620,9 @@ CALL = """
 import gc, sys, time
 page, css = (open(name, encoding="utf-8").read() for name in sys.argv[1:3])
 selectors = (f"div > p a[href]:not(.x{{number}})" for number in range(99))
+wide = (f"*:not(.x{{number}})" for number in range(99))
+unclosed = f"<b {{' '.join(f'a{{i}}' for i in range(31))}} id={{{{}}}}>"
+unclosed = "".join(unclosed.format(number % 40) for number in range(2000))
 {prepare}
 times = []
 for _ in range(5):
@@ -652,6 +661,38 @@ CALLS: Dict[str, Dict[str, Tuple[str, str]]] = {
         "html5lib": ("import html5lib", "html5lib.parse(page)"),
         "lxml": ("import lxml.html", "lxml.html.document_fromstring(page)"),
     },
+    "the tree of 2,000 elements that nothing ends": {
+        "simplecss": ("from simplecss import Tree", "Tree.from_html(unclosed)"),
+        "lxml": ("import lxml.html", "lxml.html.document_fromstring(unclosed)"),
+    },
+    "a tree, and its first selector": {
+        "simplecss": ("from simplecss import Tree", "Tree.from_html(page).select(next(selectors))"),
+        "soupsieve": (
+            "import bs4, soupsieve",
+            "soupsieve.select(next(selectors), bs4.BeautifulSoup(page, 'html5lib'))",
+        ),
+    },
+    "a selector of all elements": {
+        "simplecss": (
+            "from simplecss import Tree; tree = Tree.from_html(page)",
+            "tree.select(next(wide))",
+        ),
+        "soupsieve": (
+            "import bs4, soupsieve; soup = bs4.BeautifulSoup(page, 'lxml')",
+            "soupsieve.select(next(wide), soup)",
+        ),
+        "lxml": (
+            "import lxml.cssselect, lxml.html; root = lxml.html.document_fromstring(page)",
+            "lxml.cssselect.CSSSelector(next(wide))(root)",
+        ),
+    },
+    "the styles of a tree by a sheet": {
+        "simplecss": (
+            "from simplecss import StyleSheet, Tree; "
+            "tree = Tree.from_html(page); sheet = StyleSheet(css)",
+            "sheet.styles(tree)",
+        ),
+    },
     "a selector": {
         "simplecss": (
             "from simplecss import Tree; tree = Tree.from_html(page)",
@@ -684,8 +725,8 @@ CALLS: Dict[str, Dict[str, Tuple[str, str]]] = {
     "`inline`": {"simplecss": ("import simplecss", "simplecss.inline(page, css)")},
     "`inline` of 20 short pages": {
         "simplecss": (
-            "import simplecss; sheet = simplecss.StyleSheet(css)",
-            "[simplecss.inline(f'<p class=btn>{each}', sheet) for each in range(20)]",
+            "import simplecss; inliner = simplecss.Inliner(css)",
+            "[inliner.inline(f'<p class=btn>{each}') for each in range(20)]",
         ),
         "the sheet as a text": (
             "import simplecss",

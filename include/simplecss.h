@@ -1,4 +1,4 @@
-/* simplecss.h: CSS 2.1 selectors and style sheets, and which rules match the elements of a tree.
+/* simplecss.h: selectors and style sheets, and which of them match the elements of a tree.
  *
  * A text is a pointer and a length in bytes, in UTF-8, and needs no zero byte at its end. Pointers must
  * not be NULL, even if the length or the count is 0.
@@ -18,11 +18,14 @@
  * the group rules that each item is in, up to 64. Pass SIMPLECSS_NO_LIMIT for no limit. The call stops at the
  * first line that passes the limit, and makes nothing after it.
  *
- * A tree is three arrays: its elements in document order, the bytes of all its strings one after
- * another, and where each string ends. An element's strings are its name and then, for each
+ * A tree is a structure of three arrays: its elements in document order, the bytes of all its strings one
+ * after another, and where each string ends. An element's strings are its name and then, for each
  * attribute, its key and its value; those of the first element come first. A value may be any text:
  * empty, with TABs, newlines, `=`, control characters or zero bytes. So may a key, but no two keys of
  * an element are equal. A name is not empty.
+ *
+ * A call that reads selectors has a `grammar`, as SIMPLECSS_MODERN. The calls whose names begin with
+ * `simplecss_port` read the grammar of the Rust crate simplecss, CSS 2.1, alone. All others read modern CSS.
  *
  * Each call writes its answer to `out`, a buffer of `out_size` bytes, and returns a status:
  *
@@ -57,12 +60,13 @@ extern "C" {
 #endif
 
 /* The version of this header. That of the library is what simplecss_version writes. */
-#define SIMPLECSS_VERSION "0.1.0"
+#define SIMPLECSS_VERSION "0.2.0"
 
 /* The statuses of calls. */
 #define SIMPLECSS_DONE 0u          /* the answer was written */
-#define SIMPLECSS_REFUSED 1u       /* a selector is refused, or ends are not those of texts: of two
-                                      faults of texts the first in order is reported */
+#define SIMPLECSS_REFUSED 1u       /* a selector is refused, a grammar is another number, or ends are not
+                                      those of texts: of two faults of texts the first in order is
+                                      reported */
 #define SIMPLECSS_TREE_FAULT 2u    /* the tree has a fault, in `*fault` */
 #define SIMPLECSS_OUT_OF_MEMORY 3u /* an allocation failed */
 #define SIMPLECSS_TOO_MANY_DECLARATIONS 4u /* the rules would hold more declarations than `limit` */
@@ -92,13 +96,28 @@ typedef struct simplecss_element {
  * `:empty` of modern selectors tests it. */
 #define SIMPLECSS_HAS_TEXT 32u
 
-/* How a document reads the names of modern selectors (HTML Standard, "Case-sensitivity of selectors"). The
- * tree of an HTML document has in lower case what is compared without case: names of elements and keys of
- * attributes, the values of the attributes that the standard lists (accept to vlink), and in quirks mode the
- * values of `id` and `class`. At these values the flag `s` of an attribute selector changes nothing. */
-#define SIMPLECSS_AS_WRITTEN 0u /* names, keys and values are compared byte by byte */
-#define SIMPLECSS_HTML 1u       /* an HTML document */
-#define SIMPLECSS_HTML_QUIRKS 2u /* an HTML document in quirks mode */
+/* A tree: its elements in document order, the bytes of all its strings, and where each ends. */
+typedef struct simplecss_tree {
+    const simplecss_element *elements;
+    size_t elements_count;
+    const uint8_t *strings;
+    size_t strings_len;
+    const size_t *string_ends;
+    size_t string_ends_count;
+} simplecss_tree;
+
+/* The grammars of selectors. Modern ones are Level 3, and of Level 4 `:is()`, `:where()`, `:not()` with a list,
+ * `:lang()` with a list, `:any-link`, and the flags `i` and `s`. Reading takes time that grows as the text.
+ *
+ * Three of the numbers read modern selectors: they say how a document compares names (HTML Standard,
+ * "Case-sensitivity of selectors"). The tree of an HTML document has in lower case what is compared without
+ * case: names of elements and keys of attributes, the values of the attributes that the standard lists (accept to
+ * vlink), and in quirks mode the values of `id` and `class`. At these values the flag `s` of an attribute selector
+ * changes nothing. */
+#define SIMPLECSS_MODERN 0u      /* names, keys and values are compared byte by byte */
+#define SIMPLECSS_HTML 1u        /* as an HTML document compares them */
+#define SIMPLECSS_HTML_QUIRKS 2u /* as an HTML document in quirks mode does */
+#define SIMPLECSS_PORT 3u        /* the grammar of the Rust crate simplecss: CSS 2.1 */
 
 /* The faults of a tree. */
 #define SIMPLECSS_BAD_DEPTH 1u    /* the depth is greater than it may be */
@@ -139,41 +158,46 @@ typedef struct simplecss_tree_fault {
     size_t element;
 } simplecss_tree_fault;
 
-/* Writes the version of the library, as "0.1.0". */
+/* Writes the version of the library, as "0.2.0". */
 uint32_t simplecss_version(uint8_t *out, size_t out_size, size_t *len);
 
-/* Writes the printed selector of a text, a TAB, its specificity as three numbers with commas between
- * them, and a newline. Reading stops before `,` and `{`. */
-uint32_t simplecss_selector(const uint8_t *text, size_t text_len,
-                            uint8_t *out, size_t out_size, size_t *len);
-
-/* Writes a line of JSON for each selector of a list with commas between them:
- * {"selector":"a > b","specificity":[0,0,2]} */
-uint32_t simplecss_list(const uint8_t *text, size_t text_len,
+/* Writes a line of JSON for each selector of a list with commas between them. Of a modern one it is
+ * {"text":[0,13],"selector":"a > b::before","specificity":[0,0,3],"pseudo_element":"before"}
+ * "text" is its range, in bytes of the list; "selector" is printed as CSSOM serializes it; "pseudo_element" is
+ * null if it has none. Of the port it is {"selector":"a > b","specificity":[0,0,2]}. Refused if one of them is not
+ * a selector. */
+uint32_t simplecss_list(const uint8_t *text, size_t text_len, size_t grammar,
                         uint8_t *out, size_t out_size, size_t *len);
 
 /* Writes a line of JSON for the first error of a list of selectors, or nothing where it has none:
- * {"row":1,"column":5,"reason":"selector missing"}. Rows and columns begin at 1, and columns count
- * characters. */
-uint32_t simplecss_refusal(const uint8_t *text, size_t text_len,
+ * {"row":1,"column":4,"reason":"`>` begins no selector"}, of `.a >> b`. Rows and columns begin at 1, and columns
+ * count characters. */
+uint32_t simplecss_refusal(const uint8_t *text, size_t text_len, size_t grammar,
                            uint8_t *out, size_t out_size, size_t *len);
 
-/* Writes the printed style sheet of texts, and a newline where it has a rule. */
-uint32_t simplecss_sheet(const uint8_t *texts, size_t texts_len,
-                         const size_t *ends, size_t ends_count, size_t limit,
-                         uint8_t *out, size_t out_size, size_t *len);
+/* The calls that match elements: `:first-child` matches an element without a previous sibling, a first root
+ * too. `:lang(x)` tests the attribute `lang` of the element or of its nearest ancestor that has one. `:link`,
+ * `:visited`, `:hover`, `:active` and `:focus` test the element's states. The words of a value, of which `.a` and
+ * `[k~=a]` test one, are for the port what spaces separate: where other white space of a `class` is to separate
+ * words too, replace it by spaces.
+ *
+ * A modern selector with a pseudo-element matches nothing. `:nth-child()` and the like count the roots of a tree as
+ * siblings, too; `:root` matches each of them. A tree of 2^32 elements or more is reported as out of memory. */
 
-/* Writes a line of JSON for each rule of the style sheet of texts, in the order of specificity:
- * {"selector":"a","specificity":[0,0,1],
- *  "declarations":[{"name":"color","value":"red","important":false}]} */
-uint32_t simplecss_rules(const uint8_t *texts, size_t texts_len,
-                         const size_t *ends, size_t ends_count, size_t limit,
-                         uint8_t *out, size_t out_size, size_t *len);
+/* Writes a line for each element of a tree: its number, a colon, the number of each of the selectors that
+ * matches it after a space, and a newline. Each text is a selector. Elements and selectors are numbered from 1.
+ * Refused if a text is not a selector. */
+uint32_t simplecss_match_selectors(const uint8_t *texts, size_t texts_len,
+                                   const size_t *ends, size_t ends_count, size_t grammar,
+                                   const simplecss_tree *tree, size_t most,
+                                   uint8_t *out, size_t out_size, size_t *len,
+                                   simplecss_tree_fault *fault);
 
-/* Writes a line of JSON for each piece of a style sheet's text that is skipped:
- * {"row":1,"column":1,"reason":"at-rule not supported","text":"@media print"} */
-uint32_t simplecss_skipped(const uint8_t *text, size_t text_len,
-                           uint8_t *out, size_t out_size, size_t *len);
+/* Writes the number of each element of a tree that one of the selectors of a list matches, and a
+ * newline. */
+uint32_t simplecss_select(const uint8_t *selectors, size_t selectors_len, size_t grammar,
+                          const simplecss_tree *tree, size_t most,
+                          uint8_t *out, size_t out_size, size_t *len, simplecss_tree_fault *fault);
 
 /* Writes a line of JSON for each item of a style sheet by the modern grammar (CSS Syntax Module Level
  * 3). Ranges are offsets into the text, in bytes: of the first byte, and of the byte after the last.
@@ -207,95 +231,6 @@ uint32_t simplecss_declarations(const uint8_t *text, size_t text_len,
 uint32_t simplecss_close(const uint8_t *value, size_t value_len,
                          uint8_t *out, size_t out_size, size_t *len);
 
-/* The next five calls match elements. `:first-child` matches an element without a previous sibling, a
- * first root too. `:lang(x)` tests the attribute `lang` of the element or of its nearest ancestor that
- * has one. `:link`, `:visited`, `:hover`, `:active` and `:focus` test the element's states. Names, keys and
- * values are compared byte by byte. The words of a value, of which `.a` and `[k~=a]` test one, are what
- * spaces separate: where other white space of a `class` is to separate words too, replace it by
- * spaces. */
-
-/* Writes a line for each element of a tree: its number, a colon, the number of each rule that matches
- * it after a space, and a newline. Elements and rules are numbered from 1. */
-uint32_t simplecss_match(const uint8_t *texts, size_t texts_len,
-                         const size_t *ends, size_t ends_count, size_t limit,
-                         const simplecss_element *elements, size_t elements_count,
-                         const uint8_t *strings, size_t strings_len,
-                         const size_t *string_ends, size_t string_ends_count, size_t most,
-                         uint8_t *out, size_t out_size, size_t *len, simplecss_tree_fault *fault);
-
-/* Writes the same of selectors, of which each text is one: a line for each element, with the numbers of
- * the selectors that match it. Refused if a text is not a selector that simplecss_selector reads. */
-uint32_t simplecss_match_selectors(const uint8_t *texts, size_t texts_len,
-                                   const size_t *ends, size_t ends_count,
-                                   const simplecss_element *elements, size_t elements_count,
-                                   const uint8_t *strings, size_t strings_len,
-                                   const size_t *string_ends, size_t string_ends_count, size_t most,
-                                   uint8_t *out, size_t out_size, size_t *len,
-                                   simplecss_tree_fault *fault);
-
-/* Writes the number of each element of a tree that one of the selectors of a list matches, and a
- * newline. */
-uint32_t simplecss_select(const uint8_t *selectors, size_t selectors_len,
-                          const simplecss_element *elements, size_t elements_count,
-                          const uint8_t *strings, size_t strings_len,
-                          const size_t *string_ends, size_t string_ends_count, size_t most,
-                          uint8_t *out, size_t out_size, size_t *len, simplecss_tree_fault *fault);
-
-/* Writes a line for each element of a tree: its number, a colon, the value of the declaration that
- * wins for the name after a space, ` !important` if it is important, and a newline. A value may have
- * newlines; simplecss_styles escapes them. */
-uint32_t simplecss_style(const uint8_t *texts, size_t texts_len,
-                         const size_t *ends, size_t ends_count, size_t limit,
-                         const simplecss_element *elements, size_t elements_count,
-                         const uint8_t *strings, size_t strings_len,
-                         const size_t *string_ends, size_t string_ends_count,
-                         const uint8_t *name, size_t name_len, size_t most,
-                         uint8_t *out, size_t out_size, size_t *len, simplecss_tree_fault *fault);
-
-/* Writes a line of JSON for each element of a tree: an array of the winning declaration of each name,
- * in the order in which the cascade applies them:
- * [{"name":"color","value":"red","important":false}] */
-uint32_t simplecss_styles(const uint8_t *texts, size_t texts_len,
-                          const size_t *ends, size_t ends_count, size_t limit,
-                          const simplecss_element *elements, size_t elements_count,
-                          const uint8_t *strings, size_t strings_len,
-                          const size_t *string_ends, size_t string_ends_count, size_t most,
-                          uint8_t *out, size_t out_size, size_t *len, simplecss_tree_fault *fault);
-
-/* The other calls read modern selectors: Level 3, and of Level 4 `:is()`, `:where()`, `:not()` with a list,
- * `:lang()` with a list, `:any-link`, and the flags `i` and `s`. Reading takes time that grows as the text. */
-
-/* Writes a line of JSON for each selector of a list with commas between them:
- * {"text":[0,13],"selector":"a > b::before","specificity":[0,0,3],"pseudo_element":"before"}
- * "text" is its range, in bytes of the list; "selector" is printed as CSSOM serializes it; "pseudo_element" is
- * null if it has none. Refused if one of them is not a selector. */
-uint32_t simplecss_list_level3(const uint8_t *text, size_t text_len,
-                               uint8_t *out, size_t out_size, size_t *len);
-
-/* Writes a line of JSON for the first error of a list of selectors, or nothing where it has none:
- * {"row":1,"column":4,"reason":"`>` begins no selector"}, of `.a >> b` */
-uint32_t simplecss_refusal_level3(const uint8_t *text, size_t text_len,
-                                  uint8_t *out, size_t out_size, size_t *len);
-
-/* Writes what simplecss_match_selectors writes, of modern selectors. `reading` says how the document reads
- * them, as SIMPLECSS_HTML. A selector with a pseudo-element matches nothing. `:nth-child()` and the like count
- * the roots of a tree as siblings, too; `:root` matches each of them. Refused if a text is not a selector, or
- * the reading is another number. A tree of 2^32 elements or more is reported as out of memory. Of each element those
- * selectors are tested whose id, class, name or attribute it has. */
-uint32_t simplecss_match_level3(const uint8_t *texts, size_t texts_len,
-                                const size_t *ends, size_t ends_count, size_t reading,
-                                const simplecss_element *elements, size_t elements_count,
-                                const uint8_t *strings, size_t strings_len,
-                                const size_t *string_ends, size_t string_ends_count, size_t most,
-                                uint8_t *out, size_t out_size, size_t *len, simplecss_tree_fault *fault);
-
-/* Writes the number of each element of a tree that one of the selectors of a list matches, and a newline. */
-uint32_t simplecss_select_level3(const uint8_t *selectors, size_t selectors_len, size_t reading,
-                                 const simplecss_element *elements, size_t elements_count,
-                                 const uint8_t *strings, size_t strings_len,
-                                 const size_t *string_ends, size_t string_ends_count, size_t most,
-                                 uint8_t *out, size_t out_size, size_t *len, simplecss_tree_fault *fault);
-
 /* Writes what a list of media queries says on a device (Media Queries 4): `true`, `false` or `unknown`. It
  * holds if that is `true`. Known are the types, `width`, `height`, `resolution`, `orientation`,
  * `prefers-color-scheme`, `prefers-reduced-motion`, `hover`, `any-hover`, `pointer` and `any-pointer`. Refused
@@ -311,6 +246,57 @@ uint32_t simplecss_supports(const uint8_t *text, size_t text_len,
                             const uint8_t *properties, size_t properties_len,
                             const size_t *ends, size_t ends_count,
                             uint8_t *out, size_t out_size, size_t *len);
+
+/* The calls that read the grammar of the port alone. */
+
+/* Writes the printed selector of a text, a TAB, its specificity as three numbers with commas between
+ * them, and a newline. Reading stops before `,` and `{`. */
+uint32_t simplecss_port_selector(const uint8_t *text, size_t text_len,
+                                 uint8_t *out, size_t out_size, size_t *len);
+
+/* Writes the printed style sheet of texts, and a newline where it has a rule. */
+uint32_t simplecss_port_sheet(const uint8_t *texts, size_t texts_len,
+                              const size_t *ends, size_t ends_count, size_t limit,
+                              uint8_t *out, size_t out_size, size_t *len);
+
+/* Writes a line of JSON for each rule of the style sheet of texts, in the order of specificity:
+ * {"selector":"a","specificity":[0,0,1],
+ *  "declarations":[{"name":"color","value":"red","important":false}]} */
+uint32_t simplecss_port_rules(const uint8_t *texts, size_t texts_len,
+                              const size_t *ends, size_t ends_count, size_t limit,
+                              uint8_t *out, size_t out_size, size_t *len);
+
+/* Writes a line of JSON for each piece of a style sheet's text that is skipped:
+ * {"row":1,"column":1,"reason":"at-rule not supported","text":"@media print"} */
+uint32_t simplecss_port_skipped(const uint8_t *text, size_t text_len,
+                                uint8_t *out, size_t out_size, size_t *len);
+
+/* Writes a line for each element of a tree: its number, a colon, the number of each rule that matches
+ * it after a space, and a newline. Elements and rules are numbered from 1. */
+uint32_t simplecss_port_match(const uint8_t *texts, size_t texts_len,
+                              const size_t *ends, size_t ends_count, size_t limit,
+                              const simplecss_tree *tree, size_t most,
+                              uint8_t *out, size_t out_size, size_t *len,
+                              simplecss_tree_fault *fault);
+
+/* Writes a line for each element of a tree: its number, a colon, the value of the declaration that
+ * wins for the name after a space, ` !important` if it is important, and a newline. A value may have
+ * newlines; simplecss_port_styles escapes them. */
+uint32_t simplecss_port_style(const uint8_t *texts, size_t texts_len,
+                              const size_t *ends, size_t ends_count, size_t limit,
+                              const simplecss_tree *tree,
+                              const uint8_t *name, size_t name_len, size_t most,
+                              uint8_t *out, size_t out_size, size_t *len,
+                              simplecss_tree_fault *fault);
+
+/* Writes a line of JSON for each element of a tree: an array of the winning declaration of each name,
+ * in the order in which the cascade applies them:
+ * [{"name":"color","value":"red","important":false}] */
+uint32_t simplecss_port_styles(const uint8_t *texts, size_t texts_len,
+                               const size_t *ends, size_t ends_count, size_t limit,
+                               const simplecss_tree *tree, size_t most,
+                               uint8_t *out, size_t out_size, size_t *len,
+                               simplecss_tree_fault *fault);
 
 #ifdef __cplusplus
 }

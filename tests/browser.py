@@ -2,6 +2,8 @@
 """Compares the Python package with a browser: headless Chromium (Debian's package `chromium`).
 
     browser.py mails [FILE..]     the computed styles of documents before and after `inline`
+    browser.py bare [FILE..]      the computed styles of documents, of whose sheets only the rules for
+                                  every screen are left, and after `inline` without any sheet
     browser.py trees [FILE..]     the elements and attributes of `Tree.from_html` with those of the
                                   browser, and which are empty
     browser.py selectors          what random selectors find in random documents of HTML
@@ -9,10 +11,11 @@
     browser.py links              the colours of random pages whose sheets are in files and import
                                   one another, before and after `inline`
     browser.py soup [FILE..]      what selectors find, with soupsieve over html5lib (no browser)
+    browser.py unused [FILE..]    the selectors that match nothing on pages, beside what the browser finds
     browser.py reports [FILE..]   whether the browser takes what `lint` reports: at most one in 100
     browser.py printed [FILE..]   the rules of sheets, and of these as the package prints them
 
-Without files, `mails` takes those of `tests/mails`, and `trees`, `winners` and `soup` take these
+Without files, `mails` and `bare` take those of `tests/mails`, and `trees`, `winners` and `soup` take these
 and pages of Debian packages below /usr/share/doc. `reports` takes sheets of Bootstrap, jQuery UI,
 Font Awesome and Sphinx below /usr/share, and `printed` 200 of all there. Each test is a document.
 What differs is listed, and the last line is `N passed, M failed`. Run by hand, but for `soup`,
@@ -43,6 +46,7 @@ from tests.common import package  # noqa: E402
 package()
 import simplecss  # noqa: E402
 from simplecss import _lint  # noqa: E402
+from simplecss._page import Page  # noqa: E402
 
 # How many differences of a document are listed.
 SHOWN = 4
@@ -87,6 +91,35 @@ function styles(frame) {
         const style = frame.contentWindow.getComputedStyle(element), values = {};
         for (const name of style) values[name] = style.getPropertyValue(name);
         found.push([element.localName, values]);
+    }
+    return found;
+}
+// What a layout makes of others.
+const sizes = ["block-size", "inline-size", "width", "height", "top", "left", "right", "bottom",
+    "perspective-origin", "transform-origin"];
+// Takes the rules out that are not for every screen.
+function prune(sheet) {
+    for (let i = sheet.cssRules.length - 1; i >= 0; i--) {
+        const rule = sheet.cssRules[i], kind = rule.constructor.name;
+        if (/^CSS(Media|Import|Container|Keyframes)Rule$/.test(kind)) sheet.deleteRule(i);
+        else if (rule.cssRules) prune(rule);
+    }
+}
+// The styles of all elements, which those of an array have as an order of their own.
+function bare(frame, is_before) {
+    const page = frame.contentDocument, found = [], still = new frame.contentWindow.CSSStyleSheet();
+    still.replaceSync("*, ::before, ::after { transition: none !important; animation: none !important }");
+    for (const sheet of is_before ? [...page.styleSheets] : []) {
+        const media = sheet.media.mediaText.trim().toLowerCase();
+        if (media && media != "all" || sheet.title) sheet.disabled = true;
+        else prune(sheet);
+    }
+    if (!is_before) page.querySelectorAll("style, link").forEach(each => { each.disabled = true; });
+    page.adoptedStyleSheets = [still];
+    for (const element of [page.documentElement, ...all(page)]) {
+        const style = frame.contentWindow.getComputedStyle(element), values = {};
+        for (const name of style) if (!sizes.includes(name)) values[name] = style.getPropertyValue(name);
+        found.push(element.closest("head, style, script, template") ? null : [element.localName, values]);
     }
     return found;
 }
@@ -165,6 +198,9 @@ window.onload = () => {
     if (input.kind == "mails")
         for (let i = 0; i < frames.length; i += 2)
             answer.push([styles(frames[i]), styles(frames[i + 1])]);
+    if (input.kind == "bare")
+        for (let i = 0; i < frames.length; i += 2)
+            answer.push([bare(frames[i], true), bare(frames[i + 1], false)]);
     if (input.kind == "trees") for (const text of input.texts) answer.push(tree(text));
     if (input.kind == "selectors") for (const each of input.texts) answer.push(found(each));
     if (input.kind == "conditions") for (const text of input.texts) answer.push(holds(text));
@@ -172,6 +208,9 @@ window.onload = () => {
         for (const [text, isRule] of input.texts) answer.push(takes(text, isRule));
     if (input.kind == "printed")
         for (const [one, other] of input.texts) answer.push([rules(one), rules(other)]);
+    if (input.kind == "unused")
+        for (const text of input.texts)
+            answer.push(frames.some(frame => frame.contentDocument.querySelector(text)));
     if (input.kind == "winners")
         frames.forEach((frame, i) => {
             answer.push(winners(frame, input.properties, input.values[i]));
@@ -268,9 +307,8 @@ class Report:
         return 1 if self.failed else 0
 
 
-def compare_mails(names: Sequence[str]) -> int:
-    """Compares the computed styles before and after `inline`."""
-    report = Report()
+def before_and_after(kind: str, names: Sequence[str]) -> List[Tuple[str, Any, Any]]:
+    """Returns documents with what the browser answers of them before and after `inline`."""
     with tempfile.TemporaryDirectory() as folder:
         frames = []
         for number, name in enumerate(names):
@@ -280,19 +318,53 @@ def compare_mails(names: Sequence[str]) -> int:
                 frames.append(os.path.join(folder, f"{number}{when}.html"))
                 with open(frames[-1], "wb") as file:
                     file.write(text)
-        for name, (before, after) in zip(names, run_browser({"kind": "mails"}, frames, folder)):
-            found = (
-                []
-                if len(before) == len(after) > 0
-                else [f"elements: {len(before)}, after: {len(after)}"]
-            )
-            for number, ((element, old), (_, new)) in enumerate(zip(before, after), 1):
-                other = [each for each in old if old[each] != new.get(each)]
-                found += [
-                    f"{number} <{element}> {each}: {old[each]!r}, after: {new.get(each)!r}"
-                    for each in other
-                ]
-            report.add(name, found)
+        answers = run_browser({"kind": kind}, frames, folder)
+    return [(name, before, after) for name, (before, after) in zip(names, answers)]
+
+
+def tagged(name: str) -> Set[int]:
+    """Returns the indices of the elements of a document that have a tag of their own."""
+    tags = Page(read(name)).tags
+    return {index for index, tag in enumerate(tags) if tag is not None}
+
+
+def compare_bare(names: Sequence[str]) -> int:
+    """Compares the computed styles of a document with those that its attributes alone give."""
+    report = Report()
+    count = differing = 0
+    for name, before, after in before_and_after("bare", names):
+        own = tagged(name)
+        before = [(index, each) for index, each in enumerate(before) if each]
+        after = [each for each in after if each]
+        found = [] if len(before) == len(after) else [f"{len(before)} elements, after {len(after)}"]
+        for (index, (element, old)), (_, new) in zip(before, after):
+            other = [each for each in old if old[each] != new.get(each)]
+            count += index in own
+            differing += index in own and bool(other)
+            if index in own and other:
+                values = f"{old[other[0]]!r}, after {new.get(other[0])!r}"
+                found.append(f"{index} <{element}> {other[0]}: {values}")
+        report.add(name, found)
+    print(f"{differing} of {count} elements that have a tag look otherwise without any sheet")
+    return report.end()
+
+
+def compare_mails(names: Sequence[str]) -> int:
+    """Compares the computed styles before and after `inline`."""
+    report = Report()
+    for name, before, after in before_and_after("mails", names):
+        found = (
+            []
+            if len(before) == len(after) > 0
+            else [f"elements: {len(before)}, after: {len(after)}"]
+        )
+        for number, ((element, old), (_, new)) in enumerate(zip(before, after), 1):
+            other = [each for each in old if old[each] != new.get(each)]
+            found += [
+                f"{number} <{element}> {each}: {old[each]!r}, after: {new.get(each)!r}"
+                for each in other
+            ]
+        report.add(name, found)
     return report.end()
 
 
@@ -583,10 +655,15 @@ def sheets_in(folder: str, words: Sequence[str] = ("",)) -> List[str]:
     return list(found.values())
 
 
+# The kinds of what is no CSS, which no browser takes.
+NO_CSS = ("bad", "broken", "invalid", "no-block", "stray")
+
+
 def compare_reports(names: Sequence[str]) -> int:
-    """Asks the browser whether it takes what `lint` reports, each text alone."""
+    """Asks the browser whether it takes what `lint` reports as none of CSS, each text alone."""
     names = names or sheets_in("/usr/share", ("bootstrap", "jquery-ui", "awesome", "sphinx"))
-    found = [(name, each) for name in names for each in _lint.findings(name, read(name))]
+    every = [(name, each) for name in names for each in _lint.findings(name, read(name))]
+    found = [(name, each) for name, each in every if each.kind.startswith(NO_CSS)]
     texts = [(each.text, each.text.endswith("}")) for _, each in found]
     with tempfile.TemporaryDirectory() as folder:
         answers = run_browser({"kind": "reports", "texts": texts}, [], folder)
@@ -607,6 +684,50 @@ def compare_reports(names: Sequence[str]) -> int:
     passed = len(taken) * 100 <= len(found)
     print(f"{int(passed)} passed, {int(not passed)} failed")
     return 0 if passed else 1
+
+
+# What is taken as met: pseudo-elements, and states, of which none within `:not()` is.
+ELEMENTS = re.compile(
+    r"::?(?:before|after|first-line|first-letter)(?![\w-])|::[\w-]+(?:\([^)]*\))?"
+)
+STATE = (
+    r":(?:hover|active|focus(?:-visible|-within)?|visited|checked|disabled|enabled|target|valid"
+    r"|invalid|indeterminate|required|optional|read-only|read-write|placeholder-shown|-[\w-]+)(?![\w(-])"
+)
+NO_STATE = re.compile(rf":not\(\s*{STATE}\s*\)|{STATE}")
+
+
+def without_states(selector: str) -> str:
+    """Returns a selector without its states and its pseudo-element."""
+
+    def left(found: "re.Match[str]") -> str:
+        """Returns what is left of a state, which may begin a compound."""
+        return "" if found.string[: found.start()][-1:] not in ("", *" \t\n>+~(,") else "*"
+
+    return NO_STATE.sub(left, ELEMENTS.sub(left, selector))
+
+
+def compare_unused(names: Sequence[str]) -> int:
+    """Compares the selectors of sheets that match nothing on pages with those that the browser finds
+    nothing for, without their states."""
+    names = names or pages()
+    texts = list(map(read, sheets_in("/usr/share", ("bootstrap", "jquery-ui", "sphinx", "style"))))
+    sheet = simplecss.StyleSheet(*texts, limit=None)
+    selectors = sorted({each.selector for each in sheet.unused()})
+    unused = {each.selector for each in sheet.unused(*map(tree_of, names))}
+    with tempfile.TemporaryDirectory() as folder:
+        work = {"kind": "unused", "texts": list(map(without_states, selectors))}
+        answers = run_browser(work, [os.path.abspath(name) for name in names], folder)
+    found = [it for it, is_used in zip(selectors, answers) if is_used == (it in unused)]
+    for selector in found[:SHOWN]:
+        print(selector)
+    print(f"{len(selectors)} selectors, of which {sum(answers)} match something")
+    print(f"{len(selectors) - len(found)} passed, {len(found)} failed")
+    return 1 if found else 0
+
+
+def tree_of(name: str) -> simplecss.Tree:
+    return simplecss.Tree.from_html(read(name))
 
 
 def compare_printed(names: Sequence[str]) -> int:
@@ -658,15 +779,25 @@ def compare_soup(names: Sequence[str]) -> int:
 def main() -> int:
     kinds = {
         "mails": compare_mails,
+        "bare": compare_bare,
         "trees": compare_trees,
         "selectors": compare_selectors,
         "winners": compare_winners,
         "links": compare_links,
         "soup": compare_soup,
         "reports": compare_reports,
+        "unused": compare_unused,
         "printed": compare_printed,
     }
-    usual = {"mails": mails, "selectors": list, "links": list, "reports": list, "printed": list}
+    usual = {
+        "mails": mails,
+        "bare": mails,
+        "selectors": list,
+        "links": list,
+        "reports": list,
+        "unused": list,
+        "printed": list,
+    }
     words = sys.argv[1:] or ["mails"]
     if words[0] not in kinds:
         sys.exit(__doc__)

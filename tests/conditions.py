@@ -15,13 +15,14 @@ import random
 import re
 import shutil
 import subprocess
-from typing import Any, Callable, List, NamedTuple, Sequence
+from typing import Any, Callable, Dict, List, NamedTuple, Sequence
 
 from tests.common import TOP, Case, browser_answers, count, package
 
 package()
 import simplecss  # noqa: E402
 from simplecss._device import HOLDS, property_names, says  # noqa: E402
+from simplecss._names import names_of  # noqa: E402
 
 # fmt: off
 RANGED = ("width", "width", "width", "height", "resolution")
@@ -102,7 +103,13 @@ const answer = {
     media: media.map(is),
     supports: supports.map(text => CSS.supports(text)),
     names: names.filter(name => CSS.supports(name, "inherit")),
+    shorthands: {},
 };
+for (const name of answer.names.filter(name => name[0] != "-")) {
+    const style = document.createElement("p").style;
+    style.setProperty(name, "inherit");
+    if (style.length > 1) answer.shorthands[name] = [...style].sort();
+}
 const text = JSON.stringify(answer).replace(/[\\u007f-\\uffff]/g, c => "\\\\u" + c.charCodeAt(0).toString(16).padStart(4, "0"));
 document.body.textContent = "ANSWER" + text + "END";
 </script>"""
@@ -265,6 +272,14 @@ def version_found() -> str:
     return number[1].decode() if number else ""
 
 
+def version_of_names() -> str:
+    """The version of the browser whose names the package has."""
+    path = os.path.join(TOP, "python/src/simplecss/properties.txt")
+    with open(path, encoding="utf-8") as file:
+        found: str = re.findall(r"Chromium (\d+)", file.read())[0]
+    return found
+
+
 class Conditions(Case):
     def browser(self, options: Sequence[str], media: List[str], supports: List[str]) -> Any:
         found = browser_answers(PAGE, [media, supports], options)
@@ -298,11 +313,35 @@ class Conditions(Case):
         found = self.browser((), [], texts)
         self.compare("supports", texts, found["supports"], simplecss.Device())
 
+    def test_names_in_selectors(self) -> None:
+        """The browser reads the pseudo-classes and pseudo-elements that it is said to read, alone or
+        with one of some arguments, and not the others."""
+        if version_found() != version_of_names():
+            self.skipTest(f"names in selectors are those of Chromium {version_of_names()}")
+        arguments = ("", "(a)", "(1n)", "(ltr)", "(*)", "(select)", "(left)")
+        for kind, colons in (("pseudo-classes", ":"), ("pseudo-elements", "::")):
+            known, others = names_of(kind), names_of(f"other {kind}")
+            texts = [
+                f"selector({colons}{name}{each})"
+                for name in (*known, *others)
+                for each in arguments
+            ]
+            answers = self.browser((), [], texts)["supports"]
+            size = len(arguments)
+            read = [any(answers[at : at + size]) for at in range(0, len(answers), size)]
+            self.assertEqual(read, [True] * len(known) + [False] * len(others))
+
     def test_property_names(self) -> None:
-        path = os.path.join(TOP, "python/src/simplecss/properties.txt")
-        with open(path, encoding="utf-8") as file:
-            version = re.findall(r"Chromium (\d+)", file.read())[0]
+        version = version_of_names()
         found = self.browser((), [], [])
         if version_found() != version:
             self.skipTest(f"names of properties are those of Chromium {version}")
         self.assertEqual(sorted(property_names()), sorted(set(found["names"])))
+        due: Dict[str, List[str]] = {}
+        for word in names_of("shorthands"):
+            if word.endswith(":"):
+                those = due[word[:-1]] = []
+            else:
+                those.append(word)
+        parts = {name: sorted(words) for name, words in due.items()}
+        self.assertEqual(parts, found["shorthands"])

@@ -44,32 +44,31 @@ VERSIONS = (
     ("docs/INSTALL.md", r"PWD/cssq-(\d[^/\s]*)/"),
 )
 
-# What carries each tick of the README's table, column by column: a test of this folder or of the
-# Python package, or a crate whose tests or output `rt ci` checks. Those of a cell without a tick
-# are empty.
+# What carries what the README's table says that users of each language get, and of which CSS: a test
+# of this folder or of the Python package, or a crate whose tests or output `rt ci` checks.
 # fmt: off
-TICKS: Dict[str, Sequence[str]] = {
-    "the port": (
-        "release.Crate.test_answers", "test_simplecss.Port.test_rules",
-        "library_calls.Calls.test_answers", "release.Npm.test_answers", "program.Words.test_answers",
-        "tests_matching"),
-    "modern sheets": (
-        "checkout.Rust.test_answers", "sheets.Sheets.test_real_sheets",
-        "library_calls.Calls.test_answers", "release.Npm.test_python", "",
-        "syntax.Tables.test_statements"),
-    "modern selectors": (
-        "checkout.Rust.test_answers", "judges.Judges.test_cssselect",
-        "library_calls.Calls.test_answers", "release.Npm.test_browser", "",
-        "modern_selectors.Random.test_selectors"),
-    "an index of modern rules": (
-        "checkout.Rust.test_answers", "", "", "", "", "modern_selectors.Index.test_random_selectors"),
-    "the cascade: which declarations win": (
-        "checkout.Rust.test_answers", "test_simplecss.Modern.test_the_cascade",
-        "library_calls.Calls.test_answers", "release.Npm.test_browser", "program.Words.test_answers",
-        "example_modern"),
-    "inline": ("", "states.States.test_pages", "", "", "", ""),
-    "lint": ("", "test_simplecss.CommandLine.test_lint", "", "release.Npm.test_lint", "", ""),
-    "HTML is read": ("", "trees.Trees.test_html5lib", "", "", "", ""),
+CARRIED: Dict[str, Dict[str, str]] = {
+    "Python": {
+        "`inline`": "states.States.test_pages", "`select`": "judges.Judges.test_cssselect",
+        "`styles`": "test_simplecss.Modern.test_the_cascade",
+        "`lint`": "test_simplecss.CommandLine.test_lint", "HTML": "trees.Trees.test_html5lib",
+        "modern": "sheets.Sheets.test_real_sheets", "the port": "test_simplecss.Port.test_rules"},
+    "Rust": {
+        "the crate": "release.Crate.test_answers", "`modern`": "checkout.Rust.test_answers",
+        "modern": "checkout.Rust.test_answers", "the port": "release.Crate.test_answers"},
+    "C": {
+        "`libsimplecss`": "library_calls.Calls.test_answers",
+        "modern": "library_calls.Calls.test_answers", "the port": "library_calls.Calls.test_answers"},
+    "JavaScript": {
+        "`css.select`": "release.Npm.test_browser", "`css.styles`": "release.Npm.test_browser",
+        "`css.lint`": "release.Npm.test_lint", "modern": "release.Npm.test_python",
+        "the port": "release.Npm.test_answers"},
+    "a shell": {
+        "`simplecss`": "test_simplecss.CommandLine.test_lint", "`cssq`": "program.Words.test_answers",
+        "modern": "test_simplecss.CommandLine.test_lint", "the port": "program.Words.test_answers"},
+    "Rattle": {
+        "the crates": "tests_matching", "contracts": "example_modern",
+        "modern": "modern_selectors.Index.test_random_selectors", "the port": "tests_matching"},
 }
 # fmt: on
 
@@ -287,17 +286,16 @@ def is_in_gate(test: str) -> bool:
 
 
 class Interfaces(Case):
-    def test_ticks(self) -> None:
-        """A test of the gate carries each tick of the README's table."""
-        (table,) = re.findall(r"^\| \| Rust .*\n\|[-|]+\n((?:\|.*\n)+)", read("README.md"), re.M)
+    def test_table(self) -> None:
+        """A test of the gate carries what the README's table says that users get."""
+        (table,) = re.findall(r"^\| You write .*\n\|[-|]+\n((?:\|.*\n)+)", read("README.md"), re.M)
         rows = [[it.strip() for it in line.split("|")[1:-1]] for line in table.splitlines()]
-        self.assertEqual([row[0] for row in rows], list(TICKS))
-        for name, *cells in rows:
-            self.assertEqual(len(cells), len(TICKS[name]))
-            for cell, test in zip(cells, TICKS[name]):
-                with self.subTest(row=name, test=test):
-                    self.assertEqual(cell in ("✓", "port"), test != "")
-                    self.assertTrue(not test or is_in_gate(test))
+        self.assertEqual([row[0] for row in rows], list(CARRIED))
+        for name, got, css, _ in rows:
+            self.assertEqual([*got.split(", "), *css.split(", ")], list(CARRIED[name]))
+            for what, test in CARRIED[name].items():
+                with self.subTest(row=name, what=what):
+                    self.assertTrue(is_in_gate(test))
 
 
 class Lengths(Case):

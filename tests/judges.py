@@ -155,6 +155,19 @@ DIFFERENCES: Tuple[Tuple[str, Dict[str, Sequence[str]]], ...] = (
         },
     ),
     (
+        "`:is()` and `:where()` leave out what is no selector (Selectors 4, section 18.1)",
+        {
+            "cssselect": (":is(:before)", ":where(:before)"),
+            "servo": ("foo:where()", "foo:where(::before)"),
+        },
+    ),
+    (
+        "`&` is a selector (CSS Nesting 1, section 3.1)",
+        {
+            "cascadia": ("div & address, p",),
+        },
+    ),
+    (
         "a list may have functions with lists (Selectors 4, sections 4.2 and 4.3)",
         {
             "cssselect": (":not(:not(a))",),

@@ -32,7 +32,7 @@ from tests.common import (
     write,
 )
 
-EXPECTED = "1:\n2: 1 2\n3: 1\n"
+EXPECTED = "1:\n2: 1 2\n3:\n"
 # How many calls tests/library_refused.c makes, and which of them allocate nothing.
 CALLS = 21
 WITHOUT_MEMORY = (10, 19)
@@ -66,7 +66,7 @@ class Installed(Case):
     """What `./build library --prefix` installs."""
 
     def test_files(self) -> None:
-        libraries = ("lib/libsimplecss.so.0", "lib/libsimplecss.so", "lib/libsimplecss.a")
+        libraries = ("lib/libsimplecss.so.1", "lib/libsimplecss.so", "lib/libsimplecss.a")
         for name in (*libraries, "include/simplecss.h", "lib/pkgconfig/simplecss.pc"):
             with self.subTest(file=name):
                 self.assertTrue(os.path.isfile(os.path.join(prefix(), name)))

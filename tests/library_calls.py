@@ -33,6 +33,19 @@ class TreeFault(ctypes.Structure):
     _fields_ = [("fault", ctypes.c_uint32), ("element", SIZE)]
 
 
+class TreeArrays(ctypes.Structure):
+    """A tree: its elements, its strings, and where each ends, each with its length."""
+
+    _fields_ = [
+        ("elements", ctypes.POINTER(SIZE)),
+        ("elements_count", SIZE),
+        ("strings", ctypes.c_char_p),
+        ("strings_len", SIZE),
+        ("string_ends", ctypes.POINTER(SIZE)),
+        ("string_ends_count", SIZE),
+    ]
+
+
 class Device(ctypes.Structure):
     """A device: its width, height, resolution, type and pointer, and whether it can hover, is dark and
     has less motion."""
@@ -71,8 +84,16 @@ class Elements:
         return len(self.array) // 3
 
 
+def arrays_of(tree: Tree) -> TreeArrays:
+    """The structure of a tree."""
+    elements, strings, ends = tree
+    first, last = (ctypes.cast(each, ctypes.POINTER(SIZE)) for each in (elements.array, ends))
+    return TreeArrays(first, len(elements), strings, len(strings), last, len(ends))
+
+
 def words_of(arguments: Sequence[Any]) -> List[Any]:
-    """Each argument as a pointer and a length, a device as a pointer, and a number as a size."""
+    """Each argument as a pointer and a length, a device and a tree as a pointer, and a number as a
+    size."""
     words: List[Any] = []
     for argument in arguments:
         if isinstance(argument, int):
@@ -81,10 +102,11 @@ def words_of(arguments: Sequence[Any]) -> List[Any]:
         if isinstance(argument, Device):
             words.append(ctypes.byref(argument))
             continue
-        words += (
-            argument.array if isinstance(argument, Elements) else argument,
-            SIZE(len(argument)),
-        )
+        if isinstance(argument, tuple):
+            elements, strings, ends = argument
+            words.append(ctypes.byref(arrays_of((elements, strings, ends))))
+            continue
+        words += (argument, SIZE(len(argument)))
     return words
 
 
@@ -129,7 +151,7 @@ TREE3 = tree_of(
     (1, b"li", b"class", b"new"),
     (2, b"a"),
 )
-AS_WRITTEN, HTML, QUIRKS = 0, 1, 2
+MODERN, HTML, QUIRKS, PORT = range(4)
 SELECTORS3 = buffer_of(
     (
         b"LI:nth-child(2n + 1)",
@@ -166,18 +188,16 @@ SUPPORTS = (
 )
 # The calls with a limit on the answer: those on trees, and one on a text.
 WITH_TREE = (
-    "simplecss_match",
+    "simplecss_port_match",
     "simplecss_match_selectors",
     "simplecss_select",
-    "simplecss_style",
-    "simplecss_styles",
-    "simplecss_match_level3",
-    "simplecss_select_level3",
+    "simplecss_port_style",
+    "simplecss_port_styles",
 )
 LIMITED = (*WITH_TREE, "simplecss_read")
 RED = b'{"name":"color","value":"red","important":false}'
 BLUE = b'{"name":"color","value":"blue","important":true}'
-MODERN = b"@media x { a, b:not(c), d::before { e: f; g } } h , { } @i;"
+MODERN_SHEET = b"@media x { a, b:not(c), d::before { e: f; g } } h , { } @i;"
 MODERN_LINES = (
     b'{"kind":"rule","start":11,"end":45,'
     b'"levels":[{"name":[1,6],"prelude":[7,8],"start":0,"end":47}],'
@@ -241,61 +261,65 @@ UNCLOSED = (b" a", b"a ", b"a/*", b"a)", b"f(]", b'"\n', b"(" * 65, b"a;b", b"a}
 # A call, its arguments, and the answer.
 ANSWERS: Sequence[Tuple[str, Tuple[Any, ...], bytes]] = (
     ("simplecss_version", (), version().encode()),
-    ("simplecss_selector", (b"ul>li.a , b",), b"ul > li[class~='a']\t0,1,2\n"),
+    ("simplecss_port_selector", (b"ul>li.a , b",), b"ul > li[class~='a']\t0,1,2\n"),
     (
         "simplecss_list",
-        (b"a, #b",),
+        (b"a, #b", PORT),
         b'{"selector":"a","specificity":[0,0,1]}\n'
         b'{"selector":"*[id=\'b\']","specificity":[1,0,0]}\n',
     ),
     (
         "simplecss_list",
-        (b'[a="\x01\\""]',),
+        (b'[a="\x01\\""]', PORT),
         b'{"selector":"*[a=\'\\u0001\\\\\\"\']","specificity":[0,1,0]}\n',
     ),
-    ("simplecss_refusal", (b"a, b",), b""),
+    ("simplecss_refusal", (b"a, b", PORT), b""),
     (
         "simplecss_refusal",
-        (b"a,\n b:none",),
+        (b"a,\n b:none", PORT),
         b'{"row":2,"column":3,"reason":"unknown pseudo-class \':none\'"}\n',
     ),
     # What follows an unknown pseudo-class is not read.
     (
         "simplecss_refusal",
-        (b"a:foo <",),
+        (b"a:foo <", PORT),
         b'{"row":1,"column":2,"reason":"unknown pseudo-class \':foo\'"}\n',
     ),
     (
         "simplecss_refusal",
-        (b"a:foo >",),
+        (b"a:foo >", PORT),
         b'{"row":1,"column":2,"reason":"unknown pseudo-class \':foo\'"}\n',
     ),
     # A position in an item counts from the start of the list.
-    ("simplecss_refusal", (b"a,\nb, c[d=]",), b'{"row":2,"column":8,"reason":"invalid ident"}\n'),
-    ("simplecss_refusal", (b"a, b >",), b'{"row":1,"column":7,"reason":"selector missing"}\n'),
     (
         "simplecss_refusal",
-        (b"a, b/c",),
+        (b"a,\nb, c[d=]", PORT),
+        b'{"row":2,"column":8,"reason":"invalid ident"}\n',
+    ),
+    ("simplecss_refusal", (b"a, b >", PORT), b'{"row":1,"column":7,"reason":"selector missing"}\n'),
+    (
+        "simplecss_refusal",
+        (b"a, b/c", PORT),
         b'{"row":1,"column":5,"reason":"unexpected text after a selector"}\n',
     ),
     (
-        "simplecss_sheet",
+        "simplecss_port_sheet",
         SHEET,
         b"ul > li { color:red; }\n*[class~='new'] { color:blue !important; }\n",
     ),
-    ("simplecss_sheet", (b"", sizes([]), 0), b""),
+    ("simplecss_port_sheet", (b"", sizes([]), 0), b""),
     (
-        "simplecss_rules",
+        "simplecss_port_rules",
         SHEET,
         b'{"selector":"ul > li","specificity":[0,0,2],"declarations":[' + RED + b"]}\n"
         b'{"selector":"*[class~=\'new\']","specificity":[0,1,0],"declarations":[' + BLUE + b"]}\n",
     ),
     (
-        "simplecss_skipped",
+        "simplecss_port_skipped",
         (b"a { b: c }\n @media print { }",),
         b'{"row":2,"column":2,"reason":"at-rule not supported","text":"@media print"}\n',
     ),
-    ("simplecss_read", (MODERN,), MODERN_LINES),
+    ("simplecss_read", (MODERN_SHEET,), MODERN_LINES),
     ("simplecss_read", ("é{é:é".encode(),), BYTES_LINE),
     ("simplecss_read", (b"a:foo(b,), :before {}",), UNREAD_LINE),
     ("simplecss_read", (b" /* */ <!-- ",), b""),
@@ -303,68 +327,68 @@ ANSWERS: Sequence[Tuple[str, Tuple[Any, ...], bytes]] = (
     *(("simplecss_close", (value,), closed) for value, closed in CLOSED),
     (
         "simplecss_match_selectors",
-        (*buffer_of((b"li", b".new", b"ul")), *PAGE),
+        (*buffer_of((b"li", b".new", b"ul")), PORT, PAGE),
         b"1: 3\n2: 1 2\n3: 1\n",
     ),
-    ("simplecss_match", (*SHEET, *PAGE), b"1:\n2: 1 2\n3: 1\n"),
-    ("simplecss_select", (b"li", *PAGE), b"2\n3\n"),
-    ("simplecss_select", (b"[alt='a\tb'], .new", *PAGE), b"2\n3\n"),
-    ("simplecss_select", (b":link", *STATES), b"1\n5\n"),
-    ("simplecss_select", (b":visited", *STATES), b"2\n5\n"),
-    ("simplecss_select", (b":hover", *STATES), b"3\n5\n"),
-    ("simplecss_select", (b":active", *STATES), b"4\n5\n"),
-    ("simplecss_select", (b":focus", *STATES), b"5\n"),
+    ("simplecss_port_match", (*SHEET, PAGE), b"1:\n2: 1 2\n3: 1\n"),
+    ("simplecss_select", (b"li", PORT, PAGE), b"2\n3\n"),
+    ("simplecss_select", (b"[alt='a\tb'], .new", PORT, PAGE), b"2\n3\n"),
+    ("simplecss_select", (b":link", PORT, STATES), b"1\n5\n"),
+    ("simplecss_select", (b":visited", PORT, STATES), b"2\n5\n"),
+    ("simplecss_select", (b":hover", PORT, STATES), b"3\n5\n"),
+    ("simplecss_select", (b":active", PORT, STATES), b"4\n5\n"),
+    ("simplecss_select", (b":focus", PORT, STATES), b"5\n"),
     (
-        "simplecss_list_level3",
-        (b" a > b, c::before,d:not(.e, #f) ",),
+        "simplecss_list",
+        (b" a > b, c::before,d:not(.e, #f) ", MODERN),
         b'{"text":[1,6],"selector":"a > b","specificity":[0,0,2],"pseudo_element":null}\n'
         b'{"text":[8,17],"selector":"c::before","specificity":[0,0,2],"pseudo_element":"before"}\n'
         b'{"text":[18,31],"selector":"d:not(.e, #f)","specificity":[1,0,1],'
         b'"pseudo_element":null}\n',
     ),
     (
-        "simplecss_list_level3",
-        ("é/*,*/,[b=',']".encode(),),
+        "simplecss_list",
+        ("é/*,*/,[b=',']".encode(), HTML),
         '{"text":[0,2],"selector":"é","specificity":[0,0,1],"pseudo_element":null}\n'.encode()
         + b'{"text":[8,15],"selector":"[b=\\",\\"]","specificity":[0,1,0],"pseudo_element":null}\n',
     ),
-    ("simplecss_refusal_level3", (b"a, b:nth-child(2n+1) ~ c",), b""),
+    ("simplecss_refusal", (b"a, b:nth-child(2n+1) ~ c", MODERN), b""),
     (
-        "simplecss_refusal_level3",
-        (b"a,\n b:nth-child(2x",),
+        "simplecss_refusal",
+        (b"a,\n b:nth-child(2x", MODERN),
         b'{"row":2,"column":14,"reason":"`2x` is no An+B"}\n',
     ),
     (
-        "simplecss_refusal_level3",
-        (b"a,",),
+        "simplecss_refusal",
+        (b"a,", MODERN),
         b'{"row":1,"column":3,"reason":"a blank or the end of the text begins no selector"}\n',
     ),
     (
-        "simplecss_match_level3",
-        (*SELECTORS3, AS_WRITTEN, *TREE3),
+        "simplecss_match_selectors",
+        (*SELECTORS3, MODERN, TREE3),
         b"1:\n2: 2\n3: 2\n4: 5\n5: 7\n6: 7\n",
     ),
     (
-        "simplecss_match_level3",
-        (*SELECTORS3, HTML, *TREE3),
+        "simplecss_match_selectors",
+        (*SELECTORS3, HTML, TREE3),
         b"1:\n2: 1 2\n3: 2 4\n4: 1 5\n5: 7\n6: 7\n",
     ),
     (
-        "simplecss_match_level3",
-        (*SELECTORS3, QUIRKS, *TREE3),
+        "simplecss_match_selectors",
+        (*SELECTORS3, QUIRKS, TREE3),
         b"1:\n2: 1 2\n3: 2 3 4\n4: 1 5\n5: 3 7\n6: 7\n",
     ),
-    ("simplecss_select_level3", (b"LI, a", AS_WRITTEN, *TREE3), b"6\n"),
-    ("simplecss_select_level3", (b"LI, a", HTML, *TREE3), b"2\n3\n4\n5\n6\n"),
-    ("simplecss_select_level3", (b":any-link, :HOVER", AS_WRITTEN, *STATES), b"1\n2\n3\n5\n"),
+    ("simplecss_select", (b"LI, a", MODERN, TREE3), b"6\n"),
+    ("simplecss_select", (b"LI, a", HTML, TREE3), b"2\n3\n4\n5\n6\n"),
+    ("simplecss_select", (b":any-link, :HOVER", MODERN, STATES), b"1\n2\n3\n5\n"),
     *(
         ("simplecss_media", (text, device), answer)
         for text, *answers in MEDIA
         for device, answer in zip((SCREEN, PAPER), answers)
     ),
     *(("simplecss_supports", (text, *NAMES), answer) for text, answer in SUPPORTS),
-    ("simplecss_style", (*SHEET, *PAGE, b"color"), b"1:\n2: blue !important\n3: red\n"),
-    ("simplecss_styles", (*SHEET, *PAGE), b"[]\n[" + BLUE + b"]\n[" + RED + b"]\n"),
+    ("simplecss_port_style", (*SHEET, PAGE, b"color"), b"1:\n2: blue !important\n3: red\n"),
+    ("simplecss_port_styles", (*SHEET, PAGE), b"[]\n[" + BLUE + b"]\n[" + RED + b"]\n"),
 )
 
 BROKEN = b"\xff"
@@ -387,14 +411,17 @@ BAD_PAGES: Sequence[Tuple[Tree, int, int]] = (
 
 # A call, its arguments, and the status that is no answer.
 FAILURES: List[Tuple[str, Tuple[Any, ...], int]] = []
+_GRAMMARS = (MODERN, HTML, QUIRKS, PORT)
+for _text, _status in ((b"", REFUSED), (b"a:none(b)", REFUSED), (BROKEN, NOT_UTF8)):
+    FAILURES += [("simplecss_list", (_text, each), _status) for each in _GRAMMARS]
+    FAILURES += [("simplecss_port_selector", (_text,), _status)]
+FAILURES += [("simplecss_refusal", (BROKEN, each), NOT_UTF8) for each in _GRAMMARS]
 FAILURES += [
-    (name, (text,), status)
-    for name in ("simplecss_selector", "simplecss_list", "simplecss_list_level3")
-    for text, status in ((b"", REFUSED), (b"a:none(b)", REFUSED), (BROKEN, NOT_UTF8))
-] + [
     (f"simplecss_{name}", (BROKEN,), NOT_UTF8)
-    for name in ("refusal", "refusal_level3", "skipped", "read", "declarations", "close")
+    for name in ("port_skipped", "read", "declarations", "close")
 ]
+# What is no grammar is refused before anything else.
+FAILURES += [(f"simplecss_{name}", (BROKEN, 4), REFUSED) for name in ("list", "refusal")]
 FAILURES += [("simplecss_close", (value,), REFUSED) for value in UNCLOSED]
 FAILURES += [
     ("simplecss_media", (BROKEN, SCREEN), NOT_UTF8),
@@ -416,11 +443,11 @@ for _sheet, _status in (
     ((b"a,b{c:d}e{f:g}", sizes([8, 14]), 2), LIMIT),
 ):
     FAILURES += [
-        ("simplecss_sheet", _sheet, _status),
-        ("simplecss_rules", _sheet, _status),
-        ("simplecss_match", (*_sheet, *PAGE), _status),
-        ("simplecss_styles", (*_sheet, *PAGE), _status),
-        ("simplecss_style", (*_sheet, *PAGE, b"color"), _status),
+        ("simplecss_port_sheet", _sheet, _status),
+        ("simplecss_port_rules", _sheet, _status),
+        ("simplecss_port_match", (*_sheet, PAGE), _status),
+        ("simplecss_port_styles", (*_sheet, PAGE), _status),
+        ("simplecss_port_style", (*_sheet, PAGE, b"color"), _status),
     ]
 _BROKEN_PAGE = (Elements([0, 0, 0]), BROKEN, sizes([1]))
 for _texts, _status in (
@@ -432,25 +459,26 @@ for _texts, _status in (
     (buffer_of((b"a", BROKEN)), NOT_UTF8),
 ):
     FAILURES += [
-        ("simplecss_match_selectors", (*_texts, *PAGE), _status),
-        ("simplecss_match_level3", (*_texts, HTML, *PAGE), _status),
+        ("simplecss_match_selectors", (*_texts, PORT, PAGE), _status),
+        ("simplecss_match_selectors", (*_texts, HTML, PAGE), _status),
     ]
 FAILURES += [
-    ("simplecss_match_level3", (*buffer_of((b"a,b",)), AS_WRITTEN, *PAGE), REFUSED),
-    ("simplecss_match_level3", (*buffer_of((b"a",)), 3, *PAGE), REFUSED),
-    ("simplecss_match_level3", (*buffer_of((b"a",)), AS_WRITTEN, *_BROKEN_PAGE), NOT_UTF8),
-    ("simplecss_select_level3", (b"a", 3, *PAGE), REFUSED),
-    ("simplecss_select_level3", (b"a,", AS_WRITTEN, *PAGE), REFUSED),
-    ("simplecss_select_level3", (BROKEN, AS_WRITTEN, *PAGE), NOT_UTF8),
-    ("simplecss_select_level3", (b"a", AS_WRITTEN, *_BROKEN_PAGE), NOT_UTF8),
-    ("simplecss_match_selectors", (*buffer_of((b"a",)), *_BROKEN_PAGE), NOT_UTF8),
-    ("simplecss_select", (b"a,", *PAGE), REFUSED),
-    ("simplecss_select", (BROKEN, *PAGE), NOT_UTF8),
-    ("simplecss_select", (b"a", *_BROKEN_PAGE), NOT_UTF8),
-    ("simplecss_match", (*SHEET, *_BROKEN_PAGE), NOT_UTF8),
-    ("simplecss_styles", (*SHEET, *_BROKEN_PAGE), NOT_UTF8),
-    ("simplecss_style", (*SHEET, *_BROKEN_PAGE, b"color"), NOT_UTF8),
-    ("simplecss_style", (*SHEET, *PAGE, BROKEN), NOT_UTF8),
+    ("simplecss_match_selectors", (*buffer_of((b"a,b",)), MODERN, PAGE), REFUSED),
+    ("simplecss_match_selectors", (*buffer_of((b"a",)), 4, PAGE), REFUSED),
+    ("simplecss_match_selectors", (*buffer_of((b"a",)), MODERN, _BROKEN_PAGE), NOT_UTF8),
+    ("simplecss_select", (b"a", 4, PAGE), REFUSED),
+    ("simplecss_select", (BROKEN, 4, _BROKEN_PAGE), REFUSED),
+    ("simplecss_select", (b"a,", MODERN, PAGE), REFUSED),
+    ("simplecss_select", (BROKEN, MODERN, PAGE), NOT_UTF8),
+    ("simplecss_select", (b"a", MODERN, _BROKEN_PAGE), NOT_UTF8),
+    ("simplecss_match_selectors", (*buffer_of((b"a",)), PORT, _BROKEN_PAGE), NOT_UTF8),
+    ("simplecss_select", (b"a,", PORT, PAGE), REFUSED),
+    ("simplecss_select", (BROKEN, PORT, PAGE), NOT_UTF8),
+    ("simplecss_select", (b"a", PORT, _BROKEN_PAGE), NOT_UTF8),
+    ("simplecss_port_match", (*SHEET, _BROKEN_PAGE), NOT_UTF8),
+    ("simplecss_port_styles", (*SHEET, _BROKEN_PAGE), NOT_UTF8),
+    ("simplecss_port_style", (*SHEET, _BROKEN_PAGE, b"color"), NOT_UTF8),
+    ("simplecss_port_style", (*SHEET, PAGE, BROKEN), NOT_UTF8),
 ]
 
 
@@ -487,13 +515,13 @@ class Calls(Case):
         """Each fault of a tree, in each call that takes one."""
         for page, fault, element in BAD_PAGES:
             for name, arguments in (
-                ("simplecss_match", (*SHEET, *page)),
-                ("simplecss_styles", (*SHEET, *page)),
-                ("simplecss_style", (*SHEET, *page, b"color")),
-                ("simplecss_select", (b"a", *page)),
-                ("simplecss_match_selectors", (b"a", sizes([1]), *page)),
-                ("simplecss_match_level3", (b"a", sizes([1]), HTML, *page)),
-                ("simplecss_select_level3", (b"a", HTML, *page)),
+                ("simplecss_port_match", (*SHEET, page)),
+                ("simplecss_port_styles", (*SHEET, page)),
+                ("simplecss_port_style", (*SHEET, page, b"color")),
+                ("simplecss_select", (b"a", PORT, page)),
+                ("simplecss_match_selectors", (b"a", sizes([1]), PORT, page)),
+                ("simplecss_match_selectors", (b"a", sizes([1]), HTML, page)),
+                ("simplecss_select", (b"a", HTML, page)),
             ):
                 self.fails(name, arguments, TREE_FAULT, (fault, element))
 
@@ -569,12 +597,12 @@ class Limits(Case):
         long_sheet = (value, sizes([len(value)]), NO_LIMIT)
         nested = b"@media{" * 63 + b"{}" * 20_000
         calls: Sequence[Tuple[str, Tuple[Any, ...]]] = (
-            ("simplecss_match", (*sheet, *page)),
-            ("simplecss_match_selectors", (*stars, *page)),
-            ("simplecss_match_level3", (*stars, HTML, *page)),
+            ("simplecss_port_match", (*sheet, page)),
+            ("simplecss_match_selectors", (*stars, PORT, page)),
+            ("simplecss_match_selectors", (*stars, HTML, page)),
             ("simplecss_read", (nested,)),
-            ("simplecss_style", (*long_sheet, *page, b"a")),
-            ("simplecss_styles", (*long_sheet, *page)),
+            ("simplecss_port_style", (*long_sheet, page, b"a")),
+            ("simplecss_port_styles", (*long_sheet, page)),
         )
         for name, arguments in calls:
             with self.subTest(call=name):
@@ -601,23 +629,23 @@ class Large(Case):
         sheet = b"a { b: c }\n" * (self.count // 11)
         length = len(sheet) // 11 * len(b"a { b:c; }\n")
         self.assertEqual(
-            self.ends("simplecss_sheet", sheet, sizes([len(sheet)]), NO_LIMIT), (TOO_SMALL, length)
+            self.ends("simplecss_port_sheet", sheet, sizes([len(sheet)]), NO_LIMIT),
+            (TOO_SMALL, length),
         )
 
     def test_list(self) -> None:
         listed = b"a," * (self.count // 2) + b"a"
-        self.assertEqual(self.ends("simplecss_refusal", listed), (DONE, 0))
+        self.assertEqual(self.ends("simplecss_refusal", listed, PORT), (DONE, 0))
 
     def test_tree(self) -> None:
         number = 400_000
         strings = b"elementclassmore-of-it-to-come"[:25] * number
         ends = sizes([25 * (n // 3) + (7, 12, 25)[n % 3] for n in range(3 * number)])
         length = sum(len(str(n)) + 1 for n in range(1, number + 1))
-        found = self.ends(
-            "simplecss_select", b"element", Elements([0, 1, 0] * number), strings, ends
-        )
+        page = Elements([0, 1, 0] * number), strings, ends
+        found = self.ends("simplecss_select", b"element", PORT, page)
         self.assertEqual(found, (TOO_SMALL, length))
 
     def test_value(self) -> None:
         page = tree_of((0, b"a", b"class", b"x " * (self.count // 2) + b"y"))
-        self.assertEqual(self.ends("simplecss_select", b".y", *page, room=8), (DONE, 2))
+        self.assertEqual(self.ends("simplecss_select", b".y", PORT, page, room=8), (DONE, 2))

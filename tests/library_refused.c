@@ -9,7 +9,7 @@
 
 #define TEXT(text) (const uint8_t *)(text), sizeof(text) - 1
 #define SHEET TEXT(sheet), sheet_ends, 2, 2
-#define TREE elements, 3, TEXT(strings), string_ends, 7
+#define TREE &tree
 #define MOST SIMPLECSS_NO_LIMIT
 #define OUT out, sizeof(out) - 1, &len
 
@@ -21,6 +21,7 @@ static const size_t name_ends[] = {5};
 static const simplecss_device device = {1280, 800, 2000, SIMPLECSS_SCREEN, SIMPLECSS_FINE, 1, 0, 0};
 static const char strings[] = "ullicl\tssnewlititlea\nb";
 static const size_t string_ends[] = {2, 4, 9, 12, 14, 19, 22};
+static const simplecss_tree tree = {elements, 3, TEXT(strings), string_ends, 7};
 static uint8_t out[4096];
 
 int main(int count, char **words) {
@@ -31,24 +32,24 @@ int main(int count, char **words) {
     memset(out, 0xA5, sizeof(out));
     (void)!write(2, "begin", 5);
     switch (call) {
-    case 0: status = simplecss_selector(TEXT("a b > c.d[e='f']:hover"), OUT); break;
-    case 1: status = simplecss_list(TEXT("a b, c > d, e + f"), OUT); break;
-    case 2: status = simplecss_refusal(TEXT("a b, c > > d"), OUT); break;
-    case 3: status = simplecss_sheet(SHEET, OUT); break;
-    case 4: status = simplecss_rules(SHEET, OUT); break;
-    case 5: status = simplecss_skipped(TEXT(sheet), OUT); break;
-    case 6: status = simplecss_match(SHEET, TREE, MOST, OUT, &fault); break;
-    case 7: status = simplecss_select(TEXT("li, ul > .new"), TREE, MOST, OUT, &fault); break;
-    case 8: status = simplecss_style(SHEET, TREE, TEXT("color"), MOST, OUT, &fault); break;
-    case 9: status = simplecss_styles(SHEET, TREE, MOST, OUT, &fault); break;
+    case 0: status = simplecss_port_selector(TEXT("a b > c.d[e='f']:hover"), OUT); break;
+    case 1: status = simplecss_list(TEXT("a b, c > d, e + f"), SIMPLECSS_PORT, OUT); break;
+    case 2: status = simplecss_refusal(TEXT("a b, c > > d"), SIMPLECSS_PORT, OUT); break;
+    case 3: status = simplecss_port_sheet(SHEET, OUT); break;
+    case 4: status = simplecss_port_rules(SHEET, OUT); break;
+    case 5: status = simplecss_port_skipped(TEXT(sheet), OUT); break;
+    case 6: status = simplecss_port_match(SHEET, TREE, MOST, OUT, &fault); break;
+    case 7: status = simplecss_select(TEXT("li, ul > .new"), SIMPLECSS_PORT, TREE, MOST, OUT, &fault); break;
+    case 8: status = simplecss_port_style(SHEET, TREE, TEXT("color"), MOST, OUT, &fault); break;
+    case 9: status = simplecss_port_styles(SHEET, TREE, MOST, OUT, &fault); break;
     case 10: status = simplecss_version(OUT); break;
     case 11: status = simplecss_read(TEXT("@media x { a, b:not(c), d::before { e: f; g } } h { } @i;"), MOST, OUT); break;
     case 12: status = simplecss_declarations(TEXT("a: b !important; c"), OUT); break;
-    case 13: status = simplecss_match_selectors(TEXT("li.new"), selector_ends, 2, TREE, MOST, OUT, &fault); break;
-    case 14: status = simplecss_list_level3(TEXT("a\\62 > c, d:not(e, f)::before"), OUT); break;
-    case 15: status = simplecss_refusal_level3(TEXT("a, b:nth-child(2"), OUT); break;
-    case 16: status = simplecss_match_level3(TEXT("LI.new"), selector_ends, 2, SIMPLECSS_HTML, TREE, MOST, OUT, &fault); break;
-    case 17: status = simplecss_select_level3(TEXT("LI:empty, :is(UL, a) > .NEW"), SIMPLECSS_HTML_QUIRKS, TREE, MOST, OUT, &fault); break;
+    case 13: status = simplecss_match_selectors(TEXT("li.new"), selector_ends, 2, SIMPLECSS_PORT, TREE, MOST, OUT, &fault); break;
+    case 14: status = simplecss_list(TEXT("a\\62 > c, d:not(e, f)::before"), SIMPLECSS_MODERN, OUT); break;
+    case 15: status = simplecss_refusal(TEXT("a, b:nth-child(2"), SIMPLECSS_MODERN, OUT); break;
+    case 16: status = simplecss_match_selectors(TEXT("LI.new"), selector_ends, 2, SIMPLECSS_HTML, TREE, MOST, OUT, &fault); break;
+    case 17: status = simplecss_select(TEXT("LI:empty, :is(UL, a) > .NEW"), SIMPLECSS_HTML_QUIRKS, TREE, MOST, OUT, &fault); break;
     case 18: status = simplecss_close(TEXT("f(g['h"), OUT); break;
     case 19: status = simplecss_media(TEXT("print, (2x <= resolution) and (hover)"), &device, OUT); break;
     case 20: status = simplecss_supports(TEXT("(color: a) and selector(a > b)"), TEXT("color"), name_ends, 1, OUT); break;

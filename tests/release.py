@@ -235,14 +235,14 @@ class Library:
             ("read", text),
             ("declarations", text),
             ("close", text),
-            ("list_level3", text),
-            ("refusal_level3", text),
-            ("select_level3", text, library_calls.AS_WRITTEN, *self.page),
+            ("list", text, library_calls.MODERN),
+            ("refusal", text, library_calls.MODERN),
+            ("select", text, library_calls.MODERN, self.page),
             (
-                "match_level3",
+                "match_selectors",
                 *library_calls.buffer_of([text]),
-                library_calls.AS_WRITTEN,
-                *self.page,
+                library_calls.MODERN,
+                self.page,
             ),
         ]
         return [self.call(*it) for it in texts]
@@ -251,16 +251,15 @@ class Library:
         """The first answers of compare.c, by the grammar of the Rust crate."""
         sheet = (*library_calls.buffer_of([text]), NO_LIMIT)
         texts: List[Any] = [
-            ("sheet", *sheet),
-            ("selector", text),
-            ("skipped", text),
-            ("list", text),
-            ("rules", *sheet),
+            ("port_sheet", *sheet),
+            ("port_selector", text),
+            ("port_skipped", text),
+            ("list", text, library_calls.PORT),
+            ("port_rules", *sheet),
+            ("port_match", *sheet, self.page),
+            ("port_styles", *sheet, self.page),
         ]
-        return [
-            self.call(*it)
-            for it in [*texts, ("match", *sheet, *self.page), ("styles", *sheet, *self.page)]
-        ]
+        return [self.call(*it) for it in texts]
 
 
 @functools.lru_cache(maxsize=None)
@@ -282,11 +281,13 @@ def page_in_c() -> str:
     elements, strings, ends = Library().page
     shapes, stated = list(elements.array), "static const"
     rows = [f"{{{', '.join(map(str, shapes[at : at + 3]))}}}" for at in range(0, len(shapes), 3)]
+    arrays = f"PAGE, {len(rows)}, STRINGS, {len(strings)}, ENDS, {len(ends)}"
     return (
         '#include "simplecss.h"\n'
         f"{stated} simplecss_element PAGE[] = {{{', '.join(rows)}}};\n"
         f"{stated} uint8_t STRINGS[] = {{{', '.join(map(str, strings))}}};\n"
         f"{stated} size_t ENDS[] = {{{', '.join(map(str, ends))}}};\n"
+        f"{stated} simplecss_tree TREE = {{{arrays}}};\n"
     )
 
 
@@ -740,7 +741,7 @@ foreach(kind simplecss static)
 endforeach()
 """
 # What `examples/c/page.c` prints.
-PRINTED = b"1:\n2: 1 2\n3: 1\n"
+PRINTED = b"1:\n2: 1 2\n3:\n"
 
 
 class Program(Release):
@@ -927,6 +928,13 @@ SHEETS = [
     "a{b:c}" * 2000 + "d < e{}",
     "@media a{" * 70 + "b { c: d }",
     "@font-face{" * 3000,
+    "a:hoverr, b::befor, c:nth-chidl(2n), [d=':e'] { colr: red; top: 0; left: 0; top: 1px } @medai { }",
+    "a { } @media print { } b { top: 0 !importnat; left: 0\n right: 0 } c { content: 'x }\nd { top: 0 }",
+    "a { background: url(b; top: 0 }\nc { left: 0 }",
+    "a { colr: red } /* simplecss-ignore unknown */\nb { colr: red } c { content: 'd /* ' e",
+    "a { top: 0; /* b }",
+    '@media é, (hover) and (MIN-WIDHT: 1px), (foo: bar) { a { top: 0 } } @media ("(widht") { }',
+    "a { *zoom: 1; _height: 1px; @media print { tpo: 0 } &:hover { tpo: 0 } } @scope (a) { b { tpo: 0 } }",
 ]
 PAGES = [
     (
@@ -1126,13 +1134,14 @@ class Npm(Release):
                 self.assertGreater(got.stdout.count(b"\n"), 20)
 
     def test_command(self) -> None:
-        good = write(os.path.join(self.folder, "good.css"), "a { b: c }\n")
+        good = write(os.path.join(self.folder, "good.css"), "a { top: 0 }\n")
         bad = write(os.path.join(self.folder, "bad.css"), "a < b { x: y }\n")
         cli = os.path.join(self.unpacked(), "cli.mjs")
         line = f"{bad}:1:1: 'a < b {{ x: y }}': invalid selector\n"
         rows: List[Tuple[List[str], Tuple[int, str]]] = [
             (["lint", good], (0, "")),
             (["lint", bad, good], (1, line)),
+            (["lint", "--ignore", "invalid", "--ignore", "x", bad, good], (0, "")),
             (["lint", bad, os.path.join(self.folder, "none.css")], (4, line)),
             (["lint", bad, os.path.join(self.folder, "page.html")], (4, line)),
             (["lint"], (2, "")),

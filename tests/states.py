@@ -4,7 +4,7 @@ browser: the values of some properties are the same.
 Sheets have states, media, importance, layers, conditions, animations, nested rules, selectors that
 the library does not read, `all` and `revert`, and elements have styles of their own. A state is an
 attribute in both pages, so that each element can be in any. What `inline` writes with
-`important=False` is compared, too. The pages are the same in each run of a seed, which `SEED` in the
+`important=False`, and into the attributes of drawings, is compared, too. The pages are the same in each run of a seed, which `SEED` in the
 environment sets; `COUNT` says how many there are. The browser is Debian's `chromium`. The library is
 built by `./build library`.
 """
@@ -43,6 +43,20 @@ PROPERTIES = (
     ("--v", ("1", "2")),
     ("opacity", (".5", ".6")),
 )
+DRAWN_PROPERTIES = (
+    ("fill", ("red", "green", "blue", "oklch(50% 0.2 30)")),
+    ("stroke", ("red", "green", "#00f")),
+    ("stroke-width", ("2", "3px", "4")),
+    ("stroke-dasharray", ("1 2", "3px 4px")),
+    ("font-size", ("11px", "13px", "0")),
+    ("font", ("italic 10px serif", "12px sans-serif")),
+    ("marker", ("none", "url(#m)")),
+    ("marker-start", ("none", "url('#n')")),
+    ("x", ("1px", "2px", "3%")),
+    ("opacity", (".5", ".6")),
+    ("text-decoration", ("underline", "none")),
+    ("overflow", ("visible", "hidden")),
+)
 ODD_PROPERTIES = (
     ("all", ("unset", "initial")),
     ("color", ("revert", "revert-layer", "inherit")),
@@ -55,7 +69,8 @@ MEDIA = ("(max-width: 500px)", "screen", "print", "(min-width: 300px)")
 SCRIPT = """<!DOCTYPE html><meta charset=utf-8><script id=input type="application/json">%s</script><body><script>
 const input = JSON.parse(document.getElementById("input").textContent), answer = [];
 const names = ["color", "padding-left", "padding-top", "margin-top", "margin-left", "max-width", "font-size",
-    "font-style", "font-family", "--v", "opacity"];
+    "font-style", "font-family", "--v", "opacity", "fill", "stroke", "stroke-width", "stroke-dasharray",
+    "marker-start", "marker-end", "x", "overflow-x", "text-decoration-line"];
 const frames = [400, 800].map(width => {
     const frame = document.createElement("iframe");
     frame.width = width;
@@ -101,10 +116,12 @@ class Source(random.Random):
     """Random pages, the same in each run."""
 
     is_odd = False
+    is_drawn = False
 
     def declaration(self, importance: float = 0.15) -> str:
         """A declaration, which may be important."""
-        name, values = self.choice(PROPERTIES + ODD_PROPERTIES * self.is_odd)
+        usual = DRAWN_PROPERTIES if self.is_drawn else PROPERTIES
+        name, values = self.choice(usual + ODD_PROPERTIES * self.is_odd)
         return f"{name}: {self.choice(values)}{' !important' * (self.random() < importance)}"
 
     def block(self, importance: float = 0.15) -> str:
@@ -124,9 +141,17 @@ class Source(random.Random):
         return f"{selectors} {{ {self.block()} }}"
 
     def nested(self) -> str:
-        """A rule set with rules in it."""
-        inner = f"& p {{ {self.block()} }} &{self.choice(('.b', ':hover'))} {{ {self.block()} }}"
-        return f".a {{ {self.block()}; {inner} }}"
+        """A rule set with rules in it, or with braces that are none of rules."""
+        inner = self.choice(
+            (
+                f"& p {{ {self.block()} }} &{self.choice(('.b', ':hover'))} {{ {self.block()} }}",
+                f"@media {self.choice(MEDIA)} {{ {self.block()} }} {self.block()}",
+                f"b:hover {{ {self.block()} & .a {{ {self.block()} }} }} {self.block()}",
+                f"color: {{{{ x }}}}; {self.block()}",
+                f"--v: {{ x }}; padding: f({{ {self.block()} }}); {self.block()}",
+            )
+        )
+        return f"{self.selector(False)} {{ {self.block()}; {inner} }}"
 
     def statement(self) -> str:
         """A statement of a sheet."""
@@ -140,7 +165,7 @@ class Source(random.Random):
             return f"@supports (display: grid) {{ {self.rule(False)} }}"
         if kind < 0.95:
             return f"@layer x {{ {self.rule(False)} }}"
-        if self.is_odd and kind < 0.97:
+        if self.is_odd and kind < 0.98:
             return self.nested()
         return f"@keyframes k {{ from {{ {self.block(0)} }} 50% {{ {self.block(0)} }} }}"
 
@@ -171,6 +196,24 @@ class Source(random.Random):
             inner += "<a href=x>z</a>" * (self.random() < 0.3)
             parts.append(self.element(inner, "div"))
         return f"<!DOCTYPE html><html><head>{head}</head><body>{''.join(parts)}</body></html>"
+
+
+class Drawings(Source):
+    """Random pages with drawings, whose elements have presentation attributes."""
+
+    is_drawn = True
+
+    def selector(self, has_state: bool) -> str:
+        """A selector, of elements of a drawing."""
+        text = super().selector(has_state).replace("div", "svg")
+        return re.sub(r"(?<![-:(.\w])p\b", self.choice(("rect", "text", "*")), text)
+
+    def element(self, inner: str, name: str) -> str:
+        """An element of a drawing."""
+        name = {"div": "svg", "p": self.choice(("g", "rect", "text", "use"))}.get(name, name)
+        found = super().element(inner, name)
+        own = ' fill="black"' * (self.random() < 0.3) + ' x="7"' * (self.random() < 0.2)
+        return f"<{name}{own}{found[len(name) + 1 :]}"
 
 
 def with_states(page: str) -> str:
@@ -209,6 +252,15 @@ class States(Case):
         """Nor where nothing is made important."""
         source = Source(int(os.environ.get("SEED", 1)))
         self.compare([source.page() for _ in range(count(100))], {"important": False})
+
+    def test_drawings(self) -> None:
+        """Nor in drawings, where attributes are written in place of styles."""
+        source = Drawings(int(os.environ.get("SEED", 1)))
+        pages = [source.page() for _ in range(count(200))]
+        options: Dict[str, Any] = {"as_attributes": True, "ignore": ".b.a"}
+        written = sum(simplecss.inline(each, **options).count(" stroke=") for each in pages)
+        self.assertGreater(written, len(pages) // 10)
+        self.compare(pages, options)
 
     def compare(self, pages: Sequence[str], options: Dict[str, Any]) -> None:
         """Compares pages before and after."""

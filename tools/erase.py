@@ -225,9 +225,30 @@ def erased(path: Path) -> str:
     return re.sub(r"\n\s*\n(\s*\n)+", "\n\n", re.sub(r"[ \t]+\n", "\n", text))
 
 
+def with_twins(text: str) -> str:
+    """Adds to each structure of slices that C passes one with pointers and lengths, as Rattle lays
+    it out."""
+    head = re.compile(r"#\[repr\(C\)\]\n(?:#\[derive[^\n]*\n)?pub struct (\w+)<'\w+> \{([^}]*)\}\n")
+
+    def twin(found: "re.Match[str]") -> str:
+        fields = re.findall(r"pub (\w+): &'\w+ \[(\w+)\],", found[2])
+        parts = (f"    {name}: *const {item},\n    {name}_len: usize,\n" for name, item in fields)
+        read = (
+            f"            {name}: unsafe {{ crate::read(self.{name}, self.{name}_len) }},\n"
+            for name, _ in fields
+        )
+        return (
+            f"{found[0]}\n#[repr(C)]\npub struct {found[1]}InC {{\n{''.join(parts)}}}\n"
+            f"\nimpl {found[1]}InC {{\n    pub unsafe fn read<'a>(&self) -> {found[1]}<'a> {{\n"
+            f"        {found[1]} {{\n{''.join(read)}        }}\n    }}\n}}\n"
+        )
+
+    return head.sub(twin, text)
+
+
 def with_pointers(text: str) -> str:
     """Returns a source whose exported functions take a slice as a pointer and a length, as Rattle's
-    do."""
+    do, and structures of slices likewise."""
     head = re.compile(r'pub extern "C" fn (\w+)\(([^)]*)\) -> u32 \{\n')
 
     def exported(found: "re.Match[str]") -> str:
@@ -248,6 +269,10 @@ def with_pointers(text: str) -> str:
                     f"let {name} = unsafe {{ crate::{'filled' if is_changed else 'read'}({name},"
                     f" {name}_len) }};"
                 )
+            elif kind.endswith("<'_>"):
+                place = re.search(rf"use (.*::{kind[1:-4]});", text)
+                parameters.append(f"{name}: &{place and place[1]}InC")
+                lines.append(f"let {name} = &unsafe {{ {name}.read() }};")
             else:
                 parameters.append(f"{name}: {kind}")
         return (
@@ -256,7 +281,7 @@ def with_pointers(text: str) -> str:
             + "\n"
         )
 
-    return head.sub(exported, text).replace("#[unsafe(no_mangle)]", "#[no_mangle]")
+    return head.sub(exported, with_twins(text)).replace("#[unsafe(no_mangle)]", "#[no_mangle]")
 
 
 def placed(text: str, crate: str, crates: List[str]) -> str:

@@ -64,9 +64,21 @@ OF_CALLERS = """proved library of style sheets and selectors, header
  The header and the static library, for programs in C and C++, with an example."""
 # The modules of the npm package that its page has in it, each after those that it uses, and one
 # that has the WebAssembly module.
-MODULES = ("bytes", "library", "properties", "reading", "device", "tree", "sheet", "lint")
-# The names of the properties that browsers know.
+MODULES = (
+    "bytes",
+    "library",
+    "properties",
+    "names",
+    "reading",
+    "device",
+    "tree",
+    "sheet",
+    "mistakes",
+    "lint",
+)
+# The names of the properties that browsers know, and the other names of CSS.
 PROPERTIES = TOP / "python/src/simplecss/properties.txt"
+NAMES = PROPERTIES.with_name("names.txt")
 BYTES = """// The WebAssembly module.
 const packed = atob('%s');
 const bytes = new Uint8Array(packed.length);
@@ -285,7 +297,7 @@ class Release:
         package = TOP / "python/src/simplecss"
         files = {
             it.relative_to(package.parent).as_posix(): it.read_bytes()
-            for it in (*package.rglob("*.py"), package / "py.typed", PROPERTIES)
+            for it in (*package.rglob("*.py"), package / "py.typed", PROPERTIES, NAMES)
         }
         files["simplecss/libsimplecss.so"] = library
         files.update({f"{info}licenses/{it.name}": it.read_bytes() for it in LICENCES})
@@ -597,6 +609,7 @@ def npm_files(module: bytes) -> List[File]:
         File("simplecss.wasm", module),
         File("bytes.mjs", (BYTES % base64.b64encode(module).decode()).encode()),
         File("properties.mjs", module_of(PROPERTIES.read_text()).encode()),
+        File("names.mjs", names_module(NAMES.read_text()).encode()),
         *(File(it.name, it.read_bytes()) for it in LICENCES),
     ]
 
@@ -628,6 +641,14 @@ def module_of(lines: str) -> str:
     )
     words = "".join(f"//{it[1:]}\n" for it in front)
     return f"{words}export const properties = {json.dumps(names)};\n"
+
+
+def names_module(lines: str) -> str:
+    """Returns the module with the names of each section of their file."""
+    words = "".join(f"//{it[1:]}\n" for it in lines.splitlines() if it[:1] == "#")
+    parts = re.split(r"(?m)^\[(.*)\]$", re.sub(r"(?m)^#.*", "", lines))
+    names = {name: text.split() for name, text in zip(parts[1::2], parts[2::2])}
+    return f"{words}export const knownNames = {json.dumps(names)};\n"
 
 
 def digest_of(data: bytes) -> str:

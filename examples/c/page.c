@@ -1,4 +1,4 @@
-/* An example: prints which rules of a style sheet match the elements of a page.
+/* An example: prints which selectors match the elements of a page.
  *
  *     clang -I include examples/c/page.c out/libsimplecss.a -o page
  */
@@ -9,7 +9,7 @@
 
 #define COUNT(array) (sizeof(array) / sizeof((array)[0]))
 
-static const char *const texts[] = {"ul > li { color: red }", ".new { color: blue !important }"};
+static const char *const texts[] = {"ul > li:first-child", ".new"};
 
 /* <ul><li class="new"></li><li title="a&#10;b"></li></ul> */
 static const simplecss_element elements[] = {{0, 0, 0}, {1, 1, 0}, {1, 1, 0}};
@@ -27,12 +27,14 @@ static size_t put(const char *const *from, size_t count, char *buffer, size_t *e
 }
 
 int main(void) {
-    char sheet[256];
-    size_t sheet_ends[COUNT(texts)];
-    size_t sheet_len = put(texts, COUNT(texts), sheet, sheet_ends);
+    char selectors[256];
+    size_t ends[COUNT(texts)];
+    size_t selectors_len = put(texts, COUNT(texts), selectors, ends);
     char names[256];
     size_t name_ends[COUNT(strings)];
     size_t names_len = put(strings, COUNT(strings), names, name_ends);
+    simplecss_tree tree = {elements, COUNT(elements), (const uint8_t *)names, names_len,
+                           name_ends, COUNT(strings)};
 
     /* The first call asks for the length, and the second writes. */
     uint8_t *out = (uint8_t *)malloc(1);
@@ -41,9 +43,9 @@ int main(void) {
     simplecss_tree_fault fault = {0, 0};
     uint32_t status = SIMPLECSS_TOO_SMALL;
     while (out != NULL) {
-        status = simplecss_match((const uint8_t *)sheet, sheet_len, sheet_ends, COUNT(texts),
-                                 SIMPLECSS_NO_LIMIT, elements, COUNT(elements), (const uint8_t *)names, names_len,
-                                 name_ends, COUNT(strings), SIMPLECSS_NO_LIMIT, out, size, &len, &fault);
+        status = simplecss_match_selectors((const uint8_t *)selectors, selectors_len, ends, COUNT(texts),
+                                           SIMPLECSS_HTML, &tree, SIMPLECSS_NO_LIMIT, out, size, &len,
+                                           &fault);
         if (status != SIMPLECSS_TOO_SMALL) {
             break;
         }

@@ -1,16 +1,18 @@
 #!/usr/bin/env node
-// simplecss lint SHEET..: a line for each mistake. The status is 1 if there is one, 2 for invalid arguments, and 4 if a file
+// simplecss lint SHEET..: a line for each mistake but those of the kinds that are left out. The status is 1 if there is one, 2 for invalid arguments, and 4 if a file
 // cannot be read.
 import { readFileSync } from 'node:fs';
 import { parseArgs } from 'node:util';
 import { lint } from './index.mjs';
 import { printable } from './lint.mjs';
 
-const USAGE = 'usage: simplecss lint [--grammar modern|simplecss] SHEET..';
+const USAGE = 'usage: simplecss lint [--grammar modern|simplecss] [--ignore KIND].. SHEET..';
 
 function words() {
   try {
-    const options = { grammar: { type: 'string', default: 'modern' } };
+    const options = {
+      grammar: { type: 'string', default: 'modern' }, ignore: { type: 'string', multiple: true, default: [] },
+    };
     const { values, positionals: [command, ...files] } = parseArgs({ options, allowPositionals: true });
     const isGrammar = ['modern', 'simplecss'].includes(values.grammar);
     return command === 'lint' && files.length > 0 && isGrammar ? { ...values, files } : null;
@@ -35,10 +37,10 @@ function read(file) {
 }
 
 /** Prints the mistakes of a file. Returns the status. */
-function lintFile(file, { grammar }) {
+function lintFile(file, { grammar, ignore }) {
   const text = read(file);
   if (text === null) return 4;
-  const found = lint(text, { grammar });
+  const found = lint(text, { grammar, ignore });
   for (const { row, column, message } of found) console.log(`${printable(file)}:${row}:${column}: ${message}`);
   return found.length > 0 ? 1 : 0;
 }

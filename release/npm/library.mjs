@@ -138,10 +138,14 @@ function take(length) {
 }
 
 /** Copies a text, sizes or the elements of a tree into the module's memory. Returns its place and its length, or of a structure
- * its place. */
+ * its place: one of arrays has the place and the length of each. */
 function placed(word) {
   if (typeof word === 'bigint') return [word];
   if (word.structure) return placed(new Uint8Array(word.structure.buffer)).slice(0, 1);
+  if (word.arrays) {
+    const numbers = word.arrays.flatMap(placed);
+    return placed({ structure: isErased ? Uint32Array.from(numbers, Number) : BigUint64Array.from(numbers) });
+  }
   const bytes = bytesOf(word), at = take(bytes.length);
   new Uint8Array(library.memory.buffer, Number(at), bytes.length).set(bytes);
   return [at, BigInt(word.count ?? word.length)];

@@ -2,7 +2,7 @@
 import { holds } from './device.mjs';
 import { LimitError, call, encode, expectText, joined, limited, linesOf } from './library.mjs';
 import { conditionsOf, readSheet, Source } from './reading.mjs';
-import { PORT, SelectorError, Tree, grammarOf, matches, selected } from './tree.mjs';
+import { NUMBERS, PORT, SelectorError, Tree, grammarOf, matches, selected } from './tree.mjs';
 
 // The limits where none is named: of the declarations of rules, and of the rules and declarations of an answer.
 const USUAL_LIMIT = 1_000_000, USUAL_ANSWER_LIMIT = 10_000_000;
@@ -17,7 +17,7 @@ export class Selector {
 
   constructor(text, options) {
     const grammar = grammarOf(options);
-    const found = linesOf(selected('list', text, grammar, [encode(text)]));
+    const found = linesOf(selected('list', text, grammar, [encode(text), NUMBERS[grammar]]));
     if (found.length !== 1) throw new SelectorError('more than one selector', 1, 1);
     this.#source = text;
     this.#options = { grammar };
@@ -108,7 +108,7 @@ export class StyleSheet {
   }
 
   #contentsOfPort() {
-    const rules = linesOf(call('rules', this.#words()));
+    const rules = linesOf(call('port_rules', this.#words()));
     return {
       rules: rules.map(rule => ({ ...rule, conditions: [], pseudoElement: null })), unsupported: [], atRules: [],
     };
@@ -159,19 +159,19 @@ export class StyleSheet {
   }
 
   #matchedByPort(elements) {
-    const lines = this.#callOfPort('match', elements).split('\n').slice(0, -1);
+    const lines = this.#callOfPort('port_match', elements).split('\n').slice(0, -1);
     return this.#counted(lines.map(line => numbersIn(line).map(number => number - 1)));
   }
 
   #winnersByPort(elements) {
-    return this.#counted(linesOf(this.#callOfPort('styles', elements)));
+    return this.#counted(linesOf(this.#callOfPort('port_styles', elements)));
   }
 
   /** Calls what matches by the grammar of the Rust crate. A rule or a declaration may have many bytes of the answer. */
   #callOfPort(name, elements) {
     const most = limited(MOST_BYTES * this.#answerLimit);
     const options = { room: 1024 + 64 * elements.names.length, most, hasTree: true };
-    return call(name, [...this.#words(), ...elements.words(PORT)], options);
+    return call(name, [...this.#words(), elements.arrays(PORT)], options);
   }
 
   /** Returns an answer, if it is not too long. */
@@ -238,7 +238,7 @@ function faultsOf(statements) {
 /** Returns what the grammar of the Rust crate skips of a text. The text of a fault may lack blanks at its front. */
 export function skippedByPort(text) {
   const source = new Source(text);
-  const faults = linesOf(call('skipped', [source.data])).map(({ row, column, reason, text: part }) => {
+  const faults = linesOf(call('port_skipped', [source.data])).map(({ row, column, reason, text: part }) => {
     const span = [source.offset(row, column), source.offset(row, column + [...part].length)];
     return { reason, text: part, span };
   });

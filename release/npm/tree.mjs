@@ -7,8 +7,10 @@ export const MODERN = 'modern', PORT = 'simplecss';
 // The states of an element that selectors test, as numbers of the library, and that of one with a text of its own.
 const STATES = { link: 1, visited: 2, hover: 4, active: 8, focus: 16 };
 const HAS_TEXT = 32;
-// How names and values are compared, as the library numbers it.
+// How names and values of modern selectors are compared, as the library numbers it among its grammars, and the grammars
+// where no document is read.
 const AS_WRITTEN = 0n, HTML = 1n, QUIRKS = 2n;
+export const NUMBERS = { [MODERN]: AS_WRITTEN, [PORT]: 3n };
 // The attributes whose values HTML compares without case (HTML Standard, "Case-sensitivity of selectors").
 const WITHOUT_CASE = new Set((
   'accept accept-charset align alink axis bgcolor charset checked clear codetype color compact declare defer dir direction'
@@ -39,11 +41,10 @@ export function grammarOf({ grammar = MODERN } = {}) {
 
 /** Returns what a call for a list of selectors writes. A list that is refused is an error. */
 export function selected(name, text, grammar, words, options) {
-  const end = grammar === PORT ? '' : '_level3';
-  const written = call(name + end, words, options);
+  const written = call(name, words, options);
   if (written !== null) return written;
   const [{ reason, row, column } = { reason: 'refused', row: 1, column: 1 }] =
-    linesOf(call(`refusal${end}`, [encode(text)]));
+    linesOf(call('refusal', [encode(text), NUMBERS[grammar]]));
   throw new SelectorError(reason, row, column);
 }
 
@@ -102,7 +103,7 @@ class Elements {
   nodes = [];
   reading = AS_WRITTEN;
   #texts = [];
-  #words = new Map();
+  #arrays = new Map();
   #answers = new Map();
   #ends;
   #children;
@@ -165,19 +166,24 @@ class Elements {
     // A line is the number of an element, a colon, the numbers with a space before each, and its end.
     const numbers = limited(limit * (1 + `${selectors.length}`.length));
     const most = BigInt(count * (2 + `${count}`.length)) + numbers;
-    const written = call('match_level3', [...joined(selectors), ...this.words(MODERN)], {
+    const written = call('match_selectors', [...joined(selectors), ...this.words(MODERN)], {
       room: 1024 + 32 * count, most: most < NO_LIMIT ? most : NO_LIMIT, hasTree: true,
     });
     return written.split('\n').slice(0, -1).map(line => line.slice(line.indexOf(':') + 1));
   }
 
-  /** Returns the tree as calls of the library for a grammar take it. Those for the modern one are told how it is read. */
+  /** Returns the number of a grammar, of the modern one as the document reads it, and the tree, as calls of the library take them. */
   words(grammar) {
-    if (!this.#words.has(grammar)) this.#words.set(grammar, this.#makeWords(grammar));
-    return this.#words.get(grammar);
+    return [grammar === PORT ? NUMBERS[PORT] : this.reading, this.arrays(grammar)];
   }
 
-  #makeWords(grammar) {
+  /** Returns the tree as calls of the library for a grammar take it. */
+  arrays(grammar) {
+    if (!this.#arrays.has(grammar)) this.#arrays.set(grammar, this.#makeArrays(grammar));
+    return this.#arrays.get(grammar);
+  }
+
+  #makeArrays(grammar) {
     const shapes = [], strings = [];
     this.names.forEach((name, index) => {
       const attributes = [...this.#compared(this.attributes[index], grammar)];
@@ -187,7 +193,7 @@ class Elements {
       for (const [key, value] of attributes) strings.push(key, value);
     });
     const elements = Object.assign(sizes(shapes), { count: this.names.length });
-    return [...(grammar === PORT ? [] : [this.reading]), elements, ...joined(strings)];
+    return { arrays: [elements, ...joined(strings)] };
   }
 
   /** Returns attributes as they are compared. Of two that have one name then, the first. */

@@ -38,7 +38,8 @@ function sheetOf(text, grammar) {
 function answersTo(text, grammar) {
   const found = css.lint(text, { grammar });
   return [
-    found.map(each => [each.row, each.column, each.reason, each.text, each.endRow, each.endColumn, each.kind, each.message]),
+    found.map(each => [
+      each.row, each.column, each.reason, each.text, each.endRow, each.endColumn, each.hint, each.kind, each.message]),
     css.declarations(text).map(declared),
     ...sheetOf(text, grammar),
     tried(() => tree.select(text, { grammar }).map(each => each.index)),

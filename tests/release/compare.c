@@ -11,7 +11,6 @@
 #define MOST SIMPLECSS_NO_LIMIT
 #define OUT out, sizeof out, &len
 #define SHEET text, end, &end, 1
-#define TREE PAGE, sizeof PAGE / sizeof *PAGE, STRINGS, sizeof STRINGS, ENDS, sizeof ENDS / sizeof *ENDS
 
 static uint8_t text[ROOM], out[ROOM];
 static size_t len;
@@ -27,20 +26,20 @@ static void put(uint32_t status) {
 int main(void) {
     for (uint64_t length; fread(&length, 8, 1, stdin) == 1;) {
         size_t end = fread(text, 1, length, stdin);
-        put(simplecss_sheet(SHEET, MOST, OUT));
-        put(simplecss_selector(text, end, OUT));
-        put(simplecss_skipped(text, end, OUT));
-        put(simplecss_list(text, end, OUT));
-        put(simplecss_rules(SHEET, MOST, OUT));
-        put(simplecss_match(SHEET, MOST, TREE, MOST, OUT, &fault));
-        put(simplecss_styles(SHEET, MOST, TREE, MOST, OUT, &fault));
+        put(simplecss_port_sheet(SHEET, MOST, OUT));
+        put(simplecss_port_selector(text, end, OUT));
+        put(simplecss_port_skipped(text, end, OUT));
+        put(simplecss_list(text, end, SIMPLECSS_PORT, OUT));
+        put(simplecss_port_rules(SHEET, MOST, OUT));
+        put(simplecss_port_match(SHEET, MOST, &TREE, MOST, OUT, &fault));
+        put(simplecss_port_styles(SHEET, MOST, &TREE, MOST, OUT, &fault));
         put(simplecss_read(text, end, MOST, OUT));
         put(simplecss_declarations(text, end, OUT));
         put(simplecss_close(text, end, OUT));
-        put(simplecss_list_level3(text, end, OUT));
-        put(simplecss_refusal_level3(text, end, OUT));
-        put(simplecss_select_level3(text, end, 0, TREE, MOST, OUT, &fault));
-        put(simplecss_match_level3(SHEET, 0, TREE, MOST, OUT, &fault));
+        put(simplecss_list(text, end, SIMPLECSS_MODERN, OUT));
+        put(simplecss_refusal(text, end, SIMPLECSS_MODERN, OUT));
+        put(simplecss_select(text, end, SIMPLECSS_MODERN, &TREE, MOST, OUT, &fault));
+        put(simplecss_match_selectors(SHEET, SIMPLECSS_MODERN, &TREE, MOST, OUT, &fault));
     }
     return 0;
 }

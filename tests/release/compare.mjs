@@ -13,13 +13,14 @@ for (let at = 0; at < input.length; ) {
   const text = input.subarray(at + 8, at + 8 + length);
   at += 8 + length;
   const ends = sizes([length]), sheet = [text, ends, NO_LIMIT];
-  const port = elements.words('simplecss'), modern = elements.words('modern');
+  const [portNumber, port] = elements.words('simplecss'), modern = elements.words('modern');
   const answers = [
-    call('sheet', sheet), call('selector', [text]), call('skipped', [text]), call('list', [text]), call('rules', sheet),
-    call('match', [...sheet, ...port], { most, hasTree }), call('styles', [...sheet, ...port], { most, hasTree }),
-    call('read', [text], { most }), call('declarations', [text]), call('close', [text]), call('list_level3', [text]),
-    call('refusal_level3', [text]), call('select_level3', [text, ...modern], { most, hasTree }),
-    call('match_level3', [text, ends, ...modern], { most, hasTree }),
+    call('port_sheet', sheet), call('port_selector', [text]), call('port_skipped', [text]), call('list', [text, portNumber]),
+    call('port_rules', sheet), call('port_match', [...sheet, port], { most, hasTree }),
+    call('port_styles', [...sheet, port], { most, hasTree }),
+    call('read', [text], { most }), call('declarations', [text]), call('close', [text]), call('list', [text, modern[0]]),
+    call('refusal', [text, modern[0]]), call('select', [text, ...modern], { most, hasTree }),
+    call('match_selectors', [text, ends, ...modern], { most, hasTree }),
   ];
   for (const answer of answers) {
     const bytes = Buffer.from(answer ?? '');

@@ -84,6 +84,11 @@ impl Element for XmlNode<'_, '_> {
     fn has_content(&self) -> bool {
         self.kept().has_content
     }
+
+    /// `:scope` is the root.
+    fn is_in_list(&self, number: usize) -> bool {
+        number == 0 && self.node.parent_element().is_none()
+    }
 }
 
 impl Keyed for XmlNode<'_, '_> {

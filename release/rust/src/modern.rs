@@ -38,7 +38,7 @@ use alloc::vec::Vec;
 use core::fmt;
 
 pub use crate::erased::css_index::Keyed;
-pub use crate::erased::css_selectors::{Element, Key, Specificity};
+pub use crate::erased::css_selectors::{Element, Key, Nesting, Specificity};
 pub use crate::erased::css_syntax::{
     AtRule, Block, Declaration, Declarations, Fault, Item, ListPart, Prelude, Quality,
 };
@@ -89,6 +89,24 @@ impl<'a> Selector<'a> {
     /// Parses selectors with commas between them. Fails if one of them is not a selector.
     pub fn parse_list(text: &'a str) -> Result<Vec<Self>, SelectorError> {
         match css_selectors::Selector::parse_list(Global, within(text)) {
+            Ok(selectors) => Ok(selectors.0.into_iter().map(Selector).collect()),
+            Err(refusal) => Err(SelectorError::new(text, refusal)),
+        }
+    }
+
+    /// Parses the selectors of a nested rule. `&` stands for `list`, that of the rule around it, of which
+    /// elements are asked by its number: [`Element::is_in_list`].
+    ///
+    /// ```
+    /// use simplecss::modern::{Nesting, Selector, Specificity};
+    ///
+    /// let list = Nesting { number: 1, specificity: Specificity { ids: 0, classes: 1, names: 0 } };
+    /// let selectors = Selector::parse_nested_list(list, "> b, c").unwrap();
+    /// let printed: Vec<String> = selectors.iter().map(ToString::to_string).collect();
+    /// assert_eq!(printed, ["& > b", "& c"]);
+    /// ```
+    pub fn parse_nested_list(list: Nesting, text: &'a str) -> Result<Vec<Self>, SelectorError> {
+        match css_selectors::Selector::parse_nested_list(Global, list, within(text)) {
             Ok(selectors) => Ok(selectors.0.into_iter().map(Selector).collect()),
             Err(refusal) => Err(SelectorError::new(text, refusal)),
         }
@@ -337,6 +355,25 @@ impl<'p, 't> Document<'p, 't> {
     /// Says that the element at an index has a text that is not empty, which `:empty` tests.
     pub fn set_text(&mut self, index: usize) {
         self.0.set_text(index);
+    }
+
+    /// Says which element `:scope` is, by its index. Without one it is the root.
+    ///
+    /// ```
+    /// use simplecss::modern::{Document, Selector};
+    /// use simplecss::tree::Tree;
+    ///
+    /// let mut tree = Tree::new();
+    /// let list = tree.push(None, "ul").unwrap();
+    /// let item = tree.push(Some(list), "li").unwrap();
+    /// let link = tree.push(Some(item), "a").unwrap();
+    /// let mut document = Document::new(&tree);
+    /// document.set_scope(Some(item));
+    /// let selector = Selector::parse(":scope > a").unwrap();
+    /// assert!(selector.matches(&document.node(link).unwrap()));
+    /// ```
+    pub fn set_scope(&mut self, scope: Option<usize>) {
+        self.0.set_scope(scope);
     }
 
     /// Returns the element at an index, if there is one.

@@ -1,0 +1,451 @@
+// What a person calls a mistake, in what the library reads of style sheets.
+import { call, encode } from './library.mjs';
+import { properties } from './properties.mjs';
+import { knownNames } from './names.mjs';
+import { deviceOf } from './device.mjs';
+import { lower, readBlock, readSheet } from './reading.mjs';
+import { wordsOf } from './sheet.mjs';
+
+// The at-rules whose blocks have declarations; within a rule of elements, further ones; and those whose blocks have rules,
+// which the library does not read.
+const DECLARING = new Set([
+  'counter-style', 'font-face', 'font-palette-values', 'page', 'property', 'view-transition', 'viewport']);
+const GROUPS = new Set(['container', 'layer', 'media', 'scope', 'starting-style', 'supports']);
+const UNREAD_GROUPS = new Set(['scope', 'starting-style']);
+// What is before the block of a rule, in a text that is read as one.
+const RULE = 'x{';
+// Those that do nothing without a rule.
+const NOTHING_WITHOUT_RULES = new Set(['container', 'font-face', 'media', 'supports']);
+// What an item is directly in.
+const IN_SHEET = 0, IN_RULE = 1, IN_AT_RULE = 2;
+// How many characters of a text are read again to find where something begins, and at how many places; and how many names of
+// a selector are.
+const MOST_READ = 2_000, MOST_PLACES = 16, MOST_NAMES = 8;
+// The fewest and the most characters of a name that others are near to.
+const FEWEST_NEAR = 3, MOST_NEAR = 64;
+// What begins a string and a url.
+const MARKS = { 'bad string': ["'", '"'], 'bad url': ['url('] };
+const BLANKS = '\t\n\f\r ';
+const SLASH = 47, STAR = 42, CLOSING = 125;
+
+/** Names of a kind. */
+class Names {
+  #names;
+  #near;
+
+  constructor(...lists) {
+    this.#names = new Set(lists.flat());
+  }
+
+  has(name) {
+    return this.#names.has(name);
+  }
+
+  /** Whether a name in lower case is one of these, or is not for us to say: it has a vendor's prefix or an escape. */
+  knows(name) {
+    return this.#names.has(name) || name.startsWith('-') || name.includes('\\');
+  }
+
+  /**
+   * Returns the name that an unknown one is a slip of the pen for: a character too many, too few or another, or two that are
+   * exchanged. Of several, the first by the alphabet of those with the same first letter, if there is one.
+   */
+  nearest(name) {
+    if (name.length < FEWEST_NEAR || name.length > MOST_NEAR) return null;
+    if (!this.#near) this.#near = this.#byForm();
+    const found = new Set([...formsOf(name)].flatMap(form => this.#near.get(form) ?? []));
+    const near = [...found].filter(each => isSlip(name, each)).sort();
+    return near.find(each => each[0] === name[0]) ?? near[0] ?? null;
+  }
+
+  /** Returns the names by their forms. */
+  #byForm() {
+    const found = new Map();
+    for (const name of this.#names) {
+      for (const form of name.startsWith('-') ? [] : formsOf(name)) {
+        if (found.has(form)) found.get(form).push(name);
+        else found.set(form, [name]);
+      }
+    }
+    return found;
+  }
+}
+
+/** Returns a name, and the name without each of its characters. */
+function formsOf(name) {
+  const forms = new Set([name]);
+  for (let at = 0; at < name.length; at += 1) forms.add(name.slice(0, at) + name.slice(at + 1));
+  return forms;
+}
+
+/** Whether one slip of the pen leads from one of two names, which have a form in common, to the other. */
+function isSlip(name, other) {
+  if (name.length !== other.length) return true;
+  const [first, second, third] = [...name].map((_, at) => at).filter(at => name[at] !== other[at]);
+  if (second === undefined) return first !== undefined;
+  return third === undefined && name[first] === other[second] && name[second] === other[first];
+}
+
+const PROPERTIES = new Names(properties, knownNames.properties);
+const DESCRIPTORS = new Names(properties, knownNames.properties, knownNames.descriptors);
+const SHORTHANDS = shorthandsOf(knownNames.shorthands);
+const FEATURES = new Names(knownNames['media features']);
+const AT_RULES = new Names(knownNames['at-rules']);
+// Those that CSS 2 writes with one colon, too.
+const OLD_ELEMENTS = ['after', 'before', 'first-letter', 'first-line'];
+const CLASSES = new Names(knownNames['pseudo-classes'], knownNames['other pseudo-classes'], OLD_ELEMENTS);
+const ELEMENTS = new Names(knownNames['pseudo-elements'], knownNames['other pseudo-elements']);
+const IMPORTANT = new Names(['important']);
+
+/** Returns the properties that each shorthand sets, and the shorthands of some of these. */
+function shorthandsOf(words) {
+  const parts = new Map();
+  for (const word of words) {
+    if (word.endsWith(':')) parts.set(word.slice(0, -1), new Set());
+    else [...parts.values()].at(-1).add(word);
+  }
+  const isWithin = (inner, outer) => inner.size < outer.size && [...inner].every(each => outer.has(each));
+  const withShorthands = those => [...those, ...[...parts.keys()].filter(name => isWithin(parts.get(name), those))];
+  return new Map([...parts].map(([name, those]) => [name, withShorthands(those)]));
+}
+
+/** How many bytes a text has. */
+const sizeOf = text => encode(text).length;
+
+/** Returns a problem: why something is reported, where it begins and ends, and what was meant, as far as that is near. */
+const problem = (reason, span, hint = null) => ({ reason, span, hint });
+
+/** Moves problems by a number of bytes. */
+const movedBy = (problems, by) => problems.map(each => ({ ...each, span: each.span.map(at => at + by) }));
+
+/** Returns the mistakes of statements. */
+export function problemsOfSheet(source, statements) {
+  return [
+    ...groupsOf(statements).flatMap(ofGroup),
+    ...statements.flatMap(each => each.kind === 'rule' ? ofRule(source, each) : ofItem(source, each, IN_SHEET, PROPERTIES)),
+    ...openGroups(source, statements),
+    ...openComment(source, endOf(statements)),
+  ];
+}
+
+/** Returns the mistakes of what the block of a rule or of an at-rule has. */
+export function problemsOfBlock(source, items, place = IN_RULE) {
+  const known = place === IN_RULE ? PROPERTIES : DESCRIPTORS;
+  return [...items.flatMap(item => ofItem(source, item, place, known)), ...repeated(items)];
+}
+
+function ofItem(source, item, place, known) {
+  if (item.kind === 'skipped') return ofFault(source, item);
+  return item.kind === 'declaration' ? ofDeclaration(source, item, known) : ofAtRule(source, item, place);
+}
+
+// ---- rules
+
+/** Returns the group rules that statements are in, each once. */
+function groupsOf(statements) {
+  const found = new Map();
+  for (const level of statements.flatMap(each => each.levels)) found.set(level.span.join(), level);
+  return [...found.values()];
+}
+
+/** Returns what media queries say on a device. */
+const saidOf = prelude => call('media', [encode(prelude), deviceOf({})]);
+
+/**
+ * Returns the name in the head of a group rule that is no media feature, and nearly one with which it would be known what the
+ * queries say.
+ */
+function ofGroup({ condition: { name: kind, prelude }, head }) {
+  if (kind !== 'media' || saidOf(prelude) !== 'unknown') return [];
+  const pieces = prelude.split('(');
+  for (const [index, piece] of pieces.slice(1, MOST_NAMES + 1).entries()) {
+    const name = nameOf(piece), hint = FEATURES.knows(name) ? null : FEATURES.nearest(name);
+    if (hint === null) continue;
+    const before = [...pieces.slice(0, index + 1), ''].join('(');
+    const right = [before + hint + piece.slice(name.length), ...pieces.slice(index + 2)].join('(');
+    if (saidOf(right) === 'unknown') continue;
+    const start = head[1] - sizeOf(prelude) + sizeOf(before);
+    return [problem('unknown media feature', [start, start + sizeOf(name)], hint)];
+  }
+  return [];
+}
+
+function ofRule(source, rule) {
+  const found = [];
+  if (!rule.isClosed) {
+    const starts = [rule.head, ...rule.items.map(item => item.span)];
+    found.push(problem('block not closed', rule.head));
+    found.push(...openComment(source, starts.reduce((most, [, end]) => Math.max(most, end), 0)));
+  } else if (rule.items.length === 0 && endsEmpty(source, [rule.head[1], rule.span[1]])) {
+    found.push(problem('empty rule', rule.span));
+  }
+  return [...found, ...rule.selectors.flatMap(ofSelector), ...problemsOfBlock(source, rule.items)];
+}
+
+/** Whether a text ends with a block that has no more than blanks, no comment either. */
+function endsEmpty(source, span) {
+  return wordsOf(source.at(span)).join('').endsWith('{}');
+}
+
+/** Returns the mistakes of an at-rule. */
+function ofAtRule(source, item, place) {
+  const { name, block } = item.rule, [start] = item.span, found = [];
+  if (!item.isClosed) found.push(problem('block not closed', item.span));
+  if (!AT_RULES.knows(name)) {
+    const hint = AT_RULES.nearest(name);
+    found.push(problem('unknown at-rule', [start, start + 1 + sizeOf(name)], hint && `@${hint}`));
+  }
+  if (block === null) return found;
+  if (NOTHING_WITHOUT_RULES.has(name) && endsEmpty(source, item.span)) found.push(problem('empty rule', item.span));
+  return [...found, ...movedBy(within(block, name, place), item.inner[0])];
+}
+
+/**
+ * Returns the mistakes in the block of an at-rule, if it is read as a block or a sheet of its own. One within an at-rule that
+ * has declarations is not: none is valid there.
+ */
+function within(text, name, place) {
+  if (place === IN_AT_RULE) return [];
+  if (DECLARING.has(name)) {
+    const { source, items } = readBlock(text);
+    return problemsOfBlock(source, items, IN_AT_RULE);
+  }
+  if (place === IN_RULE && GROUPS.has(name)) {
+    const { source, statements: [rule] } = readSheet(RULE + text);
+    return movedBy(problemsOfBlock(source, rule.items ?? [], IN_AT_RULE), -RULE.length);
+  }
+  if (!UNREAD_GROUPS.has(name)) return [];
+  const { source, statements } = readSheet(text);
+  return statements.filter(each => each.kind === 'rule').flatMap(each => ofRule(source, each));
+}
+
+/** Returns the group rules that the end of the text closes: the last statement is in them. */
+function openGroups({ data }, statements) {
+  const last = statements.at(-1), found = [];
+  const ends = last ? [last.span[1]] : [];
+  for (const { span, head } of [...last?.levels ?? []].reverse()) {
+    // Its last byte is that of what is in it, or it is no brace.
+    if (ends.includes(span[1]) || data[span[1] - 1] !== CLOSING) found.push(problem('block not closed', head));
+    ends.push(span[1]);
+  }
+  return found;
+}
+
+/** Returns where the last statement ends, or the group rule that it is in. */
+function endOf(statements) {
+  return statements.map(each => (each.levels[0] ?? each).span[1]).reduce((most, end) => Math.max(most, end), 0);
+}
+
+/** Returns where two bytes are one after another, from an offset on, or -1. */
+function find(data, first, second, from) {
+  let at = data.indexOf(first, from);
+  while (at >= 0 && data[at + 1] !== second) at = data.indexOf(first, at + 1);
+  return at;
+}
+
+/** Returns the comment that is not closed after the last of what is read, if there is one. */
+function openComment({ data }, from) {
+  let start = find(data, SLASH, STAR, from);
+  while (start >= 0) {
+    const end = find(data, STAR, SLASH, start + 2);
+    if (end < 0) return [problem('comment not closed', [start, data.length])];
+    start = find(data, SLASH, STAR, end + 2);
+  }
+  return [];
+}
+
+// ---- selectors
+
+/**
+ * Returns the names in a selector that no pseudo-class and no pseudo-element has. What is after a colon is a name of one if the
+ * selector is another one with a blank there.
+ */
+function ofSelector(selector) {
+  const pieces = selector.text.split(':'), found = [];
+  let at = pieces[0].length, asked = 0;
+  pieces.slice(1).forEach((piece, number) => {
+    const isElement = number > 0 && pieces[number] === '';
+    const known = isElement ? ELEMENTS : CLASSES;
+    const name = asked < MOST_NAMES ? nameOf(piece) : '';
+    if (name && !known.knows(name)) {
+      asked += 1;
+      if (isParted(selector, at + 1)) {
+        const start = selector.span[0] + sizeOf(selector.text.slice(0, at - isElement));
+        found.push(unknown(name, [start, start + 1 + isElement + sizeOf(name)], isElement));
+      }
+    }
+    at += 1 + piece.length;
+  });
+  return found;
+}
+
+/** Returns the name that a text begins with, as that of an at-rule, in lower case. */
+function nameOf(text) {
+  const [item] = readBlock(`@${text}`).items;
+  return item?.kind === 'at-rule' ? item.rule.name : '';
+}
+
+/** Whether a blank at an index makes another selector of one, or none. */
+function isParted({ text, specificity }, at) {
+  const { statements } = readSheet(`${text.slice(0, at)} ${text.slice(at)}{}`);
+  if (statements.length !== 1 || statements[0].kind !== 'rule' || statements[0].selectors.length !== 1) return true;
+  return (statements[0].selectors[0].specificity === null) !== (specificity === null);
+}
+
+/** Returns that a pseudo-class or a pseudo-element is unknown. */
+function unknown(name, span, isElement) {
+  const near = (isElement ? ELEMENTS : CLASSES).nearest(name), colons = isElement ? '::' : ':';
+  const isOther = (isElement ? CLASSES : ELEMENTS).has(name);
+  const hint = isOther ? `${isElement ? ':' : '::'}${name}` : near && colons + near;
+  return problem(isElement ? 'unknown pseudo-element' : 'unknown pseudo-class', span, hint);
+}
+
+// ---- declarations
+
+function ofDeclaration(source, item, known) {
+  const { name, value, important } = item.declaration, [start] = item.span, text = source.at(item.span), found = [];
+  if (!item.isClosed) found.push(notClosed(text, item.span));
+  const isHack = name[0] === '_' && known.has(name.slice(1));
+  if (!isHack && !known.knows(name)) {
+    found.push(problem('unknown property', [start, start + sizeOf(name)], known.nearest(name)));
+  }
+  if (name.startsWith('--')) return found;
+  const words = wordsOf(value), last = words.at(-1);
+  if (!important && words.length > 1 && IMPORTANT.has(lower(last))) {
+    const end = start + sizeOf(text);
+    found.push(problem('misspelt important', [end - last.length, end], '!important'));
+  }
+  return [...found, ...merged(text, start)];
+}
+
+function ofFault(source, { reason, span }) {
+  const text = source.at(span);
+  if (reason === 'nested rule') return ofNested(text, span);
+  if (reason === 'broken declaration') return ofBroken(text, span);
+  if (!(reason in MARKS)) return [problem(reason, span)];
+  return [problem(reason, [span[0] + sizeOf(text.slice(0, opened(text, MARKS[reason]))), span[1]])];
+}
+
+/** Returns the string without an end for which what is after its line is read as a rule in this one. */
+function ofNested(text, [start]) {
+  const line = text.split('\n', 1)[0], at = opened(line, MARKS['bad string']);
+  if (at === 0 || isWhole(line) || !isWhole(line + line[at])) return [];
+  return [problem('bad string', [start + sizeOf(line.slice(0, at)), start + sizeOf(line)])];
+}
+
+/** Returns why a declaration is broken, as far as that is known. */
+function ofBroken(text, span) {
+  const at = text.lastIndexOf('!'), before = text.slice(0, Math.max(at, 0));
+  const word = lower(wordsOf(text.slice(at + 1)).join(''));
+  const isNear = at >= 0 && (IMPORTANT.has(word) || IMPORTANT.nearest(word) !== null);
+  if (isNear && isWhole(withoutEnd(before, `!${BLANKS}`))) {
+    return [problem('misspelt important', [span[0] + sizeOf(before), span[1]], '!important')];
+  }
+  if (text[0] === '*' && isWhole(text.slice(1))) return [];
+  const found = merged(text, span[0]);
+  return found.length > 0 ? found : [problem('broken declaration', span)];
+}
+
+/**
+ * Returns the first of two declarations without a semicolon between them: the word before the second colon is a property, and
+ * what is before it and from it on are declarations.
+ */
+function merged(text, start) {
+  const [name, value] = text.split(':', 2), isParted = text.indexOf(':', text.indexOf(':') + 1) >= 0;
+  const words = isParted && text.length <= MOST_READ ? wordsOf(value) : [];
+  if (words.length < 2 || !PROPERTIES.has(lower(words.at(-1)))) return [];
+  const at = name.length + 1 + value.lastIndexOf(words.at(-1));
+  const before = withoutEnd(text.slice(0, at), BLANKS);
+  if (!isWhole(before) || !isWhole(text.slice(at))) return [];
+  return [problem('semicolon missing', [start, start + sizeOf(before)])];
+}
+
+/** Returns a text without these characters at its end. */
+function withoutEnd(text, characters) {
+  let end = text.length;
+  while (end > 0 && characters.includes(text[end - 1])) end -= 1;
+  return text.slice(0, end);
+}
+
+/** Whether a text is one declaration, of which nothing is open at its end. */
+function isWhole(text) {
+  const { items } = readBlock(text);
+  return items.length === 1 && items[0].kind === 'declaration' && items[0].isClosed;
+}
+
+/**
+ * Returns where something that is not closed begins: at the last mark before which all is closed. If that is not found, it is
+ * where the text begins.
+ */
+function opened(text, marks) {
+  if (text.length > MOST_READ) return 0;
+  const places = marks.flatMap(mark => placesOf(lower(text), mark)).sort((a, b) => a - b);
+  return places.slice(0, MOST_PLACES).filter(place => isWhole(`${text.slice(0, place)}x`)).at(-1) ?? 0;
+}
+
+/** Returns where a mark is in a text. */
+function placesOf(text, mark) {
+  const found = [];
+  for (let at = text.indexOf(mark); at >= 0; at = text.indexOf(mark, at + 1)) found.push(at);
+  return found;
+}
+
+/** Returns what the end of the text closes of a declaration: a comment, a string or a bracket. */
+function notClosed(text, [start, end]) {
+  const comment = opened(text, ['/*']);
+  if (comment > 0 && isWhole(`${text}*/`)) {
+    return problem('comment not closed', [start + sizeOf(text.slice(0, comment)), end]);
+  }
+  const string = opened(text, MARKS['bad string']);
+  const before = isWhole(text + text[string]) ? text.slice(0, string) : '';
+  return problem('value not closed', [start + sizeOf(before), end]);
+}
+
+/** Returns the declarations that are lost, since the block sets their property again. */
+function repeated(items) {
+  const last = new Map(), found = [];
+  // How many declarations come before, without prefixed ones.
+  let count = 0;
+  for (const item of items) {
+    if (item.kind !== 'declaration') {
+      count += 1;
+      continue;
+    }
+    const { name, important } = item.declaration, before = last.get(name);
+    if (before?.item.declaration.important && !important) {
+      found.push(problem('repeated declaration', item.span));
+      continue;
+    }
+    if (before && isLost(before.item.declaration, item.declaration, before.place === count)) {
+      found.push(problem('repeated declaration', before.item.span));
+    }
+    for (const part of partsOf(item.declaration).filter(each => last.has(each))) {
+      const other = last.get(part).item;
+      if (!important && other.declaration.important) continue;
+      found.push(problem('overridden declaration', other.span));
+      last.delete(part);
+    }
+    count += name.startsWith('--') || !name.startsWith('-');
+    last.set(name, { item, place: count });
+  }
+  return found;
+}
+
+/**
+ * Whether a declaration is lost by another one of its property. Browsers take the last value that they support: two different
+ * ones side by side are meant, and so is a later one of a function, or one with a prefix.
+ */
+function isLost(before, after, isBeside) {
+  if (before.value === after.value) return true;
+  return !isBeside && !before.value.startsWith('-') && !mayFail(after.value);
+}
+
+/** Whether a browser may not support a value that others do. */
+function mayFail(value) {
+  return value.includes('(') || value.startsWith('-');
+}
+
+/** Returns the properties that a shorthand sets, if browsers support its value. */
+function partsOf({ name, value }) {
+  return mayFail(value) ? [] : SHORTHANDS.get(name) ?? [];
+}
