@@ -51,7 +51,8 @@ class Names {
    * exchanged. Of several, the first by the alphabet of those with the same first letter, if there is one.
    */
   nearest(name) {
-    if (name.length < FEWEST_NEAR || name.length > MOST_NEAR) return null;
+    const { length } = [...name];
+    if (length < FEWEST_NEAR || length > MOST_NEAR) return null;
     if (!this.#near) this.#near = this.#byForm();
     const found = new Set([...formsOf(name)].flatMap(form => this.#near.get(form) ?? []));
     const near = [...found].filter(each => isSlip(name, each)).sort();
@@ -73,17 +74,18 @@ class Names {
 
 /** Returns a name, and the name without each of its characters. */
 function formsOf(name) {
-  const forms = new Set([name]);
-  for (let at = 0; at < name.length; at += 1) forms.add(name.slice(0, at) + name.slice(at + 1));
+  const characters = [...name], forms = new Set([name]);
+  characters.forEach((_, at) => forms.add(characters.filter((_, index) => index !== at).join('')));
   return forms;
 }
 
 /** Whether one slip of the pen leads from one of two names, which have a form in common, to the other. */
 function isSlip(name, other) {
-  if (name.length !== other.length) return true;
-  const [first, second, third] = [...name].map((_, at) => at).filter(at => name[at] !== other[at]);
+  const ours = [...name], theirs = [...other];
+  if (ours.length !== theirs.length) return true;
+  const [first, second, third] = [...ours.keys()].filter(at => ours[at] !== theirs[at]);
   if (second === undefined) return first !== undefined;
-  return third === undefined && name[first] === other[second] && name[second] === other[first];
+  return third === undefined && ours[first] === theirs[second] && ours[second] === theirs[first];
 }
 
 const PROPERTIES = new Names(properties, knownNames.properties);
