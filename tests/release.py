@@ -649,6 +649,8 @@ class Wheel(Release):
         folder = self.install()
         for name in ("python/tests", "examples", "include"):
             shutil.copytree(os.path.join(TOP, name), os.path.join(self.folder, "copy", name))
+        readme = os.path.join("python", "README.md")
+        shutil.copy(os.path.join(TOP, readme), os.path.join(self.folder, "copy", readme))
         words = [
             os.path.join(folder, "python"),
             "-m",
