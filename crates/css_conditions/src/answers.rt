@@ -49,6 +49,28 @@ pub struct Read<'t> {
     pub rest: &'t [u8],
 }
 
+/// Returns that nothing of the grammar is there.
+pub(crate) fn unfit(rest: &[u8]) -> Read<'_>
+    ensures outcome { result.outcome ≡ Outcome.Unfit }
+    ensures rest { result.rest.now ≡ rest.now }
+{
+    Read {
+        outcome: Outcome::Unfit,
+        rest,
+    }
+}
+
+/// Returns that the text is broken up to the rest.
+pub(crate) fn broken(rest: &[u8]) -> Read<'_>
+    ensures outcome { result.outcome ≡ Outcome.Broken }
+    ensures rest { result.rest.now ≡ rest.now }
+{
+    Read {
+        outcome: Outcome::Broken,
+        rest,
+    }
+}
+
 /// What the grammars of conditions differ in.
 pub trait Asked {
     ghost enclosed: { Self → Truth };

@@ -7,15 +7,15 @@ ghost use Rattle.css_conditions.specs.Conditions.{more as more_of, or_else, with
 ghost use Rattle.css_conditions.specs.Conditions.{condition as condition_of};
 ghost use Rattle.css_conditions.specs.Choices.{join_of, word_of};
 
-use crate::answers::{Asked, Read};
+use crate::answers::{Asked, Read, broken, unfit};
 use crate::truth::{Join, Outcome, Truth, join_outcomes, reversed, word};
 use crate::words::{
-    Stop, before, begins_function, begins_parens, ends_parens, past_one, read_values, starts_with,
+    Stop, before, begins_function, begins_parens, ends_parens, read_values, starts_with,
     take_keyword,
 };
 use css_syntax::component_values::read_component_value;
 use css_syntax::quality::is_good;
-use css_syntax::tokens::{past_gap, past_word};
+use css_syntax::tokens::{past_gap, past_one, past_word};
 use std::alloc::AllocError;
 
 /// What was read in parentheses that end after it.
@@ -73,10 +73,7 @@ fn read_function<'t, A: Asked>(asked: &A, bytes: &'t [u8]) -> Result<Read<'t>, A
     let arguments = read_values(Stop::Parenthesis, inside);
     let rest = past_one(arguments.rest);
     if !is_good(arguments.quality) {
-        return Ok(Read {
-            outcome: Outcome::Broken,
-            rest,
-        });
+        return Ok(broken(rest));
     }
     let truth = asked.function(before(bytes, after), before(inside, arguments.rest))?;
     Ok(Read {
@@ -108,10 +105,7 @@ fn in_parens<'t, A: Asked>(asked: &A, bytes: &'t [u8], depth: usize) -> Result<R
         (λ _. A.may_fail asked.now ≡ true) }
 {
     if depth == 0 {
-        return Ok(Read {
-            outcome: Outcome::Broken,
-            rest: read_component_value(bytes).rest,
-        });
+        return Ok(broken(read_component_value(bytes).rest));
     }
     if starts_with(bytes, b'(') {
         let read = inside(asked, past_gap(past_one(bytes)), depth - 1)?;
@@ -120,10 +114,7 @@ fn in_parens<'t, A: Asked>(asked: &A, bytes: &'t [u8], depth: usize) -> Result<R
     if begins_function(bytes) {
         return read_function(asked, bytes);
     }
-    Ok(Read {
-        outcome: Outcome::Unfit,
-        rest: bytes,
-    })
+    Ok(unfit(bytes))
 }
 
 /// Reads what is between parentheses.

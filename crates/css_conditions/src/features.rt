@@ -7,24 +7,11 @@ ghost use Rattle.css_conditions.specs.Media.{after_second_name as after_second_o
 ghost use Rattle.css_conditions.specs.Media.{or_equal as or_equal_of};
 ghost use Rattle.css_conditions.specs.Media.{feature as feature_of};
 
-use crate::answers::{Features, Read};
+use crate::answers::{Features, Read, broken, unfit};
 use crate::truth::{Comparison, Outcome, span};
-use crate::words::{
-    Stop, before, begins_name, ends_parens, ends_run, past_one, read_values, starts_with,
-};
+use crate::words::{Stop, before, begins_name, ends_parens, ends_run, read_values, starts_with};
 use css_syntax::quality::is_good;
-use css_syntax::tokens::{past_gap, past_word};
-
-/// Nothing of the grammar.
-fn unfit(rest: &[u8]) -> Read<'_>
-    ensures outcome { result.outcome ≡ Outcome.Unfit }
-    ensures rest { result.rest.now ≡ rest.now }
-{
-    Read {
-        outcome: Outcome::Unfit,
-        rest,
-    }
-}
+use css_syntax::tokens::{past_gap, past_one, past_word};
 
 /// A sign of comparison, and the rest.
 #[derive(Clone, Copy)]
@@ -104,10 +91,7 @@ fn compared<'t, F: Features>(
 {
     let skipped = read_values(Stop::Value, bytes);
     if !is_good(skipped.quality) {
-        return Read {
-            outcome: Outcome::Broken,
-            rest: skipped.rest,
-        };
+        return broken(skipped.rest);
     }
     if ends_parens(skipped.rest) && !ends_run(Stop::Value, bytes) {
         let truth = features.says(name, how, before(bytes, skipped.rest));
@@ -199,10 +183,7 @@ pub fn feature<'t, F: Features>(features: &F, bytes: &'t [u8]) -> Read<'t>
     }
     let skipped = read_values(Stop::Value, bytes);
     if !is_good(skipped.quality) {
-        return Read {
-            outcome: Outcome::Broken,
-            rest: skipped.rest,
-        };
+        return broken(skipped.rest);
     }
     if ends_run(Stop::Value, bytes) {
         return unfit(skipped.rest);

@@ -6,17 +6,17 @@ ghost use Rattle.css_conditions.specs.Media.{is_keyword as is_keyword_of, after_
 ghost use Rattle.css_conditions.specs.Media.{media as media_of, after_only as after_only_of, or_query as or_query_of};
 ghost use Rattle.css_conditions.specs.declared.truth.Truth.TheVariants as truths;
 
-use crate::answers::{Asked, Features, Read};
+use crate::answers::{Asked, Features, Read, unfit};
 use crate::conditions::{begins_condition, condition};
 use crate::features::feature;
 use crate::truth::{
     Join, Outcome, Truth, either, is_true, join_outcomes, reversed, truth_in, truth_of,
 };
 use crate::words::{
-    Stop, before, begins_function, begins_name, ends_run, is_end, past_one, read_values,
-    starts_with, take_keyword,
+    Stop, before, begins_function, begins_name, ends_run, is_end, read_values, starts_with,
+    take_keyword,
 };
-use css_syntax::tokens::{past_gap, past_word};
+use css_syntax::tokens::{past_gap, past_one, past_word};
 use std::alloc::AllocError;
 
 /// The grammar of media queries.
@@ -86,10 +86,7 @@ fn type_query<'t, F: Features>(features: &F, bytes: &'t [u8]) -> Read<'t>
         ≡ (result.outcome, result.rest.now) }
 {
     if !begins_type(bytes) {
-        return Read {
-            outcome: Outcome::Unfit,
-            rest: bytes,
-        };
+        return unfit(bytes);
     }
     let after = past_word(bytes);
     let first = Outcome::Found(truth_of(features.type_holds(before(bytes, after))));

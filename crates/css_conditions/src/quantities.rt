@@ -11,8 +11,8 @@ ghost use Rattle.css_conditions.specs.Quantities.{in_unit as in_unit_of, by_numb
 ghost use Rattle.css_conditions.specs.Quantities.{quantity_says as quantity_says_of};
 
 use crate::truth::{Comparison, Truth, truth_of};
-use crate::words::{before, is_end, past_one, starts_with};
-use css_syntax::tokens::{past_gap, past_word, spells};
+use crate::words::{before, is_end, starts_with};
+use css_syntax::tokens::{past_gap, past_one, past_word, spells};
 
 /// What is compared.
 #[derive(Clone, Copy, Debug, PartialEq)]

@@ -5,12 +5,12 @@ ghost use Rattle.css_conditions.specs.Supports.{declaration as declaration_of, a
 ghost use Rattle.css_conditions.specs.Supports.{truth_of_function, supports as supports_of};
 ghost use Rattle.css_conditions.specs.declared.truth.Truth.TheVariants as truths;
 
-use crate::answers::{Asked, Read, Supported};
+use crate::answers::{Asked, Read, Supported, broken, unfit};
 use crate::conditions::condition;
 use crate::truth::{Outcome, Truth, holds, truth_of};
-use crate::words::{Stop, before, begins_name, is_end, past_one, read_values, starts_with};
+use crate::words::{Stop, before, begins_name, is_end, read_values, starts_with};
 use css_syntax::quality::is_good;
-use css_syntax::tokens::{past_gap, past_word};
+use css_syntax::tokens::{past_gap, past_one, past_word};
 use std::alloc::AllocError;
 
 /// Reads what follows the name of a property.
@@ -19,18 +19,12 @@ fn after_property<'t, S: Supported>(supported: &S, name: &[u8], bytes: &'t [u8])
         ≡ (result.outcome, result.rest.now) }
 {
     if !starts_with(bytes, b':') {
-        return Read {
-            outcome: Outcome::Unfit,
-            rest: bytes,
-        };
+        return unfit(bytes);
     }
     let value = past_one(bytes);
     let skipped = read_values(Stop::Parenthesis, value);
     if !is_good(skipped.quality) {
-        return Read {
-            outcome: Outcome::Broken,
-            rest: skipped.rest,
-        };
+        return broken(skipped.rest);
     }
     let known = supported.knows(name, before(value, skipped.rest));
     Read {
@@ -44,10 +38,7 @@ fn declaration<'t, S: Supported>(supported: &S, bytes: &'t [u8]) -> Read<'t>
     ensures { declaration_of (S.knows supported.now) bytes.now ≡ (result.outcome, result.rest.now) }
 {
     if !begins_name(bytes) {
-        return Read {
-            outcome: Outcome::Unfit,
-            rest: bytes,
-        };
+        return unfit(bytes);
     }
     let after = past_word(bytes);
     after_property(supported, before(bytes, after), past_gap(after))

@@ -25,7 +25,7 @@ pub enum Outcome {
     Found(Truth),
     /// It is not.
     Unfit,
-    /// It has a bad string or address, a stray bracket, or too many open ones.
+    /// It has a bad string or url, a stray bracket, or too many open ones.
     Broken,
 }
 

@@ -2,7 +2,7 @@
 ghost use Rattle.std.specs.Prelude.{◌≡◌, ◌||◌, ◌==◌, ◌&&◌, Some, true, false, option_map};
 ghost use Rattle.css_text.specs.AsciiBytes.{open_parenthesis, close_parenthesis, comma};
 ghost use Rattle.css_text.specs.Reading.{before as before_of};
-ghost use Rattle.css_text.specs.Bytes.{past_one as past_one_of, starts, starts_by};
+ghost use Rattle.css_text.specs.Bytes.{starts, starts_by};
 ghost use Rattle.css_syntax.specs.Tokens.{is_name_byte as is_name_byte_of, begins_url as begins_url_of};
 ghost use Rattle.css_syntax.specs.Statements.{begins_ident as begins_ident_of};
 ghost use Rattle.css_conditions.specs.Words.{goes_on as goes_on_of, word_end as word_end_of};
@@ -37,16 +37,6 @@ pub fn before<'a>(text: &'a [u8], rest: &[u8]) -> &'a [u8]
     ensures { result.now ≡ before_of text.now rest.now }
 {
     &text[..text.len().saturating_sub(rest.len())]
-}
-
-/// Returns the text after the first byte.
-pub fn past_one(bytes: &[u8]) -> &[u8]
-    ensures { result.now ≡ past_one_of bytes.now }
-{
-    match bytes {
-        [] => bytes,
-        [_, rest @ ..] => rest,
-    }
 }
 
 /// Whether the byte is next.

@@ -215,7 +215,7 @@ then_open-leaves text (Some (b ∷ rest)) h =
     by true = omega arith
     by false = tt
 
-after_url-within : (b : ℕ) (text : List ℕ)
+pub after_url-within : (b : ℕ) (text : List ℕ)
     → length (from_close (after_url (b ∷ text))) ≤ length text
 after_url-within b text =
     by (after_url (b ∷ text)) (then_open-leaves text _ (then_letter-leaves 108 76 text _

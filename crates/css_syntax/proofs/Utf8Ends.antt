@@ -161,7 +161,7 @@ word-well text =
     well-ascii text (past_word text) (each-ends name_part name_part-ends text)
     (word-rest (past_word text) (each-stops name_part name_part-takes text))
 
-comment-well : (text : List ℕ) → EndsWell text (past_comment text)
+pub comment-well : (text : List ℕ) → EndsWell text (past_comment text)
 unfolding past_comment
 comment-well text = by (after_close (drop 2 text)) (after_close-after (drop 2 text))
   where
@@ -233,7 +233,7 @@ url_end-well text (b ∷ rest) e = by (b == close_parenthesis) refl
         (each-ends remnant_part remnant_part-ends (b ∷ rest)))
         (each-stops remnant_part remnant_part-takes (b ∷ rest)))
 
-url-well : (text rest : List ℕ) → Ends text rest → EndsWell text (past_url rest).1
+pub url-well : (text rest : List ℕ) → Ends text rest → EndsWell text (past_url rest).1
 unfolding past_url
 url-well text rest e =
     let inside = past is_space rest in
@@ -279,7 +279,7 @@ then_open-ends all (Some (b ∷ text)) h =
     by true = ends-ends all (b ∷ text) text h (ends-tail b text)
     by false = tt
 
-after_url-ends : (text : List ℕ) → Ends text (from_close (after_url text))
+pub after_url-ends : (text : List ℕ) → Ends text (from_close (after_url text))
 unfolding EndsMaybe
 after_url-ends text =
     by (after_url text) (then_open-ends text _ (then_letter-ends 108 76 text _

@@ -6,6 +6,8 @@ pub mod Statements
 pub mod Contents
 pub mod DeclarationLists
 pub mod Escapes
+pub mod TokenLists
+pub mod TokenViews
 pub mod Placed
 pub mod Blocks
 pub mod Views
@@ -17,4 +19,6 @@ pub mod Printing
 pub mod SelectorGrammar
 pub mod SelectorViews
 pub mod SelectorLists
+pub mod NameLists
+pub mod NameViews
 pub mod PlacedSelectors

@@ -1,8 +1,11 @@
--- Nothing is lost: every byte of a text is in an item or a statement, or it is between them.
-use Rattle.std.specs.Prelude.{◌≡◌, ℕ, Bool, true, List, [], ◌∷◌, ◌++◌}
-use Rattle.css_text.specs.Reading.{before}
+-- Nothing is lost: every byte of a text is in an item, a statement or a part of a block, or it is between
+-- them.
+use Rattle.std.specs.Prelude.{◌≡◌, ℕ, Bool, true, false, List, [], ◌∷◌, ◌++◌, Option}
+use Rattle.std.specs.Option.{option_map}
+use Rattle.css_text.specs.Reading.{before, each}
 use Rattle.css_syntax.specs.Statements.{ends_block, past_between, SheetText, statements}
 use Rattle.css_syntax.specs.DeclarationLists.{past_separators, ListText, items}
+use Rattle.css_syntax.specs.Blocks.{BlockPart, next_block_part, next_rule_part}
 
 -- The text is cut into pieces, one after another, with what `skip` skips before each, up to where
 -- the text ends or a block does.
@@ -33,3 +36,28 @@ LosesNoItem in_block text = IsCutUp in_block past_separators text (item_texts (i
 abbrev pub LosesNoStatement : Bool → List ℕ → Type 0
 LosesNoStatement in_block text =
     IsCutUp in_block (past_between in_block) text (statement_texts (statements in_block text))
+
+-- A part of a block that was read from here on, as its text from its start to its end.
+abbrev pub part_text : List ℕ → BlockPart × List ℕ → List ℕ × List ℕ
+part_text from read = (before from read.1, read.1)
+
+-- the text of the next part of the block of a style rule, after what is before it
+unfoldable pub next_part_text : List ℕ → Option (List ℕ × List ℕ)
+next_part_text text = option_map (part_text (past_separators text)) (next_block_part text)
+
+-- the same of a sheet, or of the block of an at-rule with rules
+unfoldable pub next_rule_text : Bool → List ℕ → Option (List ℕ × List ℕ)
+next_rule_text in_block text =
+    option_map (part_text (past_between in_block text)) (next_rule_part in_block text)
+
+-- What is read as the block of a style rule, in place, is cut into its parts up to the end of the text:
+-- declarations, at-rules without a block, what is skipped, the beginnings of rules up to their blocks,
+-- and the braces that close blocks. Before each are only semicolons, space bytes and comments.
+abbrev pub LosesNoPart : List ℕ → Type 0
+LosesNoPart text = IsCutUp false past_separators text (each next_part_text text).0
+
+-- So is what is read as a sheet, or as the block of an at-rule with rules. Before each part are only
+-- space bytes and comments, and in no block `<!--` and `-->`.
+abbrev pub LosesNoRulePart : Bool → List ℕ → Type 0
+LosesNoRulePart in_block text =
+    IsCutUp false (past_between in_block) text (each (next_rule_text in_block) text).0

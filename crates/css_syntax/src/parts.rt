@@ -1,9 +1,12 @@
 //! Component values one after another, up to a byte that ends them outside brackets.
-ghost use Rattle.std.specs.Prelude.{◌≡◌, option_map};
+ghost use Rattle.std.specs.Prelude.{◌≡◌, ◌<◌, ◌≤◌, None, MatchOption, length};
 ghost use Rattle.css_syntax.specs.Parts.{Stated, stops_at as stops_at_of, ends_at as ends_at_of};
 ghost use Rattle.css_syntax.specs.Parts.{part as part_of, parts as parts_of};
+ghost use Rattle.css_syntax.specs.Tokens.{past_gap as past_gap_of};
+ghost use Rattle.css_syntax.specs.internal.PlainTokens.{Goes};
 
 use crate::component_values::read_component_value;
+use crate::plain::past_plain;
 use crate::quality::{Quality, first_flaw};
 use crate::tokens::past_gap;
 
@@ -33,7 +36,7 @@ struct ByteParts<'a> {
     rest: &'a [u8],
 }
 
-/// A part: a component value and the blank after it.
+/// A part: a component value and the blank after it, or several.
 #[derive(Clone, Copy)]
 struct Part<'a> {
     /// Its quality.
@@ -79,19 +82,40 @@ pub fn ends_at(stops: Stops, bytes: &[u8]) -> bool
     }
 }
 
-/// Returns the next part, unless they end here.
+/// Returns the rest after words and signs, which are whole parts, or the same bytes.
+fn past_words(stops: Stops, bytes: &[u8]) -> &[u8]
+    ensures goes { length result.now < length bytes.now
+        → Goes stops bytes.now Quality.Whole result.now (past_gap_of result.now) }
+    ensures within { length result.now ≤ length bytes.now }
+{
+    if stops.comma {
+        bytes
+    } else {
+        past_plain(bytes)
+    }
+}
+
+/// Returns the next part, unless they end here. Words and signs are one part.
 fn take_part(stops: Stops, bytes: &[u8]) -> Option<Part<'_>>
-    ensures { part_of stops bytes.now
-        ≡ option_map (λ part. ((part.quality, part.end.now), part.next.now)) result }
+    ensures { MatchOption result (part_of stops bytes.now ≡ None)
+        (λ part. Goes stops bytes.now part.quality part.end.now part.next.now) }
 {
     if ends_at(stops, bytes) {
         return None;
     }
-    let skipped = read_component_value(bytes);
+    let words = past_words(stops, bytes);
+    if words.len() < bytes.len() {
+        return Some(Part {
+            quality: Quality::Whole,
+            end: words,
+            next: past_gap(words),
+        });
+    }
+    let value = read_component_value(bytes);
     Some(Part {
-        quality: skipped.quality,
-        end: skipped.rest,
-        next: past_gap(skipped.rest),
+        quality: value.quality,
+        end: value.rest,
+        next: past_gap(value.rest),
     })
 }
 

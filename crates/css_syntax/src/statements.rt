@@ -155,7 +155,7 @@ pub(crate) fn starts_ident(bytes: &[u8]) -> bool
 }
 
 /// Whether the bytes begin with `-->`.
-fn begins_cdc(bytes: &[u8]) -> bool
+pub(crate) fn begins_cdc(bytes: &[u8]) -> bool
     ensures { result ≡ begins_cdc_of bytes.now }
 {
     matches!(bytes, [b'-', b'-', b'>', ..])

@@ -31,6 +31,7 @@ ghost use Rattle.css_syntax.specs.Tokens.{remnant_part as remnant_part_of};
 ghost use Rattle.css_syntax.specs.Tokens.{begins_cdo as begins_cdo_of, token};
 ghost use Rattle.css_syntax.specs.Tokens.{is_closer as is_closer_of};
 ghost use Rattle.css_syntax.specs.Tokens.{other_token, comment_quality};
+ghost use Rattle.css_syntax.specs.internal.PlainTokens.{is_plain as is_plain_byte};
 
 use crate::quality::Quality;
 
@@ -70,12 +71,15 @@ const NAME: u8 = 1;
 /// A space byte.
 const SPACE: u8 = 2;
 
-/// The flags above for each byte, as the low two bits of a digit.
+/// A byte of a name (1), or a sign (4), which is a token or begins one with the word after it.
+const PLAIN: u8 = 5;
+
+/// The flags above for each byte, as the low three bits of a digit.
 static BYTES: [u8; 256] = *b"\
     00000000022022000000000000000000\
-    20000000000001001111111111000000\
-    01111111111111111111111111100001\
-    01111111111111111111111111100000\
+    20044440004441401111111111400444\
+    41111111111111111111111111100041\
+    41111111111111111111111111104040\
     11111111111111111111111111111111\
     11111111111111111111111111111111\
     11111111111111111111111111111111\
@@ -83,7 +87,7 @@ static BYTES: [u8; 256] = *b"\
 
 /// Whether the byte is a space byte.
 #[inline(always)]
-fn is_space(byte: u8) -> bool
+pub(crate) fn is_space(byte: u8) -> bool
     ensures { result ≡ is_space_byte byte }
 {
     BYTES[usize::from(byte)] & SPACE != 0
@@ -125,7 +129,7 @@ fn space_count(bytes: &[u8]) -> usize
 }
 
 /// Returns the rest after space bytes.
-fn past_spaces(bytes: &[u8]) -> &[u8]
+pub(crate) fn past_spaces(bytes: &[u8]) -> &[u8]
     ensures { result.now ≡ past is_space_byte bytes.now }
 {
     &bytes[space_count(bytes)..]
@@ -196,7 +200,7 @@ pub fn begins_escape(bytes: &[u8]) -> bool
 }
 
 /// Whether the bytes begin with `/*`.
-fn starts_comment(bytes: &[u8]) -> bool
+pub(crate) fn starts_comment(bytes: &[u8]) -> bool
     ensures { result ≡ opens_comment bytes.now }
 {
     matches!(bytes, [b'/', b'*', ..])
@@ -204,7 +208,7 @@ fn starts_comment(bytes: &[u8]) -> bool
 
 /// Reads the comment that opens here, up to the end of the text if it is not closed.
 #[tactic(auto, unfolding(crate::specs::Tokens::past_comment, crate::specs::Tokens::comment_quality))]
-fn read_comment(bytes: &[u8]) -> ReadBytes<'_>
+pub(crate) fn read_comment(bytes: &[u8]) -> ReadBytes<'_>
     ensures quality { result.quality ≡ comment_quality bytes.now }
     ensures rest { result.rest.now ≡ past_comment bytes.now }
 {
@@ -324,6 +328,14 @@ pub fn is_name_byte(byte: u8) -> bool
     BYTES[usize::from(byte)] & NAME != 0
 }
 
+/// Whether the byte is one of a name, or a sign.
+#[inline(always)]
+pub(crate) fn is_plain(byte: u8) -> bool
+    ensures { result ≡ is_plain_byte byte }
+{
+    BYTES[usize::from(byte)] & PLAIN != 0
+}
+
 /// Returns the number of bytes of names at the start.
 fn name_count(bytes: &[u8]) -> usize
     ensures count { result ≡ prefix_len is_name_byte_of bytes.now }
@@ -333,7 +345,8 @@ fn name_count(bytes: &[u8]) -> usize
 }
 
 /// Returns the rest after bytes of names.
-fn past_name_bytes(bytes: &[u8]) -> &[u8]
+#[inline(always)]
+pub(crate) fn past_name_bytes(bytes: &[u8]) -> &[u8]
     ensures { result.now ≡ past is_name_byte_of bytes.now }
 {
     &bytes[name_count(bytes)..]
@@ -361,7 +374,7 @@ pub fn past_word(bytes: &[u8]) -> &[u8]
 }
 
 /// Whether the byte is a quote.
-fn is_quote(byte: u8) -> bool
+pub(crate) fn is_quote(byte: u8) -> bool
     ensures { result ≡ is_quote_byte byte }
 {
     matches!(byte, b'\'' | b'"')
@@ -507,7 +520,7 @@ pub fn begins_url(bytes: &[u8]) -> bool
 }
 
 /// Returns the rest after the `url(` that begins here.
-fn past_url_name(bytes: &[u8]) -> &[u8]
+pub(crate) fn past_url_name(bytes: &[u8]) -> &[u8]
     ensures { result.now ≡ from_close (after_url bytes.now) }
 {
     match take_url_name(bytes) {
@@ -589,15 +602,23 @@ fn read_url_end(bytes: &[u8]) -> ReadBytes<'_>
     }
 }
 
-/// Reads a url without quotes, from after the parenthesis of `url(`.
-fn read_url(bytes: &[u8]) -> ReadBytes<'_>
-    ensures { past_url bytes.now ≡ (result.quality, result.rest.now) }
+/// Returns the rest after what is in a url: a blank, its parenthesis, or what makes it bad.
+pub(crate) fn past_url_parts(bytes: &[u8]) -> &[u8]
+    ensures { result.now ≡ (each url_part_of bytes.now).1 }
 {
-    let mut rest = past_spaces(bytes);
+    let mut rest = bytes;
     'parts: while let Some(after) = url_part(rest) {
         rest = after;
     }
-    read_url_end(past_spaces(rest))
+    rest
+}
+
+/// Reads a url without quotes, from after the parenthesis of `url(`.
+#[tactic(auto, unfolding(crate::specs::Tokens::past_url))]
+pub(crate) fn read_url(bytes: &[u8]) -> ReadBytes<'_>
+    ensures { past_url bytes.now ≡ (result.quality, result.rest.now) }
+{
+    read_url_end(past_spaces(past_url_parts(past_spaces(bytes))))
 }
 
 /// Whether the bytes begin with `<!--`.

@@ -1,41 +1,30 @@
 use Rattle.std.proofs.Common.{◌∙◌, sym, ap, arith, ◌≡◌, List, ℕ, map, []}
-use Rattle.css_text.specs.Reading.{each, followed_by, before, last_or}
-use Rattle.css_text.proofs.reading.EachLemmas.{each-none, each-some}
+use Rattle.css_text.specs.Reading.{each, before, last_or}
+use Rattle.css_text.proofs.reading.EachLemmas.{each-none}
 use Rattle.css_syntax.specs.declared.quality.Quality.{Quality}
 use Rattle.css_syntax.specs.Qualities.{first_flaw, flaw_of_all}
 use Rattle.css_syntax.specs.Parts.{part, parts}
 use Rattle.css_syntax.proofs.OpenBlocks.{flaw-assoc, flaw-whole}
-use Rattle.css_syntax.proofs.PartLemmas.{part-takes, part-follows}
 use Rattle.css_syntax.proofs.PartTexts.{stated}
 use Rattle.css_syntax.proofs.parts.read_byte_parts.Goals as goal
 
 pub parts-smaller : goal.parts-smaller
-parts-smaller c =
-    let h = part-follows c.args.stops c.parts.rest.now _ c.in-Some.ensures in
-    omega (arith, h.0, h.1)
+parts-smaller c = omega (arith, c.in-Some.ensures.less, c.in-Some.ensures.within)
 
 pub parts-preserved : goal.parts-preserved
 parts-preserved c =
-    let stops = c.args.stops in
     let one = c.in-Some.part in
-    let x : (Quality × List ℕ) × List ℕ = ((one.quality, one.end.now), one.next.now) in
-    let h = part-follows stops c.parts.rest.now x c.in-Some.ensures in
-    let more = flaw_of_all (map (λ one. one.0) (each (part stops) one.next.now).0) in
-    let step : each (part stops) c.parts.rest.now
-    ≡ followed_by (one.quality, one.end.now) (each (part stops) one.next.now) =
-    each-some (part stops) (part-takes stops) c.parts.rest.now one.next.now
-    (one.quality, one.end.now) c.in-Some.ensures in
+    let goes = c.in-Some.ensures in
+    let more = flaw_of_all (map (λ one. one.0) (each (part c.args.stops) one.next.now).0) in
     record {
-      last = sym (ap (λ (r : List (Quality × List ℕ) × List ℕ).
-          last_or c.parts.end.now (map (λ one. one.1) r.0)) step) ∙ c.parts.invariant.last;
+      last = sym (goes.last c.parts.end.now) ∙ c.parts.invariant.last;
       flaw = ap (λ (quality : Quality). first_flaw quality more) c.first_flaw-quality.ensures
           ∙ sym (flaw-assoc c.parts.quality one.quality more)
-          ∙ sym (ap (λ (r : List (Quality × List ℕ) × List ℕ).
-          first_flaw c.parts.quality (flaw_of_all (map (λ one. one.0) r.0))) step)
+          ∙ sym (ap (first_flaw c.parts.quality) goes.flaw)
           ∙ c.parts.invariant.flaw;
-      left = sym (ap (λ (r : List (Quality × List ℕ) × List ℕ). r.1) step) ∙ c.parts.invariant.left;
-      within = omega (arith, h.0, c.parts.invariant.within, c.parts.invariant.after);
-      after = h.1;
+      left = sym goes.left ∙ c.parts.invariant.left;
+      within = omega (arith, goes.less, c.parts.invariant.within, c.parts.invariant.after);
+      after = goes.within;
     }
 
 pub returns : goal.returns
