@@ -1,23 +1,10 @@
 -- What lists of indices hold.
 -- Serves `selector_index`.
-use Rattle.std.proofs.Common.{◌≡◌, ℕ, ◌<◌, ◌≤◌, ◌↔◌, List, length, map, get_or, None, Some, eqb, refl, sym, ap, ◌∙◌, subst}
-use Rattle.std.specs.List.{Contains, dedup, slice_get}
+use Rattle.std.proofs.Common.{◌≡◌, ℕ, ◌<◌, ◌≤◌, List, length, map, get_or, None, Some, refl, ap, ◌∙◌, subst}
+use Rattle.std.specs.List.{slice_get}
 use Rattle.std.specs.Option.{option_map}
-use Rattle.std.specs.List.Sorted.{IsPermutation}
-use Rattle.std.proofs.lemmas.List.Kept.{Contains-dedup_nat, Contains-from_dedup}
-use Rattle.std.proofs.lemmas.List.Sorted.{Contains-permutation, IsPermutation-sym}
 use Rattle.std.proofs.lemmas.Option.{slice_get-map, slice_get_read, slice_get_past}
 use Rattle.css_selectors.specs.Components.{Selector}
-
--- a sort and a removal of repeats keep what a list holds
-pub sorted_same : (old between new : List ℕ) → IsPermutation old between → new ≡ dedup eqb between
-    → (index : ℕ) → Contains new index ↔ Contains old index
-sorted_same old between new moved e index =
-    subst (λ xs. Contains xs index ↔ Contains old index) (sym e) (
-      λ h. Contains-permutation between old index (IsPermutation-sym old between moved)
-          (Contains-from_dedup eqb between index h),
-      λ h. Contains-dedup_nat between index (Contains-permutation old between index moved h),
-    )
 
 pub some_same : {A : Type 0} {x y : A} → Some x ≡ Some y → x ≡ y
 some_same e = cc

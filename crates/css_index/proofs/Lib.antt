@@ -1,6 +1,7 @@
 mod FoundLemmas
 mod TruthLemmas
 mod KeptLemmas
+mod AddedLemmas
 mod KeyedLemmas
 mod WordLemmas
 mod DistinctLemmas

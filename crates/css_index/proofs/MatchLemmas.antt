@@ -8,7 +8,9 @@ use Rattle.css_selectors.specs.Components.{Selector}
 use Rattle.css_selectors.specs.Documents.{Document}
 use Rattle.css_selectors.specs.Keys.{Key, has_key, keys_of}
 use Rattle.css_selectors.specs.Keys.Key.{by_id, by_class, by_name, by_attribute, by_nothing}
+use Rattle.css_selectors.proofs.AfterKeyLemmas.{after_key_exact, found_matches, matches_found}
 use Rattle.css_selectors.proofs.AncestorKeyLemmas.{only_matches, only_exact}
+use Rattle.css_selectors.specs.AfterKeys.{begins_with_key}
 use Rattle.css_selectors.proofs.KeyLemmas.{matched_has}
 use Rattle.css_index.specs.Found.{MatchesAt}
 use Rattle.css_index.specs.Reported.{Reported, reports_key, ReportsKeys}
@@ -60,18 +62,20 @@ module _ {Node : Type 0} (document : Document Node) (n : Node) (reported : Repor
     passed_matches keyed passes = (
       passes.0,
       passes.1,
-      elim passes.2 [
-        | inl only ↦ (let same : keyed.0 ≡ passes.0 = some_same (sym keyed.1 ∙ passes.1) in
-            only_matches document n passes.0 only (exacts_had (keys_of passes.0)
-            (only_exact passes.0 only)
-            (subst (λ s. IsTrue (list_any (reports_key document n reported) (keys_of s))) same
-            (filed_any keyed.0 (reports_key document n reported) keyed.2))))
-        | inr m ↦ m
-      ],
+      (let same : keyed.0 ≡ passes.0 = some_same (sym keyed.1 ∙ passes.1) in
+          let reports = subst (λ s. IsTrue (list_any (reports_key document n reported) (keys_of s)))
+          same (filed_any keyed.0 (reports_key document n reported) keyed.2) in
+          elim passes.2 [
+            | inl only ↦ only_matches document n passes.0 only (exacts_had (keys_of passes.0)
+                (only_exact passes.0 only) reports)
+            | inr m ↦ found_matches document n passes.0 (begins_with_key passes.0) refl
+                (λ begins. exacts_had (keys_of passes.0) (after_key_exact passes.0 begins) reports) m
+          ]),
     )
 
     pub matched_passes : MatchesAt document n selectors index → PassesAt document n selectors index
-    matched_passes m = (m.0, m.1, inr m.2)
+    matched_passes m =
+        (m.0, m.1, inr (matches_found document n m.0 (begins_with_key m.0) refl m.2))
 
     -- a selector that matches is found
     pub match_keyed : ReportsKeys document n reported → MatchesAt document n selectors index

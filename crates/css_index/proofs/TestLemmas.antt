@@ -1,5 +1,5 @@
 -- The least and the greatest number of tests of a selector that is tried.
--- Serves `Kept::passes`.
+-- Serves `IndexedSelector::passes`.
 use Rattle.std.proofs.Common.{◌≡◌, ℕ, ◌+◌, ◌<◌, ◌≤◌, ◌&&◌, Bool, true, false, IsTrue, Option, None, Some, refl, sym, ap, subst, arith}
 use Rattle.std.specs.Prelude.{not, is_none, is_some, if◌then◌else◌}
 use Rattle.css_selectors.specs.AncestorKeys.{is_only_keys}

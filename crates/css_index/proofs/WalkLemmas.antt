@@ -1,6 +1,6 @@
 -- Numbers of keys, and what open elements report.
 -- Serves `table` and `selector_walk`.
-use Rattle.std.proofs.Common.{◌≡◌, ℕ, zero, suc, ◌+◌, ◌≤◌, ◌↔◌, Some, None, ◌<◌, inl, inr, IsTrue, List, [], ◌∷◌, ◌++◌, length, map, take, get_or, set, refl, sym, ap, ◌∙◌, subst, arith}
+use Rattle.std.proofs.Common.{◌≡◌, ℕ, zero, suc, ◌+◌, ◌≤◌, ◌↔◌, true, Some, None, ◌<◌, inl, inr, IsTrue, List, [], ◌∷◌, ◌++◌, length, map, take, get_or, set, refl, sym, ap, ◌∙◌, subst, arith}
 use Rattle.std.specs.List.{Contains, All, slice_get}
 use Rattle.std.specs.Global.{Vec}
 use Rattle.std.proofs.lemmas.Grind.{common_steps}
@@ -8,11 +8,12 @@ use Rattle.std.proofs.lemmas.List.{take_all, take_at, take_more, length_push}
 use Rattle.std.proofs.lemmas.List.Elements.{All-push, Contains-push, Contains-push_cases, Contains-append_left}
 use Rattle.std.proofs.lemmas.Slice.Eq.{bytes_eq-Decides}
 use Rattle.std.specs.Char.{to_ascii_lowercase}
+use Rattle.css_selectors.specs.KeyViews.{key_of}
 use Rattle.css_selectors.specs.Keys.{Key}
 use Rattle.css_selectors.specs.Keys.Key.{by_id, by_class, by_name, by_attribute, by_nothing}
-use Rattle.css_index.specs.declared.entry.Entry.{Entry}
+use Rattle.css_index.specs.declared.filed_key.FiledKey.{FiledKey}
 use Rattle.css_index.specs.KeyNumbers.{is_same}
-use Rattle.css_index.specs.internal.Filed.{place_by, entry_of, AreFiled, AreReported, found_by, found_by_any}
+use Rattle.css_index.specs.internal.Filed.{place_by, entry_of, AreFiled, AreReported, found_by, found_by_any, HasLastKey}
 use Rattle.css_index.specs.Walks.{Numbered, HasNumber, AreNumbered, AreNumbersOf, IsMore, AreNeeds, AreReportedNumbers, Walk, IsKeptAt}
 use Rattle.css_index.proofs.FileLemmas.{filed_more}
 use Rattle.css_index.proofs.KeyedLemmas.{found_from, any_found_from, any_found_to}
@@ -24,21 +25,23 @@ use Rattle.std.specs.Option.{option_map}
 use Rattle.std.proofs.lemmas.Option.{slice_get-map, slice_get_read, slice_get_past}
 use Rattle.css_open_elements.specs.Opened.{IsOpen, IsOfLast}
 
-at_end : (xs : List Entry) (d : Entry) → d ≡ get_or (xs ++ d ∷ []) (length xs) d
+at_end : (xs : List FiledKey) (d : FiledKey) → d ≡ get_or (xs ++ d ∷ []) (length xs) d
 at_end xs d = grind (arith, common_steps)
 
 -- one more entry, at its place
-pub filed_push : (xs : List Entry) (d : Entry) (buckets : List (Vec Entry)) (place : ℕ)
-    (old new : Vec Entry) → AreFiled (map entry_of xs) buckets
+pub filed_push : (xs : List FiledKey) (d filed : FiledKey) (buckets : List (Vec FiledKey)) (place : ℕ)
+    (old new : Vec FiledKey) → AreFiled (map entry_of xs) buckets
     → place ≡ place_by (length buckets) d.number → place < length buckets
-    → old ≡ get_or buckets place old → new.items ≡ old.items ++ d ∷ []
+    → old ≡ get_or buckets place old → entry_of filed ≡ entry_of d
+    → (filed.repeats ≡ true → HasLastKey old.items (key_of filed.key))
+    → new.items ≡ old.items ++ filed ∷ []
     → AreFiled (map entry_of (xs ++ d ∷ [])) (set buckets place new)
-filed_push xs d buckets place old new filed at within was pushed =
+filed_push xs d filed buckets place old new are at within was kept last pushed =
     subst (λ es. AreFiled (map entry_of es) (set buckets place new))
     (take_all (length xs + 1) (xs ++ d ∷ []) (omega (arith, length_push xs d)))
-    (filed_more (xs ++ d ∷ []) (length xs) d buckets place old new
-    (subst (λ es. AreFiled (map entry_of es) buckets) (sym (take_at xs (d ∷ []) (length xs) refl)) filed)
-    (omega (arith, length_push xs d)) (at_end xs d) at within was pushed)
+    (filed_more (xs ++ d ∷ []) (length xs) d filed buckets place old new
+    (subst (λ es. AreFiled (map entry_of es) buckets) (sym (take_at xs (d ∷ []) (length xs) refl)) are)
+    (omega (arith, length_push xs d)) (at_end xs d) at within was kept last pushed)
 
 pub same_self : (key : Key) → IsTrue (is_same key key)
 same_self (by_id a) = (bytes_eq-Decides a a).1 refl
@@ -135,20 +138,21 @@ needs_at needed (t ∷ ss) (n ∷ needs) (suc i) s all is = needs_at needed ss n
 -- the numbers that a look-up finds are those of the keys that are reported
 pub reported_numbers : {Node : Type 0} (document : Document Node) (n : Node) (reported : Reported)
     (es : Numbered) (keys : List Key) (numbers : List ℕ)
-    → AreReported document n reported keys → numbers ≡ found_by_any es keys
+    → AreReported document n reported keys
+    → ((number : ℕ) → Contains numbers number ↔ Contains (found_by_any es keys) number)
     → AreReportedNumbers document n reported es numbers
-reported_numbers document n reported es keys numbers are is number = (
-  λ c. (let r = any_found_from es keys number (subst (λ xs. Contains xs number) is c) in
+reported_numbers document n reported es keys numbers are same number = (
+  λ c. (let r = any_found_from es keys number ((same number).0 c) in
       (r.0, r.1, (are r.0).1 r.2)),
-  λ h. subst (λ xs. Contains xs number) (sym is)
-      (any_found_to es keys number h.0 h.1 ((are h.0).0 h.2)),
+  λ h. (same number).1 (any_found_to es keys number h.0 h.1 ((are h.0).0 h.2)),
 )
 
 pub reported_within : (es : Numbered) (keys : List Key) (numbers : List ℕ) (number : ℕ)
-    → AreNumbered es → numbers ≡ found_by_any es keys → Contains numbers number
-    → number < length es
-reported_within es keys numbers number all is c =
-    let r = any_found_from es keys number (subst (λ xs. Contains xs number) is c) in
+    → AreNumbered es
+    → ((number : ℕ) → Contains numbers number ↔ Contains (found_by_any es keys) number)
+    → Contains numbers number → number < length es
+reported_within es keys numbers number all same c =
+    let r = any_found_from es keys number ((same number).0 c) in
     all (r.0, number) r.1
 
 -- one more number of which something holds
@@ -190,4 +194,22 @@ kept_here walk index need opened ancestors parent there same a p = (
     subst (All (IsOfLast opened)) (ap (λ x. x.1) e ∙ sym p)
         (subst (λ o. All (IsOfLast o) k.0.1) (sym same) k.3),
   )),
+)
+
+-- two walks that need the same, and of which the same is open, keep the same
+pub kept_same : (one other : Walk) (index : ℕ) → one.needs ≡ other.needs → one.opened ≡ other.opened
+    → IsKeptAt one index ↔ IsKeptAt other index
+kept_same one other index needs opened = (
+  λ k. (
+    k.0,
+    subst (λ ns. slice_get ns index ≡ Some k.0) needs k.1,
+    subst (λ o. All (IsOpen o) k.0.0) opened k.2,
+    subst (λ o. All (IsOfLast o) k.0.1) opened k.3,
+  ),
+  λ k. (
+    k.0,
+    subst (λ ns. slice_get ns index ≡ Some k.0) (sym needs) k.1,
+    subst (λ o. All (IsOpen o) k.0.0) (sym opened) k.2,
+    subst (λ o. All (IsOfLast o) k.0.1) (sym opened) k.3,
+  ),
 )

@@ -1,13 +1,14 @@
 //! An index of rules by the keys of their selectors.
 ghost use Rattle.std.specs.Prelude.{◌≡◌, ◌+◌, ◌≤◌, ◌↔◌, ◌++◌, ◌∷◌, ℕ, List, [], Contains, IsTrue, IfOk, OnOk, OnErr, map};
-ghost use Rattle.std.specs.List.Sorted.{IsStrictlyIncreasing};
 ghost use Rattle.css_index.specs.Found.{AreMatches};
 ghost use Rattle.css_index.specs.Tested.{IsKeyedAt, least_tests, most_tests_at};
 ghost use Rattle.css_index.specs.internal.Candidates.{PassesAt};
 
-use crate::kept::Kept;
+use crate::indexed_selector::IndexedSelector;
+use crate::keeping::{Everything, Keeping};
 use crate::table::{Table, filed};
 use crate::{HasSelector, Keyed};
+use css_matching::sort_once;
 use css_selectors::{Selector, Tests};
 use std::alloc::{AllocError, Global};
 use std::marker::Model;
@@ -16,7 +17,7 @@ use std::marker::Model;
 #[derive(Drop)]
 pub struct SelectorIndex<'s, 'a> {
     /// The selectors.
-    rules: Vec<Kept<'s, 'a>>,
+    rules: Vec<IndexedSelector<'s, 'a>>,
     /// The keys of the selectors.
     table: Table<'s>,
 }
@@ -37,16 +38,6 @@ impl<'s, 'a> Model for SelectorIndex<'s, 'a> {
 
     ghost invariant = { λ index. index.table
         ≡ entries_of (map (λ rule. rule.selector.now) index.rules.items) };
-}
-
-/// Puts the indices in order, each once.
-pub(crate) fn sort_once(indices: &mut Vec<usize>)
-    ensures ascending { IsStrictlyIncreasing indices.new.items }
-    ensures same { (index : ℕ) → Contains indices.new.items index
-        ↔ Contains indices.old.items index }
-{
-    indices.sort_unstable();
-    indices.dedup();
 }
 
 /// Appends the selector of a rule.
@@ -81,13 +72,13 @@ pub(crate) fn selectors_of<'s, 'a, T: HasSelector<'a>>(
 fn kept_of<'s, 'a>(
     alloc: Global,
     selectors: &[&'s Selector<'a>],
-) -> Result<Vec<Kept<'s, 'a>>, AllocError>
+) -> Result<Vec<IndexedSelector<'s, 'a>>, AllocError>
     ensures { IfOk result (λ rules. map (λ rule. rule.selector.now) rules.items
         ≡ map (λ s. s.now) selectors.now) }
 {
-    let mut rules: Vec<Kept<'s, 'a>> = Vec::with_capacity(alloc, selectors.len())?;
+    let mut rules: Vec<IndexedSelector<'s, 'a>> = Vec::with_capacity(alloc, selectors.len())?;
     for selector in selectors {
-        rules.push(Kept::new(selector))?;
+        rules.push(IndexedSelector::new(selector))?;
     }
     Ok(rules)
 }
@@ -132,19 +123,21 @@ impl<'s, 'a> SelectorIndex<'s, 'a> {
         }
     }
 
-    /// Finds the indices of the rules of which the element reports a key. The previous items of
-    /// `indices` are dropped, and none is left after an `Err`.
-    pub(crate) fn gather<E: Keyed>(
+    /// Finds the indices of the rules of which the element reports a key that are kept. The previous items
+    /// of `indices` are dropped, and none is left after an `Err`.
+    pub(crate) fn gather<E: Keyed, K: Keeping>(
         &self,
         element: &E,
+        kept: &K,
         indices: &mut Vec<usize>,
     ) -> Result<(), AllocError>
         ensures found { OnOk result ((index : ℕ) → Contains indices.new.items index
-            ↔ IsKeyedAt E.document (E.node element.now) (E.reported element.now) self.now index) }
+            ↔ (IsKeyedAt E.document (E.node element.now) (E.reported element.now) self.now index
+            × K.Keeps kept.now index)) }
         ensures err { OnErr result (indices.new.items ≡ []) }
     {
         indices.clear();
-        if let Err(error) = self.table.push_keyed(element, indices) {
+        if let Err(error) = self.table.push_keyed(element, kept, indices) {
             indices.clear();
             return Err(error);
         }
@@ -171,7 +164,7 @@ impl<'s, 'a> SelectorIndex<'s, 'a> {
             (AreMatches E.document (E.node element.now) self.now indices.new.items) }
         ensures err { OnErr result (indices.new.items ≡ []) }
     {
-        self.gather(element, indices)?;
+        self.gather(element, &Everything, indices)?;
         sort_once(indices);
         indices.retain(|index| self.passes_at(*index, element, &mut Tests::new()));
         Ok(())

@@ -1,32 +1,27 @@
 //! A walk along a page.
 ghost use Rattle.std.specs.Prelude.{◌≡◌, ◌+◌, ◌≤◌, ◌↔◌, ◌++◌, ◌∷◌, if◌then◌else◌, ℕ, List, [], Some, Contains, IsTrue, IfOk, OnOk, OnErr, map};
-ghost use Rattle.std.specs.List.{All, sum_by};
+ghost use Rattle.std.specs.List.{sum_by};
 ghost use Rattle.std.specs.List.Sorted.{IsStrictlyIncreasing};
-ghost use Rattle.css_open_elements.specs.Opened.{IsOpen, IsOfLast, all_but_last};
+ghost use Rattle.css_open_elements.specs.Opened.{all_but_last};
 ghost use Rattle.css_selectors.specs.AncestorKeys.{ancestor_keys, parent_keys};
 ghost use Rattle.css_index.specs.Found.{AreAll, AreMatches};
-ghost use Rattle.css_index.specs.Walks.{AreNumbered, AreNumbersOf, AreNeeds, IsMore, IsKeptAt};
+ghost use Rattle.css_index.specs.Walks.{AreNumbered, AreNumbersOf, AreNeeds, IsMore};
 ghost use Rattle.css_index.specs.Walks.{IsOpenTo};
 ghost use Rattle.css_index.specs.internal.Candidates.{PassesAt};
 ghost use Rattle.css_index.specs.Tested.{IsTriedAt, AreTried, least_tests, most_tests_at};
 ghost use Rattle.css_index.specs.internal.Walking.{need_of as need_view};
 
-use crate::selector_index::{SelectorIndex, selectors_of, sort_once};
+use crate::above::Above;
+use crate::keeping::Everything;
+use crate::need::Need;
+use crate::selector_index::{SelectorIndex, selectors_of};
 use crate::table::Table;
 use crate::{HasSelector, Keyed};
+use css_matching::sort_once;
 use css_open_elements::OpenElements;
 use css_selectors::{Key, Selector, Tests};
 use std::alloc::{AllocError, Global};
 use std::marker::Model;
-
-/// The numbers of the keys that a selector needs above an element.
-#[derive(Drop)]
-pub(crate) struct Need {
-    /// Those of ancestors.
-    pub(crate) ancestors: Vec<usize>,
-    /// Those of the parent.
-    pub(crate) parent: Vec<usize>,
-}
 
 /// Returns the numbers of what a selector needs. What was in `keys` and `found` is dropped.
 fn need_of<'s>(
@@ -52,7 +47,11 @@ fn need_of<'s>(
     selector.push_parent_keys(keys)?;
     let mut parent = Vec::new(alloc);
     needed.push_numbers(keys.as_slice(), found, &mut parent)?;
-    Ok(Need { ancestors, parent })
+    Ok(Need {
+        first: ancestors.first().copied(),
+        ancestors,
+        parent,
+    })
 }
 
 /// Returns the keys that selectors need above an element, and the numbers of what each needs.
@@ -73,30 +72,6 @@ fn needs_of<'s>(
         needs.push(need)?;
     }
     Ok((needed, needs))
-}
-
-/// Whether open elements have all of the numbers.
-fn are_open(numbers: &[usize], path: &OpenElements) -> bool
-    ensures { IsTrue result ↔ All (IsOpen path.now.opened) numbers.now }
-{
-    for number in numbers {
-        if !path.is_open(*number) {
-            return false;
-        }
-    }
-    true
-}
-
-/// Whether the element that was opened last has all of the numbers.
-fn are_of_last(numbers: &[usize], path: &OpenElements) -> bool
-    ensures { IsTrue result ↔ All (IsOfLast path.now.opened) numbers.now }
-{
-    for number in numbers {
-        if !path.is_of_last(*number) {
-            return false;
-        }
-    }
-    true
 }
 
 /// Appends the index, if it is wanted.
@@ -192,7 +167,8 @@ impl<'s, 'a> SelectorWalk<'s, 'a> {
         ensures err { OnErr result (self.new ≡ self.old) }
     {
         self.found.clear();
-        self.needed.push_keyed(element, &mut self.found)?;
+        self.needed
+            .push_keyed(element, &Everything, &mut self.found)?;
         self.path.enter(&self.found)?;
         Ok(())
     }
@@ -207,14 +183,15 @@ impl<'s, 'a> SelectorWalk<'s, 'a> {
         self.path.leave();
     }
 
-    /// Whether open elements have all that a selector needs.
-    fn is_kept(&self, index: usize) -> bool
-        ensures { IsTrue result ↔ IsKeptAt self.now index }
+    /// Returns what selectors need above an element, and what open elements have.
+    #[inline(always)]
+    fn above(&self) -> Above<'_>
+        ensures needs { map need_view result.needs.now ≡ self.now.needs }
+        ensures opened { result.path.now.opened ≡ self.now.opened }
     {
-        match self.needs.get(index) {
-            Some(need) => are_open(&need.ancestors, &self.path)
-                && are_of_last(&need.parent, &self.path),
-            None => false,
+        Above {
+            needs: self.needs.as_slice(),
+            path: &self.path,
         }
     }
 
@@ -259,8 +236,7 @@ impl<'s, 'a> SelectorWalk<'s, 'a> {
             (E.reported element.now) self.now) indices.new.items) }
         ensures err { OnErr result (indices.new.items ≡ []) }
     {
-        self.index.gather(element, indices)?;
-        indices.retain(|index| self.is_kept(*index));
+        self.index.gather(element, &self.above(), indices)?;
         sort_once(indices);
         Ok(())
     }

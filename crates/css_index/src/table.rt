@@ -1,23 +1,25 @@
 //! Keys of rules, filed by a number of each.
-ghost use Rattle.std.specs.Prelude.{◌≡◌, ◌<◌, ◌++◌, ◌∷◌, [], ℕ, List, length, map, IfOk, OnOk};
+ghost use Rattle.std.specs.Prelude.{◌≡◌, ◌<◌, ◌++◌, ◌∷◌, [], ℕ, true, List, length, map, IfOk, OnOk};
 ghost use Rattle.std.specs.Option.{option_map};
 ghost use Rattle.css_selectors.specs.Keys.{Key as KeyOf};
 ghost use Rattle.css_selectors.specs.Keys.Key.{by_class, by_attribute};
+ghost use Rattle.css_index.specs.internal.Added.{AreAdded};
 ghost use Rattle.css_index.specs.internal.Filed.{found_by, found_by_any};
 ghost use Rattle.css_index.specs.internal.Filed.{AreWords, AreClasses, AreReported, id_keys};
 ghost use Rattle.css_selectors.specs.KeyViews.{key_of};
 ghost use Rattle.css_index.specs.KeyNumbers.{is_same as is_same_key};
 ghost use Rattle.css_index.specs.internal.Filed.{place_by, entry_of, is_found_by};
-ghost use Rattle.css_index.specs.internal.Filed.{with_index, AreFiledAt, AreFiled};
+ghost use Rattle.css_index.specs.internal.Filed.{with_index, AreFiled, HasLastKey};
 ghost use Rattle.css_index.specs.Tested.{filed_keys};
 ghost use Rattle.css_index.specs.KeyNumbers.{number_of as number_of_key};
 ghost use Rattle.css_index.specs.internal.Filed.{entries_of as entries_of_selectors};
 ghost use Rattle.css_index.specs.Walks.{HasNumber, AreNumbered, AreNumbersOf, IsMore};
 
 use crate::Keyed;
-use crate::entry::Entry;
+use crate::filed_key::FiledKey;
+use crate::keeping::{Everything, Keeping};
 use crate::key_numbers::number_of;
-use crate::words::distinct_words;
+use crate::words::{distinct_words, only_word};
 use css_selectors::{Key, Selector};
 use std::alloc::{AllocError, Global};
 use std::marker::Model;
@@ -50,7 +52,7 @@ pub(crate) fn place_of(number: u64, count: usize) -> usize
 
 /// Whether the entry has the key, whose number is this.
 #[inline(always)]
-pub(crate) fn is_found(entry: &Entry<'_>, key: &Key<'_>, number: u64) -> bool
+pub(crate) fn is_found(entry: &FiledKey<'_>, key: &Key<'_>, number: u64) -> bool
     requires { number ≡ number_of_key (key_of key.now) }
     ensures { result ≡ is_found_by (key_of key.now) (entry_of entry.now) }
 {
@@ -60,13 +62,52 @@ pub(crate) fn is_found(entry: &Entry<'_>, key: &Key<'_>, number: u64) -> bool
     is_same(&entry.key, key)
 }
 
+/// Whether the keys are classes or ids with the same text. Others are not compared.
+fn is_equal(one: &Key<'_>, other: &Key<'_>) -> bool
+    ensures { result ≡ true → key_of one.now ≡ key_of other.now }
+{
+    match (one, other) {
+        (Key::Id(a), Key::Id(b)) => a == b,
+        (Key::Class(a), Key::Class(b)) => a == b,
+        _ => false,
+    }
+}
+
+/// Whether the last of the entries is known to have the key, whose number is this.
+fn has_last_key(entries: &[FiledKey<'_>], key: &Key<'_>, number: u64) -> bool
+    ensures { result ≡ true → HasLastKey entries.now (key_of key.now) }
+{
+    if entries.is_empty() {
+        return false;
+    }
+    let last = &entries[entries.len() - 1];
+    last.number == number && is_equal(&last.key, key)
+}
+
+/// Returns an entry as it is filed after the others at its place.
+fn filed_after<'s>(entry: FiledKey<'s>, others: &[FiledKey<'_>]) -> FiledKey<'s>
+    ensures same { entry_of result ≡ entry_of entry.entry }
+    ensures repeats { result.repeats ≡ true → HasLastKey others.now (key_of result.key) }
+{
+    FiledKey {
+        key: entry.key,
+        number: entry.number,
+        rule: entry.rule,
+        repeats: has_last_key(others, &entry.key, entry.number),
+    }
+}
+
 /// Appends an entry for each key of a rule.
-fn enter<'s>(keys: &[Key<'s>], rule: usize, entries: &mut Vec<Entry<'s>>) -> Result<(), AllocError>
+fn enter<'s>(
+    keys: &[Key<'s>],
+    rule: usize,
+    entries: &mut Vec<FiledKey<'s>>,
+) -> Result<(), AllocError>
     ensures { OnOk result (map entry_of entries.new.items
         ≡ map entry_of entries.old.items ++ with_index rule (map key_of keys.now)) }
 {
     for key in keys {
-        entries.push(Entry::new(*key, rule))?;
+        entries.push(FiledKey::new(*key, rule))?;
     }
     Ok(())
 }
@@ -77,7 +118,7 @@ fn enter_selector<'s>(
     selector: &'s Selector<'_>,
     rule: usize,
     keys: &mut Vec<Key<'s>>,
-    entries: &mut Vec<Entry<'s>>,
+    entries: &mut Vec<FiledKey<'s>>,
 ) -> Result<(), AllocError>
     ensures { OnOk result (map entry_of entries.new.items
         ≡ map entry_of entries.old.items
@@ -95,7 +136,7 @@ fn enter_selector<'s>(
 fn entries_of<'s>(
     alloc: Global,
     selectors: &[&'s Selector<'_>],
-) -> Result<Vec<Entry<'s>>, AllocError>
+) -> Result<Vec<FiledKey<'s>>, AllocError>
     ensures { IfOk result (λ entries. map entry_of entries.items
         ≡ entries_of_selectors (map (λ s. s.now) selectors.now)) }
 {
@@ -108,9 +149,9 @@ fn entries_of<'s>(
 }
 
 /// Returns `count` empty lists.
-fn empty_lists<'s>(alloc: Global, count: usize) -> Result<Vec<Vec<Entry<'s>>>, AllocError>
-    ensures len { IfOk result (λ buckets. length buckets.items ≡ count) }
-    ensures none { IfOk result (λ buckets. AreFiledAt count [] buckets.items) }
+fn empty_lists<'s>(alloc: Global, count: usize) -> Result<Vec<Vec<FiledKey<'s>>>, AllocError>
+    requires { 0 < count }
+    ensures { IfOk result (λ buckets. AreFiled [] buckets.items) }
 {
     let mut buckets = Vec::with_capacity(alloc, count)?;
     for place in 0..count {
@@ -120,24 +161,41 @@ fn empty_lists<'s>(alloc: Global, count: usize) -> Result<Vec<Vec<Entry<'s>>>, A
 }
 
 /// Files entries, each at the place of its key.
-fn file<'s>(entries: &[Entry<'s>], buckets: &mut Vec<Vec<Entry<'s>>>) -> Result<(), AllocError>
+fn file<'s>(
+    entries: &[FiledKey<'s>],
+    buckets: &mut Vec<Vec<FiledKey<'s>>>,
+) -> Result<(), AllocError>
     requires { AreFiled [] buckets.old.items }
     ensures { OnOk result (AreFiled (map entry_of entries.now) buckets.new.items) }
 {
     for entry in entries {
         let place = place_of(entry.number, buckets.len());
-        buckets[place].push(*entry)?;
+        let filed = filed_after(*entry, &buckets[place]);
+        buckets[place].push(filed)?;
     }
     Ok(())
 }
 
-/// Keys, each with the index of a rule or with a number. They are filed, each at its place.
+/// Appends the index, if it is kept.
+#[inline(always)]
+fn push_kept<K: Keeping>(index: usize, kept: &K, indices: &mut Vec<usize>) -> Result<(), AllocError>
+    ensures { OnOk result (AreAdded (K.Keeps kept.now) indices.old.items (index ∷ [])
+        indices.new.items) }
+{
+    if kept.keeps(index) {
+        indices.push(index)?;
+    }
+    Ok(())
+}
+
+/// Keys, each with the index of a rule or with a number. They are filed, each at its place. Of entries
+/// there that follow each other and have one key the first is compared with what is searched.
 #[derive(Drop)]
 pub(crate) struct Table<'s> {
     /// The entries, in order.
-    entries: Vec<Entry<'s>>,
+    entries: Vec<FiledKey<'s>>,
     /// The entries at each place.
-    buckets: Vec<Vec<Entry<'s>>>,
+    buckets: Vec<Vec<FiledKey<'s>>>,
 }
 
 impl<'s> Model for Table<'s> {
@@ -166,12 +224,13 @@ impl<'s> Table<'s> {
     }
 
     /// Appends an entry.
-    fn push(&mut self, entry: Entry<'s>) -> Result<(), AllocError>
+    fn push(&mut self, entry: FiledKey<'s>) -> Result<(), AllocError>
         ensures { OnOk result (self.new ≡ self.old ++ entry_of entry.entry ∷ []) }
     {
         let place = place_of(entry.number, self.buckets.len());
         self.entries.push(entry)?;
-        if let Err(error) = self.buckets[place].push(entry) {
+        let filed = filed_after(entry, &self.buckets[place]);
+        if let Err(error) = self.buckets[place].push(filed) {
             self.entries.pop();
             return Err(error.into());
         }
@@ -190,12 +249,12 @@ impl<'s> Table<'s> {
         ensures number { IfOk result (λ number. HasNumber self.new (key_of key.entry) number) }
     {
         found.clear();
-        self.push_found(&key, found)?;
+        self.push_found(&key, &Everything, found)?;
         if let Some(number) = found.first() {
             return Ok(*number);
         }
         let number = self.entries.len();
-        self.push(Entry::new(key, number))?;
+        self.push(FiledKey::new(key, number))?;
         Ok(number)
     }
 
@@ -228,92 +287,125 @@ impl<'s> Table<'s> {
         self.entries.len()
     }
 
-    /// Appends the indices of the rules with this key.
-    fn push_found(&self, key: &Key<'_>, indices: &mut Vec<usize>) -> Result<(), AllocError>
-        ensures { OnOk result (indices.new.items
-            ≡ indices.old.items ++ found_by self.now (key_of key.now)) }
+    /// Appends the indices of the rules with this key that are kept.
+    fn push_found<K: Keeping>(
+        &self,
+        key: &Key<'_>,
+        kept: &K,
+        indices: &mut Vec<usize>,
+    ) -> Result<(), AllocError>
+        ensures { OnOk result (AreAdded (K.Keeps kept.now) indices.old.items
+            (found_by self.now (key_of key.now)) indices.new.items) }
     {
         let number = number_of(key);
         let place = place_of(number, self.buckets.len());
+        let mut found = false;
         for entry in &self.buckets[place] {
-            if is_found(entry, key, number) {
-                indices.push(entry.rule)?;
+            found = if entry.repeats {
+                found
+            } else {
+                is_found(entry, key, number)
+            };
+            if found {
+                push_kept(entry.rule, kept, indices)?;
             }
         }
         Ok(())
     }
 
-    /// Appends the indices of the rules with this id as a key, if there is one.
-    fn push_id(&self, id: Option<&str>, indices: &mut Vec<usize>) -> Result<(), AllocError>
-        ensures { OnOk result (indices.new.items ≡ indices.old.items
-            ++ found_by_any self.now
-            (id_keys (option_map (λ text. text.now) id.entry))) }
-    {
-        match id {
-            Some(text) => self.push_found(&Key::Id(text), indices),
-            None => Ok(()),
-        }
-    }
-
-    /// Appends the indices of the rules with a word of the value as a key.
-    fn push_words(&self, value: &str, indices: &mut Vec<usize>) -> Result<(), AllocError>
-        ensures { OnOk result ((words : List (List ℕ)) × AreWords value.now words
-            × (indices.new.items ≡ indices.old.items
-            ++ found_by_any self.now (map by_class words))) }
-    {
-        let words = distinct_words(*indices.allocator(), value)?;
-        for word in &words {
-            self.push_found(&Key::Class(*word), indices)?;
-        }
-        Ok(())
-    }
-
-    /// Appends the indices of the rules with a class of an element as a key, if it has a value,
-    ///.
-    fn push_classes(&self, class: Option<&str>, indices: &mut Vec<usize>) -> Result<(), AllocError>
-        ensures { OnOk result ((words : List (List ℕ))
-            × AreClasses (option_map (λ value. value.now) class.entry) words
-            × (indices.new.items ≡ indices.old.items
-            ++ found_by_any self.now (map by_class words))) }
-    {
-        match class {
-            Some(value) => self.push_words(value, indices),
-            None => Ok(()),
-        }
-    }
-
-    /// Appends the indices of the rules with the name of an attribute of the element as a key, whose
-    fn push_attributes<E: Keyed>(
+    /// Appends the indices of the rules with this id as a key, if there is one, that are kept.
+    fn push_id<K: Keeping>(
         &self,
-        element: &E,
+        id: Option<&str>,
+        kept: &K,
         indices: &mut Vec<usize>,
     ) -> Result<(), AllocError>
-        ensures { OnOk result (indices.new.items ≡ indices.old.items
-            ++ found_by_any self.now
-            (map by_attribute (E.reported element.now).attributes)) }
+        ensures { OnOk result (AreAdded (K.Keeps kept.now) indices.old.items
+            (found_by_any self.now (id_keys (option_map (λ text. text.now) id.entry)))
+            indices.new.items) }
     {
-        for index in 0..element.attribute_count() {
-            self.push_found(&Key::Attribute(element.attribute_name(index)), indices)?;
+        match id {
+            Some(text) => self.push_found(&Key::Id(text), kept, indices),
+            None => Ok(()),
+        }
+    }
+
+    /// Appends the indices of the rules with a word of the value as a key that are kept.
+    fn push_words<K: Keeping>(
+        &self,
+        value: &str,
+        kept: &K,
+        indices: &mut Vec<usize>,
+    ) -> Result<(), AllocError>
+        ensures { OnOk result ((words : List (List ℕ)) × AreWords value.now words
+            × AreAdded (K.Keeps kept.now) indices.old.items
+            (found_by_any self.now (map by_class words)) indices.new.items) }
+    {
+        if let Some(word) = only_word(value) {
+            return self.push_found(&Key::Class(word), kept, indices);
+        }
+        let words = distinct_words(*indices.allocator(), value)?;
+        for word in &words {
+            self.push_found(&Key::Class(*word), kept, indices)?;
         }
         Ok(())
     }
 
-    /// Appends the indices of the rules of which a key is reported.
-    pub(crate) fn push_keyed<E: Keyed>(
+    /// Appends the indices of the rules with a class of an element as a key, if it has a value, that are
+    /// kept.
+    fn push_classes<K: Keeping>(
+        &self,
+        class: Option<&str>,
+        kept: &K,
+        indices: &mut Vec<usize>,
+    ) -> Result<(), AllocError>
+        ensures { OnOk result ((words : List (List ℕ))
+            × AreClasses (option_map (λ value. value.now) class.entry) words
+            × AreAdded (K.Keeps kept.now) indices.old.items
+            (found_by_any self.now (map by_class words)) indices.new.items) }
+    {
+        match class {
+            Some(value) => self.push_words(value, kept, indices),
+            None => Ok(()),
+        }
+    }
+
+    /// Appends the indices of the rules with the name of an attribute of the element as a key that are
+    /// kept.
+    fn push_attributes<E: Keyed, K: Keeping>(
         &self,
         element: &E,
+        kept: &K,
+        indices: &mut Vec<usize>,
+    ) -> Result<(), AllocError>
+        ensures { OnOk result (AreAdded (K.Keeps kept.now) indices.old.items
+            (found_by_any self.now (map by_attribute (E.reported element.now).attributes))
+            indices.new.items) }
+    {
+        for index in 0..element.attribute_count() {
+            let name = element.attribute_name(index);
+            self.push_found(&Key::Attribute(name), kept, indices)?;
+        }
+        Ok(())
+    }
+
+    /// Appends the indices of the rules of which a key is reported that are kept.
+    pub(crate) fn push_keyed<E: Keyed, K: Keeping>(
+        &self,
+        element: &E,
+        kept: &K,
         indices: &mut Vec<usize>,
     ) -> Result<(), AllocError>
         ensures { OnOk result ((keys : List KeyOf)
             × AreReported E.document (E.node element.now) (E.reported element.now) keys
-            × (indices.new.items
-            ≡ indices.old.items ++ found_by_any self.now keys)) }
+            × AreAdded (K.Keeps kept.now) indices.old.items (found_by_any self.now keys)
+            indices.new.items) }
     {
-        self.push_found(&Key::Any, indices)?;
-        self.push_found(&Key::Name(element.local_name()), indices)?;
-        self.push_id(element.attribute("id"), indices)?;
-        self.push_classes(element.attribute("class"), indices)?;
-        self.push_attributes(element, indices)
+        self.push_found(&Key::Any, kept, indices)?;
+        self.push_found(&Key::Name(element.local_name()), kept, indices)?;
+        self.push_id(element.attribute("id"), kept, indices)?;
+        self.push_classes(element.attribute("class"), kept, indices)?;
+        self.push_attributes(element, kept, indices)
     }
 }
 

@@ -3,8 +3,8 @@
 use Rattle.std.proofs.Common.{◌≡◌, Option, Some, None, sym, ◌∙◌, subst}
 use Rattle.css_matching.specs.Placements.{IsBeyond}
 use Rattle.css_matching.specs.Placements.IsBeyond.{is_next, is_further}
-use Rattle.css_matching.specs.Search.{IsAlong, Can}
-use Rattle.css_matching.specs.Search.IsAlong.{here, after}
+use Rattle.css_matching.specs.internal.Search.{IsAlong, Can}
+use Rattle.css_matching.specs.internal.Search.IsAlong.{here, after}
 
 pub same_some : {A : Type 0} {x y : A} → Some x ≡ Some y → x ≡ y
 same_some e = cc

@@ -5,8 +5,8 @@ use Rattle.std.proofs.Math.Nat.{mul-le-mul_right}
 use Rattle.css_matching.specs.Trees.{Tree, IsMonotone}
 use Rattle.css_matching.specs.Placements.{IsBeyond}
 use Rattle.css_matching.specs.Placements.IsBeyond.{is_next, is_further}
-use Rattle.css_matching.specs.Search.{IsAlong}
-use Rattle.css_matching.specs.Search.IsAlong.{here, after}
+use Rattle.css_matching.specs.internal.Search.{IsAlong}
+use Rattle.css_matching.specs.internal.Search.IsAlong.{here, after}
 use Rattle.css_matching.specs.Charges.{IsTested, IsCharged}
 
 pub charged_none : (cost tests total : ℕ) → IsCharged cost tests total tests total

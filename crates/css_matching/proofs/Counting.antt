@@ -7,7 +7,7 @@ use Rattle.std.specs.Option.{option_map_or}
 use Rattle.css_matching.specs.declared.Combinator.{Combinator}
 use Rattle.css_matching.specs.declared.Combinator.TheVariants.{Descendant, Child, Adjacent, Sibling}
 use Rattle.css_matching.specs.Trees.{Tree, Counts}
-use Rattle.css_matching.specs.Search.{IsUp}
+use Rattle.css_matching.specs.internal.Search.{IsUp}
 use Rattle.css_matching.specs.Placements.{IsBeyond}
 use Rattle.css_matching.specs.Placements.IsBeyond.{is_next, is_further}
 use Rattle.css_matching.specs.Bounds.{is_adjacent, is_sibling, run_length, longest_free, fixed_by, free_by, fixed_and_free, fixed_length, above_length, longest_fixed, levels_by, level_count, most_levels, width}

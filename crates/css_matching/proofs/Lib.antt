@@ -4,3 +4,4 @@ pub mod Counting
 pub mod Placing
 pub mod HashLemmas
 pub mod Charging
+pub mod IndexLemmas

@@ -7,7 +7,7 @@ use Rattle.std.proofs.lemmas.Bool.{le-leb, lt-leb}
 use Rattle.css_matching.specs.declared.Combinator.{Combinator}
 use Rattle.css_matching.specs.Trees.{Tree}
 use Rattle.css_matching.specs.Placements.{Relates, IsPlacement, HasPlacement}
-use Rattle.css_matching.specs.Search.{Reaches}
+use Rattle.css_matching.specs.internal.Search.{Reaches}
 
 module _ {Node : Type 0} (tree : Tree Node) (combinator : ℕ → Combinator)
     (Meets : ℕ → Node → Type 0) where

@@ -11,8 +11,8 @@ use Rattle.css_matching.specs.Bounds.{level_count, run_length, longest_free, fix
 use Rattle.css_matching.proofs.Counting.{level_count-adjacent, level_count-sibling, run_length-step, run_length-sibling, fixed_length-adjacent, fixed_length-sibling, above_length-adjacent, above_length-sibling, fixed_length-up, free_bound, longest_free-below}
 use Rattle.css_matching.specs.declared.matching.Fit.{Fit}
 use Rattle.css_matching.specs.declared.matching.Fit.TheVariants.{Mismatch, NoNode}
-use Rattle.css_matching.specs.Search.{IsAlong, FindsRun, FindsStretch, HasTested, HasTestedAll, Can, Before, Reaches, IsUp, Level, Rest, Leaves}
-use Rattle.css_matching.specs.Search.IsAlong.{here, after}
+use Rattle.css_matching.specs.internal.Search.{IsAlong, FindsRun, FindsStretch, HasTested, HasTestedAll, Can, Before, Reaches, IsUp, Level, Rest, Leaves}
+use Rattle.css_matching.specs.internal.Search.IsAlong.{here, after}
 use Rattle.css_matching.proofs.Chains.{One, Many, Opens, Tracks, tracks_start, tracks_one, one_none, many_lost, many_enough, many_none, misfit_next, next_misfit, misfit_none}
 
 taken : {T Node : Type 0} (node : T → Node) (r : Option (Bor T)) (top : Option T) (low : Bor T)

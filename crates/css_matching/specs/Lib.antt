@@ -1,7 +1,7 @@
 pub mod Trees
 pub mod Placements
 pub mod Bounds
-pub mod Search
 pub mod ListTrees
 pub mod Hashes
 pub mod Charges
+pub mod internal

@@ -10,16 +10,19 @@
 //! depends: a level is a test of one element. So the nearest place of a run among the earlier siblings
 //! suffices, and the nearest place of a stretch among the ancestors.
 //!
-//! It also has what searches and their indices share: the counter of tests, and hashes of texts.
+//! It also has what searches and their indices share: the counter of tests, hashes of texts, and lists
+//! of indices.
 #![tactic(auto)]
 
 mod candidate;
 mod counter;
 pub mod hashes;
+mod indices;
 mod matching;
 
 pub use candidate::{Candidate, Parts};
 pub use counter::Tests;
+pub use indices::sort_once;
 pub use matching::matches;
 
 /// How a part of a selector is joined to the part before it.

@@ -3,7 +3,7 @@ ghost use Rattle.std.specs.Prelude.{◌≡◌, ◌+◌, ◌*◌, ◌<◌, ◌≤
 ghost use Rattle.css_matching.specs.Placements.{HasPlacement};
 ghost use Rattle.css_matching.specs.Bounds.{run_length, longest_free, longest_fixed, fixed_length, level_count, most_levels, width};
 ghost use Rattle.css_matching.specs.Charges.{IsSpent, IsTested, IsCharged, IsPartTest};
-ghost use Rattle.css_matching.specs.Search.{FindsRun, FindsLevel, FindsStretch, HasTested, HasTestedLevel, HasTestedAll};
+ghost use Rattle.css_matching.specs.internal.Search.{FindsRun, FindsLevel, FindsStretch, HasTested, HasTestedLevel, HasTestedAll};
 
 use crate::{Candidate, Combinator, Parts, Tests};
 

@@ -326,7 +326,7 @@ module _ {Node : Type 0} (d : Document Node) (n : Node) where
   compound_met (with_condition (where_any selectors) end_of_compound) h k = absurd (cc)
 
   -- what satisfies a lone compound selector is its placement
-  lone_placed : (k : Combinator) (c : Conditions) → AreMet d c n
+  pub lone_placed : (k : Combinator) (c : Conditions) → AreMet d c n
       → IsPlaced d (with_part k c end_of_selector) n
   lone_placed k c h = (
     (λ i. n),

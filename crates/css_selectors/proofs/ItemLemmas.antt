@@ -2,7 +2,7 @@
 -- Serves the loops of `compounds` and `reading`.
 use Rattle.std.proofs.Common.{◌≡◌, ℕ, zero, suc, ◌-◌, ◌<◌, List, [], ◌∷◌, ◌++◌, map, refl, sym, ap, ◌∙◌, arith, Bor, Option, Some, None, Ok, subst}
 use Rattle.css_selectors.specs.declared.refusal.Why.{Why}
-use Rattle.css_selectors.specs.Reads.{Finds}
+use Rattle.css_selectors.specs.internal.Reads.{Finds}
 use Rattle.css_selectors.specs.Readings.{Reading, got, refused, Step, item, none, stop, with_first, go_on, items_up_to, found_before}
 
 found_listed : {A : Type 0} (xs : List A) (x : A) (r : Reading (List A))

@@ -1,9 +1,10 @@
 pub mod AttributeLemmas
+mod WordStartLemmas
 pub mod NumberLemmas
 pub mod ConditionViews
 pub mod PartLemmas
 mod BoundLemmas
-mod PlacementListLemmas
+pub mod PlacementListLemmas
 pub mod TextLemmas
 pub mod ItemLemmas
 pub mod KeptLemmas
@@ -11,6 +12,7 @@ pub mod GapLemmas
 pub mod PrintLemmas
 pub mod KeyLemmas
 pub mod AncestorKeyLemmas
+pub mod AfterKeyLemmas
 pub mod ListTexts
 pub mod NestLemmas
 pub mod NestingLemmas
@@ -32,3 +34,4 @@ mod Vectors
 mod NestedVectors
 mod NestingLaws
 mod NestedTexts
+mod EscapedAgain

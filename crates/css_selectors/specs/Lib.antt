@@ -1,3 +1,4 @@
+pub mod AfterKeys
 pub mod AncestorKeys
 pub mod AttributeTests
 pub mod Codes
@@ -11,12 +12,11 @@ pub mod Keys
 pub mod Meanings
 pub mod Numbers
 pub mod PlacementLists
-pub mod Occurrences
 pub mod Printing
+pub mod Escaping
 pub mod ReadSelectors
 pub mod ReadViews
 pub mod Readings
-pub mod Reads
 pub mod RefusalWords
 pub mod Nested
 pub mod Simples
@@ -31,3 +31,4 @@ pub mod Views
 pub mod WellFormed
 pub mod NestedTests
 pub mod LoneSelectors
+pub mod internal

@@ -68,7 +68,7 @@ fn push_parent_step<'s>(
 }
 
 /// Whether it is an id or a class.
-fn is_id_or_class(condition: &Condition<'_>) -> bool
+pub(crate) fn is_id_or_class(condition: &Condition<'_>) -> bool
     ensures { result ≡ is_exact_condition (condition_of condition.now) }
 {
     matches!(

@@ -1,7 +1,7 @@
 //! Arguments that are kept as they are written.
 ghost use Rattle.std.specs.Prelude.{◌≡◌};
 ghost use Rattle.css_selectors.specs.Grammar.{argument, is_argument as is_argument_of, parenthesis as parenthesis_of};
-ghost use Rattle.css_selectors.specs.Reads.{reading_of, Reads};
+ghost use Rattle.css_selectors.specs.internal.Reads.{reading_of, Reads};
 ghost use Rattle.std.specs.Cow.{cow_str_bytes};
 
 use crate::refusal::{Refusal, Why};

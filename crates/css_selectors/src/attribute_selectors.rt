@@ -3,7 +3,7 @@ ghost use Rattle.std.specs.Prelude.{◌≡◌, option_map};
 ghost use Rattle.css_text.specs.Bytes.{starts_by};
 ghost use Rattle.css_selectors.specs.Grammar.{is_sign_byte, two_bytes as two_bytes_of, comparison as comparison_of_text};
 ghost use Rattle.css_selectors.specs.Grammar.{value as value_of, flag as flag_of, compared, attribute_selector};
-ghost use Rattle.css_selectors.specs.Reads.{reading_of, Reads};
+ghost use Rattle.css_selectors.specs.internal.Reads.{reading_of, Reads};
 ghost use Rattle.std.specs.Cow.{cow_str_bytes};
 ghost use Rattle.css_selectors.specs.Views.{comparison_of, simple_of};
 

@@ -5,6 +5,7 @@ ghost use Rattle.css_text.specs.Characters.{is_space as is_space_byte};
 ghost use Rattle.css_selectors.specs.AttributeTests.{same_byte as is_same_byte, begins as begins_by};
 ghost use Rattle.css_selectors.specs.AttributeTests.{begins_up_to, is_word_of, occurs_in, is_satisfied};
 ghost use Rattle.css_selectors.specs.AttributeTests.{is_hyphen};
+ghost use Rattle.css_selectors.specs.internal.WordStarts.{after_space as after_space_of};
 ghost use Rattle.css_selectors.specs.Views.{comparison_of};
 
 use crate::Comparison;
@@ -68,18 +69,31 @@ fn begins_word(ignores_case: bool, text: &[u8], value: &[u8]) -> bool
     }
 }
 
-/// Whether the text is a word of the value.
+/// Returns what is after the first white space of the value: nothing if there is none.
+#[inline(always)]
+fn after_space(value: &[u8]) -> &[u8]
+    ensures { result.now ≡ after_space_of value.now }
+{
+    let mut rest = value;
+    'bytes: while let [byte, after @ ..] = rest {
+        if is_space(*byte) {
+            return after;
+        }
+        rest = after;
+    }
+    rest
+}
+
+/// Whether the text is a word of the value. It is compared only where a word begins.
 fn is_word(ignores_case: bool, text: &[u8], value: &[u8]) -> bool
     ensures { result ≡ is_word_of true ignores_case text.now value.now }
 {
-    let mut may_begin = true;
     let mut rest = value;
-    'bytes: while let [byte, after @ ..] = rest {
-        if may_begin && begins_word(ignores_case, text, rest) {
+    'words: while !rest.is_empty() {
+        if begins_word(ignores_case, text, rest) {
             return true;
         }
-        may_begin = is_space(*byte);
-        rest = after;
+        rest = after_space(rest);
     }
     false
 }

@@ -10,7 +10,7 @@ ghost use Rattle.css_selectors.specs.Grammar.{name as name_of, list_within, with
 ghost use Rattle.css_selectors.specs.Grammar.{next_condition as next_condition_of, conditions as conditions_of};
 ghost use Rattle.css_selectors.specs.Components.Condition.{simple};
 ghost use Rattle.css_selectors.specs.Readings.{step_after, items, found_before};
-ghost use Rattle.css_selectors.specs.Reads.{Reads, Finds};
+ghost use Rattle.css_selectors.specs.internal.Reads.{Reads, Finds};
 ghost use Rattle.css_selectors.specs.Views.{simple_of, condition_of, part_of, complex_of};
 
 use crate::Combinator;
@@ -462,7 +462,7 @@ fn read_more<'a>(
         (found_before (map (λ s. simple (simple_of s)) (option_to_list first.entry))
         (items (next_condition_of depth) text.now)) }
 {
-    let mut conditions = Vec::new(alloc);
+    let mut conditions = Vec::with_capacity(alloc, 2)?;
     if let Some(simple) = first {
         conditions.push(Condition::Simple(simple))?;
     }

@@ -115,7 +115,7 @@ fn least_of(selectors: &[Complex<'_>]) -> u8
 }
 
 /// Returns the least rank of the keys of a condition.
-fn rank_of_condition(condition: &Condition<'_>) -> u8
+pub(crate) fn rank_of_condition(condition: &Condition<'_>) -> u8
     ensures { result ≡ least_rank (condition_keys (condition_of condition.now)) }
 {
     match condition {
@@ -205,7 +205,7 @@ impl<'a> Selector<'a> {
     ghost use Rattle.css_selectors.specs.Views.{condition_of};
 
     /// Returns the conditions of the last compound selector.
-    fn last_conditions(&self) -> &[Condition<'a>]
+    pub(crate) fn last_conditions(&self) -> &[Condition<'a>]
         ensures { map condition_of result.now
             ≡ conditions_at self.now.parts (length self.now.parts - 1) }
     {

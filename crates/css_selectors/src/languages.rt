@@ -3,7 +3,7 @@ ghost use Rattle.std.specs.Prelude.{◌≡◌, ◌∷◌, [], map};
 ghost use Rattle.std.specs.Cow.{cow_str_bytes};
 ghost use Rattle.css_selectors.specs.Grammar.{next_range as next_range_of, language_ranges};
 ghost use Rattle.css_selectors.specs.Readings.{items, found_before};
-ghost use Rattle.css_selectors.specs.Reads.{Reads, Finds};
+ghost use Rattle.css_selectors.specs.internal.Reads.{Reads, Finds};
 
 use crate::attribute_selectors::read_value;
 use crate::refusal::Refusal;

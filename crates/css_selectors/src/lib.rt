@@ -26,6 +26,7 @@
 //! in a list is unsupported. Namespaces are not read.
 #![tactic(auto)]
 
+mod after_key;
 mod ancestor_keys;
 mod arguments;
 mod attribute_selectors;
@@ -33,6 +34,7 @@ mod attributes;
 mod components;
 mod compounds;
 mod element;
+mod escaping;
 mod joins;
 mod key;
 mod key_laws;
@@ -67,6 +69,7 @@ pub use components::{
 };
 pub use css_matching::{Combinator, Tests};
 pub use element::Element;
+pub use escaping::{escape, quote};
 pub use key::Key;
 pub use refusal::{Refusal, Why};
 pub use selector::{Listed, Selector};

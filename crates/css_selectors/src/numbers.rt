@@ -4,7 +4,7 @@ ghost use Rattle.css_text.specs.Bytes.{starts_by, past_one, is_digit as is_digit
 ghost use Rattle.css_selectors.specs.Grammar.{with_digit as with_digit_of, digits as digits_of, sign as sign_of, is_sign as is_sign_byte, is_n as is_n_byte};
 ghost use Rattle.css_selectors.specs.Grammar.{offset_after, with_offset, subtracted, by_tail, n_word, odd_or_even as odd_or_even_of};
 ghost use Rattle.css_selectors.specs.Grammar.{word_progression, numbered, is_lone_plus, progression};
-ghost use Rattle.css_selectors.specs.Reads.{reading_of, Reads};
+ghost use Rattle.css_selectors.specs.internal.Reads.{reading_of, Reads};
 ghost use Rattle.css_selectors.specs.Views.{signed_of, progression_of};
 
 use crate::components::{Progression, Signed};

@@ -3,7 +3,7 @@
 ghost use Rattle.std.specs.Prelude.{◌≡◌, ◌≢◌, ◌↔◌, ◌+◌, ◌<◌, ◌≤◌, ℕ, length, IsTrue};
 ghost use Rattle.memchr.specs.Critical.{IsSuffixAt, IsCutPlace};
 ghost use Rattle.css_selectors.specs.AttributeTests.{occurs_in};
-ghost use Rattle.css_selectors.specs.Occurrences.{folded as folded_byte, folded_at, IsBefore, IsCut};
+ghost use Rattle.css_selectors.specs.internal.Occurrences.{folded as folded_byte, folded_at, IsBefore, IsCut};
 
 /// A suffix of a text.
 #[derive(Clone, Copy, Debug)]

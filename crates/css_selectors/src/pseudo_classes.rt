@@ -3,7 +3,7 @@ ghost use Rattle.std.specs.Prelude.{◌≡◌, None, option_map};
 ghost use Rattle.css_selectors.specs.Grammar.{plain_structure, numbering as numbering_of, numbered_by as numbered_by_of};
 ghost use Rattle.css_selectors.specs.Grammar.{list_kind as list_kind_of, functional};
 ghost use Rattle.css_selectors.specs.Grammar.{is_old_element as is_old_element_of, takes_none as takes_none_of, argument_of};
-ghost use Rattle.css_selectors.specs.Reads.{Reads};
+ghost use Rattle.css_selectors.specs.internal.Reads.{Reads};
 ghost use Rattle.std.specs.Cow.{cow_str_bytes};
 ghost use Rattle.css_selectors.specs.Grammar.{function_named as function_named_of, plain_pseudo as plain_pseudo_of};
 ghost use Rattle.css_selectors.specs.Views.{structure_of, progression_of, simple_of};

@@ -3,7 +3,7 @@ ghost use Rattle.std.specs.Prelude.{◌≡◌, map, option_map};
 ghost use Rattle.std.specs.Cow.{cow_str_bytes};
 ghost use Rattle.css_selectors.specs.Grammar.{past_colon as past_colon_of, element_argument, element_name, after_element, pseudo_element as pseudo_element_of_text};
 ghost use Rattle.css_selectors.specs.Readings.{items};
-ghost use Rattle.css_selectors.specs.Reads.{Reads, Finds};
+ghost use Rattle.css_selectors.specs.internal.Reads.{Reads, Finds};
 ghost use Rattle.css_selectors.specs.Views.{condition_of, element_name_of, pseudo_element_of};
 
 use crate::components::{Condition, ElementName, PseudoElement, Simple};

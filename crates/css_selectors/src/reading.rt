@@ -2,7 +2,7 @@
 ghost use Rattle.std.specs.Prelude.{◌≡◌, ◌<◌, ◌∷◌, [], IfErr, IfOk, length, map, option_map};
 ghost use Rattle.css_selectors.specs.Grammar.{next_part as next_part_of, parts as parts_of};
 ghost use Rattle.css_selectors.specs.Readings.{items, found_before};
-ghost use Rattle.css_selectors.specs.Reads.{Reads, Finds};
+ghost use Rattle.css_selectors.specs.internal.Reads.{Reads, Finds};
 ghost use Rattle.css_selectors.specs.Views.{part_of};
 ghost use Rattle.css_selectors.specs.Grammar.{nesting_part as nesting_part_of, relative_parts, start_parts};
 ghost use Rattle.css_selectors.specs.Grammar.{placed_by, next_placed as next_placed_of, placed_list_by};
@@ -67,7 +67,7 @@ fn read_more<'a>(
         (found_before (part_of first.entry ∷ []) (items next_part_of text.now)) }
     ensures some { IfOk result (λ it. 0 < length it.0.items) }
 {
-    let mut parts = Vec::new(alloc);
+    let mut parts = Vec::with_capacity(alloc, 2)?;
     parts.push(first)?;
     let mut rest = text;
     let mut left = text.len();

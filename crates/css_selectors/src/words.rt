@@ -6,7 +6,7 @@ ghost use Rattle.css_selectors.specs.Readings.{got};
 ghost use Rattle.css_syntax.specs.Statements.{begins_cdc as begins_cdc_of};
 ghost use Rattle.css_selectors.specs.Grammar.{begins_word as begins_word_of, begins_name as begins_name_of};
 ghost use Rattle.css_selectors.specs.Grammar.{begins_plain_name as begins_plain_name_of};
-ghost use Rattle.css_selectors.specs.Reads.{reading_of, Reads};
+ghost use Rattle.css_selectors.specs.internal.Reads.{reading_of, Reads};
 ghost use Rattle.std.specs.Cow.{cow_str_bytes};
 
 use crate::refusal::{Refusal, Why};

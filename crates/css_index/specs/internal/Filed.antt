@@ -1,5 +1,5 @@
 -- Keys of selectors, filed by a number of each.
-use Rattle.std.specs.Prelude.{◌≡◌, ℕ, ◌+◌, ◌*◌, ◌/◌, ◌%◌, ◌^◌, ◌<◌, ◌↔◌, ◌==◌, Bool, false, List, [], ◌∷◌, ◌++◌, map, length, Option, None, Some, Contains, IsTrue, filter}
+use Rattle.std.specs.Prelude.{◌≡◌, ℕ, ◌+◌, ◌-◌, ◌*◌, ◌/◌, ◌%◌, ◌^◌, ◌<◌, ◌↔◌, ◌==◌, Bool, true, false, List, [], ◌∷◌, ◌++◌, map, length, take, Option, None, Some, Contains, IsTrue, filter}
 use Rattle.std.specs.List.{slice_get, flat_map, list_any}
 use Rattle.std.specs.Global.{Vec}
 use Rattle.css_selectors.specs.AttributeTests.{is_satisfied}
@@ -13,7 +13,7 @@ use Rattle.css_selectors.specs.KeyViews.{key_of}
 use Rattle.css_index.specs.KeyNumbers.{number_of, is_same}
 use Rattle.css_index.specs.Reported.{Reported, reports_key}
 use Rattle.css_index.specs.Tested.{filed_keys}
-use Rattle.css_index.specs.declared.entry.Entry.{Entry}
+use Rattle.css_index.specs.declared.filed_key.FiledKey.{FiledKey}
 
 -- the place of a key with this number among so many, by the upper half of a multiple of the number
 abbrev pub place_by : ℕ → ℕ → ℕ
@@ -24,7 +24,7 @@ abbrev pub place_of : ℕ → Key → ℕ
 place_of count key = place_by count (number_of key)
 
 -- what contracts see of an entry: its key, and the index of its selector
-abbrev pub entry_of : Entry → Key × ℕ
+abbrev pub entry_of : FiledKey → Key × ℕ
 entry_of e = (key_of e.key, e.rule)
 
 -- the keys, each with the index
@@ -41,20 +41,36 @@ entries_from index (s ∷ ss) =
 abbrev pub entries_of : List Selector → List (Key × ℕ)
 entries_of selectors = entries_from 0 selectors
 
+-- the last of the entries has the key
+abbrev pub HasLastKey : List FiledKey → Key → Type 0
+HasLastKey entries key = (d : FiledKey) × (0 < length entries)
+    × (slice_get entries (length entries - 1) ≡ Some d) × (key_of d.key ≡ key)
+
+-- each entry that repeats the one before it has its key
+abbrev pub AreRuns : List FiledKey → Type 0
+AreRuns entries = (i : ℕ) (e : FiledKey) → slice_get entries i ≡ Some e → e.repeats ≡ true
+    → HasLastKey (take i entries) (key_of e.key)
+
+-- the entries at each place
+abbrev pub AllRuns : List (Vec FiledKey) → Type 0
+AllRuns buckets = (place : ℕ) (bucket : Vec FiledKey) → slice_get buckets place ≡ Some bucket
+    → AreRuns bucket.items
+
 -- the entries whose key has this place among so many
 abbrev pub entries_at : ℕ → ℕ → List (Key × ℕ) → List (Key × ℕ)
 entries_at count place entries = filter (λ e. place_of count e.0 == place) entries
 
 -- the list at each place has the entries whose keys have it, in order
-abbrev pub AreFiledAt : ℕ → List (Key × ℕ) → List (Vec Entry) → Type 0
-AreFiledAt count entries buckets = (place : ℕ) (bucket : Vec Entry)
+abbrev pub AreFiledAt : ℕ → List (Key × ℕ) → List (Vec FiledKey) → Type 0
+AreFiledAt count entries buckets = (place : ℕ) (bucket : Vec FiledKey)
     → slice_get buckets place ≡ Some bucket
     → map entry_of bucket.items ≡ entries_at count place entries
 
--- there is a place, and the list at each has the entries whose keys have it, in order
-pub record AreFiled (entries : List (Key × ℕ)) (buckets : List (Vec Entry)) : Type 0 where
+-- there is a place, and the list at each has the entries whose keys have it, in order and in runs
+pub record AreFiled (entries : List (Key × ℕ)) (buckets : List (Vec FiledKey)) : Type 0 where
   pub some : 0 < length buckets
   pub filed : AreFiledAt (length buckets) entries buckets
+  pub runs : AllRuns buckets
 
 -- whether an entry's key is the same as this
 abbrev pub is_found_by : Key → Key × ℕ → Bool

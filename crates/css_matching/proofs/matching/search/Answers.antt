@@ -5,7 +5,7 @@ use Rattle.css_matching.specs.declared.Combinator.{Combinator}
 use Rattle.css_matching.specs.Trees.{Tree, Counts}
 use Rattle.css_matching.specs.Placements.{IsBeyond}
 use Rattle.css_matching.specs.Placements.IsBeyond.{is_next}
-use Rattle.css_matching.specs.Search.IsAlong.{here}
+use Rattle.css_matching.specs.internal.Search.IsAlong.{here}
 use Rattle.css_matching.specs.Bounds.{longest_free, longest_fixed, fixed_length, level_count, most_levels, width}
 use Rattle.css_matching.proofs.Placing.{placement_is}
 use Rattle.css_matching.proofs.Steps.{beyond_less, search_begun, search_goes, search_misfit, search_none, stretch_fails, tested_stretch}

@@ -2,7 +2,7 @@ use Rattle.std.proofs.Common.{◌≡◌, ℕ, ◌<◌, ◌≤◌, ◌+◌, ◌-�
 use Rattle.std.specs.Option.{option_map_or}
 use Rattle.css_matching.specs.declared.Combinator.{Combinator}
 use Rattle.css_matching.specs.Trees.{Tree}
-use Rattle.css_matching.specs.Search.{Level}
+use Rattle.css_matching.specs.internal.Search.{Level}
 use Rattle.css_matching.specs.Bounds.{longest_free, run_length, fixed_length, above_length, level_count, width}
 use Rattle.css_matching.proofs.Steps.{borrowed, next_at, descendant_of, stretch_start, stretch_step, stretch_none, stretch_continues}
 use Rattle.css_matching.proofs.Charging.{charged_none, charged_more, along_up_cheaper}

@@ -2,8 +2,8 @@ use Rattle.std.proofs.Common.{◌≡◌, length, true}
 use Rattle.css_selectors.specs.AttributeTests.{is_word_of}
 use Rattle.css_selectors.proofs.attributes.is_word.Given as goal
 
-abbrev pub invariant-bytes : goal.invariant-bytes
-invariant-bytes l = is_word_of l.may_begin l.ignores_case l.text l.rest ≡ is_word_of true l.ignores_case l.text l.value
+abbrev pub invariant-words : goal.invariant-words
+invariant-words l = is_word_of true l.ignores_case l.text l.rest ≡ is_word_of true l.ignores_case l.text l.value
 
-abbrev pub decreases-bytes : goal.decreases-bytes
-decreases-bytes l = length l.rest
+abbrev pub decreases-words : goal.decreases-words
+decreases-words l = length l.rest

@@ -2,7 +2,7 @@ use Rattle.std.proofs.Common.{map, option_map, subst, ◌∙◌, arith, rules}
 use Rattle.std.proofs.lemmas.Grind.{common_steps}
 use Rattle.std.proofs.lemmas.Result.{err_from_is_err_and}
 use Rattle.css_selectors.specs.Grammar.{next_simple, next_condition, next_part_in, next_listed}
-use Rattle.css_selectors.specs.Reads.{Finds}
+use Rattle.css_selectors.specs.internal.Reads.{Finds}
 use Rattle.css_selectors.specs.Views.{simple_of, part_of, complex_of, condition_of}
 use Rattle.css_selectors.proofs.ItemLemmas.{loop_item, loop_none, loop_over, loop_stop, finds_some, finds_none}
 use Rattle.css_selectors.specs.Readings.{items}

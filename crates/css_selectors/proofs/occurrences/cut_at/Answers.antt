@@ -1,6 +1,6 @@
 use Rattle.std.proofs.Common.{sym, subst, ap, ◌∙◌, length, not}
 use Rattle.std.proofs.lemmas.Bool.{false≢true, le-leb, not-false}
-use Rattle.css_selectors.specs.Occurrences.{folded_at, IsCut}
+use Rattle.css_selectors.specs.internal.Occurrences.{folded_at, IsCut}
 use Rattle.css_selectors.proofs.OccurrenceLemmas.{cut-wide, cut-long, cut-small}
 use Rattle.css_selectors.proofs.occurrences.cut_at.Goals.{then-place-text, else-place-text}
 use Rattle.css_selectors.proofs.occurrences.cut_at.Goals as goal

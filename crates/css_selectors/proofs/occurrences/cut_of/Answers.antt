@@ -1,6 +1,6 @@
 use Rattle.std.proofs.Common.{length, sym, subst, arith}
 use Rattle.memchr.specs.Critical.{IsCutPlace}
-use Rattle.css_selectors.specs.Occurrences.{folded_at}
+use Rattle.css_selectors.specs.internal.Occurrences.{folded_at}
 use Rattle.css_selectors.proofs.OccurrenceLemmas.{cut-rising, cut-falling}
 use Rattle.css_selectors.proofs.occurrences.cut_of.Goals.{then-one-other, else-one-other}
 use Rattle.css_selectors.proofs.occurrences.cut_of.Goals as goal

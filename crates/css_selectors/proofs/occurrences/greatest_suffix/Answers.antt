@@ -1,6 +1,6 @@
 use Rattle.std.proofs.Common.{◌≡◌, ◌+◌, ◌-◌, ℕ, Bool, length, sym, subst, ◌∙◌, arith, refl}
 use Rattle.memchr.proofs.lemmas.SuffixLemmas.{IsScan, IsScan-start, IsScan-accept, IsScan-skip, IsScan-push, IsScan-block, IsScan-end}
-use Rattle.css_selectors.specs.Occurrences.{IsBefore, folded_at}
+use Rattle.css_selectors.specs.internal.Occurrences.{IsBefore, folded_at}
 use Rattle.css_selectors.proofs.OccurrenceLemmas.{IsBefore-trans, IsBefore-irrefl, IsBefore-same}
 use Rattle.css_selectors.proofs.occurrences.greatest_suffix.Goals as goal
 

@@ -1,6 +1,6 @@
 use Rattle.std.proofs.Common.{◌+◌, ◌-◌, ◌*◌, length}
 use Rattle.memchr.proofs.lemmas.SuffixLemmas.{IsScan}
-use Rattle.css_selectors.specs.Occurrences.{IsBefore, folded_at}
+use Rattle.css_selectors.specs.internal.Occurrences.{IsBefore, folded_at}
 use Rattle.css_selectors.proofs.occurrences.greatest_suffix.Given as goal
 
 abbrev pub invariant-loop-candidate : goal.invariant-loop-candidate

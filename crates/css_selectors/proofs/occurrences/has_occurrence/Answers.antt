@@ -2,7 +2,7 @@ use Rattle.std.proofs.Common.{refl, ◌≤◌, length, sym, arith, ⊎_elim}
 use Rattle.std.proofs.lemmas.Bool.{cases_lt, false≢true}
 use Rattle.memchr.proofs.lemmas.FindLemmas.{Nowhere-then}
 use Rattle.memchr.proofs.lemmas.SearchLemmas.{Nowhere-right, Nowhere-left, Nowhere-end}
-use Rattle.css_selectors.specs.Occurrences.{folded_at}
+use Rattle.css_selectors.specs.internal.Occurrences.{folded_at}
 use Rattle.css_selectors.proofs.OccurrenceLemmas.{occurs-at, occurs-nowhere}
 use Rattle.css_selectors.proofs.occurrences.has_occurrence.Goals as goal
 

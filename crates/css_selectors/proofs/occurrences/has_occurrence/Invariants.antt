@@ -1,6 +1,6 @@
 use Rattle.std.proofs.Common.{◌≤◌, ◌-◌, length}
 use Rattle.memchr.specs.Find.{Nowhere}
-use Rattle.css_selectors.specs.Occurrences.{OccursAt}
+use Rattle.css_selectors.specs.internal.Occurrences.{OccursAt}
 use Rattle.css_selectors.proofs.occurrences.has_occurrence.Given as goal
 
 abbrev pub invariant-loop-index : goal.invariant-loop-index

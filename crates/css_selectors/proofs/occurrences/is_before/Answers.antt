@@ -1,7 +1,7 @@
 use Rattle.std.proofs.Common.{◌≡◌, ℕ, Bool, true, false, IsTrue}
 use Rattle.std.proofs.Math.Dec.{ltb}
 use Rattle.std.proofs.lemmas.Bool.{ltb-true, lt-ltb}
-use Rattle.css_selectors.specs.Occurrences.{IsBefore}
+use Rattle.css_selectors.specs.internal.Occurrences.{IsBefore}
 use Rattle.css_selectors.proofs.occurrences.is_before.Goals as goal
 
 both-ways : (reverse : Bool) (a b : ℕ) → reverse ≡ false

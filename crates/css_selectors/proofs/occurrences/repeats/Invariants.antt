@@ -1,5 +1,5 @@
 use Rattle.std.proofs.Common.{◌≡◌, ℕ, ◌+◌, ◌<◌}
-use Rattle.css_selectors.specs.Occurrences.{folded_at}
+use Rattle.css_selectors.specs.internal.Occurrences.{folded_at}
 use Rattle.css_selectors.proofs.occurrences.repeats.Given as goal
 
 abbrev pub invariant-loop-k : goal.invariant-loop-k

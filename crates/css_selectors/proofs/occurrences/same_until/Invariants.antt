@@ -1,5 +1,5 @@
 use Rattle.std.proofs.Common.{◌≡◌, ℕ, ◌+◌, ◌-◌, ◌<◌, ◌≤◌, length}
-use Rattle.css_selectors.specs.Occurrences.{folded_at}
+use Rattle.css_selectors.specs.internal.Occurrences.{folded_at}
 use Rattle.css_selectors.proofs.occurrences.same_until.Given as goal
 
 abbrev pub invariant-loop-to : goal.invariant-loop-to

@@ -1,6 +1,7 @@
-use Rattle.std.proofs.Common.{◌≡◌, ◌++◌, sym, ap, ◌∙◌, subst}
-use Rattle.std.specs.List.{Contains}
+use Rattle.std.proofs.Common.{◌∙◌, ap, subst}
+use Rattle.css_index.specs.internal.Added.{AreAdded}
 use Rattle.css_index.specs.internal.Filed.{entries_of, found_by_any}
+use Rattle.css_index.proofs.AddedLemmas.{added_alone}
 use Rattle.css_index.proofs.KeyedLemmas.{keyed_found}
 use Rattle.css_index.proofs.selector_index.SelectorIndex.gather.Goals as goal
 
@@ -9,15 +10,15 @@ returns-clause-found g c =
     let document = g.E.Element.document in
     let n = g.E.Element.node c.args.element.now in
     let reported = g.E.Keyed.reported c.args.element.now in
+    let Keeps = g.K.Keeping.Keeps c.args.kept.now in
     let keys = c.in_default.ensures.0 in
     let found = found_by_any (entries_of c.args.self.now) keys in
-    let items : c.push_keyed.new.indices.items ≡ found =
-    c.in_default.ensures.2
-    ∙ ap (λ es. c.clear.new.self.items ++ found_by_any es keys)
-    (c.self.invariant ∙ ap entries_of c.self.view_is)
-    ∙ ap (λ xs. xs ++ found) c.clear.ensures.items in
+    let new = c.push_keyed.new.indices.items in
+    let added = subst (λ old. AreAdded Keeps old found new) c.clear.ensures.items
+    (subst (λ es. AreAdded Keeps c.clear.new.self.items (found_by_any es keys) new)
+    (c.self.invariant ∙ ap entries_of c.self.view_is) c.in_default.ensures.2) in
     let are = keyed_found document n reported c.args.self.now keys c.in_default.ensures.1 in
-    λ index. (
-      λ h. (are index).0 (subst (λ xs. Contains xs index) items h),
-      λ h. subst (λ xs. Contains xs index) (sym items) ((are index).1 h),
-    )
+    λ index. (let kept = added_alone Keeps found new added index in (
+      λ h. (let k = kept.0 h in ((are index).0 k.0, k.1)),
+      λ h. kept.1 ((are index).1 h.0, h.1),
+    ))

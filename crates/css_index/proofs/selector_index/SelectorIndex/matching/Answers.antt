@@ -23,10 +23,13 @@ returns-clause-matches g c =
       exactly = λ index. (
         λ h. (let k = (exactly index).0 h in
             passed_matches document n reported selectors index
-            ((gathered index).0 ((same index).0 k.0)) k.1),
+            ((gathered index).0 ((same index).0 k.0)).0 k.1),
         λ m. (exactly index).1 (
-          (same index).1 ((gathered index).1 (match_keyed document n reported selectors index
-              (g.met.E.Keyed.reported_law element) m)),
+          (same index).1 ((gathered index).1 (
+            match_keyed document n reported selectors index
+                (g.met.E.Keyed.reported_law element) m,
+            tt,
+          )),
           matched_passes document n reported selectors index m,
         ),
       );

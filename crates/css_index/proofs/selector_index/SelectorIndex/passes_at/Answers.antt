@@ -1,6 +1,6 @@
 use Rattle.std.proofs.Common.{◌≡◌, ◌+◌, ◌≤◌, ◌⊎◌, IsTrue, None, Some, sym, ◌∙◌, map, ap, subst, arith}
 use Rattle.css_selectors.specs.AncestorKeys.{is_only_keys}
-use Rattle.css_selectors.specs.Meanings.{Matches}
+use Rattle.css_selectors.specs.AfterKeys.{MatchesFoundBy, begins_with_key}
 use Rattle.css_index.specs.Tested.{least_of, most_of}
 use Rattle.css_index.proofs.FoundLemmas.{some_same, selector_there, selector_past}
 use Rattle.css_index.proofs.selector_index.SelectorIndex.passes_at.Goals as goal
@@ -33,7 +33,7 @@ returns-in-Some-clause-answer g c =
       λ t. (s, is, c.passes.ensures.answer.0 t),
       λ m. (let same : m.0 ≡ s = some_same (sym m.1 ∙ is) in
           c.passes.ensures.answer.1
-          (subst (λ s. IsTrue (is_only_keys s) ⊎ Matches document s n) same m.2)),
+          (subst (λ s. IsTrue (is_only_keys s) ⊎ MatchesFoundBy (begins_with_key s) document s n) same m.2)),
     )
 
 pub returns-in-Some-clause-at_least : goal.returns-in-Some-clause-at_least

@@ -1,8 +1,10 @@
-use Rattle.std.proofs.Common.{rules, ◌≡◌, ◌++◌, arith, length, sym, ap, ◌∙◌, subst}
+use Rattle.std.proofs.Common.{rules, ◌≡◌, [], arith, length, sym, ap, ◌∙◌, subst}
 use Rattle.std.specs.List.{Contains}
 use Rattle.std.proofs.lemmas.List.{length-map}
 use Rattle.css_selectors.specs.KeyViews.{key_of}
+use Rattle.css_index.specs.internal.Added.{AreAdded, KeepsEach}
 use Rattle.css_index.specs.internal.Filed.{entry_of, found_by}
+use Rattle.css_index.proofs.AddedLemmas.{added_alone}
 use Rattle.css_index.specs.Walks.{HasNumber, AreNumbered}
 use Rattle.css_index.proofs.WalkLemmas.{found_number, has_same, numbered_same}
 use Rattle.css_index.proofs.table.Table.number.Goals as goal
@@ -12,10 +14,11 @@ returns-in-Some-clause-number c =
     let es = c.args.self.now in
     let key = key_of c.args.key in
     found_number es key c.in-Some.number.now
-    (subst (λ xs. Contains xs c.in-Some.number.now)
-    (c.deref.ensures.value ∙ c.in_ok-push_found.ensures
-    ∙ ap (λ xs. xs ++ found_by es key) c.clear.ensures.items)
-    (0, search rules, search rules))
+    (((added_alone KeepsEach (found_by es key) c.deref.result.now
+    (subst (AreAdded KeepsEach [] (found_by es key)) (sym c.deref.ensures.value)
+    (subst (λ old. AreAdded KeepsEach old (found_by es key) c.push_found.new.indices.items)
+    c.clear.ensures.items c.in_ok-push_found.ensures)) c.in-Some.number.now).0
+    (0, search rules, search rules)).0)
 
 pub returns-clause-numbered : goal.returns-clause-numbered
 returns-clause-numbered c =

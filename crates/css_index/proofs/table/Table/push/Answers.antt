@@ -1,7 +1,8 @@
 use Rattle.std.proofs.Common.{rules, ◌≡◌, length, map, set, sym, ap, ◌∙◌, subst, arith}
 use Rattle.std.proofs.lemmas.Grind.{common_steps}
-use Rattle.css_index.specs.internal.Filed.{entry_of, AreFiled, place_by}
-use Rattle.css_index.proofs.FileLemmas.{filed_same}
+use Rattle.css_selectors.specs.KeyViews.{key_of}
+use Rattle.css_index.specs.internal.Filed.{entry_of, AreFiled, HasLastKey, place_by}
+use Rattle.css_index.proofs.FileLemmas.{filed_same, one_at}
 use Rattle.css_index.proofs.WalkLemmas.{filed_push}
 use Rattle.css_index.proofs.table.Table.push.Goals as goal
 
@@ -20,7 +21,12 @@ invariant_of-self-in_default c =
     let buckets = c.self.inside.buckets.items in
     let len : c.len.result ≡ length buckets = search rules in
     subst (λ es. AreFiled (map entry_of es) (set buckets c.place_of-place.result c.push-2.new.self)) (sym c.in_ok-push.ensures.items)
-    (filed_push entries c.args.entry buckets c.place_of-place.result c.index_mut.result.now
-    c.push-2.new.self c.self.invariant
+    (filed_push entries c.args.entry c.filed_after-filed.result buckets c.place_of-place.result
+    c.index_mut.result.now c.push-2.new.self c.self.invariant
     (c.place_of-place.ensures.value ∙ ap (λ n. place_by n c.args.entry.number) len)
-    (search rules) c.index_mut.ensures.value c.in_default.ensures.items)
+    (search rules) c.index_mut.ensures.value c.filed_after-filed.ensures.same
+    (λ repeats. subst (λ xs. HasLastKey xs (key_of c.filed_after-filed.result.key))
+    (c.deref.ensures.value ∙ ap (λ v. v.items) (one_at buckets c.place_of-place.result
+    c.index.result.now c.index_mut.result.now (search rules) c.index.ensures c.index_mut.ensures.value))
+    (c.filed_after-filed.ensures.repeats repeats))
+    c.in_default.ensures.items)

@@ -3,7 +3,7 @@ use Rattle.std.specs.List.{All}
 use Rattle.std.proofs.lemmas.List.{take_all}
 use Rattle.css_open_elements.specs.Opened.{IsOpen}
 use Rattle.css_index.proofs.WalkLemmas.{all_next}
-use Rattle.css_index.proofs.selector_walk.are_open.Goals as goal
+use Rattle.css_index.proofs.above.are_open.Goals as goal
 
 pub loop-number-preserved : goal.loop-number-preserved
 loop-number-preserved c =

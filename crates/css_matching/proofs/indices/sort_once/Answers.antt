@@ -2,8 +2,8 @@ use Rattle.std.proofs.Common.{eqb, sym, subst}
 use Rattle.std.specs.List.Sorted.{IsStrictlyIncreasing}
 use Rattle.std.proofs.lemmas.List.Filters.{dedup_is}
 use Rattle.std.proofs.lemmas.Map.Keys.{IsStrictlyIncreasing-dedup}
-use Rattle.css_index.proofs.FoundLemmas.{sorted_same}
-use Rattle.css_index.proofs.selector_index.sort_once.Goals as goal
+use Rattle.css_matching.proofs.IndexLemmas.{sorted_same}
+use Rattle.css_matching.proofs.indices.sort_once.Goals as goal
 
 pub returns-clause-ascending : goal.returns-clause-ascending
 returns-clause-ascending c =

@@ -1,7 +1,7 @@
 use Rattle.std.proofs.Common.{take}
 use Rattle.std.specs.List.{All}
 use Rattle.css_open_elements.specs.Opened.{IsOpen}
-use Rattle.css_index.proofs.selector_walk.are_open.Given as goal
+use Rattle.css_index.proofs.above.are_open.Given as goal
 
 -- the first numbers are open
 abbrev pub invariant-loop-number : goal.invariant-loop-number

@@ -1,0 +1,4 @@
+-- Definitions that no public contract names.
+pub mod Occurrences
+pub mod Reads
+pub mod WordStarts
