@@ -3,6 +3,8 @@
 use Rattle.std.specs.Prelude.{◌≡◌, refl, ℕ, List, [], ◌∷◌, codes, map, Bool, true, false}
 use Rattle.css_cascade.specs.Layers.{LayerPart, LayerText, named, anonymous, outermost_layer, with_layer, number_of, place_of}
 use Rattle.css_cascade.specs.Cascade.{Weighed, beats}
+use Rattle.css_cascade.specs.declared.weights.Origin.{Origin}
+use Rattle.css_cascade.specs.declared.weights.Origin.TheVariants.{UserAgent, User, Hint, Author}
 
 abbrev a : LayerPart
 a = named (codes "a")
@@ -44,6 +46,7 @@ anonymous_ones = refl
 abbrev plain : Bool → (number : ℕ) → ℕ → Weighed
 plain important number place = record {
   important = important;
+  origin = Author;
   attached = false;
   layer = place_of number four;
   specificity = 0 ∷ 0 ∷ 1 ∷ [];
@@ -87,3 +90,25 @@ pub attached_ones :
     × (beats (own (plain true 0 1)) (own (plain false 0 2)) ≡ true)
     × (beats (own (plain false 0 2)) (own (plain false 0 1)) ≡ true)
 attached_ones = (refl, refl, refl, refl, refl, refl, refl, refl)
+
+-- the same declaration in a rule of this origin
+abbrev of : Origin → Weighed → Weighed
+of origin one = record one { origin = origin }
+
+pub origins :
+    -- of those that are not important the author's wins over a hint, the user's and the program's
+    (beats (plain false 1 1) (with_id (of UserAgent (plain false 0 2))) ≡ true)
+    × (beats (plain false 1 1) (with_id (of User (plain false 0 2))) ≡ true)
+    × (beats (plain false 1 1) (of Hint (plain false 0 2)) ≡ true)
+    × (beats (of Hint (plain false 0 1)) (with_id (of User (plain false 0 2))) ≡ true)
+    × (beats (of User (plain false 1 1)) (with_id (of UserAgent (plain false 0 2))) ≡ true)
+    -- of important ones the program's wins over the user's and the author's, of the style attribute too
+    × (beats (of UserAgent (plain true 0 1)) (with_id (of User (plain true 1 2))) ≡ true)
+    × (beats (of User (plain true 0 1)) (with_id (plain true 1 2)) ≡ true)
+    × (beats (of UserAgent (plain true 0 1)) (own (plain true 0 2)) ≡ true)
+    -- and importance is before origins
+    × (beats (plain true 2 1) (with_id (of UserAgent (plain false 0 2))) ≡ true)
+    -- of one origin layers decide
+    × (beats (of User (plain false 3 1)) (with_id (of User (plain false 2 2))) ≡ true)
+    × (beats (of User (plain true 2 1)) (with_id (of User (plain true 3 2))) ≡ true)
+origins = (refl, refl, refl, refl, refl, refl, refl, refl, refl, refl, refl)

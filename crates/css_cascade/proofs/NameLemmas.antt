@@ -1,10 +1,13 @@
 -- Layers that are known stay known, with their numbers.
 -- Serves `Layers::mention`.
-use Rattle.std.proofs.Common.{◌≡◌, ℕ, Bool, true, false, ◌&&◌, ◌==◌, if◌then◌else◌, List, [], ◌∷◌, ◌++◌, length, take, drop, Option, None, Some, refl, sym, ap, ◌∙◌, eqb-true}
-use Rattle.std.specs.Prelude.{option_and_then}
+use Rattle.std.proofs.Common.{◌≡◌, ℕ, Bool, true, false, ◌&&◌, ◌==◌, if◌then◌else◌, List, [], ◌∷◌, ◌++◌, length, take, drop, Option, None, Some, ◌≤◌, ◌<◌, refl, sym, ap, ◌∙◌, eqb-true, arith}
+use Rattle.std.specs.Prelude.{option_and_then, Result, Ok, Err, IfErr}
+use Rattle.std.specs.Result.{IsErrAnd}
 use Rattle.std.proofs.lemmas.Cmp.{nat_list_eq_equiv}
-use Rattle.std.proofs.lemmas.List.{take-append-drop}
+use Rattle.std.proofs.lemmas.List.{length-append, take-append-drop}
 use Rattle.css_cascade.specs.Layers.{LayerPart, LayerText, named, anonymous, outermost, is_same_part, number_in, number_of, number_at, place_of, with_layer, with_name, unless_known, or_outermost}
+use Rattle.css_cascade.specs.declared.layers.LayersError.{LayersError}
+use Rattle.css_cascade.specs.declared.layers.LayersError.TheVariants.{TooManyLayers}
 use Rattle.css_cascade.proofs.LayerLemmas.{number-inserted}
 
 -- what is the same is the same as others
@@ -231,6 +234,37 @@ name-append known outer (x ∷ xs) ys number e =
     name-append next n xs ys number
     (sym (ap (λ (g : Option ℕ). option_and_then (λ (i : ℕ). number_at i xs all) g) first) ∙ e)
 
+-- ---- how many there are
+
+longer : (xs ys : List LayerText) (x : LayerText)
+    → length (xs ++ ys) ≤ length (xs ++ x ∷ ys)
+longer xs ys x =
+    let before = length-append xs ys in
+    let after = length-append xs (x ∷ ys) in
+    omega (arith, before, after)
+
+pub grows-layer : (known : List LayerText) (outer : ℕ) (part : LayerPart)
+    → length known ≤ length (with_layer known outer part)
+grows-layer known outer part = by (number_in outer part known)
+  where
+    by : (f : Option ℕ) → length known ≤ length (unless_known known outer part f)
+    by (Some number) = omega arith
+    by None =
+        let i = place_of outer known in
+        let all = ap length (take-append-drop i known) in
+        let more = longer (take i known) (drop i known)
+        (record { number = length known; outer = outer; part = part }) in
+        omega (arith, all, more)
+
+pub grows-name : (known : List LayerText) (outer : ℕ) (parts : List LayerPart)
+    → length known ≤ length (with_name known outer parts)
+grows-name known outer [] = omega arith
+grows-name known outer (part ∷ more) =
+    let next = with_layer known outer part in
+    let one = grows-layer known outer part in
+    let others = grows-name next (number_of outer part next) more in
+    omega (arith, one, others)
+
 -- The layers so far are those of the parts so far; and these parts are the ones to come.
 pub record Mentioning (start : List LayerText) (outer : ℕ) (all : List LayerPart)
     (now : List LayerText) (number : ℕ) (come : List LayerPart) : Type 0 where
@@ -258,3 +292,21 @@ mentioning-next start outer all now after number next part come e f h =
           sym (ap (option_and_then (λ (n : ℕ). number_at n come (with_name after next come))) kept)
           ∙ ap (number_at number (part ∷ come)) step ∙ h.numbers;
     }
+
+-- a further part is one layer too many, and so are all
+pub many-named : (start : List LayerText) (outer : ℕ) (all : List LayerPart) (now : List LayerText)
+    (number : ℕ) (part : LayerPart) (come : List LayerPart) (most : ℕ)
+    → Mentioning start outer all now number (part ∷ come)
+    → most < length (with_layer now number part) → most < length (with_name start outer all)
+many-named start outer all now number part come most h over =
+    let next = with_layer now number part in
+    let more = grows-name next (number_of number part next) come in
+    let whole = ap length h.layers in
+    omega (arith, more, whole, over)
+
+-- an error that is handed on
+pub handed-error : {V : Type 0} (P : Type 0) (r : Result V LayersError) (error : LayersError)
+    → IsErrAnd r (λ reported. reported ≡ error) → (error ≡ TooManyLayers → P)
+    → IfErr r (λ reported. reported ≡ TooManyLayers → P)
+handed-error P (Ok x) error is due = tt
+handed-error P (Err reported) error is due = λ same. due (sym is ∙ same)

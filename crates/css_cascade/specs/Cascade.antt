@@ -5,17 +5,36 @@ use Rattle.std.specs.List.{All, Contains}
 use Rattle.std.specs.declared.cmp.Ordering.{Ordering}
 use Rattle.std.specs.Ordering.{is_gt, bool_cmp, nat_cmp, on, then_cmp, flip_args}
 use Rattle.std.specs.Cmp.Lexicographic.{slice_cmp}
+use Rattle.css_cascade.specs.declared.weights.Origin.{Origin}
+use Rattle.css_cascade.specs.declared.weights.Origin.TheVariants.{UserAgent, User, Hint, Author}
 
--- What the cascade sees of a declaration: whether it is important; whether it is attached to the
--- element, as those of a style attribute are, and not in a rule; the rank of its layer, which is the
--- greater the later the layer is; the specificity of its rule, of which the first count that differs
--- decides; and where it stands.
+-- Origins in order (sections 6.2 and 6.5): the program that shows the page, its reader, and its author,
+-- of whom presentational hints, which are no CSS, come before what is.
+abbrev pub origin_rank : Origin → ℕ
+origin_rank UserAgent = 0
+origin_rank User = 1
+origin_rank Hint = 2
+origin_rank Author = 3
+
+-- What the cascade sees of a declaration: whether it is important; its origin; whether it is attached to
+-- the element, as those of a style attribute are, and not in a rule; the rank of its layer, which of one
+-- origin is the greater the later the layer is; the specificity of its rule, of which the first count that
+-- differs decides; and where it stands.
 pub record Weighed : Type 0 where
   pub important : Bool
+  pub origin : Origin
   pub attached : Bool
   pub layer : ℕ
   pub specificity : List ℕ
   pub place : List ℕ
+
+-- the rank of the origin of a declaration that is not important; all that are count alike
+abbrev pub normal_origin : Weighed → ℕ
+normal_origin d = if d.important then 0 else origin_rank d.origin
+
+-- the rank of the origin of an important declaration; all that are not count alike
+abbrev pub important_origin : Weighed → ℕ
+important_origin d = if d.important then origin_rank d.origin else 0
 
 -- the layer of a declaration that is not important; all that are count alike
 abbrev pub normal_layer : Weighed → ℕ
@@ -42,10 +61,18 @@ layered_cmp =
 abbrev pub attached_cmp : Weighed → Weighed → Ordering
 attached_cmp = then_cmp (on (λ (d : Weighed). d.attached) bool_cmp) layered_cmp
 
--- The order of the cascade: an important declaration is after all others. Then those that are attached
--- to the element are after those of rules, then layers decide, then specificity, and then the place.
+-- of those that are not important the one of the later origin is later, and of important ones the one
+-- of the earlier origin is; then those that are attached to the element are after those of rules
+abbrev pub origin_cmp : Weighed → Weighed → Ordering
+origin_cmp =
+    then_cmp (on normal_origin nat_cmp)
+    (then_cmp (flip_args (on important_origin nat_cmp)) attached_cmp)
+
+-- The order of the cascade: an important declaration is after all others. Then origins decide, then those
+-- that are attached to the element are after those of rules, then layers decide, then specificity, and
+-- then the place.
 abbrev pub cascade_cmp : Weighed → Weighed → Ordering
-cascade_cmp = then_cmp (on (λ (d : Weighed). d.important) bool_cmp) attached_cmp
+cascade_cmp = then_cmp (on (λ (d : Weighed). d.important) bool_cmp) origin_cmp
 
 -- the first declaration beats the second
 abbrev pub beats : Weighed → Weighed → Bool

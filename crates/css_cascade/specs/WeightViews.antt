@@ -5,6 +5,7 @@ use Rattle.css_cascade.specs.Cascade.{Weighed}
 abbrev pub weighed : Weight → Weighed
 weighed w = record {
   important = w.important;
+  origin = w.origin;
   attached = w.attached;
   layer = w.layer;
   specificity = w.specificity;

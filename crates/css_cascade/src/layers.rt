@@ -1,5 +1,5 @@
 //! The order of cascade layers (CSS Cascading 5, section 6.4).
-ghost use Rattle.std.specs.Prelude.{◌≡◌, ◌∷◌, ◌+◌, ◌≤◌, ◌<◌, [], IfErr, IfOk, Some, length, map};
+ghost use Rattle.std.specs.Prelude.{◌≡◌, ◌∷◌, ◌+◌, ◌≤◌, ◌<◌, [], IfErr, IfOk, OnOk, Some, length, map};
 ghost use Rattle.css_cascade.specs.Layers.{is_same_part as is_same_part_of, number_in as number_in_known};
 ghost use Rattle.css_cascade.specs.Layers.{number_at, number_of, place_of as place_in, outermost_layer, with_layer, with_name, most_layers};
 ghost use Rattle.css_cascade.specs.declared.layers.LayersError.TheVariants.{TooManyLayers};
@@ -135,6 +135,8 @@ impl<'a> Layers<'a> {
             ≡ with_layer (known_of self.old) outer (part_of part.entry)) }
         ensures number { IfOk result (λ number. number
             ≡ number_of outer (part_of part.entry) (known_of self.new)) }
+        ensures within { OnOk result (length (known_of self.old) ≤ most_layers + 1
+            → length (known_of self.new) ≤ most_layers + 1) }
         ensures kept { IfErr result (λ _. known_of self.new ≡ known_of self.old) }
         ensures refused { IfErr result (λ error. error ≡ TooManyLayers → most_layers + 1
             < length (with_layer (known_of self.old) outer (part_of part.entry))) }
@@ -169,6 +171,10 @@ impl<'a> Layers<'a> {
             ≡ with_name (known_of self.old) outer (map part_of parts.entry.items)) }
         ensures number { IfOk result (λ number.
             number_at outer (map part_of parts.entry.items) (known_of self.new) ≡ Some number) }
+        ensures within { OnOk result (length (known_of self.old) ≤ most_layers + 1
+            → length (known_of self.new) ≤ most_layers + 1) }
+        ensures refused { IfErr result (λ error. error ≡ TooManyLayers → most_layers + 1
+            < length (with_name (known_of self.old) outer (map part_of parts.entry.items))) }
     {
         let mut number = outer;
         'parts: for part in parts {

@@ -8,4 +8,4 @@ mod weights;
 
 pub use layers::{LayerPart, Layers, LayersError};
 pub use names::{LayerName, is_block_name, read_block_name, read_layer_names};
-pub use weights::{Weight, beats, cascade_cmp};
+pub use weights::{Origin, Weight, beats, cascade_cmp};

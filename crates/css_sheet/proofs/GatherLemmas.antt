@@ -1,98 +1,151 @@
 -- What the parts of sheets give.
--- Serves `ReadRules::push_sheet` and `sheet_order::gather`.
-use Rattle.std.proofs.Common.{◌≡◌, ℕ, zero, suc, ◌+◌, ◌-◌, ◌<◌, ◌≤◌, Bool, true, false, if◌then◌else◌, List, [], ◌∷◌, ◌++◌, Option, None, Some, Result, Ok, Err, length, map, drop, get_or, take, slice_get, sym, ap, ◌∙◌, subst, append-nil, arith}
+-- Serves `open_layers::mention_names`, `ReadRules::push_sheet` and `sheet_order::gather`.
+use Rattle.std.specs.Prelude.{IfErr}
+use Rattle.std.specs.Result.{IsErrAnd}
+use Rattle.css_cascade.specs.declared.layers.LayersError.{LayersError}
+use Rattle.css_cascade.specs.declared.layers.LayersError.TheVariants as of_layer
+use Rattle.css_sheet.specs.SheetMessages.{of_layers}
+use Rattle.std.proofs.Common.{◌≡◌, ℕ, zero, suc, ◌+◌, ◌-◌, ◌<◌, ◌≤◌, Bool, true, false, if◌then◌else◌, List, [], ◌∷◌, ◌++◌, Option, None, Some, Result, Ok, Err, length, map, drop, get_or, take, slice_get, refl, sym, ap, ◌∙◌, subst, append-nil, arith}
 use Rattle.std.proofs.lemmas.Grind.{flat_map-append}
-use Rattle.std.proofs.lemmas.List.{append_assoc, length-map, take_all}
+use Rattle.std.proofs.lemmas.List.{append_assoc, take_all}
 use Rattle.std.specs.Borrow.{Bor}
 use Rattle.css_syntax.specs.Statements.{BlockText}
 use Rattle.css_syntax.specs.DeclarationLists.{ItemText, declared, at_rule_item, skipped_item}
 use Rattle.css_cascade.specs.Layers.{LayerPart, LayerText, number_at, or_outermost, outermost_layer, with_name}
 use Rattle.css_cascade.specs.LayerNames.{layer_names}
-use Rattle.css_cascade.proofs.NameLemmas.{Keeps, keeps-then, keeps-itself, keeps-name, keeps-at, name-known, name-there}
+use Rattle.css_cascade.proofs.NameLemmas.{Keeps, grows-name, keeps-then, keeps-itself, keeps-name, keeps-at, name-known, name-there}
 use Rattle.css_sheet.specs.declared.gathering.Gathered.{Gathered}
 use Rattle.css_sheet.specs.declared.parts.Part.{Part}
 use Rattle.css_sheet.specs.declared.parts.SheetParts.{SheetParts}
 use Rattle.css_sheet.specs.declared.sheet_error.SheetError.{SheetError}
-use Rattle.css_sheet.specs.declared.sheet_error.SheetError.TheVariants.{TooManyDeclarations}
+use Rattle.css_sheet.specs.declared.sheet_error.SheetError.TheVariants.{TooManyDeclarations, TooManyLayers}
 use Rattle.css_sheet.specs.declared.sheet_order.ReadRules.{ReadRules}
-use Rattle.css_sheet.specs.PartViews.{part_of, open_in, left_in, parts_to_come, GivesPart}
-use Rattle.css_sheet.specs.SheetParts.{OpenText, SheetPart, states, begins, ends, stands, PlacedPart, applies_in, nesting_of, next_in, opened, open_after, part_then, parts_from, place_at, sheet_parts}
-use Rattle.css_sheet.specs.SheetLayers.{if_applies, is_layer, layer_parts, layers_in, layered_parts, mentioned, number_in_all, open_name, or_none, sheet_layers, with_item, with_layers, with_list, with_names, with_part, with_parts}
-use Rattle.css_sheet.specs.SheetOrder.{SheetRuleText, declarations_in, numbered_rules, part_rules, rules_of_parts}
+use Rattle.css_sheet.specs.internal.PartViews.{part_of, open_in, left_in, parts_to_come, placed_last, source_of, GivesPart}
+use Rattle.css_sheet.specs.SheetParts.{OpenText, SheetPart, states, begins, ends, stands, PlacedPart, Source, all_parts_from, applies_in, next_in, opened, open_after, part_then, parts_from, place_at, placed_part, sheet_parts}
+use Rattle.css_sheet.specs.SheetLayers.{if_applies, is_layer, layer_parts, layered_parts, mentioned, number_in_all, open_name, or_none, sheet_layers, with_item, with_layers, with_list, with_names, with_part, with_parts}
+use Rattle.css_sheet.specs.declared.parents.OpenParents.{OpenParents}
+use Rattle.css_sheet.specs.OpenParents.{ParentsText, after_parts, none_open}
+use Rattle.css_sheet.specs.ParentViews.{parent_of, parents_of}
+use Rattle.css_sheet.specs.SheetOrder.{SheetRuleText, declarations_in, nested_lists, numbered_rules, part_rules, placed_rules, rules_of_parts}
 use Rattle.css_sheet.specs.SheetRuleViews.{gathered_rules}
-use Rattle.css_sheet.specs.internal.GatherViews.{Awaits, AwaitsStill, GathersAll, GoesOn, rules_now}
-use Rattle.css_sheet.specs.internal.OpenViews.{known_in, numbers_in, innermost_of, EntersLast, Goes, Tracks}
+use Rattle.css_sheet.specs.internal.GatherViews.{Awaits, AwaitsStill, GathersAll, GoesOn, NestsOn, rules_now}
+use Rattle.css_sheet.specs.internal.OpenViews.{known_in, numbers_in, innermost_of, AreMany, EntersLast, Goes, GoesOver, Tracks}
 use Rattle.css_sheet.proofs.OpenLemmas.{tracks-many, tracks-number, tracks-keeps, tracks-more, tracks-take, none-open, last-append}
 use Rattle.css_sheet.proofs.SheetRuleLemmas.{declarations-append}
 
--- ---- layers stay known
+-- ---- what holds of layers before and after a name holds before and after all parts
 
-keeps-names : (outer : ℕ) (known : List LayerText) (names : List (List LayerPart))
-    → Keeps known (with_names outer known names)
-keeps-names outer known [] = keeps-itself known
-keeps-names outer known (name ∷ names) =
-    keeps-then known (with_name known outer name) (with_names outer (with_name known outer name) names)
-    (keeps-name known outer name) (keeps-names outer (with_name known outer name) names)
+module _ (Stays : List LayerText → List LayerText → Type 0)
+    (itself : (known : List LayerText) → Stays known known)
+    (joined : (a b c : List LayerText) → Stays a b → Stays b c → Stays a c)
+    (named : (known : List LayerText) (outer : ℕ) (parts : List LayerPart)
+    → Stays known (with_name known outer parts)) where
+  stays-names : (outer : ℕ) (known : List LayerText) (names : List (List LayerPart))
+      → Stays known (with_names outer known names)
+  stays-names outer known [] = itself known
+  stays-names outer known (name ∷ names) =
+      joined known (with_name known outer name) (with_names outer (with_name known outer name) names)
+      (named known outer name) (stays-names outer (with_name known outer name) names)
 
-keeps-list : (outer : ℕ) (prelude : List ℕ) (known : List LayerText) (block : Option BlockText)
-    → Keeps known (with_list outer prelude known block)
-keeps-list outer prelude known None = keeps-names outer known (or_none (layer_names prelude))
-keeps-list outer prelude known (Some block) = keeps-itself known
+  stays-list : (outer : ℕ) (prelude : List ℕ) (known : List LayerText) (block : Option BlockText)
+      → Stays known (with_list outer prelude known block)
+  stays-list outer prelude known None = stays-names outer known (or_none (layer_names prelude))
+  stays-list outer prelude known (Some block) = itself known
 
-keeps-if : (known after : List LayerText) (t : Bool) → Keeps known after
-    → Keeps known (if t then after else known)
-keeps-if known after true k = k
-keeps-if known after false k = keeps-itself known
+  stays-if : (known after : List LayerText) (t : Bool) → Stays known after
+      → Stays known (if t then after else known)
+  stays-if known after true k = k
+  stays-if known after false k = itself known
 
-keeps-item : (outer : ℕ) (known : List LayerText) (item : ItemText)
-    → Keeps known (with_item outer known item)
-keeps-item outer known (declared one) = keeps-itself known
-keeps-item outer known (at_rule_item rule) =
-    keeps-if known (with_list outer rule.prelude.text known rule.block) (is_layer rule.name)
-    (keeps-list outer rule.prelude.text known rule.block)
-keeps-item outer known (skipped_item fault) = keeps-itself known
+  stays-item : (outer : ℕ) (known : List LayerText) (item : ItemText)
+      → Stays known (with_item outer known item)
+  stays-item outer known (declared one) = itself known
+  stays-item outer known (at_rule_item rule) =
+      stays-if known (with_list outer rule.prelude.text known rule.block) (is_layer rule.name)
+      (stays-list outer rule.prelude.text known rule.block)
+  stays-item outer known (skipped_item fault) = itself known
 
+  stays-mentioned : (known : List LayerText) (around : List OpenText) (part : SheetPart)
+      → Stays known (mentioned known around part)
+  stays-mentioned known around (states text) = itself known
+  stays-mentioned known around (begins kind) = named known 0 (layer_parts around)
+  stays-mentioned known around ends = itself known
+  stays-mentioned known around (stands item) =
+      stays-if known (with_item (number_in_all around known) known item) (applies_in around)
+      (stays-item (number_in_all around known) known item)
+
+  stays-parts : (known : List LayerText) (parts : List PlacedPart)
+      → Stays known (with_parts known parts)
+  stays-parts known [] = itself known
+  stays-parts known (placed ∷ parts) =
+      joined known (with_part known placed) (with_parts (with_part known placed) parts)
+      (stays-mentioned known placed.around placed.part) (stays-parts (with_part known placed) parts)
+
+-- layers stay known
 keeps-mentioned : (known : List LayerText) (around : List OpenText) (part : SheetPart)
     → Keeps known (mentioned known around part)
-keeps-mentioned known around (states text) = keeps-itself known
-keeps-mentioned known around (begins kind) = keeps-name known 0 (layer_parts around)
-keeps-mentioned known around ends = keeps-itself known
-keeps-mentioned known around (stands item) =
-    keeps-if known (with_item (number_in_all around known) known item) (applies_in around)
-    (keeps-item (number_in_all around known) known item)
+keeps-mentioned = stays-mentioned Keeps keeps-itself keeps-then keeps-name
 
 keeps-parts : (known : List LayerText) (parts : List PlacedPart)
     → Keeps known (with_parts known parts)
-keeps-parts known [] = keeps-itself known
-keeps-parts known (placed ∷ parts) =
-    keeps-then known (with_part known placed) (with_parts (with_part known placed) parts)
-    (keeps-mentioned known placed.around placed.part) (keeps-parts (with_part known placed) parts)
+keeps-parts = stays-parts Keeps keeps-itself keeps-then keeps-name
+
+-- there are as many or more
+abbrev Grows : List LayerText → List LayerText → Type 0
+Grows before after = length before ≤ length after
+
+grows-then : (a b c : List LayerText) → Grows a b → Grows b c → Grows a c
+grows-then a b c h k = omega (arith, h, k)
+
+pub grows-names : (outer : ℕ) (known : List LayerText) (names : List (List LayerPart))
+    → Grows known (with_names outer known names)
+grows-names = stays-names Grows (λ known. omega arith) grows-then grows-name
+
+grows-parts : (known : List LayerText) (parts : List PlacedPart)
+    → Grows known (with_parts known parts)
+grows-parts = stays-parts Grows (λ known. omega arith) grows-then grows-name
+
+-- a further name is one layer too many, and so are all
+pub many-names : (outer : ℕ) (known whole : List LayerText) (name : List LayerPart)
+    (names : List (List LayerPart)) → with_names outer known (name ∷ names) ≡ whole
+    → AreMany (with_name known outer name) → AreMany whole
+many-names outer known whole name names same many =
+    let more = grows-names outer (with_name known outer name) names in
+    let all = ap length same in
+    omega (arith, many, more, all)
+
+-- an error of layers that is handed on
+pub from-layers : {V : Type 0} (P : Type 0) (r : Result V SheetError) (error : LayersError)
+    → IsErrAnd r (λ reported. reported ≡ of_layers error)
+    → (error ≡ of_layer.TooManyLayers → P) → IfErr r (λ reported. reported ≡ TooManyLayers → P)
+from-layers P (Ok x) error is due = tt
+from-layers P (Err reported) of_layer.TooManyLayers is due = λ same. due refl
+from-layers P (Err reported) of_layer.Memory is due = λ same. absurd (cc)
 
 -- ---- what is open after a part
 
-first-then : (holds : List ℕ → List ℕ → Bool) (later : ℕ)
+first-then : (holds : List ℕ → List ℕ → Bool) (source : Source)
     (more : List OpenText → List ℕ → List PlacedPart) (around : List OpenText)
-    (next : Option (SheetPart × List ℕ)) (placed : PlacedPart) (parts : List PlacedPart)
-    → part_then holds later more around next ≡ placed ∷ parts
-    → (place : List ℕ) × (placed.around ≡ open_after holds around placed.part place)
-first-then holds later more around None placed parts e = absurd (cc)
-first-then holds later more around (Some found) placed parts e =
-    let place = place_at later found.1 in
-    let same : placed
-    ≡ record { part = found.0; around = open_after holds around found.0 place } = cc in (
+    (next : Option (SheetPart × List ℕ)) (one : PlacedPart) (parts : List PlacedPart)
+    → part_then holds source more around next ≡ one ∷ parts
+    → (place : List ℕ) × (one.around ≡ open_after holds around one.part place)
+first-then holds source more around None one parts e = absurd (cc)
+first-then holds source more around (Some found) one parts e =
+    let place = place_at source found.1 in
+    let same : one ≡ placed_part source found.0 (open_after holds around found.0 place) found.1 = cc in (
       place,
       ap (λ (p : PlacedPart). p.around) same
           ∙ sym (ap (λ (p : PlacedPart). open_after holds around p.part place) same),
     )
 
-first-from : (holds : List ℕ → List ℕ → Bool) (later n : ℕ) (around : List OpenText) (text : List ℕ)
-    (placed : PlacedPart) (parts : List PlacedPart)
-    → parts_from holds later n around text ≡ placed ∷ parts
-    → (place : List ℕ) × (placed.around ≡ open_after holds around placed.part place)
+first-from : (holds : List ℕ → List ℕ → Bool) (source : Source) (n : ℕ) (around : List OpenText) (text : List ℕ)
+    (one : PlacedPart) (parts : List PlacedPart)
+    → parts_from holds source n around text ≡ one ∷ parts
+    → (place : List ℕ) × (one.around ≡ open_after holds around one.part place)
 unfolding parts_from
-first-from holds later zero around text placed parts e = absurd (cc)
-first-from holds later (suc n) around text placed parts e =
-    first-then holds later (parts_from holds later n) around (next_in around text) placed parts e
+first-from holds source zero around text one parts e = absurd (cc)
+first-from holds source (suc n) around text one parts e =
+    first-then holds source (parts_from holds source n) around (next_in around text) one parts e
 
 -- ---- the layers that are open
 
@@ -168,6 +221,25 @@ module _ (holds : List ℕ → List ℕ → Bool) (known after : List LayerText)
       g.0 ∙ ap (λ (n : ℕ). if_applies (applies_in around) n known item) (sym here) in
       (is, stay around e (subst (Keeps known) (sym is) (keeps-mentioned known around (stands item))) g.1)
 
+-- ---- a part leads somewhere
+
+enters-to : (known : List LayerText) (numbers : List ℕ) (last : Option OpenText)
+    → (after : List LayerText) × (now : List ℕ) × EntersLast known numbers last after now
+enters-to known numbers None = (known, numbers, (refl, refl))
+enters-to known numbers (Some rule) =
+    let n = innermost_of 0 numbers in
+    let after = with_name known n (open_name rule) in
+    (after, numbers ++ or_outermost (number_at n (open_name rule) after) ∷ [], (refl, refl))
+
+goes-to : (known : List LayerText) (numbers : List ℕ) (part : SheetPart) (around : List OpenText)
+    → (after : List LayerText) × (now : List ℕ) × Goes known numbers part around after now
+goes-to known numbers (states text) around = (known, numbers, (refl, refl))
+goes-to known numbers (begins kind) around =
+    enters-to known numbers (slice_get around (length around - 1))
+goes-to known numbers ends around = (known, take (length numbers - 1) numbers, (refl, refl))
+goes-to known numbers (stands item) around =
+    (if_applies (applies_in around) (innermost_of 0 numbers) known item, numbers, (refl, refl))
+
 -- ---- steps
 
 -- The parts that are to come of a sheet, and these after them, give the rules and the layers of the
@@ -184,10 +256,10 @@ module _ (holds : List ℕ → List ℕ → Bool) (texts : List (List ℕ)) (mos
 
   pub reads-none : (before read : ReadRules) (reader : SheetParts) (parts : List PlacedPart)
       → known_in read.opened ≡ known_in before.opened → numbers_in read.opened ≡ []
-      → read.gathered ≡ before.gathered → open_in reader ≡ []
+      → read.gathered ≡ before.gathered → read.parents ≡ before.parents → open_in reader ≡ []
       → parts_to_come (with_layers holds) reader ≡ parts
       → Awaits holds texts most before (parts ++ later) → Reads holds texts most read reader later
-  reads-none before read reader parts e f g none come awaits = record {
+  reads-none before read reader parts e f g same none come awaits = record {
     tracks = none-open (known_in read.opened) (numbers_in read.opened) (open_in reader) f none;
     awaits =
         subst (λ (ps : List PlacedPart). Awaits holds texts most read (ps ++ later)) (sym come)
@@ -195,66 +267,116 @@ module _ (holds : List ℕ → List ℕ → Bool) (texts : List (List ℕ)) (mos
           layers =
               ap (λ (ls : List LayerText). with_parts ls (parts ++ later)) e ∙ awaits.layers;
           rules =
-              ap (λ (all : Gathered). gathered_rules all ++ rules_of_parts final (parts ++ later)) g
+              ap (λ (all : Gathered).
+              gathered_rules all ++ rules_of_parts final (parents_of read.parents) (parts ++ later)) g
+              ∙ ap (λ (nest : OpenParents). gathered_rules before.gathered
+              ++ rules_of_parts final (parents_of nest) (parts ++ later)) same
               ∙ awaits.rules;
+          lists =
+              ap (λ (nest : OpenParents). (after_parts (parents_of nest) (parts ++ later)).lists) same
+              ∙ awaits.lists;
           room =
-              awaits.room
+              ap (λ (nest : OpenParents). most
+              + declarations_in (rules_of_parts final (parents_of nest) (parts ++ later))) same
+              ∙ awaits.room
               ∙ sym (ap (λ (all : Gathered). all.left + declarations_in (numbered_rules holds texts)) g);
         });
   }
 
-  module _ (read now : ReadRules) (before after : SheetParts) (part : Part)
+  module _ (read : ReadRules) (before after : SheetParts) (part : Part)
       (h : Reads holds texts most read before later)
-      (gives : GivesPart (with_layers holds) before (Some part) after)
-      (goes : GoesOn read now (part_of part) after) where
+      (gives : GivesPart (with_layers holds) before (Some part) after) where
     come : List PlacedPart
     come = parts_to_come (with_layers holds) after ++ later
 
     gives-all : parts_to_come (with_layers holds) before ++ later
-        ≡ record { part = part_of part; around = open_in after } ∷ come
+        ≡ placed_last after (part_of part) ∷ come
     unfolding come
     gives-all = ap (λ (ps : List PlacedPart). ps ++ later) gives
 
     open_is : (place : List ℕ) × (open_in after ≡ open_after (with_layers holds) (open_in before) (part_of part) place)
     open_is =
-        first-from (with_layers holds) before.later (length (left_in before)) (open_in before)
-        (left_in before) (record { part = part_of part; around = open_in after })
+        first-from (with_layers holds) (source_of before) (length (left_in before)) (open_in before)
+        (left_in before) (placed_last after (part_of part))
         (parts_to_come (with_layers holds) after) gives
+
+    follow-to : (known : List LayerText) (numbers : List ℕ)
+        → Goes (known_in read.opened) (numbers_in read.opened) (part_of part) (open_in after) known
+        numbers
+        → Follows (known_in read.opened) (open_in after) (part_of part) known numbers
+    follow-to known numbers goes =
+        follows (with_layers holds) (known_in read.opened) known (numbers_in read.opened) numbers
+        (open_in before) h.tracks (part_of part) (open_in after) open_is.0 open_is.1 goes
+
+    layers_from : (known : List LayerText)
+        → known ≡ mentioned (known_in read.opened) (open_in after) (part_of part)
+        → with_parts known come ≡ final
+    layers_from known is =
+        ap (λ (k : List LayerText). with_parts k come) is
+        ∙ sym (ap (with_parts (known_in read.opened)) gives-all) ∙ h.awaits.layers
+
+    -- too many layers would be known then
+    pub reads-many : GoesOver (known_in read.opened) (numbers_in read.opened) (part_of part) (open_in after)
+        → AreMany (sheet_layers holds texts)
+    reads-many over =
+        let there = goes-to (known_in read.opened) (numbers_in read.opened) (part_of part) (open_in after) in
+        let many = over there.0 there.1 there.2 in
+        let more = grows-parts there.0 come in
+        let all = ap length (layers_from there.0 (follow-to there.0 there.1 there.2).0) in
+        omega (arith, many, more, all)
+
+  module _ (read now : ReadRules) (before after : SheetParts) (part : Part)
+      (h : Reads holds texts most read before later)
+      (gives : GivesPart (with_layers holds) before (Some part) after)
+      (goes : GoesOn read now (part_of part) after)
+      (nests : NestsOn read now (part_of part) after) where
+    abbrev to_come : List PlacedPart
+    to_come = come read before after part h gives
 
     follow : Follows (known_in read.opened) (open_in after) (part_of part) (known_in now.opened)
         (numbers_in now.opened)
     follow =
-        follows (with_layers holds) (known_in read.opened) (known_in now.opened)
-        (numbers_in read.opened) (numbers_in now.opened) (open_in before) h.tracks (part_of part)
-        (open_in after) open_is.0 open_is.1 goes
+        follow-to read before after part h gives (known_in now.opened) (numbers_in now.opened) goes
 
-    layers_now : with_parts (known_in now.opened) come ≡ final
-    layers_now =
-        ap (λ (k : List LayerText). with_parts k come) follow.0
-        ∙ sym (ap (with_parts (known_in read.opened)) gives-all) ∙ h.awaits.layers
+    layers_now : with_parts (known_in now.opened) to_come ≡ final
+    layers_now = layers_from read before after part h gives (known_in now.opened) follow.0
 
     number_is : number_in_all (open_in after) final ≡ innermost_of 0 (numbers_in now.opened)
     number_is =
         ap or_outermost
         (keeps-at (known_in now.opened) final
-        (subst (Keeps (known_in now.opened)) layers_now (keeps-parts (known_in now.opened) come)) 0
+        (subst (Keeps (known_in now.opened)) layers_now (keeps-parts (known_in now.opened) to_come)) 0
         (layer_parts (open_in after)) (innermost_of 0 (numbers_in now.opened))
         (tracks-number (known_in now.opened) 0 (numbers_in now.opened) (open_in after) follow.1))
 
     more : List SheetRuleText
     more = rules_now now (part_of part) after
 
-    first_rules : rules_of_parts final (parts_to_come (with_layers holds) before ++ later)
-        ≡ more ++ rules_of_parts final come
+    first_rules : rules_of_parts final (parents_of read.parents)
+        (parts_to_come (with_layers holds) before ++ later)
+        ≡ more ++ rules_of_parts final (parents_of now.parents) to_come
     unfolding more
     first_rules =
-        ap (rules_of_parts final) gives-all
-        ∙ ap (λ (n : ℕ). part_rules n (nesting_of (open_in after)) (applies_in (open_in after)) (part_of part)
-        ++ rules_of_parts final come) number_is
+        ap (rules_of_parts final (parents_of read.parents)) (gives-all read before after part h gives)
+        ∙ ap (λ (nest : ParentsText).
+        placed_rules final nest.innermost (placed_last after (part_of part))
+        ++ rules_of_parts final nest to_come) (sym nests)
+        ∙ ap (λ (n : ℕ).
+        part_rules n (parent_of now.parents.innermost) (placed_last after (part_of part))
+        ++ rules_of_parts final (parents_of now.parents) to_come) number_is
 
-    sums : declarations_in (rules_of_parts final (parts_to_come (with_layers holds) before ++ later))
-        ≡ declarations_in more + declarations_in (rules_of_parts final come)
-    sums = ap declarations_in first_rules ∙ declarations-append more (rules_of_parts final come)
+    sums : declarations_in (rules_of_parts final (parents_of read.parents)
+        (parts_to_come (with_layers holds) before ++ later))
+        ≡ declarations_in more + declarations_in (rules_of_parts final (parents_of now.parents) to_come)
+    sums =
+        ap declarations_in first_rules
+        ∙ declarations-append more (rules_of_parts final (parents_of now.parents) to_come)
+
+    lists_now : (after_parts (parents_of now.parents) to_come).lists ≡ nested_lists holds texts
+    lists_now =
+        ap (λ (nest : ParentsText). (after_parts nest to_come).lists) nests
+        ∙ sym (ap (λ (ps : List PlacedPart). (after_parts (parents_of read.parents) ps).lists) (gives-all read before after part h gives))
+        ∙ h.awaits.lists
 
     pub reads-part :
         gathered_rules now.gathered ≡ gathered_rules read.gathered ++ rules_now now (part_of part) after
@@ -268,9 +390,12 @@ module _ (holds : List ℕ → List ℕ → Bool) (texts : List (List ℕ)) (mos
           tracks = follow.1;
           awaits = record {
             layers = layers_now;
+            lists = lists_now;
             rules =
-                ap (λ (rs : List SheetRuleText). rs ++ rules_of_parts final come) f
-                ∙ append_assoc (gathered_rules read.gathered) more (rules_of_parts final come)
+                ap (λ (rs : List SheetRuleText).
+                rs ++ rules_of_parts final (parents_of now.parents) to_come) f
+                ∙ append_assoc (gathered_rules read.gathered) more
+                (rules_of_parts final (parents_of now.parents) to_come)
                 ∙ sym (ap (λ (rs : List SheetRuleText). gathered_rules read.gathered ++ rs) first_rules)
                 ∙ h.awaits.rules;
             room = omega (arith, room, parted, g);
@@ -294,12 +419,21 @@ module _ (holds : List ℕ → List ℕ → Bool) (texts : List (List ℕ)) (mos
 -- at the start
 pub awaits-none : (holds : List ℕ → List ℕ → Bool) (texts : List (List ℕ)) (most : ℕ)
     (read : ReadRules) → known_in read.opened ≡ outermost_layer ∷ []
-    → gathered_rules read.gathered ≡ [] → read.gathered.left ≡ most
+    → gathered_rules read.gathered ≡ [] → parents_of read.parents ≡ none_open []
+    → read.gathered.left ≡ most
     → Awaits holds texts most read (layered_parts holds texts)
-awaits-none holds texts most read known rules left = record {
+awaits-none holds texts most read known rules none left = record {
   layers = ap (λ (ls : List LayerText). with_parts ls (layered_parts holds texts)) known;
-  rules = ap (λ (rs : List SheetRuleText). rs ++ numbered_rules holds texts) rules;
-  room = sym (ap (λ (n : ℕ). n + declarations_in (numbered_rules holds texts)) left);
+  rules =
+      ap (λ (nest : ParentsText). gathered_rules read.gathered
+      ++ rules_of_parts (sheet_layers holds texts) nest (layered_parts holds texts)) none
+      ∙ ap (λ (rs : List SheetRuleText). rs ++ numbered_rules holds texts) rules;
+  lists = ap (λ (nest : ParentsText). (after_parts nest (layered_parts holds texts)).lists) none;
+  room =
+      ap (λ (nest : ParentsText). most
+      + declarations_in (rules_of_parts (sheet_layers holds texts) nest (layered_parts holds texts)))
+      none
+      ∙ sym (ap (λ (n : ℕ). n + declarations_in (numbered_rules holds texts)) left);
 }
 
 -- nothing is to come
@@ -309,6 +443,7 @@ awaits-all holds texts most read h =
     let room = h.room in (
       h.layers,
       sym (append-nil (gathered_rules read.gathered)) ∙ h.rules,
+      h.lists,
       omega (arith, room),
     )
 
@@ -328,21 +463,39 @@ pub stopped-sheet : (holds : List ℕ → List ℕ → Bool) (texts : List (List
 stopped-sheet holds texts most result error read more e over =
     subst (λ r. AwaitsStill holds texts most r read more) (sym e) over
 
+-- an error that is handed on
+pub handed-error : {V : Type 0} (P : Type 0) (result : Result V SheetError) (error : SheetError)
+    → result ≡ Err error → (error ≡ TooManyLayers → P)
+    → IfErr result (λ reported. reported ≡ TooManyLayers → P)
+handed-error P result error e due =
+    subst (λ r. IfErr r (λ reported. reported ≡ TooManyLayers → P)) (sym e) due
+
+-- the parts of the sheets that are left, of which the first has this number
+abbrev pub texts_left : (List ℕ → List ℕ → Bool) → (sheet : ℕ) → List (Bor (List ℕ))
+    → List PlacedPart
+texts_left holds sheet rest =
+    all_parts_from (with_layers holds) sheet (map (λ (text : Bor (List ℕ)). text.now) rest)
+
+-- so many were read, with the first of those that were left
+pub counted-next : (sheet n : ℕ) (rest : List (Bor (List ℕ))) → 1 ≤ length rest
+    → sheet + length rest ≡ n → sheet + 1 + length (take (length rest - 1) (drop 1 rest)) ≡ n
+counted-next sheet n [] l e = absurd (omega (arith, l))
+counted-next sheet n (text ∷ later) l e =
+    let same : length (take (length (text ∷ later) - 1) later) ≡ length later =
+    ap length (take_all (length (text ∷ later) - 1) later (omega arith)) in
+    omega (arith, e, same)
+
 -- the first of the sheets that are left, and then the others
 pub texts-first : (holds : List ℕ → List ℕ → Bool) (texts : List (List ℕ)) (most : ℕ)
-    (read : ReadRules) (rest : List (Bor (List ℕ))) (d : Bor (List ℕ)) → 1 ≤ length rest
-    → Awaits holds texts most read (layered_parts holds (map (λ (text : Bor (List ℕ)). text.now) rest))
+    (read : ReadRules) (sheet : ℕ) (rest : List (Bor (List ℕ))) (d : Bor (List ℕ)) → 1 ≤ length rest
+    → Awaits holds texts most read (texts_left holds sheet rest)
     → Awaits holds texts most read
-    (sheet_parts (with_layers holds) (length (take (length rest - 1) (drop 1 rest))) (get_or rest 0 d).now
-    ++ layered_parts holds (map (λ (text : Bor (List ℕ)). text.now) (take (length rest - 1) (drop 1 rest))))
-texts-first holds texts most read [] d l awaits = absurd (omega (arith, l))
-texts-first holds texts most read (text ∷ later) d l awaits =
+    (sheet_parts (with_layers holds) sheet (get_or rest 0 d).now
+    ++ texts_left holds (sheet + 1) (take (length rest - 1) (drop 1 rest)))
+texts-first holds texts most read sheet [] d l awaits = absurd (omega (arith, l))
+texts-first holds texts most read sheet (text ∷ later) d l awaits =
     let same : take (length (text ∷ later) - 1) later ≡ later =
     take_all (length (text ∷ later) - 1) later (omega arith) in
     subst (λ (ts : List (Bor (List ℕ))). Awaits holds texts most read
-    (sheet_parts (with_layers holds) (length ts) text.now
-    ++ layered_parts holds (map (λ (t : Bor (List ℕ)). t.now) ts))) (sym same)
-    (subst (λ (n : ℕ). Awaits holds texts most read
-    (sheet_parts (with_layers holds) n text.now
-    ++ layered_parts holds (map (λ (t : Bor (List ℕ)). t.now) later)))
-    (length-map later (λ (t : Bor (List ℕ)). t.now)) awaits)
+    (sheet_parts (with_layers holds) sheet text.now ++ texts_left holds (sheet + 1) ts)) (sym same)
+    awaits

@@ -5,4 +5,5 @@ pub mod PartSteps
 mod SheetRuleLemmas
 mod OpenLemmas
 mod GatherLemmas
-mod WinnerLemmas
+mod ParentLemmas
+mod WrittenItems

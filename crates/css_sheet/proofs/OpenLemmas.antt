@@ -88,7 +88,7 @@ seam : {X : Type 0} (xs : List X) (x : X) → slice_get (xs ++ x ∷ []) (length
 seam [] x = refl
 seam (y ∷ xs) x = seam xs x
 
-one-more : {X : Type 0} (xs : List X) (x : X) → length (xs ++ x ∷ []) ≡ suc (length xs)
+pub one-more : {X : Type 0} (xs : List X) (x : X) → length (xs ++ x ∷ []) ≡ suc (length xs)
 one-more [] x = refl
 one-more (y ∷ xs) x = ap suc (one-more xs x)
 

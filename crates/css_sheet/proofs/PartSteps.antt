@@ -11,7 +11,7 @@ use Rattle.css_syntax.specs.Blocks.{BlockPart, listed, opens_rule, opens_at_rule
 use Rattle.css_syntax.proofs.ItemLemmas.{block-within, block-well, separators-well}
 use Rattle.css_syntax.proofs.BlockSteps.{next_block_part-takes, next_rule_part-takes, next_block_part-well, found_then-well}
 use Rattle.css_sheet.specs.SheetItems.{group_keyword}
-use Rattle.css_sheet.specs.SheetParts.{Nesting, outside, within, nested, OpenText, SheetPart, PlacedPart, after_at_rule, among_declarations, run_part, past_run, at_rule_in, part_inside, option_inside, at_rule_outside, part_outside, option_outside, next_by, nesting_of, is_some_open, next_in, open_after, part_then, parts_from, parts_in, place_at}
+use Rattle.css_sheet.specs.SheetParts.{Nesting, outside, within, nested, OpenText, SheetPart, PlacedPart, after_at_rule, among_declarations, run_part, past_run, at_rule_in, part_inside, option_inside, at_rule_outside, part_outside, option_outside, next_by, nesting_of, is_some_open, next_in, open_after, part_then, parts_from, parts_in, place_at, placed_part, Source}
 
 -- ---- declarations one after another
 
@@ -123,61 +123,61 @@ took around text rest part e =
 
 -- ---- the parts one after another
 
-module _ (holds : List ℕ → List ℕ → Bool) (later : ℕ) where
+module _ (holds : List ℕ → List ℕ → Bool) (source : Source) where
   then-some : (more : List OpenText → List ℕ → List PlacedPart) (around : List OpenText)
       (part : SheetPart) (rest : List ℕ) (o : Option (SheetPart × List ℕ)) → o ≡ Some (part, rest)
-      → part_then holds later more around o
-      ≡ record { part = part; around = open_after holds around part (place_at later rest) }
-      ∷ more (open_after holds around part (place_at later rest)) rest
-  then-some more around part rest o e = ap (part_then holds later more around) e
+      → part_then holds source more around o
+      ≡ placed_part source part (open_after holds around part (place_at source rest)) rest
+      ∷ more (open_after holds around part (place_at source rest)) rest
+  then-some more around part rest o e = ap (part_then holds source more around) e
 
   -- with enough steps, more change nothing
   enough : (m n : ℕ) (around : List OpenText) (text : List ℕ) → length text ≤ m → length text ≤ n
-      → parts_from holds later m around text ≡ parts_from holds later n around text
+      → parts_from holds source m around text ≡ parts_from holds source n around text
   unfolding parts_from
   enough zero zero around text a b = refl
   enough zero (suc n) around text a b =
       elim (option_cases (next_in around text)) [
-        | inl e ↦ sym (ap (part_then holds later (parts_from holds later n) around) e)
+        | inl e ↦ sym (ap (part_then holds source (parts_from holds source n) around) e)
         | inr found ↦ absurd (omega (arith, took around text found.0.1 found.0.0 found.1))
       ]
   enough (suc m) zero around text a b =
       elim (option_cases (next_in around text)) [
-        | inl e ↦ ap (part_then holds later (parts_from holds later m) around) e
+        | inl e ↦ ap (part_then holds source (parts_from holds source m) around) e
         | inr found ↦ absurd (omega (arith, took around text found.0.1 found.0.0 found.1))
       ]
   enough (suc m) (suc n) around text a b =
       elim (option_cases (next_in around text)) [
         | inl e ↦
-            ap (part_then holds later (parts_from holds later m) around) e
-            ∙ sym (ap (part_then holds later (parts_from holds later n) around) e)
+            ap (part_then holds source (parts_from holds source m) around) e
+            ∙ sym (ap (part_then holds source (parts_from holds source n) around) e)
         | inr found ↦
             let rest = found.0.1 in
             let part = found.0.0 in
-            let after = open_after holds around part (place_at later rest) in
+            let after = open_after holds around part (place_at source rest) in
             let less : length rest < length text = took around text rest part found.1 in
-            then-some (parts_from holds later m) around part rest (next_in around text) found.1
-            ∙ ap (λ (more : List PlacedPart). record { part = part; around = after } ∷ more)
+            then-some (parts_from holds source m) around part rest (next_in around text) found.1
+            ∙ ap (λ (more : List PlacedPart). placed_part source part after rest ∷ more)
             (enough m n after rest (omega arith) (omega arith))
-            ∙ sym (then-some (parts_from holds later n) around part rest (next_in around text) found.1)
+            ∙ sym (then-some (parts_from holds source n) around part rest (next_in around text) found.1)
       ]
 
   pub parts-some : (around after : List OpenText) (text rest : List ℕ) (part : SheetPart)
-      → next_in around text ≡ Some (part, rest) → after ≡ open_after holds around part (place_at later rest)
-      → parts_in holds later around text
-      ≡ record { part = part; around = after } ∷ parts_in holds later after rest
+      → next_in around text ≡ Some (part, rest) → after ≡ open_after holds around part (place_at source rest)
+      → parts_in holds source around text
+      ≡ placed_part source part after rest ∷ parts_in holds source after rest
   unfolding parts_from
   parts-some around after [] rest part e f = absurd (omega (arith, took around [] rest part e))
   parts-some around after (b ∷ text) rest part e f =
       let less : length rest < length (b ∷ text) = took around (b ∷ text) rest part e in
-      let now = open_after holds around part (place_at later rest) in
-      then-some (parts_from holds later (length text)) around part rest (next_in around (b ∷ text)) e
-      ∙ ap (λ (more : List PlacedPart). record { part = part; around = now } ∷ more)
+      let now = open_after holds around part (place_at source rest) in
+      then-some (parts_from holds source (length text)) around part rest (next_in around (b ∷ text)) e
+      ∙ ap (λ (more : List PlacedPart). placed_part source part now rest ∷ more)
       (enough (length text) (length rest) now rest (omega arith) (omega arith))
-      ∙ sym (ap (λ (os : List OpenText). record { part = part; around = os } ∷ parts_in holds later os rest) f)
+      ∙ sym (ap (λ (os : List OpenText). placed_part source part os rest ∷ parts_in holds source os rest) f)
 
   pub parts-none : (around : List OpenText) (text : List ℕ) → next_in around text ≡ None
-      → parts_in holds later around text ≡ []
+      → parts_in holds source around text ≡ []
   unfolding parts_from
   parts-none around [] e = refl
-  parts-none around (b ∷ text) e = ap (part_then holds later (parts_from holds later (length text)) around) e
+  parts-none around (b ∷ text) e = ap (part_then holds source (parts_from holds source (length text)) around) e

@@ -12,7 +12,7 @@ use Rattle.css_text.specs.Ranks.{ordered_by}
 use Rattle.css_text.proofs.order.RankLemmas.{ordered_is, arranges_from_sort, arranges-map}
 use Rattle.css_cascade.specs.Layers.{LayerText}
 use Rattle.css_sheet.specs.declared.sheet_rules.SheetRule.{SheetRule}
-use Rattle.css_sheet.specs.SheetOrder.{SheetRuleText, declaration_count, declarations_in, rule_key, is_before, ranked}
+use Rattle.css_sheet.specs.SheetOrder.{SheetRuleText, SheetText, declaration_count, declarations_in, rule_key, is_before, ranked}
 use Rattle.css_sheet.specs.SheetRuleViews.{sheet_rule_of}
 
 -- Rules were gathered and others are to come: together they are those before and all others. So it
@@ -56,14 +56,15 @@ sorted-rules rules sorted moved up stable =
     (ranks_by nat_list_cmp_total (λ rule. rule_key (sheet_rule_of rule))) _ _ moved up
     stable)))
 
--- the limit is as far from rules with the ranks of their layers
-ranked-from : (known : List LayerText) (rules : List SheetRuleText) (n : ℕ)
+-- the limit is as far from rules with their origins and the ranks of their layers
+ranked-from : (known : List LayerText) (sheets : List SheetText) (rules : List SheetRuleText) (n : ℕ)
     → fold (λ (sum : ℕ) (rule : SheetRuleText). sum + declaration_count rule.block) n
-    (map (ranked known) rules)
+    (map (ranked known sheets) rules)
     ≡ fold (λ (sum : ℕ) (rule : SheetRuleText). sum + declaration_count rule.block) n rules
-ranked-from known [] n = refl
-ranked-from known (rule ∷ rules) n = ranked-from known rules (n + declaration_count rule.block)
+ranked-from known sheets [] n = refl
+ranked-from known sheets (rule ∷ rules) n =
+    ranked-from known sheets rules (n + declaration_count rule.block)
 
-pub ranked-declarations : (known : List LayerText) (rules : List SheetRuleText)
-    → declarations_in (map (ranked known) rules) ≡ declarations_in rules
-ranked-declarations known rules = ranked-from known rules 0
+pub ranked-declarations : (known : List LayerText) (sheets : List SheetText) (rules : List SheetRuleText)
+    → declarations_in (map (ranked known sheets) rules) ≡ declarations_in rules
+ranked-declarations known sheets rules = ranked-from known sheets rules 0

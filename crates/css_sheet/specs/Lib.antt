@@ -2,13 +2,14 @@ pub mod Places
 pub mod SheetItems
 pub mod GroupViews
 pub mod SheetParts
-pub mod PartViews
 pub mod ReaderViews
 pub mod RuleSelectors
 pub mod RuleViews
+pub mod NestedSelectors
+pub mod OpenParents
+pub mod ParentViews
 pub mod SheetMessages
 pub mod SheetLayers
 pub mod SheetOrder
 pub mod SheetRuleViews
-pub mod SheetWinners
 pub mod internal

@@ -1,6 +1,6 @@
 -- The layers of sheets (CSS Cascading 5, section 6.4): those of the `@layer` rules whose group rules
 -- all hold, in order.
-use Rattle.std.specs.Prelude.{ℕ, Bool, if◌then◌else◌, List, [], ◌∷◌, codes, Option, None, Some}
+use Rattle.std.specs.Prelude.{ℕ, ◌-◌, Bool, if◌then◌else◌, List, [], ◌∷◌, codes, length, Option, None, Some}
 use Rattle.std.specs.List.{flat_map}
 use Rattle.std.specs.Option.{is_some}
 use Rattle.css_syntax.specs.Tokens.{spells}
@@ -97,3 +97,7 @@ layered_parts holds texts = all_parts (with_layers holds) texts
 -- The layers of sheets in order. One that is named in several of them is one layer.
 abbrev pub sheet_layers : (List ℕ → List ℕ → Bool) → List (List ℕ) → List LayerText
 sheet_layers holds texts = layers_in (layered_parts holds texts)
+
+-- how many layers there are, beside the outermost one
+abbrev pub layer_count : (List ℕ → List ℕ → Bool) → List (List ℕ) → ℕ
+layer_count holds texts = length (sheet_layers holds texts) - 1

@@ -1,6 +1,6 @@
 -- The parts of sheets, one after another and in place, each with the rules that are open there: the
 -- style rules that it is nested in, and the group rules (CSS Nesting 1; CSS Conditional Rules 3).
-use Rattle.std.specs.Prelude.{ℕ, zero, suc, ◌-◌, Bool, true, false, ◌&&◌, List, [], ◌∷◌, ◌++◌, length, take, slice_get, Option, Some, None}
+use Rattle.std.specs.Prelude.{ℕ, zero, suc, ◌+◌, ◌-◌, Bool, true, false, ◌&&◌, List, [], ◌∷◌, ◌++◌, length, take, slice_get, Option, Some, None}
 use Rattle.css_text.specs.Reading.{each, before}
 use Rattle.css_syntax.specs.Parts.{Stated}
 use Rattle.css_syntax.specs.Statements.{block, BlockText}
@@ -23,8 +23,8 @@ pub data Nesting : Type 0 where
   nested : Nesting
 
 -- A rule that is open; what its contents are in; whether they apply, since it and all group rules
--- that it is in hold; and the place of its contents: how many texts follow the one that it is in, and
--- how many bytes are left of that. The place tells it from all others.
+-- that it is in hold; and the place of its contents: the number of the text that it is in, and an offset
+-- there. The place tells it from all others.
 pub record OpenText : Type 0 where
   pub kind : RuleKind
   pub nesting : Nesting
@@ -175,43 +175,70 @@ open_after holds around (begins kind) place = around ++ opened holds around kind
 open_after holds around ends place = take (length around - 1) around
 open_after holds around (stands item) place = around
 
--- A part, and what is open after it, with what it begins.
+-- A part; what is open after it, with what it begins; and the number of the text that it is in and the
+-- offset there at which it ends.
 pub record PlacedPart : Type 0 where
   pub part : SheetPart
   pub around : List OpenText
+  pub sheet : ℕ
+  pub end : ℕ
 
--- a place in a text that so many follow, from which on this is left
-abbrev pub place_at : (later : ℕ) → List ℕ → List ℕ
-place_at later rest = later ∷ length rest ∷ []
+-- A text: its number among all, from 0 on, and how many bytes it has.
+pub record Source : Type 0 where
+  pub sheet : ℕ
+  pub size : ℕ
+
+-- the offset in it from which on this is left
+abbrev pub offset_in : Source → List ℕ → ℕ
+offset_in source rest = source.size - length rest
+
+abbrev pub place_at : Source → List ℕ → List ℕ
+place_at source rest = source.sheet ∷ offset_in source rest ∷ []
+
+-- a part after which this is left and these rules are open
+abbrev pub placed_part : Source → SheetPart → List OpenText → List ℕ → PlacedPart
+placed_part source part around rest = record {
+  part = part;
+  around = around;
+  sheet = source.sheet;
+  end = offset_in source rest;
+}
 
 -- the parts from here on, where these rules are open, by those after the first
-abbrev pub part_then : (List ℕ → List ℕ → Bool) → (later : ℕ)
+abbrev pub part_then : (List ℕ → List ℕ → Bool) → Source
     → (List OpenText → List ℕ → List PlacedPart) → List OpenText → Option (SheetPart × List ℕ)
     → List PlacedPart
-part_then holds later more around None = []
-part_then holds later more around (Some found) =
-    record { part = found.0; around = open_after holds around found.0 (place_at later found.1) }
-    ∷ more (open_after holds around found.0 (place_at later found.1)) found.1
+part_then holds source more around None = []
+part_then holds source more around (Some found) =
+    placed_part source found.0 (open_after holds around found.0 (place_at source found.1)) found.1
+    ∷ more (open_after holds around found.0 (place_at source found.1)) found.1
 
 -- Each part takes a byte or more, so as many as there are bytes are all.
-unfoldable pub parts_from : (List ℕ → List ℕ → Bool) → (later : ℕ) → ℕ → List OpenText → List ℕ
+unfoldable pub parts_from : (List ℕ → List ℕ → Bool) → Source → ℕ → List OpenText → List ℕ
     → List PlacedPart
-parts_from holds later zero around text = []
-parts_from holds later (suc n) around text =
-    part_then holds later (parts_from holds later n) around (next_in around text)
+parts_from holds source zero around text = []
+parts_from holds source (suc n) around text =
+    part_then holds source (parts_from holds source n) around (next_in around text)
 
--- the parts from here on in a text that so many follow, where these rules are open
-abbrev pub parts_in : (List ℕ → List ℕ → Bool) → (later : ℕ) → List OpenText → List ℕ
+-- the parts from here on in a text, where these rules are open
+abbrev pub parts_in : (List ℕ → List ℕ → Bool) → Source → List OpenText → List ℕ
     → List PlacedPart
-parts_in holds later around text = parts_from holds later (length text) around text
+parts_in holds source around text = parts_from holds source (length text) around text
 
--- The parts of a sheet that so many follow, where a group rule holds as `holds` says of its keyword and
+-- The parts of the sheet of this number, where a group rule holds as `holds` says of its keyword and
 -- its prelude.
-abbrev pub sheet_parts : (List ℕ → List ℕ → Bool) → (later : ℕ) → List ℕ → List PlacedPart
-sheet_parts holds later text = parts_in holds later [] text
+abbrev pub sheet_parts : (List ℕ → List ℕ → Bool) → (sheet : ℕ) → List ℕ → List PlacedPart
+sheet_parts holds sheet text =
+    parts_in holds (record { sheet = sheet; size = length text }) [] text
 
--- the parts of sheets, one after another; each ends what is open in it
+-- the parts of sheets, one after another, of which the first has this number; each ends what is open in
+-- it
+abbrev pub all_parts_from : (List ℕ → List ℕ → Bool) → (sheet : ℕ) → List (List ℕ)
+    → List PlacedPart
+all_parts_from holds sheet [] = []
+all_parts_from holds sheet (text ∷ texts) =
+    sheet_parts holds sheet text ++ all_parts_from holds (sheet + 1) texts
+
+-- the parts of sheets
 abbrev pub all_parts : (List ℕ → List ℕ → Bool) → List (List ℕ) → List PlacedPart
-all_parts holds [] = []
-all_parts holds (text ∷ texts) =
-    sheet_parts holds (length texts) text ++ all_parts holds texts
+all_parts holds texts = all_parts_from holds 0 texts

@@ -4,13 +4,21 @@ use Rattle.std.specs.Option.{option_map}
 use Rattle.std.specs.Borrow.{Bor}
 use Rattle.css_sheet.specs.declared.sheet_error.SheetError.{SheetError}
 use Rattle.css_sheet.specs.declared.sheet_error.SheetError.TheVariants.{TooManyDeclarations}
+use Rattle.css_sheet.specs.declared.sheet_rules.Sheet.{Sheet}
 use Rattle.css_sheet.specs.declared.sheet_rules.SheetRule.{SheetRule}
 use Rattle.css_sheet.specs.declared.gathering.Gathered.{Gathered}
-use Rattle.css_sheet.specs.SheetOrder.{SheetRuleText, declarations_in}
+use Rattle.css_sheet.specs.declared.gathering.Run.{Run}
+use Rattle.css_sheet.specs.SheetOrder.{RunText, SheetRuleText, SheetText, declarations_in}
+
+abbrev pub sheet_of : Sheet → SheetText
+sheet_of s = record { text = s.text.now; origin = s.origin }
 
 abbrev pub sheet_rule_of : SheetRule → SheetRuleText
 sheet_rule_of r = record {
+  origin = r.origin;
   layer = r.layer;
+  sheet = r.sheet;
+  start = r.start;
   text = r.text.now;
   selector = r.selector;
   pseudo_element = option_map (λ name. name.now) r.pseudo_element;
@@ -23,6 +31,10 @@ abbrev pub Answers : (Bor (List ℕ) → Bor (List ℕ) → Bool → Type 0)
 Answers post holds =
     (name prelude : Bor (List ℕ)) (answer : Bool) → post name prelude answer
     → answer ≡ holds name.now prelude.now
+
+-- declarations of a style rule
+abbrev pub run_of : Run → RunText
+run_of r = record { layer = r.layer; sheet = r.sheet; start = r.start; text = r.text.now }
 
 -- the rules that are gathered
 abbrev pub gathered_rules : Gathered → List SheetRuleText

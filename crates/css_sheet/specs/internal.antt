@@ -1,4 +1,4 @@
 -- What contracts of private functions and proofs name, and no contract of a public call.
-pub mod WinnerSteps
 pub mod OpenViews
 pub mod GatherViews
+pub mod PartViews

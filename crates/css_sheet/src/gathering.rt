@@ -1,17 +1,22 @@
 //! Gathers the rules of style rules.
-ghost use Rattle.std.specs.Prelude.{◌≡◌, map, option_to_list};
+ghost use Rattle.std.specs.Prelude.{◌≡◌, IfErr, map, option_to_list};
 ghost use Rattle.css_syntax.specs.Views.{item_of, prelude_of};
-ghost use Rattle.css_sheet.specs.PartViews.{nesting_text, part_of};
+ghost use Rattle.css_sheet.specs.internal.PartViews.{part_of, placed_last};
+ghost use Rattle.css_sheet.specs.ParentViews.{parent_of};
 ghost use Rattle.css_sheet.specs.RuleViews.{rule_selector_of};
 ghost use Rattle.css_sheet.specs.SheetOrder.{declaration_count, is_declared, rule_with, rules_with};
 ghost use Rattle.css_sheet.specs.SheetOrder.{rule_set_rules, part_rules};
-ghost use Rattle.css_sheet.specs.SheetRuleViews.{Gathers};
+ghost use Rattle.css_sheet.specs.SheetRuleViews.{run_of, Gathers};
+ghost use Rattle.css_sheet.specs.declared.sheet_error.SheetError.TheVariants.{TooManyLayers};
 
-use crate::parts::{Nesting, Part};
-use crate::selectors::{RuleSelector, read_selectors};
+use crate::nested_selectors::read_under;
+use crate::parents::{Parent, StyleRule};
+use crate::parts::{Part, SheetParts};
+use crate::selectors::RuleSelector;
 use crate::sheet_error::SheetError;
 use crate::sheet_rules::SheetRule;
-use css_syntax::{Declarations, Item, Prelude};
+use css_cascade::Origin;
+use css_syntax::{Declarations, Item};
 use std::alloc::Global;
 
 /// Rules, as they stand in a sheet.
@@ -21,6 +26,19 @@ pub(crate) struct Gathered<'a> {
     pub(crate) rules: Vec<SheetRule<'a>>,
     /// How many declarations further ones may have.
     pub(crate) left: usize,
+}
+
+/// The contents of the block of a style rule, or a part of them that rules are between.
+#[derive(Clone, Copy)]
+pub(crate) struct Run<'a> {
+    /// The number of the layer that it is in.
+    pub(crate) layer: usize,
+    /// The number of the sheet.
+    pub(crate) sheet: usize,
+    /// The offset there.
+    pub(crate) start: usize,
+    /// The text.
+    pub(crate) text: &'a str,
 }
 
 /// Whether an item of a list is a declaration.
@@ -46,17 +64,17 @@ fn count_declarations(block: &str) -> usize
 }
 
 impl<'a> Gathered<'a> {
-    /// Appends the rule of a selector in this layer, if it is supported. Its block has `count` declarations.
+    /// Appends the rule of a selector with this block, if it is supported. It has `count` declarations.
     fn push_rule(
         &mut self,
         one: RuleSelector<'a>,
-        layer: usize,
-        block: &'a str,
+        run: Run<'a>,
         count: usize,
     ) -> Result<(), SheetError>
-        requires { count ≡ declaration_count block.now }
-        ensures { Gathers self.old result self.new
-            (option_to_list (rule_with layer block.now (rule_selector_of one.entry))) }
+        requires { count ≡ declaration_count run.text.now }
+        ensures no_layers { IfErr result (λ error. error ≡ TooManyLayers → ⊥) }
+        ensures gathers { Gathers self.old result self.new
+            (option_to_list (rule_with (run_of run.entry) (rule_selector_of one.entry))) }
     {
         let RuleSelector {
             text,
@@ -70,70 +88,83 @@ impl<'a> Gathered<'a> {
             return Err(SheetError::TooManyDeclarations);
         }
         self.rules.push(SheetRule {
-            layer,
+            origin: Origin::Author,
+            layer: run.layer,
+            sheet: run.sheet,
+            start: run.start,
             text,
             selector,
             pseudo_element,
-            block,
+            block: run.text,
         })?;
         self.left -= count;
         Ok(())
     }
 
-    /// Appends the rules of selectors in this layer with this block, which has `count` declarations.
+    /// Appends the rules of selectors with this block, which has `count` declarations.
     fn push_rules(
         &mut self,
         selectors: Vec<RuleSelector<'a>>,
-        layer: usize,
-        block: &'a str,
+        run: Run<'a>,
         count: usize,
     ) -> Result<(), SheetError>
-        requires { count ≡ declaration_count block.now }
-        ensures { Gathers self.old result self.new
-            (rules_with layer block.now (map rule_selector_of selectors.entry.items)) }
+        requires { count ≡ declaration_count run.text.now }
+        ensures no_layers { IfErr result (λ error. error ≡ TooManyLayers → ⊥) }
+        ensures gathers { Gathers self.old result self.new
+            (rules_with (run_of run.entry) (map rule_selector_of selectors.entry.items)) }
     {
         'selectors: for one in selectors {
-            self.push_rule(one, layer, block, count)?;
+            self.push_rule(one, run, count)?;
         }
         Ok(())
     }
 
-    /// Appends the rules of declarations of a style rule with this prelude, in this layer.
+    /// Appends the rules of declarations of a style rule.
     fn push_stated(
         &mut self,
         alloc: Global,
-        layer: usize,
-        prelude: &Prelude<'a>,
-        text: &'a str,
+        rule: &StyleRule<'a>,
+        run: Run<'a>,
     ) -> Result<(), SheetError>
-        ensures { Gathers self.old result self.new (rule_set_rules layer (prelude_of prelude.now) text.now) }
+        ensures no_layers { IfErr result (λ error. error ≡ TooManyLayers → ⊥) }
+        ensures gathers { Gathers self.old result self.new
+            (rule_set_rules (prelude_of rule.now.prelude) rule.now.under (run_of run.entry)) }
     {
-        let count = count_declarations(text);
+        let count = count_declarations(run.text);
         if count == 0 {
             return Ok(());
         }
-        match read_selectors(alloc, prelude) {
-            Ok(Ok(selectors)) => self.push_rules(selectors, layer, text, count),
+        match read_under(alloc, rule.under, &rule.prelude) {
+            Ok(Ok(selectors)) => self.push_rules(selectors, run, count),
             Ok(Err(_)) => Ok(()),
             Err(_) => Err(SheetError::Memory),
         }
     }
 
-    /// Appends the rules of a part of a sheet, which is in this layer and in this, and applies or not.
+    /// Appends the rules of the part of a sheet that was read last, in this layer and this style rule.
     pub(crate) fn push_part(
         &mut self,
         alloc: Global,
         part: &Part<'a>,
         layer: usize,
-        nesting: Nesting<'a>,
-        applies: bool,
+        parent: &Parent<'a>,
+        reader: &SheetParts<'a>,
     ) -> Result<(), SheetError>
-        ensures { Gathers self.old result self.new
-            (part_rules layer (nesting_text nesting.entry) applies (part_of part.now)) }
+        ensures no_layers { IfErr result (λ error. error ≡ TooManyLayers → ⊥) }
+        ensures gathers { Gathers self.old result self.new
+            (part_rules layer (parent_of parent.now) (placed_last reader.now (part_of part.now))) }
     {
         match part {
-            Part::States(text) if applies => match nesting {
-                Nesting::Within(prelude) => self.push_stated(alloc, layer, &prelude, *text),
+            Part::States(text) if reader.applies() => match parent {
+                Parent::Style(rule) => {
+                    let run = Run {
+                        layer,
+                        sheet: reader.sheet,
+                        start: reader.end().saturating_sub(text.len()),
+                        text: *text,
+                    };
+                    self.push_stated(alloc, rule, run)
+                }
                 _ => Ok(()),
             },
             _ => Ok(()),

@@ -2,13 +2,14 @@
 //! and of the blocks of its group rules such as `@media`, in source order, each with the group
 //! rules that it is in. Whether the condition of a group rule holds is for the caller to decide.
 //!
-//! `read_sheets` returns the style rules of several sheets in the order of the cascade, and `winning`
-//! the declaration of a property that wins on an element.
+//! `read_sheets` returns the style rules of several sheets in the order of the cascade.
 #![tactic(auto)]
 
 mod gathering;
 mod groups;
+mod nested_selectors;
 mod open_layers;
+mod parents;
 mod parts;
 mod reader;
 mod selectors;
@@ -16,11 +17,9 @@ mod sheet_error;
 mod sheet_order;
 mod sheet_rules;
 mod state;
-mod winners;
 
 pub use selectors::{RuleSelector, read_listed, read_selectors, read_supported};
 pub use sheet_error::SheetError;
-pub use sheet_order::{read_sheet, read_sheets};
-pub use sheet_rules::SheetRule;
+pub use sheet_order::{SheetRules, read_sheet, read_sheets};
+pub use sheet_rules::{Sheet, SheetRule};
 pub use state::{Level, Places, SheetReader};
-pub use winners::winning;

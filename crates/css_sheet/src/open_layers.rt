@@ -1,15 +1,16 @@
 //! The layers of sheets as far as they are read, and those that are open.
-ghost use Rattle.std.specs.Prelude.{◌≡◌, ◌∷◌, [], IfErr, IfOk, Some, map};
-ghost use Rattle.css_sheet.specs.declared.sheet_error.SheetError.TheVariants.{TooManyDeclarations};
+ghost use Rattle.std.specs.Prelude.{◌≡◌, ◌∷◌, [], IfErr, IfOk, OnOk, Some, map};
+ghost use Rattle.css_sheet.specs.declared.sheet_error.SheetError.TheVariants.{TooManyDeclarations, TooManyLayers};
 ghost use Rattle.css_syntax.specs.Views.{at_rule_of, item_of};
 ghost use Rattle.css_cascade.specs.Layers.{number_at, outermost_layer, with_name};
 ghost use Rattle.css_cascade.specs.LayerViews.{known_of};
 ghost use Rattle.css_cascade.specs.LayerNameViews.{name_of};
-ghost use Rattle.css_sheet.specs.PartViews.{kind_of, open_of, part_of};
+ghost use Rattle.css_sheet.specs.internal.PartViews.{kind_of, open_of, part_of};
 ghost use Rattle.css_sheet.specs.SheetLayers.{is_layer as is_layer_of, kind_name, open_name};
 ghost use Rattle.css_sheet.specs.SheetLayers.{with_names, with_rule, with_item, if_applies};
 ghost use Rattle.css_sheet.specs.SheetParts.{applies_in as applies_in_rules};
-ghost use Rattle.css_sheet.specs.internal.OpenViews.{innermost_of, known_in, numbers_in, Enters, Goes};
+ghost use Rattle.css_sheet.specs.internal.OpenViews.{innermost_of, known_in, numbers_in, AreFew, AreMany};
+ghost use Rattle.css_sheet.specs.internal.OpenViews.{Enters, Goes, GoesOver};
 
 use crate::parts::{OpenRule, Part, RuleKind};
 use crate::sheet_error::SheetError;
@@ -48,6 +49,9 @@ fn enter_kind<'a>(
     ensures number { IfOk result (λ number. number_at outer
         (kind_name (kind_of kind.now) place) (known_of layers.new) ≡ Some number) }
     ensures refused { IfErr result (λ error. error ≡ TooManyDeclarations → ⊥) }
+    ensures many { IfErr result (λ error. error ≡ TooManyLayers
+        → AreMany (with_name (known_of layers.old) outer (kind_name (kind_of kind.now) place))) }
+    ensures few { OnOk result (AreFew (known_of layers.old) → AreFew (known_of layers.new)) }
 {
     match kind {
         RuleKind::Group(keyword, prelude) if is_layer(*keyword) => {
@@ -72,6 +76,9 @@ fn enter_rule<'a>(
     ensures number { IfOk result (λ number. number_at outer
         (open_name (open_of rule.now)) (known_of layers.new) ≡ Some number) }
     ensures refused { IfErr result (λ error. error ≡ TooManyDeclarations → ⊥) }
+    ensures many { IfErr result (λ error. error ≡ TooManyLayers
+        → AreMany (with_name (known_of layers.old) outer (open_name (open_of rule.now)))) }
+    ensures few { OnOk result (AreFew (known_of layers.old) → AreFew (known_of layers.new)) }
 {
     if rule.applies {
         enter_kind(alloc, layers, outer, &rule.kind, rule.place)
@@ -87,6 +94,9 @@ fn mention_names<'a>(
     names: Vec<LayerName<'a>>,
 ) -> Result<(), SheetError>
     ensures refused { IfErr result (λ error. error ≡ TooManyDeclarations → ⊥) }
+    ensures many { IfErr result (λ error. error ≡ TooManyLayers
+        → AreMany (with_names outer (known_of layers.old) (map name_of names.entry.items))) }
+    ensures few { OnOk result (AreFew (known_of layers.old) → AreFew (known_of layers.new)) }
     ensures known { IfOk result (λ _. known_of layers.new
         ≡ with_names outer (known_of layers.old) (map name_of names.entry.items)) }
 {
@@ -104,6 +114,9 @@ fn mention_rule<'a>(
     rule: &AtRule<'a>,
 ) -> Result<(), SheetError>
     ensures refused { IfErr result (λ error. error ≡ TooManyDeclarations → ⊥) }
+    ensures many { IfErr result (λ error. error ≡ TooManyLayers
+        → AreMany (with_rule outer (known_of layers.old) (at_rule_of rule.now))) }
+    ensures few { OnOk result (AreFew (known_of layers.old) → AreFew (known_of layers.new)) }
     ensures known { IfOk result (λ _. known_of layers.new
         ≡ with_rule outer (known_of layers.old) (at_rule_of rule.now)) }
 {
@@ -125,6 +138,9 @@ fn mention_item<'a>(
     applies: bool,
 ) -> Result<(), SheetError>
     ensures refused { IfErr result (λ error. error ≡ TooManyDeclarations → ⊥) }
+    ensures many { IfErr result (λ error. error ≡ TooManyLayers
+        → AreMany (if_applies applies outer (known_of layers.old) (item_of item.now))) }
+    ensures few { OnOk result (AreFew (known_of layers.old) → AreFew (known_of layers.new)) }
     ensures known { IfOk result (λ _. known_of layers.new
         ≡ if_applies applies outer (known_of layers.old) (item_of item.now)) }
 {
@@ -170,6 +186,10 @@ impl<'a> OpenLayers<'a> {
     /// Enters a rule, and mentions the layer that it is, if it is one.
     fn enter(&mut self, alloc: Global, rule: &OpenRule<'a>) -> Result<(), SheetError>
         ensures refused { IfErr result (λ error. error ≡ TooManyDeclarations → ⊥) }
+        ensures many { IfErr result (λ error. error ≡ TooManyLayers
+            → AreMany (with_name (known_in self.old) (innermost_of 0 (numbers_in self.old))
+            (open_name (open_of rule.now)))) }
+        ensures few { OnOk result (AreFew (known_in self.old) → AreFew (known_in self.new)) }
         ensures enters { IfOk result (λ _. Enters (known_in self.old) (numbers_in self.old)
             (open_of rule.now) (known_in self.new) (numbers_in self.new)) }
     {
@@ -190,6 +210,10 @@ impl<'a> OpenLayers<'a> {
     ) -> Result<(), SheetError>
         requires { applies ≡ applies_in_rules (map open_of around.now) }
         ensures refused { IfErr result (λ error. error ≡ TooManyDeclarations → ⊥) }
+        ensures many { IfErr result (λ error. error ≡ TooManyLayers
+            → GoesOver (known_in self.old) (numbers_in self.old) (part_of part.now)
+            (map open_of around.now)) }
+        ensures few { OnOk result (AreFew (known_in self.old) → AreFew (known_in self.new)) }
         ensures goes { IfOk result (λ _. Goes (known_in self.old) (numbers_in self.old)
             (part_of part.now) (map open_of around.now) (known_in self.new) (numbers_in self.new)) }
     {

@@ -10,9 +10,9 @@ ghost use Rattle.css_sheet.specs.SheetParts.{nesting_in as nesting_in_kind, kind
 ghost use Rattle.css_sheet.specs.SheetParts.{after_at_rule, run_part as run_part_of, past_run as past_run_of};
 ghost use Rattle.css_sheet.specs.SheetParts.{stated_from, at_rule_in, part_inside as inside_of};
 ghost use Rattle.css_sheet.specs.SheetParts.{at_rule_outside, part_outside as outside_of, next_inside, next_outside};
-ghost use Rattle.css_sheet.specs.SheetParts.{next_in, opened, open_after, sheet_parts};
-ghost use Rattle.css_sheet.specs.PartViews.{kind_of, nesting_text, open_of, part_of, open_in, left_in};
-ghost use Rattle.css_sheet.specs.PartViews.{parts_to_come, GivesPart, PartShrinks};
+ghost use Rattle.css_sheet.specs.SheetParts.{next_in, opened, open_after, offset_in, sheet_parts};
+ghost use Rattle.css_sheet.specs.internal.PartViews.{kind_of, nesting_text, open_of, part_of, open_in, left_in};
+ghost use Rattle.css_sheet.specs.internal.PartViews.{parts_to_come, source_of, GivesPart, PartShrinks};
 ghost use Rattle.css_sheet.specs.SheetRuleViews.{Answers};
 
 use crate::groups::group_keyword;
@@ -51,8 +51,7 @@ pub(crate) struct OpenRule<'a> {
     pub(crate) nesting: Nesting<'a>,
     /// Whether they apply, since it and all group rules that it is in hold.
     pub(crate) applies: bool,
-    /// The place of its contents: how many sheets follow the one that it is in, and how many bytes are
-    /// left of that.
+    /// The place of its contents: the number of the sheet that it is in, and an offset there.
     pub(crate) place: [usize; 2],
 }
 
@@ -83,8 +82,10 @@ pub(crate) struct SheetParts<'a> {
     pub(crate) around: Vec<OpenRule<'a>>,
     /// What is left of the sheet.
     pub(crate) rest: &'a str,
-    /// How many sheets follow it.
-    pub(crate) later: usize,
+    /// The number of the sheet.
+    pub(crate) sheet: usize,
+    /// How many bytes it has.
+    pub(crate) size: usize,
 }
 
 /// Returns what the next part is in.
@@ -307,24 +308,32 @@ fn read_next_in<'a>(around: &[OpenRule<'_>], text: &'a str) -> Option<FoundPart<
 }
 
 impl<'a> SheetParts<'a> {
-    /// Returns a reader at the start of a sheet that so many follow. Allocates nothing.
-    pub(crate) fn new(alloc: Global, text: &'a str, later: usize) -> SheetParts<'a>
+    /// Returns a reader at the start of the sheet of this number. Allocates nothing.
+    pub(crate) fn new(alloc: Global, text: &'a str, sheet: usize) -> SheetParts<'a>
         ensures open { open_in result ≡ [] }
         ensures parts { (answers : List ℕ → List ℕ → Bool)
-            → parts_to_come answers result ≡ sheet_parts answers later text.now }
+            → parts_to_come answers result ≡ sheet_parts answers sheet text.now }
     {
         SheetParts {
             around: Vec::new(alloc),
             rest: text,
-            later,
+            sheet,
+            size: text.len(),
         }
     }
 
-    /// Returns what the part that was read last is in, or what it begins.
-    pub(crate) fn nesting(&self) -> Nesting<'a>
-        ensures { nesting_text result ≡ nesting_of_rules (open_in self.now) }
+    /// Returns the offset in the sheet from which on this is left of it.
+    fn offset(&self, rest: &str) -> usize
+        ensures { result ≡ offset_in (source_of self.now) rest.now }
     {
-        nesting_of(&self.around)
+        self.size.saturating_sub(rest.len())
+    }
+
+    /// Returns the offset in the sheet at which the part that was read last ends.
+    pub(crate) fn end(&self) -> usize
+        ensures { result ≡ offset_in (source_of self.now) (left_in self.now) }
+    {
+        self.offset(self.rest)
     }
 
     /// Whether the part that was read last applies.
@@ -344,7 +353,7 @@ impl<'a> SheetParts<'a> {
     ) -> Result<(), AllocError>
         requires { C.IsAlwaysCallable holds.now }
         ensures rest { left_in self.new ≡ left_in self.old }
-        ensures later { self.new.later ≡ self.old.later }
+        ensures source { source_of self.new ≡ source_of self.old }
         ensures around { (answers : List ℕ → List ℕ → Bool) → Answers (C.post holds.now) answers
             → IfOk result (λ _. open_in self.new
             ≡ open_in self.old ++ opened answers (open_in self.old) (kind_of kind.entry) place ∷ []) }
@@ -369,7 +378,7 @@ impl<'a> SheetParts<'a> {
     ) -> Result<(), AllocError>
         requires { C.IsAlwaysCallable holds.now }
         ensures rest { left_in self.new ≡ left_in self.old }
-        ensures later { self.new.later ≡ self.old.later }
+        ensures source { source_of self.new ≡ source_of self.old }
         ensures around { (answers : List ℕ → List ℕ → Bool) → Answers (C.post holds.now) answers
             → IfOk result (λ _. open_in self.new
             ≡ open_after answers (open_in self.old) (part_of part.now) place) }
@@ -399,7 +408,7 @@ impl<'a> SheetParts<'a> {
         match read_next_in(&self.around, self.rest) {
             None => Ok(None),
             Some(found) => {
-                let place = [self.later, found.rest.len()];
+                let place = [self.sheet, self.offset(found.rest)];
                 self.go_through(&found.part, place, holds)?;
                 self.rest = found.rest;
                 Ok(Some(found.part))

@@ -28,7 +28,7 @@ pub struct RuleSelector<'a> {
 }
 
 /// The text before a pseudo-element, or `*` if there is none.
-fn or_any(front: &str) -> &str
+pub(crate) fn or_any(front: &str) -> &str
     ensures { result.now ≡ or_any_of front.now }
 {
     if front.is_empty() { "*" } else { front }

@@ -1,21 +1,25 @@
 //! The rules of sheets in the order of the cascade.
 ghost use Rattle.std.specs.Prelude.{◌≡◌, ◌≤◌, ◌<◌, ◌++◌, ◌∷◌, [], ℕ, Bool, List, IfErr, IfOk, OnOk, map};
+ghost use Rattle.css_cascade.specs.Layers.{most_layers};
 ghost use Rattle.css_cascade.specs.LayerViews.{known_of};
-ghost use Rattle.css_sheet.specs.PartViews.{part_of};
-ghost use Rattle.css_sheet.specs.SheetLayers.{with_layers as with_layers_of};
+ghost use Rattle.css_sheet.specs.internal.OpenViews.{known_in, numbers_in, AreFew, AreMany, GoesOver};
+ghost use Rattle.css_sheet.specs.internal.PartViews.{open_in, part_of};
+ghost use Rattle.css_sheet.specs.SheetLayers.{layer_count, sheet_layers, with_layers as with_layers_of};
 ghost use Rattle.css_sheet.specs.SheetParts.{PlacedPart, sheet_parts};
-ghost use Rattle.css_sheet.specs.SheetOrder.{cascade_rules, source_rules};
-ghost use Rattle.css_sheet.specs.SheetOrder.{declarations_in, ranked, rule_key};
-ghost use Rattle.css_sheet.specs.SheetRuleViews.{Answers, sheet_rule_of};
+ghost use Rattle.css_sheet.specs.SheetOrder.{cascade_rules, nested_lists, source_rules};
+ghost use Rattle.css_sheet.specs.SheetOrder.{authored, declarations_in, origin_at as origin_at_of, ranked, rule_key, texts_in};
+ghost use Rattle.css_sheet.specs.SheetRuleViews.{Answers, sheet_of, sheet_rule_of};
 ghost use Rattle.css_sheet.specs.internal.GatherViews.{Awaits, AwaitsStill, GathersAll, Pushes};
-ghost use Rattle.css_sheet.specs.declared.sheet_error.SheetError.TheVariants.{TooManyDeclarations};
+ghost use Rattle.css_sheet.specs.declared.sheet_error.SheetError.TheVariants.{TooManyDeclarations, TooManyLayers};
 
 use crate::gathering::Gathered;
 use crate::open_layers::{OpenLayers, is_layer};
+use crate::parents::OpenParents;
 use crate::parts::{Part, SheetParts};
 use crate::sheet_error::SheetError;
-use crate::sheet_rules::SheetRule;
-use css_cascade::{Layers, is_block_name};
+use crate::sheet_rules::{Sheet, SheetRule};
+use css_cascade::{Layers, Origin, is_block_name};
+use css_selectors::Selector;
 use std::alloc::{AllocError, Global};
 
 /// Whether a group rule holds: an `@layer` does, if its prelude is a name or nothing, and others hold as
@@ -39,6 +43,8 @@ pub(crate) struct ReadRules<'a> {
     pub(crate) gathered: Gathered<'a>,
     /// The layers.
     pub(crate) opened: OpenLayers<'a>,
+    /// The style rules that are open, and the lists of those with rules in them.
+    pub(crate) parents: OpenParents<'a>,
 }
 
 impl<'a> ReadRules<'a> {
@@ -49,32 +55,43 @@ impl<'a> ReadRules<'a> {
         part: &Part<'a>,
         reader: &SheetParts<'a>,
     ) -> Result<(), SheetError>
-        ensures { Pushes self.old result self.new (part_of part.now) reader.now }
+        ensures pushes { Pushes self.old result self.new (part_of part.now) reader.now }
+        ensures few { OnOk result (AreFew (known_in self.old.opened) → AreFew (known_in self.new.opened)) }
+        ensures many { IfErr result (λ error. error ≡ TooManyLayers
+            → GoesOver (known_in self.old.opened) (numbers_in self.old.opened) (part_of part.now)
+            (open_in reader.now)) }
     {
         let applies = reader.applies();
         self.opened
             .go_through(alloc, part, &reader.around, applies)?;
+        self.parents
+            .go_through(alloc, part, &reader.around, applies)?;
         let layer = self.opened.innermost();
         self.gathered
-            .push_part(alloc, part, layer, reader.nesting(), applies)
+            .push_part(alloc, part, layer, &self.parents.innermost, reader)
     }
 
-    /// Adds the layers and the rules of a sheet that so many follow. Nothing of another is open in it.
+    /// Adds the layers and the rules of the sheet of this number. Nothing of another is open in it.
     fn push_sheet<C: Fn(&str, &str) -> bool>(
         &mut self,
         alloc: Global,
         text: &'a str,
-        later: usize,
+        sheet: usize,
         holds: &C,
     ) -> Result<(), SheetError>
         requires { C.IsAlwaysCallable holds.now }
-        ensures { (answers : List ℕ → List ℕ → Bool) → Answers (C.post holds.now) answers
+        ensures awaits { (answers : List ℕ → List ℕ → Bool) → Answers (C.post holds.now) answers
             → (texts : List (List ℕ)) (most : ℕ) (more : List PlacedPart)
-            → Awaits answers texts most self.old (sheet_parts (with_layers_of answers) later text.now ++ more)
+            → Awaits answers texts most self.old (sheet_parts (with_layers_of answers) sheet text.now ++ more)
             → AwaitsStill answers texts most result self.new more }
+        ensures few { OnOk result (AreFew (known_in self.old.opened) → AreFew (known_in self.new.opened)) }
+        ensures many { (answers : List ℕ → List ℕ → Bool) → Answers (C.post holds.now) answers
+            → (texts : List (List ℕ)) (most : ℕ) (more : List PlacedPart)
+            → Awaits answers texts most self.old (sheet_parts (with_layers_of answers) sheet text.now ++ more)
+            → IfErr result (λ error. error ≡ TooManyLayers → AreMany (sheet_layers answers texts)) }
     {
         self.opened.leave_all();
-        let mut reader = SheetParts::new(alloc, text, later);
+        let mut reader = SheetParts::new(alloc, text, sheet);
         'parts: loop {
             let part = reader.next(
                 &|keyword: &str, prelude: &str| -> bool
@@ -99,67 +116,114 @@ fn gather<'a, C: Fn(&str, &str) -> bool>(
     holds: &C,
 ) -> Result<ReadRules<'a>, SheetError>
     requires { C.IsAlwaysCallable holds.now }
-    ensures { (answers : List ℕ → List ℕ → Bool) → Answers (C.post holds.now) answers
+    ensures gathers { (answers : List ℕ → List ℕ → Bool) → Answers (C.post holds.now) answers
         → GathersAll most result answers (map (λ text. text.now) texts.now) }
+    ensures few { IfOk result (λ read. AreFew (known_in read.opened)) }
+    ensures many { (answers : List ℕ → List ℕ → Bool) → Answers (C.post holds.now) answers
+        → IfErr result (λ error. error ≡ TooManyLayers
+        → AreMany (sheet_layers answers (map (λ text. text.now) texts.now))) }
 {
     let gathered = Gathered {
         rules: Vec::new(alloc),
         left: most,
     };
     let opened = OpenLayers::new(alloc)?;
-    let mut read = ReadRules { gathered, opened };
+    let mut read = ReadRules {
+        gathered,
+        opened,
+        parents: OpenParents::new(alloc),
+    };
+    let mut sheet: usize = 0;
     let mut rest = texts;
-    'texts: while let [text, later @ ..] = rest {
-        read.push_sheet(alloc, *text, later.len(), holds)?;
-        rest = later;
+    'texts: while let [text, after @ ..] = rest {
+        read.push_sheet(alloc, *text, sheet, holds)?;
+        sheet += 1;
+        rest = after;
     }
     Ok(read)
 }
 
-/// Returns the rules with the ranks of their layers in the place of the numbers.
-fn rank<'a>(
-    alloc: Global,
-    rules: Vec<SheetRule<'a>>,
-    layers: &Layers<'_>,
-) -> Result<Vec<SheetRule<'a>>, AllocError>
-    ensures { IfOk result (λ found. map sheet_rule_of found.items
-        ≡ map (ranked (known_of layers.now)) (map sheet_rule_of rules.entry.items)) }
+/// Returns the texts of sheets.
+fn texts_of<'a>(alloc: Global, sheets: &[Sheet<'a>]) -> Result<Vec<&'a str>, AllocError>
+    ensures { IfOk result (λ texts. map (λ text. text.now) texts.items
+        ≡ texts_in (map sheet_of sheets.now)) }
 {
-    let mut found = Vec::new(alloc);
-    'rules: for rule in rules {
-        let SheetRule {
-            layer,
-            text,
-            selector,
-            pseudo_element,
-            block,
-        } = rule;
-        found.push(SheetRule {
-            layer: layers.rank(layer),
-            text,
-            selector,
-            pseudo_element,
-            block,
-        })?;
+    let mut texts = Vec::new(alloc);
+    for sheet in sheets {
+        texts.push(sheet.text)?;
     }
-    Ok(found)
+    Ok(texts)
 }
 
-/// Reads the style rules of sheets, one after another, in the order of the cascade: by their layers, in one
-/// layer by specificity, and as they stand in the sheets where that is equal.
+/// The same of sheets.
+fn gather_sheets<'a, C: Fn(&str, &str) -> bool>(
+    alloc: Global,
+    sheets: &[Sheet<'a>],
+    most: usize,
+    holds: &C,
+) -> Result<ReadRules<'a>, SheetError>
+    requires { C.IsAlwaysCallable holds.now }
+    ensures gathers { (answers : List ℕ → List ℕ → Bool) → Answers (C.post holds.now) answers
+        → GathersAll most result answers (texts_in (map sheet_of sheets.now)) }
+    ensures few { IfOk result (λ read. AreFew (known_in read.opened)) }
+    ensures many { (answers : List ℕ → List ℕ → Bool) → Answers (C.post holds.now) answers
+        → IfErr result (λ error. error ≡ TooManyLayers
+        → AreMany (sheet_layers answers (texts_in (map sheet_of sheets.now)))) }
+{
+    let texts = texts_of(alloc, sheets)?;
+    gather(alloc, &texts, most, holds)
+}
+
+/// Returns the origin of the sheet of a number.
+fn origin_at(sheets: &[Sheet<'_>], number: usize) -> Origin
+    ensures { result ≡ origin_at_of (map sheet_of sheets.now) number }
+{
+    match sheets.get(number) {
+        Some(sheet) => sheet.origin,
+        None => Origin::Author,
+    }
+}
+
+/// Gives the rules the origins of their sheets, and the ranks of their layers in the place of the numbers.
+fn rank(rules: &mut Vec<SheetRule<'_>>, layers: &Layers<'_>, sheets: &[Sheet<'_>])
+    ensures { map sheet_rule_of rules.new.items
+        ≡ map (ranked (known_of layers.now) (map sheet_of sheets.now)) (map sheet_rule_of rules.old.items) }
+{
+    'rules: for rule in rules.iter_mut() {
+        rule.origin = origin_at(sheets, rule.sheet);
+        rule.layer = layers.rank(rule.layer);
+    }
+}
+
+/// The style rules of sheets, in the order of the cascade.
+#[derive(Drop)]
+pub struct SheetRules<'a> {
+    /// The rules.
+    pub rules: Vec<SheetRule<'a>>,
+    /// The lists of selectors that `&` stands for in nested rules, each at its number less one
+    /// ([`Nesting::number`](css_selectors::Nesting)): one of each style rule with rules in it. In a list
+    /// `&` stands for one before it.
+    pub lists: Vec<Vec<Selector<'a>>>,
+}
+
+/// Reads the style rules of sheets, one after another, in the order of the cascade: by their origins, of one
+/// origin by their layers, in one layer by specificity, and as they stand in the sheets where that is equal.
 ///
 /// Of a rule set there is one rule for each selector that is supported. A rule set with a part
 /// that is no selector, or without a declaration, has none. A rule in group rules such as `@media`
 /// is there if all of them hold: `holds` is asked once about each, by the keyword that its name is,
 /// in lower case and without escapes, and by its prelude, and about none in one that does not hold.
-/// A group rule may be in a style rule: then the declarations before it, in it, and after it are rules
-/// of their own, with the same selector, which is read again for each. Nested style rules have no
-/// rules.
+/// A group rule or a style rule may be in a style rule: then the declarations before it, in it, and after it
+/// are rules of their own, those of one style rule with the same selectors, which are read again for each.
+///
+/// In a nested style rule `&` stands for the list of the one that it is in, by a number. An element is asked
+/// whether it is in the list ([`Element::is_in_list`](css_selectors::Element)), and the lists are returned
+/// beside the rules. A rule in one with a part that is no selector has no rules, nor have those in it.
 ///
 /// About an `@layer` nobody is asked: it holds, unless its prelude is neither a name nor nothing. Layers
 /// are in the order in which they are first mentioned where all group rules hold, by a block or, outside
-/// of style rules, by a list of names. A layer that several sheets name is one, and one without a name is
-/// new in each. The layers in a layer come before what is in that layer itself, and what is in no layer
+/// of style rules, by a list of names. A layer that several sheets name, of whatever origin, is one, and one
+/// without a name is new in each. The layers in a layer come before what is in that layer itself, and what is in no layer
 /// comes last. `!important` makes no difference here.
 ///
 /// The time is linear, but for that, which takes at most the length of a rule's selectors times the number
@@ -171,47 +235,76 @@ fn rank<'a>(
 /// copied.
 pub fn read_sheets<'a, C: Fn(&str, &str) -> bool>(
     alloc: Global,
-    texts: &[&'a str],
+    sheets: &[Sheet<'a>],
     most: usize,
     holds: C,
-) -> Result<Vec<SheetRule<'a>>, SheetError>
+) -> Result<SheetRules<'a>, SheetError>
     requires { C.IsAlwaysCallable holds }
     ensures rules { (answers : List ℕ → List ℕ → Bool) → Answers (C.post holds) answers
-        → IfOk result (λ rules. map sheet_rule_of rules.items
-        ≡ cascade_rules answers (map (λ text. text.now) texts.now)) }
+        → IfOk result (λ read. map sheet_rule_of read.rules.items
+        ≡ cascade_rules answers (map sheet_of sheets.now)) }
+    ensures lists { (answers : List ℕ → List ℕ → Bool) → Answers (C.post holds) answers
+        → IfOk result (λ read. map (λ list. list.items) read.lists.items
+        ≡ nested_lists answers (texts_in (map sheet_of sheets.now))) }
     ensures within { (answers : List ℕ → List ℕ → Bool) → Answers (C.post holds) answers
         → OnOk result
-        (declarations_in (source_rules answers (map (λ text. text.now) texts.now)) ≤ most) }
+        (declarations_in (source_rules answers (map sheet_of sheets.now)) ≤ most) }
     ensures refused { (answers : List ℕ → List ℕ → Bool) → Answers (C.post holds) answers
         → IfErr result (λ error. error ≡ TooManyDeclarations
-        → most < declarations_in (source_rules answers (map (λ text. text.now) texts.now))) }
+        → most < declarations_in (source_rules answers (map sheet_of sheets.now))) }
+    ensures few_layers { (answers : List ℕ → List ℕ → Bool) → Answers (C.post holds) answers
+        → OnOk result (layer_count answers (texts_in (map sheet_of sheets.now)) ≤ most_layers) }
+    ensures many_layers { (answers : List ℕ → List ℕ → Bool) → Answers (C.post holds) answers
+        → IfErr result (λ error. error ≡ TooManyLayers
+        → most_layers < layer_count answers (texts_in (map sheet_of sheets.now))) }
 {
-    let read = gather(alloc, texts, most, &holds)?;
-    let mut rules = rank(alloc, read.gathered.rules, &read.opened.layers)?;
+    let read = gather_sheets(alloc, sheets, most, &holds)?;
+    let ReadRules {
+        gathered,
+        opened,
+        parents,
+    } = read;
+    let mut rules = gathered.rules;
+    rank(&mut rules, &opened.layers, sheets);
     rules.sort_by_cached_key(
-        |rule: &SheetRule| -> [usize; 4]
+        |rule: &SheetRule| -> [usize; 5]
             ensures { result ≡ rule_key (sheet_rule_of rule.now) }
         { rule.key() },
     )?;
-    Ok(rules)
+    Ok(SheetRules {
+        rules,
+        lists: parents.lists,
+    })
 }
 
-/// Reads the style rules of one sheet, as [`read_sheets`] does.
+/// Reads the style rules of one sheet of the author's, as [`read_sheets`] does.
 pub fn read_sheet<'a, C: Fn(&str, &str) -> bool>(
     alloc: Global,
     text: &'a str,
     most: usize,
     holds: C,
-) -> Result<Vec<SheetRule<'a>>, SheetError>
+) -> Result<SheetRules<'a>, SheetError>
     requires { C.IsAlwaysCallable holds }
     ensures rules { (answers : List ℕ → List ℕ → Bool) → Answers (C.post holds) answers
-        → IfOk result (λ rules. map sheet_rule_of rules.items
-        ≡ cascade_rules answers (text.now ∷ [])) }
+        → IfOk result (λ read. map sheet_rule_of read.rules.items
+        ≡ cascade_rules answers (authored text.now ∷ [])) }
+    ensures lists { (answers : List ℕ → List ℕ → Bool) → Answers (C.post holds) answers
+        → IfOk result (λ read. map (λ list. list.items) read.lists.items
+        ≡ nested_lists answers (text.now ∷ [])) }
     ensures within { (answers : List ℕ → List ℕ → Bool) → Answers (C.post holds) answers
-        → OnOk result (declarations_in (source_rules answers (text.now ∷ [])) ≤ most) }
+        → OnOk result (declarations_in (source_rules answers (authored text.now ∷ [])) ≤ most) }
     ensures refused { (answers : List ℕ → List ℕ → Bool) → Answers (C.post holds) answers
         → IfErr result (λ error. error ≡ TooManyDeclarations
-        → most < declarations_in (source_rules answers (text.now ∷ []))) }
+        → most < declarations_in (source_rules answers (authored text.now ∷ []))) }
+    ensures few_layers { (answers : List ℕ → List ℕ → Bool) → Answers (C.post holds) answers
+        → OnOk result (layer_count answers (text.now ∷ []) ≤ most_layers) }
+    ensures many_layers { (answers : List ℕ → List ℕ → Bool) → Answers (C.post holds) answers
+        → IfErr result (λ error. error ≡ TooManyLayers
+        → most_layers < layer_count answers (text.now ∷ [])) }
 {
-    read_sheets(alloc, &[text], most, holds)
+    let sheet = Sheet {
+        text,
+        origin: Origin::Author,
+    };
+    read_sheets(alloc, &[sheet], most, holds)
 }

@@ -1,13 +1,41 @@
 //! Style rules, each with one selector.
-ghost use Rattle.std.specs.Prelude.{◌≡◌, true};
+ghost use Rattle.std.specs.Prelude.{◌≡◌, true, option_map};
 ghost use Rattle.css_syntax.specs.ListReaders.{BeginsList};
 ghost use Rattle.css_selectors.specs.SpecificityViews.{counts_of};
+ghost use Rattle.css_sheet.specs.NestedSelectors.{with_element};
 ghost use Rattle.css_sheet.specs.SheetOrder.{rule_counts, rule_key};
 ghost use Rattle.css_sheet.specs.SheetRuleViews.{sheet_rule_of};
 
+use css_cascade::Origin;
 use css_index::HasSelector;
 use css_selectors::{Selector, Specificity};
 use css_syntax::Declarations;
+
+/// Returns the specificity with that of a pseudo-element, if there is one.
+pub(crate) fn with_pseudo_element(
+    specificity: Specificity,
+    pseudo_element: Option<&str>,
+) -> Specificity
+    ensures { counts_of result
+        ≡ with_element (counts_of specificity) (option_map (λ name. name.now) pseudo_element.entry) }
+{
+    match pseudo_element {
+        Some(_) => Specificity {
+            names: specificity.names.saturating_add(1),
+            ..specificity
+        },
+        None => specificity,
+    }
+}
+
+/// A style sheet that is to be read.
+#[derive(Clone, Copy)]
+pub struct Sheet<'a> {
+    /// Its text.
+    pub text: &'a str,
+    /// Where it comes from.
+    pub origin: Origin,
+}
 
 /// A style rule with one selector. The rules of one rule set share the text of its block.
 ///
@@ -15,16 +43,23 @@ use css_syntax::Declarations;
 /// matches, and of no element itself.
 #[derive(Drop)]
 pub struct SheetRule<'a> {
+    /// The origin of its sheet.
+    pub origin: Origin,
     /// The rank of its layer: how many layers of the sheet are before that one in the order of the
     /// cascade. Rules in no layer have the greatest.
     pub layer: usize,
+    /// The number of the sheet that it is in, among those that were read together.
+    pub sheet: usize,
+    /// The offset in the sheet, in bytes, at which the block's contents begin. Rules of one rule set,
+    /// and no others, have the same sheet and the same offset.
+    pub start: usize,
     /// The text of the selector, with its pseudo-element.
     pub text: &'a str,
     /// The selector without its pseudo-element.
     pub selector: Selector<'a>,
     /// The name of the pseudo-element, as written, with what it has in parentheses.
     pub pseudo_element: Option<&'a str>,
-    /// The contents of the block of the rule set.
+    /// The contents of the block of the rule set, or the part of them that is between nested rules.
     pub block: &'a str,
 }
 
@@ -40,22 +75,17 @@ impl<'a> SheetRule<'a> {
     pub fn specificity(&self) -> Specificity
         ensures { counts_of result ≡ rule_counts (sheet_rule_of self.now) }
     {
-        let of_selector = self.selector.specificity();
-        match self.pseudo_element {
-            Some(_) => Specificity {
-                names: of_selector.names.saturating_add(1),
-                ..of_selector
-            },
-            None => of_selector,
-        }
+        with_pseudo_element(self.selector.specificity(), self.pseudo_element)
     }
 
-    /// Returns by what rules are ordered: the rank of the layer, and then the counts of the specificity.
-    pub(crate) fn key(&self) -> [usize; 4]
+    /// Returns by what rules are ordered: the origin, the rank of the layer, and the counts of the
+    /// specificity.
+    pub(crate) fn key(&self) -> [usize; 5]
         ensures { result ≡ rule_key (sheet_rule_of self.now) }
     {
         let counts = self.specificity();
         [
+            self.origin.rank(),
             self.layer,
             counts.ids as usize,
             counts.classes as usize,

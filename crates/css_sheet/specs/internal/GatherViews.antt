@@ -4,42 +4,51 @@ use Rattle.css_sheet.specs.declared.parts.SheetParts.{SheetParts}
 use Rattle.css_sheet.specs.declared.sheet_error.SheetError.{SheetError}
 use Rattle.css_sheet.specs.declared.sheet_error.SheetError.TheVariants.{TooManyDeclarations}
 use Rattle.css_sheet.specs.declared.sheet_order.ReadRules.{ReadRules}
-use Rattle.css_sheet.specs.PartViews.{open_in}
-use Rattle.css_sheet.specs.SheetParts.{SheetPart, PlacedPart, nesting_of, applies_in}
+use Rattle.css_sheet.specs.internal.PartViews.{open_in, placed_last}
+use Rattle.css_sheet.specs.SheetParts.{SheetPart, PlacedPart}
 use Rattle.css_sheet.specs.SheetLayers.{sheet_layers, with_parts}
-use Rattle.css_sheet.specs.SheetOrder.{SheetRuleText, declarations_in, part_rules, numbered_rules, rules_of_parts}
+use Rattle.css_sheet.specs.SheetOrder.{SheetRuleText, declarations_in, part_rules, nested_lists, numbered_rules, rules_of_parts}
 use Rattle.css_sheet.specs.SheetRuleViews.{gathered_rules}
+use Rattle.css_sheet.specs.OpenParents.{after_part, after_parts}
+use Rattle.css_sheet.specs.ParentViews.{parent_of, parents_of}
 use Rattle.css_sheet.specs.internal.OpenViews.{known_in, numbers_in, innermost_of, Goes}
 
 -- the rules of a part that was read, in the layer that is innermost
 abbrev pub rules_now : ReadRules → SheetPart → SheetParts → List SheetRuleText
 rules_now read part reader =
-    part_rules (innermost_of 0 (numbers_in read.opened)) (nesting_of (open_in reader))
-    (applies_in (open_in reader)) part
+    part_rules (innermost_of 0 (numbers_in read.opened)) (parent_of read.parents.innermost)
+    (placed_last reader part)
 
 abbrev pub GoesOn : ReadRules → ReadRules → SheetPart → SheetParts → Type 0
 GoesOn before after part reader =
     Goes (known_in before.opened) (numbers_in before.opened) part (open_in reader)
     (known_in after.opened) (numbers_in after.opened)
 
+abbrev pub NestsOn : ReadRules → ReadRules → SheetPart → SheetParts → Type 0
+NestsOn before after part reader =
+    parents_of after.parents ≡ after_part (parents_of before.parents) (placed_last reader part)
+
 -- Layers and rules of a part were added; or the rules are beyond the limit.
 abbrev pub Pushes : ReadRules → Result (Unit {0}) SheetError → ReadRules → SheetPart → SheetParts → Type 0
 Pushes before (Ok done) after part reader =
-    GoesOn before after part reader
+    GoesOn before after part reader × NestsOn before after part reader
     × (gathered_rules after.gathered ≡ gathered_rules before.gathered ++ rules_now after part reader)
     × (after.gathered.left + declarations_in (rules_now after part reader) ≡ before.gathered.left)
 Pushes before (Err error) after part reader =
     error ≡ TooManyDeclarations
-    → GoesOn before after part reader
+    → GoesOn before after part reader × NestsOn before after part reader
     × (before.gathered.left < declarations_in (rules_now after part reader))
 
 -- These parts that are to come give the layers and the rules of the sheets that are not gathered yet.
 pub record Awaits (holds : List ℕ → List ℕ → Bool) (texts : List (List ℕ)) (most : ℕ)
     (read : ReadRules) (more : List PlacedPart) : Type 0 where
   pub layers : with_parts (known_in read.opened) more ≡ sheet_layers holds texts
-  pub rules : gathered_rules read.gathered ++ rules_of_parts (sheet_layers holds texts) more
+  pub rules : gathered_rules read.gathered
+      ++ rules_of_parts (sheet_layers holds texts) (parents_of read.parents) more
       ≡ numbered_rules holds texts
-  pub room : most + declarations_in (rules_of_parts (sheet_layers holds texts) more)
+  pub lists : (after_parts (parents_of read.parents) more).lists ≡ nested_lists holds texts
+  pub room : most
+      + declarations_in (rules_of_parts (sheet_layers holds texts) (parents_of read.parents) more)
       ≡ read.gathered.left + declarations_in (numbered_rules holds texts)
 
 -- So it is after a sheet; or the rules are beyond the limit.
@@ -56,6 +65,7 @@ abbrev pub GathersAll : ℕ → Result ReadRules SheetError → (List ℕ → Li
 GathersAll most (Ok read) holds texts =
     (known_in read.opened ≡ sheet_layers holds texts)
     × (gathered_rules read.gathered ≡ numbered_rules holds texts)
+    × ((parents_of read.parents).lists ≡ nested_lists holds texts)
     × (read.gathered.left + declarations_in (numbered_rules holds texts) ≡ most)
 GathersAll most (Err error) holds texts =
     error ≡ TooManyDeclarations → most < declarations_in (numbered_rules holds texts)

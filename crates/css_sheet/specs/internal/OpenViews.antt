@@ -1,6 +1,6 @@
 -- What contracts of private functions see of the layers that are open.
-use Rattle.std.specs.Prelude.{◌≡◌, ℕ, ◌-◌, List, [], ◌∷◌, ◌++◌, Option, Some, None, length, take, slice_get}
-use Rattle.css_cascade.specs.Layers.{LayerText, number_at, or_outermost, with_name}
+use Rattle.std.specs.Prelude.{◌≡◌, ◌<◌, ◌≤◌, ℕ, ◌+◌, ◌-◌, List, [], ◌∷◌, ◌++◌, Option, Some, None, length, take, slice_get}
+use Rattle.css_cascade.specs.Layers.{LayerText, most_layers, number_at, or_outermost, with_name}
 use Rattle.css_cascade.specs.LayerViews.{known_of}
 use Rattle.css_sheet.specs.declared.open_layers.OpenLayers.{OpenLayers}
 use Rattle.css_sheet.specs.SheetParts.{OpenText, SheetPart, states, begins, ends, stands, applies_in}
@@ -27,6 +27,13 @@ abbrev pub EntersLast : List LayerText → List ℕ → Option OpenText → List
 EntersLast known numbers None after now = (after ≡ known) × (now ≡ numbers)
 EntersLast known numbers (Some rule) after now = Enters known numbers rule after now
 
+-- no more layers are known than there may be, or more are
+abbrev pub AreFew : List LayerText → Type 0
+AreFew known = length known ≤ most_layers + 1
+
+abbrev pub AreMany : List LayerText → Type 0
+AreMany known = most_layers + 1 < length known
+
 -- what the layers and the numbers of those that are open are after a part
 abbrev pub Goes : List LayerText → List ℕ → SheetPart → List OpenText → List LayerText → List ℕ → Type 0
 Goes known numbers (states text) around after now = (after ≡ known) × (now ≡ numbers)
@@ -44,3 +51,8 @@ Tracks known outer [] (rule ∷ around) = ⊥
 Tracks known outer (number ∷ numbers) [] = ⊥
 Tracks known outer (number ∷ numbers) (rule ∷ around) =
     (number_at outer (open_name rule) known ≡ Some number) × Tracks known number numbers around
+
+-- after a part more layers would be known than there may be
+abbrev pub GoesOver : List LayerText → List ℕ → SheetPart → List OpenText → Type 0
+GoesOver known numbers part around =
+    (after : List LayerText) (now : List ℕ) → Goes known numbers part around after now → AreMany after

@@ -1,13 +1,14 @@
-use Rattle.std.proofs.Common.{◌≡◌, ◌++◌, map}
-use Rattle.std.specs.Vec.Iter.{into_iter_items}
+use Rattle.std.proofs.Common.{◌≡◌, ◌++◌, map, take, drop}
 use Rattle.css_cascade.specs.LayerViews.{known_of}
 use Rattle.css_sheet.specs.SheetOrder.{ranked}
-use Rattle.css_sheet.specs.SheetRuleViews.{sheet_rule_of}
+use Rattle.css_sheet.specs.SheetRuleViews.{sheet_of, sheet_rule_of}
 use Rattle.css_sheet.proofs.sheet_order.rank.Given as goal
 
--- those that have their ranks, and the others
+-- those that have their ranks, and the others as they were
 abbrev pub invariant-rules : goal.invariant-rules
-invariant-rules l =
-    map sheet_rule_of l.found.items
-    ++ map (ranked (known_of l.layers)) (map sheet_rule_of (into_iter_items l.rule-iterator))
-    ≡ map (ranked (known_of l.layers)) (map sheet_rule_of l.fn.rules.items)
+invariant-rules l = record {
+  done : map sheet_rule_of (take l.rule-index l.rule-items)
+      ≡ map (ranked (known_of l.layers) (map sheet_of l.sheets))
+      (map sheet_rule_of (take l.rule-index l.initial.rule-items));
+  others : drop l.rule-index l.rule-items ≡ drop l.rule-index l.initial.rule-items;
+}

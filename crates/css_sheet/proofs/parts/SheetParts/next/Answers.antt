@@ -1,7 +1,7 @@
-use Rattle.std.proofs.Common.{◌≡◌, ◌∷◌, ◌∙◌, ℕ, List, Some, None, sym, ap, map}
+use Rattle.std.proofs.Common.{◌≡◌, ◌∷◌, [], ◌∙◌, ℕ, List, Some, None, sym, ap, map}
 use Rattle.css_sheet.specs.declared.parts.OpenRule.{OpenRule}
-use Rattle.css_sheet.specs.SheetParts.{PlacedPart, next_in, parts_in}
-use Rattle.css_sheet.specs.PartViews.{open_of, open_in, left_in, part_of}
+use Rattle.css_sheet.specs.SheetParts.{Source, next_in, open_after, parts_in, placed_part}
+use Rattle.css_sheet.specs.internal.PartViews.{open_of, open_in, left_in, part_of, source_of}
 use Rattle.css_sheet.proofs.PartSteps.{took, parts-some, parts-none}
 use Rattle.css_sheet.proofs.parts.SheetParts.next.Goals as goal
 
@@ -11,7 +11,7 @@ returns-in-None-clause-parts g c = λ answers k.
     let none : next_in (open_in old) (left_in old) ≡ None =
     sym (ap (λ (rules : List OpenRule). next_in (map open_of rules) old.rest.now) c.deref.ensures.value)
     ∙ c.in-None.ensures in
-    parts-none answers old.later (open_in old) (left_in old) none
+    parts-none answers (source_of old) (open_in old) (left_in old) none
 
 pub returns-in_ok-go_through-in-Some-clause-size : goal.returns-in_ok-go_through-in-Some-clause-size
 returns-in_ok-go_through-in-Some-clause-size g c =
@@ -29,9 +29,12 @@ returns-in_ok-go_through-in-Some-clause-parts g c = λ answers k.
     let some : next_in (open_in old) (left_in old) ≡ Some (part_of found.part, found.rest.now) =
     sym (ap (λ (rules : List OpenRule). next_in (map open_of rules) old.rest.now) c.deref.ensures.value)
     ∙ c.in-Some.ensures in
-    parts-some answers old.later (open_in old) (map open_of c.go_through.new.self.around.items) (left_in old)
+    parts-some answers (source_of old) (open_in old) (map open_of c.go_through.new.self.around.items) (left_in old)
     found.rest.now (part_of found.part) some
-    (c.in_ok-go_through-in-Some.ensures.around answers k)
-    ∙ ap (λ (later : ℕ). record { part = part_of found.part; around = map open_of c.go_through.new.self.around.items }
-    ∷ parts_in answers later (map open_of c.go_through.new.self.around.items) found.rest.now)
-    (sym c.go_through.ensures.later)
+    (c.in_ok-go_through-in-Some.ensures.around answers k
+    ∙ ap (λ (end : ℕ). open_after answers (open_in old) (part_of found.part) (old.sheet ∷ end ∷ []))
+    c.offset.ensures)
+    ∙ ap (λ (source : Source). placed_part source (part_of found.part)
+    (map open_of c.go_through.new.self.around.items) found.rest.now
+    ∷ parts_in answers source (map open_of c.go_through.new.self.around.items) found.rest.now)
+    (sym c.go_through.ensures.source)

@@ -1,0 +1,130 @@
+-- The style rules that are open where the parts of sheets are read, and the lists of selectors that `&`
+-- stands for in the rules in them (CSS Nesting 1).
+use Rattle.std.specs.Prelude.{◌+◌, ◌-◌, Bool, ◌==◌, if◌then◌else◌, List, [], ◌∷◌, ◌++◌, length, take, slice_get, Option, Some, None, Result, Ok, Err}
+use Rattle.css_syntax.specs.declared.quality.Fault.{Fault}
+use Rattle.css_syntax.specs.Parts.{Stated}
+use Rattle.css_selectors.specs.declared.components.Nesting.{Nesting}
+use Rattle.css_selectors.specs.Components.{Selector}
+use Rattle.css_selectors.specs.Specificities.{nothing}
+use Rattle.css_sheet.specs.RuleSelectors.{SelectorRead}
+use Rattle.css_sheet.specs.NestedSelectors.{element_selectors, greatest_read, list_numbered, selectors_under}
+use Rattle.css_sheet.specs.SheetParts.{OpenText, RuleKind, style_rule, group_rule, SheetPart, states, begins, ends, stands, PlacedPart, applies_in}
+
+-- The style rule that something is in: none; one that has no rules, since it does not apply or a rule
+-- that it is in is invalid; or one, by what is before its block, by what `&` stands for there if it is
+-- in another one, and by what `&` stands for in the rules in it, if there was one.
+pub data Parent : Type 0 where
+  no_rule : Parent
+  dropped : Parent
+  style : (prelude : Stated) → (under own : Option Nesting) → Parent
+
+-- The style rule that is innermost; of each rule that is open, from the outermost, the style rule that it
+-- is in, if it is a style rule itself; and the lists so far, of which the first has number 1.
+pub record ParentsText : Type 0 where
+  pub innermost : Parent
+  pub outer : List (Option Parent)
+  pub lists : List (List Selector)
+
+-- nothing is open, and there are these lists
+abbrev pub none_open : List (List Selector) → ParentsText
+none_open lists = record { innermost = no_rule; outer = []; lists = lists }
+
+-- ---- a list for the rules in the innermost rule
+
+-- with the list of this rule, if its selectors are valid
+abbrev pub with_selectors : ParentsText → Stated → Option Nesting → Result (List SelectorRead) Fault
+    → ParentsText
+with_selectors parents prelude under (Err fault) =
+    record { innermost = dropped; outer = parents.outer; lists = parents.lists }
+with_selectors parents prelude under (Ok all) = record {
+  innermost =
+      style prelude under
+      (Some (list_numbered (length parents.lists + 1) (greatest_read nothing all)));
+  outer = parents.outer;
+  lists = parents.lists ++ element_selectors all ∷ [];
+}
+
+abbrev pub with_list_of : ParentsText → Parent → ParentsText
+with_list_of parents no_rule = parents
+with_list_of parents dropped = parents
+with_list_of parents (style prelude under (Some own)) = parents
+with_list_of parents (style prelude under None) =
+    with_selectors parents prelude under (selectors_under under prelude)
+
+-- The innermost rule has a list. A list is added for its first nested rule, and so lists that `&` means in
+-- it are before it.
+abbrev pub with_list : ParentsText → ParentsText
+with_list parents = with_list_of parents parents.innermost
+
+-- ---- rules that begin and end
+
+-- a style rule with this prelude, in this one
+abbrev pub parent_in : Stated → Parent → Parent
+parent_in prelude no_rule = style prelude None None
+parent_in prelude dropped = dropped
+parent_in prelude (style other under None) = dropped
+parent_in prelude (style other under (Some own)) = style prelude (Some own) None
+
+-- a style rule is open in these, and what is in it is this
+abbrev pub entered : ParentsText → Parent → ParentsText
+entered parents parent = record {
+  innermost = parent;
+  outer = parents.outer ++ Some parents.innermost ∷ [];
+  lists = parents.lists;
+}
+
+abbrev pub with_style : ParentsText → Stated → ParentsText
+with_style parents prelude = entered parents (parent_in prelude parents.innermost)
+
+-- a rule that does not apply has no rules
+abbrev pub begun_style : Bool → Stated → ParentsText → ParentsText
+begun_style applies prelude parents =
+    if applies then with_style (with_list parents) prelude else entered parents dropped
+
+abbrev pub begun : Bool → RuleKind → ParentsText → ParentsText
+begun applies (style_rule prelude) parents = begun_style applies prelude parents
+begun applies (group_rule keyword prelude) parents = record {
+  innermost = parents.innermost;
+  outer = parents.outer ++ None ∷ [];
+  lists = parents.lists;
+}
+
+-- after the end of the innermost rule: a style rule was in this one
+abbrev pub or_same : Parent → Option Parent → Parent
+or_same innermost None = innermost
+or_same innermost (Some parent) = parent
+
+abbrev pub left_last : ParentsText → Option (Option Parent) → ParentsText
+left_last parents None = parents
+left_last parents (Some last) = record {
+  innermost = or_same parents.innermost last;
+  outer = take (length parents.outer - 1) parents.outer;
+  lists = parents.lists;
+}
+
+abbrev pub left_innermost : ParentsText → ParentsText
+left_innermost parents =
+    left_last parents (slice_get parents.outer (length parents.outer - 1))
+
+-- what is open before a rule that is then open with these: nothing, if it is the only one
+abbrev pub before_rule : List OpenText → ParentsText → ParentsText
+before_rule around parents =
+    if length around == 1 then none_open parents.lists else parents
+
+-- ---- parts
+
+abbrev pub after_part_of : ParentsText → SheetPart → List OpenText → ParentsText
+after_part_of parents (states text) around = parents
+after_part_of parents (begins kind) around =
+    begun (applies_in around) kind (before_rule around parents)
+after_part_of parents ends around = left_innermost parents
+after_part_of parents (stands item) around = parents
+
+-- after a part
+abbrev pub after_part : ParentsText → PlacedPart → ParentsText
+after_part parents placed = after_part_of parents placed.part placed.around
+
+-- after these parts
+abbrev pub after_parts : ParentsText → List PlacedPart → ParentsText
+after_parts parents [] = parents
+after_parts parents (placed ∷ more) = after_parts (after_part parents placed) more

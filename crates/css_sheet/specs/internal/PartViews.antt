@@ -1,0 +1,68 @@
+-- What contracts see of a reader of the parts of a sheet.
+use Rattle.std.specs.Prelude.{◌≡◌, ℕ, ◌<◌, Bool, List, [], ◌∷◌, map, length, Option, Some, None}
+use Rattle.css_syntax.specs.Views.{item_of, prelude_of}
+use Rattle.css_sheet.specs.declared.parts.RuleKind.{RuleKind}
+use Rattle.css_sheet.specs.declared.parts.RuleKind.TheVariants as kinds
+use Rattle.css_sheet.specs.declared.parts.Nesting.{Nesting}
+use Rattle.css_sheet.specs.declared.parts.Nesting.TheVariants as nestings
+use Rattle.css_sheet.specs.declared.parts.OpenRule.{OpenRule}
+use Rattle.css_sheet.specs.declared.parts.Part.{Part}
+use Rattle.css_sheet.specs.declared.parts.Part.TheVariants as parts
+use Rattle.css_sheet.specs.declared.parts.SheetParts.{SheetParts}
+use Rattle.css_sheet.specs.SheetParts.{OpenText, SheetPart, PlacedPart, Source, parts_in, placed_part, style_rule, group_rule, outside, within, nested, states, begins, ends, stands}
+use Rattle.css_sheet.specs.SheetParts.{RuleKind as KindText, Nesting as NestingText}
+
+abbrev pub kind_of : RuleKind → KindText
+kind_of (kinds.Style prelude) = style_rule (prelude_of prelude)
+kind_of (kinds.Group keyword prelude) = group_rule keyword.now prelude.now
+
+abbrev pub nesting_text : Nesting → NestingText
+nesting_text nestings.Outside = outside
+nesting_text (nestings.Within prelude) = within (prelude_of prelude)
+nesting_text nestings.Nested = nested
+
+abbrev pub open_of : OpenRule → OpenText
+open_of rule = record {
+  kind = kind_of rule.kind;
+  nesting = nesting_text rule.nesting;
+  applies = rule.applies;
+  place = rule.place;
+}
+
+abbrev pub part_of : Part → SheetPart
+part_of (parts.States text) = states text.now
+part_of (parts.Begins kind) = begins (kind_of kind)
+part_of parts.Ends = ends
+part_of (parts.Stands item) = stands (item_of item)
+
+-- the rules that are open, from the outermost
+abbrev pub open_in : SheetParts → List OpenText
+open_in r = map open_of r.around.items
+
+-- what is left of the sheet
+abbrev pub left_in : SheetParts → List ℕ
+left_in r = r.rest.now
+
+-- the text that the sheet is
+abbrev pub source_of : SheetParts → Source
+source_of r = record { sheet = r.sheet; size = r.size }
+
+-- the parts of the sheet that are still to come
+abbrev pub parts_to_come : (List ℕ → List ℕ → Bool) → SheetParts → List PlacedPart
+parts_to_come holds r = parts_in holds (source_of r) (open_in r) (left_in r)
+
+-- a part that was read last
+abbrev pub placed_last : SheetParts → SheetPart → PlacedPart
+placed_last r part = placed_part (source_of r) part (open_in r) (left_in r)
+
+-- A call returned the first of the parts that were to come, and the others still are; or none was to
+-- come, and none is.
+abbrev pub GivesPart : (List ℕ → List ℕ → Bool) → SheetParts → Option Part → SheetParts → Type 0
+GivesPart holds before None after = parts_to_come holds before ≡ []
+GivesPart holds before (Some part) after =
+    parts_to_come holds before ≡ placed_last after (part_of part) ∷ parts_to_come holds after
+
+-- a part takes a byte or more
+abbrev pub PartShrinks : SheetParts → Option Part → SheetParts → Type 0
+PartShrinks before None after = Unit {0}
+PartShrinks before (Some part) after = length (left_in after) < length (left_in before)

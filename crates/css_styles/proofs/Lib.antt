@@ -1,0 +1,11 @@
+mod BestLemmas
+mod NumberLemmas
+mod IndexLemmas
+mod PropertyLemmas
+mod ContestLemmas
+mod StatedLemmas
+mod ReadLemmas
+mod RestLemmas
+mod WinningLemmas
+mod GatherLemmas
+mod StyleLemmas

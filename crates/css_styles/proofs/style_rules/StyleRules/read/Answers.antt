@@ -1,0 +1,10 @@
+use Rattle.std.proofs.Common.{List, map, subst}
+use Rattle.css_sheet.specs.SheetRuleViews.{sheet_rule_of}
+use Rattle.css_sheet.specs.declared.sheet_rules.SheetRule.{SheetRule}
+use Rattle.css_styles.specs.internal.Numbered.{AllStated}
+use Rattle.css_styles.proofs.style_rules.StyleRules.read.Goals as goal
+
+pub invariant_of-result : goal.invariant_of-result
+invariant_of-result g c =
+    subst (λ (rs : List SheetRule). AllStated c.read_all.new.properties (map sheet_rule_of rs) c.in_ok-stated.stated.items)
+    c.deref.ensures.value c.in_ok-stated.ensures

@@ -1,0 +1,55 @@
+use Rattle.std.proofs.Common.{◌≡◌, ◌<◌, ◌≤◌, ◌++◌, ◌∙◌, length, map, sym, ap, subst, arith}
+use Rattle.std.specs.Vec.{vec_len}
+use Rattle.std.specs.List.{All, flat_map}
+use Rattle.css_matching.specs.ListTrees.{spot}
+use Rattle.css_tree.specs.Pages.{page_document}
+use Rattle.css_tree.specs.Walks.{IsOpenAt}
+use Rattle.css_styles.specs.Contenders.{contenders, of_own, of_rules}
+use Rattle.css_styles.specs.StyleViews.{StylesText, own_of}
+use Rattle.css_styles.specs.Winners.{AreReadBy, as_winner, unbeaten, winners}
+use Rattle.css_styles.specs.internal.Numbered.{IsNumbered, numbered_of}
+use Rattle.css_styles.specs.internal.Stepping.{stated_at}
+use Rattle.css_styles.proofs.GatherLemmas.{then-ok}
+use Rattle.css_styles.proofs.StyleLemmas.{found-rules, found-within}
+use Rattle.css_styles.proofs.styles.Styles.winners.Goals as goal
+
+pub matching-requires-clause-opened : goal.matching-requires-clause-opened
+matching-requires-clause-opened c =
+    subst (λ v. IsOpenAt c.args.page.now v.walk v.place) (sym c.self.view_is) c.requires.opened
+
+pub gather-requires : goal.gather-requires
+gather-requires c =
+    subst (All (λ index. index < length c.self.inside.rules.now.rules)) (sym c.deref.ensures.value)
+    (found-within _ _ _ _ _ c.self.invariant c.in_ok-matching.ensures.matches)
+
+pub find_unbeaten-requires : goal.find_unbeaten-requires
+find_unbeaten-requires c =
+    let numbered = c.in_ok-count.ensures.numbered in
+    let room : c.in_ok-count.count ≤ vec_len c.make_room.new.best = c.in_ok-make_room.ensures in
+    let len = c.deref_mut.ensures.len in
+    let count = numbered.1 in (
+      numbered.0,
+      omega (arith, room, len, count),
+      subst (All (IsNumbered numbered.0)) (sym c.deref-2.ensures.value) numbered.2,
+    )
+
+pub returns-clause-winners : goal.returns-clause-winners
+returns-clause-winners c = λ read matches are_read decides.
+    let rules = c.self.inside.rules.now.rules in
+    let own = own_of c.args.own in
+    let inside =
+    subst (λ (v : StylesText). AreReadBy read v.rules v.walk.selectors) (sym c.self.view_is) are_read in
+    let stated_are : flat_map (stated_at rules) c.deref.result.now ≡ of_rules matches 0 rules =
+    ap (flat_map (stated_at rules)) c.deref.ensures.value
+    ∙ found-rules matches page_document (spot c.args.page.now c.args.element) read decides rules _ _ inside
+    c.in_ok-matching.ensures.matches in
+    let all : map numbered_of c.deref-2.result.now ≡ contenders matches rules own =
+    ap (map numbered_of) c.deref-2.ensures.value ∙ c.in_ok-count.ensures.contenders
+    ∙ ap (λ cs. cs ++ of_own own) stated_are in
+    then-ok c.find_unbeaten.result
+    (λ found. found ∙ ap (λ cs. map as_winner (unbeaten cs)) all
+    ∙ ap (λ (v : StylesText). winners matches v.rules own) c.self.view_is)
+    c.find_unbeaten.ensures.unbeaten
+
+pub returns-clause-opened : goal.returns-clause-opened
+returns-clause-opened c = c.in_ok-matching.ensures.opened

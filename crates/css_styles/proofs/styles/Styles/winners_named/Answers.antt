@@ -1,0 +1,49 @@
+use Rattle.std.proofs.Common.{◌≡◌, ◌<◌, ◌++◌, ◌∙◌, length, map, sym, ap, subst, option_map}
+use Rattle.std.specs.List.{All, flat_map}
+use Rattle.css_matching.specs.ListTrees.{spot}
+use Rattle.css_tree.specs.Pages.{page_document}
+use Rattle.css_tree.specs.Walks.{IsOpenAt}
+use Rattle.css_styles.specs.Contenders.{contenders, of_own, of_rules}
+use Rattle.css_styles.specs.StyleViews.{StylesText, names_of, own_of, winner_of}
+use Rattle.css_styles.specs.Winners.{AreReadBy, AreWinners}
+use Rattle.css_styles.specs.internal.Numbered.{numbered_of}
+use Rattle.css_styles.specs.internal.Stepping.{best_named, stated_at}
+use Rattle.css_styles.proofs.GatherLemmas.{then-ok}
+use Rattle.css_styles.proofs.StyleLemmas.{found-rules, found-within}
+use Rattle.css_styles.proofs.WinningLemmas.{are-winners}
+use Rattle.css_styles.proofs.styles.Styles.winners_named.Goals as goal
+
+pub matching-requires-clause-opened : goal.matching-requires-clause-opened
+matching-requires-clause-opened c =
+    subst (λ v. IsOpenAt c.args.page.now v.walk v.place) (sym c.self.view_is) c.requires.opened
+
+pub gather-requires : goal.gather-requires
+gather-requires c =
+    subst (All (λ index. index < length c.self.inside.rules.now.rules)) (sym c.deref.ensures.value)
+    (found-within _ _ _ _ _ c.self.invariant c.in_ok-matching.ensures.matches)
+
+pub returns-clause-winners : goal.returns-clause-winners
+returns-clause-winners c = λ read matches are_read decides.
+    let rules = c.self.inside.rules.now.rules in
+    let own = own_of c.args.own in
+    let asked = names_of c.args.asked.now in
+    let inside =
+    subst (λ (v : StylesText). AreReadBy read v.rules v.walk.selectors) (sym c.self.view_is) are_read in
+    let stated_are : flat_map (stated_at rules) c.deref.result.now ≡ of_rules matches 0 rules =
+    ap (flat_map (stated_at rules)) c.deref.ensures.value
+    ∙ found-rules matches page_document (spot c.args.page.now c.args.element) read decides rules _ _ inside
+    c.in_ok-matching.ensures.matches in
+    let all : map numbered_of c.deref-2.result.now ≡ contenders matches rules own =
+    ap (map numbered_of) c.deref-2.ensures.value ∙ c.in_ok-gather.ensures.contenders
+    ∙ ap (λ cs. cs ++ of_own own) stated_are in
+    let whole : map numbered_of c.deref-2.result.now
+    ≡ contenders matches c.args.self.now.rules own =
+    all ∙ ap (λ (v : StylesText). contenders matches v.rules own) c.self.view_is in
+    then-ok c.find_asked.result
+    (λ found. subst (AreWinners (contenders matches c.args.self.now.rules own) asked)
+    (sym (found ∙ ap (λ cs. map (best_named cs) asked) whole))
+    (are-winners (contenders matches c.args.self.now.rules own) asked))
+    c.find_asked.ensures.winners
+
+pub returns-clause-opened : goal.returns-clause-opened
+returns-clause-opened c = c.in_ok-matching.ensures.opened

@@ -1,0 +1,5 @@
+pub mod Contenders
+pub mod Winners
+pub mod Properties
+pub mod StyleViews
+pub mod internal

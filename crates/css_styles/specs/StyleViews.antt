@@ -1,0 +1,35 @@
+-- What contracts see of rules with their declarations, of a walk with them, and of winners.
+use Rattle.std.specs.Prelude.{ℕ, List, Option, map}
+use Rattle.std.specs.Borrow.{Bor}
+use Rattle.css_syntax.specs.Views.{declaration_of}
+use Rattle.css_index.specs.Walks.{Walk}
+use Rattle.css_selectors.specs.Components.{Selector}
+use Rattle.css_sheet.specs.SheetOrder.{SheetRuleText}
+use Rattle.css_styles.specs.declared.winner.Own.{Own}
+use Rattle.css_styles.specs.declared.winner.Winner.{Winner}
+use Rattle.css_styles.specs.Contenders.{OwnText}
+use Rattle.css_styles.specs.Winners.{WinnerText}
+
+-- rules in order; the lists of selectors that `&` stands for in nested ones, of which the first has number
+-- 1; and the properties that the rules state, in the order in which these appear
+pub record StyleRulesText : Type 0 where
+  pub rules : List SheetRuleText
+  pub lists : List (List Selector)
+  pub properties : List (List ℕ)
+
+-- the rules, and a walk over a page: one of their selectors, and the index of the element that was opened
+-- last, if one is open
+pub record StylesText : Type 0 where
+  pub rules : List SheetRuleText
+  pub walk : Walk
+  pub place : Option ℕ
+
+abbrev pub winner_of : Winner → WinnerText
+winner_of w = record { declaration = declaration_of w.declaration; source = w.source; place = w.place }
+
+abbrev pub own_of : Own → OwnText
+own_of o = record { style = o.style.now; presentation = o.presentation.now }
+
+-- the names of each of some properties
+abbrev pub names_of : List (Bor (List (Bor (List ℕ)))) → List (List (List ℕ))
+names_of asked = map (λ names. map (λ name. name.now) names.now) asked

@@ -1,0 +1,58 @@
+-- Which declarations win on an element.
+use Rattle.std.specs.Prelude.{◌≡◌, ◌↔◌, ℕ, Bool, not, ◌&&◌, List, [], ◌∷◌, filter, map, Option, None, Some, IsTrue}
+use Rattle.std.specs.List.{list_any}
+use Rattle.css_syntax.specs.DeclarationLists.{DeclarationText}
+use Rattle.css_selectors.specs.Components.{Selector}
+use Rattle.css_cascade.specs.Cascade.{Wins, beats}
+use Rattle.css_sheet.specs.SheetOrder.{SheetRuleText}
+use Rattle.css_styles.specs.Contenders.{Contender, OwnText, contenders, is_property, of_names}
+use Rattle.css_styles.specs.declared.winner.Source.{Source}
+
+-- A declaration that wins; where it is; and how many declarations are before it there.
+pub record WinnerText : Type 0 where
+  pub declaration : DeclarationText
+  pub source : Source
+  pub place : ℕ
+
+abbrev pub as_winner : Contender → WinnerText
+as_winner one = record { declaration = one.declaration; source = one.source; place = one.place }
+
+-- another declaration of the same property beats this one
+abbrev pub is_beaten : List Contender → Contender → Bool
+is_beaten all one =
+    list_any (λ (other : Contender). is_property one.declaration.name other.declaration.name
+    && beats other.weight one.weight) all
+
+-- those that no other of the same property beats, in their order
+abbrev pub unbeaten : List Contender → List Contender
+unbeaten all = filter (λ (one : Contender). not (is_beaten all one)) all
+
+-- The declarations that win on an element that has these of its own, where `matches` says which selectors
+-- match it: for each property the one that no other beats, in their order.
+abbrev pub winners : (Selector → Bool) → List SheetRuleText → OwnText → List WinnerText
+winners matches rules own = map as_winner (unbeaten (contenders matches rules own))
+
+-- It is one of these declarations, and none of them beats it; or there is none.
+abbrev pub IsWinner : List Contender → Option WinnerText → Type 0
+IsWinner found None = found ≡ []
+IsWinner found (Some one) =
+    (winner : Contender)
+    × (Wins (λ (c : Contender). c.weight) found winner × (as_winner winner ≡ one))
+
+-- For each of these, which are the names of properties, it is the one that wins of the declarations that
+-- have one of the names.
+abbrev pub AreWinners : List Contender → (asked : List (List (List ℕ))) → List (Option WinnerText)
+    → Type 0
+AreWinners all [] [] = Unit {0}
+AreWinners all [] (one ∷ found) = ⊥
+AreWinners all (names ∷ asked) [] = ⊥
+AreWinners all (names ∷ asked) (one ∷ found) =
+    IsWinner (of_names names all) one × AreWinners all asked found
+
+-- `matches` says of which selectors this holds
+abbrev pub Decides : (Selector → Bool) → (Selector → Type 0) → Type 0
+Decides matches Holds = (s : Selector) → IsTrue (matches s) ↔ Holds s
+
+-- the selectors are those of the rules, each as a document reads it
+abbrev pub AreReadBy : (Selector → Selector) → List SheetRuleText → List Selector → Type 0
+AreReadBy read rules selectors = selectors ≡ map (λ (rule : SheetRuleText). read rule.selector) rules

@@ -1,0 +1,75 @@
+-- Declarations with the numbers of their properties, and the best of each property.
+use Rattle.std.specs.Prelude.{◌≡◌, ℕ, ◌==◌, List, [], ◌∷◌, ◌++◌, map, filter, Option, None, Some, if◌then◌else◌}
+use Rattle.std.specs.List.{All, slice_get}
+use Rattle.std.specs.Option.{is_some, option_map}
+use Rattle.std.specs.Global.{Vec}
+use Rattle.css_syntax.specs.DeclarationLists.{DeclarationText}
+use Rattle.css_syntax.specs.Views.{declaration_of}
+use Rattle.css_cascade.specs.Cascade.{Weighed}
+use Rattle.css_cascade.specs.internal.Steps.{winner_from}
+use Rattle.css_cascade.specs.WeightViews.{weighed}
+use Rattle.css_cascade.specs.declared.weights.Weight.{Weight}
+use Rattle.css_sheet.specs.SheetOrder.{SheetRuleText}
+use Rattle.css_styles.specs.declared.stated.Stated.{Stated}
+use Rattle.css_styles.specs.declared.contest.Numbered.{Numbered}
+use Rattle.css_styles.specs.Contenders.{Contender, rule_declarations}
+use Rattle.css_styles.specs.Properties.{number_in, property_key}
+use Rattle.css_styles.specs.internal.Stepping.{contender_of}
+
+-- the properties with this one, which is new or not
+abbrev pub with_property : List (List ℕ) → List ℕ → List (List ℕ)
+with_property properties key =
+    if is_some (number_in properties key) then properties else properties ++ key ∷ []
+
+-- the first properties are some of the second, with their numbers
+abbrev pub IsMore : List (List ℕ) → List (List ℕ) → Type 0
+IsMore old new = (more : List (List ℕ)) × (new ≡ old ++ more)
+
+-- the property of this name has the number
+abbrev pub HasNumber : List (List ℕ) → (name : List ℕ) → ℕ → Type 0
+HasNumber properties name number = number_in properties (property_key name) ≡ Some number
+
+-- ---- declarations of rules
+
+abbrev pub stated_declaration : Stated → DeclarationText
+stated_declaration s = declaration_of s.declaration
+
+-- the number is that of the declaration's property
+abbrev pub IsStated : List (List ℕ) → Stated → Type 0
+IsStated properties s = HasNumber properties s.declaration.name.now s.property
+
+-- these are the declarations of a rule, with their numbers
+pub record AreStated (properties : List (List ℕ)) (rule : SheetRuleText) (stated : List Stated) :
+    Type 0 where
+  pub are : map stated_declaration stated ≡ rule_declarations rule
+  pub numbered : All (IsStated properties) stated
+
+-- the declarations of each rule
+abbrev pub AllStated : List (List ℕ) → List SheetRuleText → List (Vec Stated) → Type 0
+AllStated properties rules lists = (index : ℕ) (rule : SheetRuleText)
+    → slice_get rules index ≡ Some rule
+    → (list : Vec Stated) × (slice_get lists index ≡ Some list)
+    × AreStated properties rule list.items
+
+-- ---- contenders
+
+abbrev pub numbered_of : Numbered → Contender
+numbered_of n = contender_of n.contender
+
+abbrev pub weight_of : Numbered → Weighed
+weight_of n = weighed n.contender.weight
+
+-- the number is that of the property
+abbrev pub IsNumbered : List (List ℕ) → Numbered → Type 0
+IsNumbered properties n = HasNumber properties n.contender.winner.declaration.name.now n.property
+
+-- the best of those whose property has this number
+abbrev pub best_of : ℕ → List Numbered → Option Weighed
+best_of property all =
+    winner_from (λ w. w) None
+    (map weight_of (filter (λ (n : Numbered). n.property == property) all))
+
+-- the best of the property is noted at its number
+abbrev pub IsNoted : List Numbered → List (Option Weight) → Numbered → Type 0
+IsNoted all best n =
+    option_map (option_map weighed) (slice_get best n.property) ≡ Some (best_of n.property all)

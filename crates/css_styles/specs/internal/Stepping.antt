@@ -1,0 +1,61 @@
+-- How winners are found, a declaration at a time.
+use Rattle.std.specs.Prelude.{ℕ, Bool, false, if◌then◌else◌, List, [], filter, Option, None, Some}
+use Rattle.std.specs.List.{slice_get}
+use Rattle.std.specs.Option.{is_some, option_map}
+use Rattle.css_syntax.specs.DeclarationLists.{DeclarationText, ItemText, declared, at_rule_item, skipped_item}
+use Rattle.css_syntax.specs.Views.{declaration_of}
+use Rattle.css_cascade.specs.Cascade.{Weighed}
+use Rattle.css_cascade.specs.WeightViews.{weighed}
+use Rattle.css_styles.specs.declared.contenders.Contender.{Contender as ContenderCode}
+use Rattle.css_sheet.specs.SheetOrder.{SheetRuleText}
+use Rattle.css_styles.specs.declared.contenders.OwnPart.{OwnPart}
+use Rattle.css_styles.specs.declared.contenders.OwnPart.TheVariants as parts
+use Rattle.css_styles.specs.Contenders.{Contender, in_presentation, in_rule, in_style, in_turn, is_property, of_names, rule_declarations}
+use Rattle.css_styles.specs.Winners.{WinnerText, as_winner}
+use Rattle.css_cascade.specs.internal.Steps.{winner_from}
+
+-- what contracts see of a declaration with its weight
+abbrev pub contender_of : ContenderCode → Contender
+contender_of c = record {
+  weight = weighed c.weight;
+  declaration = declaration_of c.winner.declaration;
+  source = c.winner.source;
+  place = c.winner.place;
+}
+
+-- one of the element's own declarations
+abbrev pub in_own : OwnPart → (place : ℕ) → DeclarationText → Contender
+in_own parts.Style = in_style
+in_own parts.Presentation = in_presentation
+
+-- what the cascade sees of a declaration
+abbrev pub seen : Contender → Weighed
+seen c = c.weight
+
+-- an item is a declaration of the property
+abbrev pub is_stated_by : List ℕ → ItemText → Bool
+is_stated_by property (declared one) = is_property property one.name
+is_stated_by property (at_rule_item rule) = false
+is_stated_by property (skipped_item fault) = false
+
+-- the declarations of the property
+abbrev pub stated_of : List ℕ → List DeclarationText → List DeclarationText
+stated_of property all = filter (λ (one : DeclarationText). is_property property one.name) all
+
+-- the declarations of a rule, if it is one of elements
+abbrev pub states : ℕ → SheetRuleText → List Contender
+states index rule =
+    if is_some rule.pseudo_element then []
+    else in_turn (in_rule index rule) 0 (rule_declarations rule)
+
+abbrev pub states_at : ℕ → Option SheetRuleText → List Contender
+states_at index None = []
+states_at index (Some rule) = states index rule
+
+-- the same of the rule at an index
+abbrev pub stated_at : List SheetRuleText → ℕ → List Contender
+stated_at rules index = states_at index (slice_get rules index)
+
+-- what wins of the declarations that have one of these names
+abbrev pub best_named : List Contender → (names : List (List ℕ)) → Option WinnerText
+best_named all names = option_map as_winner (winner_from seen None (of_names names all))

@@ -1,0 +1,135 @@
+//! The best of the declarations of each property.
+ghost use Rattle.std.specs.Prelude.{◌≡◌, ◌++◌, ◌∷◌, ◌<◌, ◌≤◌, [], if◌then◌else◌, Bool, List, ℕ, None, Some, OnErr, OnOk, not, map, length, slice_get, vec_len};
+ghost use Rattle.std.specs.List.{All};
+ghost use Rattle.std.specs.Option.{option_map};
+ghost use Rattle.css_cascade.specs.WeightViews.{weighed};
+ghost use Rattle.css_cascade.specs.internal.Steps.{better};
+ghost use Rattle.css_styles.specs.StyleViews.{winner_of};
+ghost use Rattle.css_styles.specs.Winners.{as_winner, is_beaten, unbeaten};
+ghost use Rattle.css_styles.specs.internal.Numbered.{IsNoted, IsNumbered, numbered_of};
+
+use crate::Winner;
+use crate::contenders::Contender;
+use css_cascade::{Weight, beats};
+use std::alloc::AllocError;
+
+/// A declaration that applies to an element, with the number of its property.
+#[derive(Clone, Copy)]
+pub(crate) struct Numbered<'a> {
+    /// The declaration, with what the cascade sees of it.
+    pub(crate) contender: Contender<'a>,
+    /// The number of its property.
+    pub(crate) property: usize,
+}
+
+/// Forgets what is noted of the properties of these declarations.
+fn forget(contenders: &[Numbered<'_>], best: &mut [Option<Weight>])
+    requires { All (λ n. n.property < length best.old) contenders.now }
+    ensures len { length best.new ≡ length best.old }
+    ensures none { All (λ n. slice_get best.new n.property ≡ Some None) contenders.now }
+{
+    for one in contenders {
+        best[one.property] = None;
+    }
+}
+
+/// Returns the weight of the later of two declarations, unless the earlier beats it.
+fn better_of(earlier: Option<Weight>, later: Weight) -> Weight
+    ensures { weighed result ≡ better (λ w. w) (option_map weighed earlier) (weighed later) }
+{
+    match earlier {
+        Some(first) if beats(&first, &later) => first,
+        _ => later,
+    }
+}
+
+/// Notes the best of each property. Nothing is noted of theirs before.
+fn note(contenders: &[Numbered<'_>], best: &mut [Option<Weight>])
+    requires within { All (λ n. n.property < length best.old) contenders.now }
+    requires none { All (λ n. slice_get best.old n.property ≡ Some None) contenders.now }
+    ensures len { length best.new ≡ length best.old }
+    ensures noted { All (IsNoted contenders.now best.new) contenders.now }
+{
+    for one in contenders {
+        best[one.property] = Some(better_of(best[one.property], one.contender.weight));
+    }
+}
+
+/// Whether no other declaration of its property beats this one.
+fn is_unbeaten(one: &Numbered<'_>, best: &[Option<Weight>]) -> bool
+    requires { one.now.property < length best.now }
+    ensures { (all : List Numbered) (properties : List (List ℕ)) → All (IsNumbered properties) all
+        → IsNumbered properties one.now → IsNoted all best.now one.now
+        → result ≡ not (is_beaten (map numbered_of all) (numbered_of one.now)) }
+{
+    match &best[one.property] {
+        Some(weight) => !beats(weight, &one.contender.weight),
+        None => true,
+    }
+}
+
+/// Appends the declaration, if it is wanted.
+fn push_if<'a>(
+    found: &mut Vec<Winner<'a>>,
+    one: &Numbered<'a>,
+    is_wanted: bool,
+) -> Result<(), AllocError>
+    ensures { OnOk result (map winner_of found.new.items ≡ map winner_of found.old.items
+        ++ (if is_wanted then as_winner (numbered_of one.now) ∷ [] else [])) }
+{
+    if is_wanted {
+        found.push(one.contender.winner)?;
+    }
+    Ok(())
+}
+
+/// Appends those that no other of the same property beats.
+fn push_unbeaten<'a>(
+    contenders: &[Numbered<'a>],
+    best: &[Option<Weight>],
+    found: &mut Vec<Winner<'a>>,
+) -> Result<(), AllocError>
+    requires within { All (λ n. n.property < length best.now) contenders.now }
+    requires numbered { (properties : List (List ℕ)) × All (IsNumbered properties) contenders.now }
+    requires noted { All (IsNoted contenders.now best.now) contenders.now }
+    ensures { OnOk result (map winner_of found.new.items ≡ map winner_of found.old.items
+        ++ map as_winner (unbeaten (map numbered_of contenders.now))) }
+{
+    for one in contenders {
+        push_if(found, one, is_unbeaten(one, best))?;
+    }
+    Ok(())
+}
+
+/// Makes room for the best of so many properties.
+pub(crate) fn make_room(best: &mut Vec<Option<Weight>>, count: usize) -> Result<(), AllocError>
+    ensures { OnOk result (count ≤ vec_len best.new) }
+{
+    if best.len() < count {
+        best.resize(count, None)?;
+    }
+    Ok(())
+}
+
+/// Finds those that no other of the same property beats, which replace the items of `found`. After an
+/// error none are left.
+pub(crate) fn find_unbeaten<'a>(
+    contenders: &[Numbered<'a>],
+    best: &mut [Option<Weight>],
+    found: &mut Vec<Winner<'a>>,
+) -> Result<(), AllocError>
+    requires { (properties : List (List ℕ)) × (length properties ≤ length best.old)
+        × All (IsNumbered properties) contenders.now }
+    ensures unbeaten { OnOk result (map winner_of found.new.items
+        ≡ map as_winner (unbeaten (map numbered_of contenders.now))) }
+    ensures err { OnErr result (found.new.items ≡ []) }
+{
+    found.clear();
+    forget(contenders, best);
+    note(contenders, best);
+    let pushed = push_unbeaten(contenders, best, found);
+    if pushed.is_err() {
+        found.clear();
+    }
+    pushed
+}

@@ -1,0 +1,176 @@
+//! Gathers the declarations that apply to an element.
+ghost use Rattle.std.specs.Prelude.{◌≡◌, ◌++◌, ◌<◌, ℕ, List, IfOk, OnOk, length, map};
+ghost use Rattle.std.specs.List.{All, flat_map};
+ghost use Rattle.css_sheet.specs.SheetRuleViews.{sheet_rule_of};
+ghost use Rattle.css_styles.specs.Contenders.{in_rule, in_turn, of_own, own_declarations};
+ghost use Rattle.css_styles.specs.StyleViews.{own_of};
+ghost use Rattle.css_styles.specs.internal.Stepping.{in_own, stated_at};
+ghost use Rattle.css_styles.specs.internal.Numbered.{HasNumber, IsMore, IsNumbered, IsStated, numbered_of, stated_declaration};
+
+use crate::contenders::{Contender, OwnPart};
+use crate::contest::Numbered;
+use crate::properties::{Properties, key_of};
+use crate::stated::Stated;
+use crate::{Own, StyleRules};
+use css_sheet::SheetRule;
+use css_syntax::{Declarations, Item};
+use std::alloc::{AllocError, Global};
+
+/// Appends the declarations of a rule, which is one of all.
+fn push_stated<'a>(
+    rule: &SheetRule<'_>,
+    rule_place: usize,
+    stated: &[Stated<'a>],
+    contenders: &mut Vec<Numbered<'a>>,
+) -> Result<(), AllocError>
+    ensures contenders { OnOk result (map numbered_of contenders.new.items ≡ map numbered_of contenders.old.items
+        ++ in_turn (in_rule rule_place (sheet_rule_of rule.now)) 0 (map stated_declaration stated.now)) }
+    ensures numbered { OnOk result ((properties : List (List ℕ)) → All (IsStated properties) stated.now
+        → All (IsNumbered properties) contenders.old.items
+        → All (IsNumbered properties) contenders.new.items) }
+{
+    let mut place: usize = 0;
+    let mut rest = stated;
+    'stated: while let [one, more @ ..] = rest {
+        contenders.push(Numbered {
+            contender: Contender::in_rule(rule, rule_place, place, one.declaration),
+            property: one.property,
+        })?;
+        place += 1;
+        rest = more;
+    }
+    Ok(())
+}
+
+/// Appends the declarations of the rule at an index, if it is one of elements.
+fn push_rule<'a>(
+    rules: &StyleRules<'a>,
+    index: usize,
+    contenders: &mut Vec<Numbered<'a>>,
+) -> Result<(), AllocError>
+    requires within { index < length rules.now.rules }
+    requires numbered { All (IsNumbered rules.now.properties) contenders.old.items }
+    ensures contenders { OnOk result (map numbered_of contenders.new.items
+        ≡ map numbered_of contenders.old.items ++ stated_at rules.now.rules index) }
+    ensures numbered { OnOk result (All (IsNumbered rules.now.properties) contenders.new.items) }
+{
+    let rule = &rules.as_slice()[index];
+    if rule.pseudo_element.is_some() {
+        return Ok(());
+    }
+    push_stated(rule, index, rules.stated(index), contenders)
+}
+
+/// Appends the declarations of the rules with these indices, of those that are rules of elements.
+fn push_matching<'a>(
+    rules: &StyleRules<'a>,
+    indices: &[usize],
+    contenders: &mut Vec<Numbered<'a>>,
+) -> Result<(), AllocError>
+    requires within { All (λ index. index < length rules.now.rules) indices.now }
+    requires numbered { All (IsNumbered rules.now.properties) contenders.old.items }
+    ensures contenders { OnOk result (map numbered_of contenders.new.items ≡ map numbered_of contenders.old.items
+        ++ flat_map (stated_at rules.now.rules) indices.now) }
+    ensures numbered { OnOk result (All (IsNumbered rules.now.properties) contenders.new.items) }
+{
+    for index in indices {
+        push_rule(rules, *index, contenders)?;
+    }
+    Ok(())
+}
+
+/// Returns the number of the property of this name: that among known ones, or else that among others after
+/// them.
+fn number_own<'a>(
+    alloc: Global,
+    name: &'a str,
+    known: &Properties<'_>,
+    others: &mut Properties<'a>,
+) -> Result<usize, AllocError>
+    ensures number { IfOk result (λ number. HasNumber (known.now ++ others.new) name.now number) }
+    ensures more { OnOk result (IsMore others.old others.new) }
+{
+    let key = key_of(alloc, name)?;
+    if let Some(number) = known.find(&key) {
+        return Ok(number);
+    }
+    let number = others.number(name, key)?;
+    Ok(known.len() + number)
+}
+
+/// Appends the declarations of one of the element's own texts.
+fn push_text<'a>(
+    alloc: Global,
+    known: &Properties<'_>,
+    others: &mut Properties<'a>,
+    part: OwnPart,
+    text: &'a str,
+    contenders: &mut Vec<Numbered<'a>>,
+) -> Result<(), AllocError>
+    requires { All (IsNumbered (known.now ++ others.old)) contenders.old.items }
+    ensures contenders { OnOk result (map numbered_of contenders.new.items ≡ map numbered_of contenders.old.items
+        ++ in_turn (in_own part) 0 (own_declarations text.now)) }
+    ensures numbered { OnOk result (All (IsNumbered (known.now ++ others.new)) contenders.new.items) }
+{
+    let mut place: usize = 0;
+    let mut declarations = Declarations::new(text);
+    'items: while let Some(part_of_text) = declarations.next() {
+        if let Item::Declaration(one) = part_of_text.item {
+            let property = number_own(alloc, one.name, known, others)?;
+            contenders.push(Numbered {
+                contender: Contender::in_own(part, place, one),
+                property,
+            })?;
+            place += 1;
+        }
+    }
+    Ok(())
+}
+
+/// Appends the declarations of the element's own, and returns how many properties there are with theirs.
+fn push_own<'a>(
+    alloc: Global,
+    rules: &StyleRules<'a>,
+    own: Own<'a>,
+    contenders: &mut Vec<Numbered<'a>>,
+) -> Result<usize, AllocError>
+    requires { All (IsNumbered rules.now.properties) contenders.old.items }
+    ensures contenders { OnOk result (map numbered_of contenders.new.items
+        ≡ map numbered_of contenders.old.items ++ of_own (own_of own.entry)) }
+    ensures numbered { IfOk result (λ count. (properties : List (List ℕ)) × (count ≡ length properties)
+        × All (IsNumbered properties) contenders.new.items) }
+{
+    let known = rules.properties();
+    let mut others = Properties::new(alloc);
+    let (presentation, style) = (OwnPart::Presentation, OwnPart::Style);
+    push_text(
+        alloc,
+        known,
+        &mut others,
+        presentation,
+        own.presentation,
+        contenders,
+    )?;
+    push_text(alloc, known, &mut others, style, own.style, contenders)?;
+    Ok(known.len() + others.len())
+}
+
+/// Gathers the declarations that apply to an element that the rules with these indices match and that has
+/// these of its own. They replace the items of `contenders`. Returns how many properties there are.
+pub(crate) fn gather<'a>(
+    alloc: Global,
+    rules: &StyleRules<'a>,
+    indices: &[usize],
+    own: Own<'a>,
+    contenders: &mut Vec<Numbered<'a>>,
+) -> Result<usize, AllocError>
+    requires { All (λ index. index < length rules.now.rules) indices.now }
+    ensures contenders { OnOk result (map numbered_of contenders.new.items
+        ≡ flat_map (stated_at rules.now.rules) indices.now ++ of_own (own_of own.entry)) }
+    ensures numbered { IfOk result (λ count. (properties : List (List ℕ)) × (count ≡ length properties)
+        × All (IsNumbered properties) contenders.new.items) }
+{
+    contenders.clear();
+    push_matching(rules, indices, contenders)?;
+    push_own(alloc, rules, own, contenders)
+}

@@ -1,0 +1,32 @@
+//! Which declarations win on the elements of a page: the cascade (CSS Cascading 5, section 6) of style
+//! sheets, of style attributes and of presentational hints.
+//!
+//! [`StyleRules`] has the rules of sheets, [`Styles`] walks along a page with them, and for each element
+//! returns the declarations that win. [`winning`] asks one element of any tree about one property.
+//!
+//! ```text
+//! let rules = StyleRules::read(alloc, &[text], most, |name, prelude| holds(name, prelude))?;
+//! let mut styles = Styles::new(alloc, &rules)?;
+//! let mut found = Vec::new(alloc);
+//! for element in 0..page.len() {
+//!     let own = Own { style: "color: red", presentation: "" };
+//!     styles.winners(&page, element, own, &mut found, &mut Tests::new())?;
+//! }
+//! ```
+#![tactic(auto)]
+
+mod asked;
+mod contenders;
+mod contest;
+mod gathering;
+mod one_property;
+mod properties;
+mod stated;
+mod style_rules;
+mod styles;
+mod winner;
+
+pub use one_property::winning;
+pub use style_rules::StyleRules;
+pub use styles::Styles;
+pub use winner::{Own, Source, Winner};

@@ -1,0 +1,148 @@
+//! The rules of sheets, with their declarations.
+ghost use Rattle.std.specs.Prelude.{◌≡◌, ◌≤◌, ◌<◌, ◌^◌, ℕ, Bool, List, IfErr, IfOk, OnOk, IfSome, map, length, slice_get};
+ghost use Rattle.css_sheet.specs.SheetOrder.{cascade_rules, nested_lists, source_rules, declarations_in, texts_in};
+ghost use Rattle.css_sheet.specs.SheetRuleViews.{Answers, sheet_of, sheet_rule_of};
+ghost use Rattle.css_sheet.specs.declared.sheet_error.SheetError.TheVariants.{TooManyDeclarations, TooManyLayers};
+ghost use Rattle.css_sheet.specs.SheetLayers.{layer_count};
+ghost use Rattle.css_cascade.specs.Layers.{most_layers};
+ghost use Rattle.css_styles.specs.internal.Numbered.{AllStated, AreStated};
+
+use crate::properties::Properties;
+use crate::stated::{Stated, read_stated};
+use css_selectors::Selector;
+use css_sheet::{Sheet, SheetError, SheetRule, SheetRules, read_sheets};
+use std::alloc::{AllocError, Global};
+use std::marker::Model;
+
+/// Returns the declarations of each rule, with the numbers of their properties.
+fn read_all<'a>(
+    alloc: Global,
+    rules: &[SheetRule<'a>],
+    properties: &mut Properties<'a>,
+) -> Result<Vec<Vec<Stated<'a>>>, AllocError>
+    ensures { IfOk result (λ lists. AllStated properties.new (map sheet_rule_of rules.now) lists.items) }
+{
+    let mut lists: Vec<Vec<Stated<'a>>> = Vec::with_capacity(alloc, rules.len())?;
+    for rule in rules {
+        let list = read_stated(alloc, rule.block, properties)?;
+        lists.push(list)?;
+    }
+    Ok(lists)
+}
+
+/// The style rules of sheets in the order of the cascade, and their declarations, each read once.
+#[derive(Drop)]
+pub struct StyleRules<'a> {
+    /// The rules.
+    rules: Vec<SheetRule<'a>>,
+    /// The lists of selectors that `&` stands for in nested rules.
+    lists: Vec<Vec<Selector<'a>>>,
+    /// The declarations of each rule.
+    stated: Vec<Vec<Stated<'a>>>,
+    /// The properties that are stated.
+    properties: Properties<'a>,
+}
+
+impl<'a> Model for StyleRules<'a> {
+    ghost use Rattle.std.specs.Prelude.{map};
+    ghost use Rattle.std.specs.Coded.{Coded, codes};
+    ghost use Rattle.css_selectors.specs.Codes.{condition_code};
+    ghost use Rattle.css_selectors.specs.Components.{Simple};
+    ghost use Rattle.css_sheet.specs.SheetRuleViews.{sheet_rule_of};
+    ghost use Rattle.css_styles.specs.StyleViews.{StyleRulesText};
+    ghost use Rattle.css_styles.specs.internal.Numbered.{AllStated};
+
+    ghost Value = { StyleRulesText };
+
+    ghost coded = { let simples : Coded Simple = Prim.hlevel codes in
+        Prim.hlevel (codes, condition_code simples) };
+
+    ghost view = { λ r. record {
+      rules = map sheet_rule_of r.rules.items;
+      lists = map (λ list. list.items) r.lists.items;
+      properties = r.properties;
+    } };
+
+    ghost invariant = { λ r. AllStated r.properties (map sheet_rule_of r.rules.items) r.stated.items };
+}
+
+impl<'a> StyleRules<'a> {
+    /// Reads the style rules of sheets, one after another, as [`read_sheets`] does, and their declarations.
+    ///
+    /// Fails if the rules hold more than `most` declarations, if there are more than 1,024 layers, or if an
+    /// allocation fails.
+    pub fn read<C: Fn(&str, &str) -> bool>(
+        alloc: Global,
+        sheets: &[Sheet<'a>],
+        most: usize,
+        holds: C,
+    ) -> Result<StyleRules<'a>, SheetError>
+        requires { C.IsAlwaysCallable holds }
+        ensures rules { (answers : List ℕ → List ℕ → Bool) → Answers (C.post holds) answers
+            → IfOk result (λ read. read.rules
+            ≡ cascade_rules answers (map sheet_of sheets.now)) }
+        ensures lists { (answers : List ℕ → List ℕ → Bool) → Answers (C.post holds) answers
+            → IfOk result (λ read. read.lists
+            ≡ nested_lists answers (texts_in (map sheet_of sheets.now))) }
+        ensures within { (answers : List ℕ → List ℕ → Bool) → Answers (C.post holds) answers
+            → OnOk result
+            (declarations_in (source_rules answers (map sheet_of sheets.now)) ≤ most) }
+        ensures refused { (answers : List ℕ → List ℕ → Bool) → Answers (C.post holds) answers
+            → IfErr result (λ error. error ≡ TooManyDeclarations
+            → most < declarations_in (source_rules answers (map sheet_of sheets.now))) }
+        ensures few_layers { (answers : List ℕ → List ℕ → Bool) → Answers (C.post holds) answers
+            → OnOk result (layer_count answers (texts_in (map sheet_of sheets.now)) ≤ most_layers) }
+        ensures many_layers { (answers : List ℕ → List ℕ → Bool) → Answers (C.post holds) answers
+            → IfErr result (λ error. error ≡ TooManyLayers
+            → most_layers < layer_count answers (texts_in (map sheet_of sheets.now))) }
+    {
+        let SheetRules { rules, lists } = read_sheets(alloc, sheets, most, holds)?;
+        let mut properties = Properties::new(alloc);
+        let stated = read_all(alloc, &rules, &mut properties)?;
+        Ok(StyleRules {
+            rules,
+            lists,
+            stated,
+            properties,
+        })
+    }
+
+    /// Returns the rules, in the order of the cascade.
+    pub fn as_slice(&self) -> &[SheetRule<'a>]
+        ensures { map sheet_rule_of result.now ≡ self.now.rules }
+    {
+        &self.rules
+    }
+
+    /// Returns how many rules there are.
+    pub fn count(&self) -> usize
+        ensures count { result ≡ length self.now.rules }
+        ensures few { result < 2 ^ 63 }
+    {
+        self.rules.len()
+    }
+
+    /// Returns the lists of selectors that `&` stands for in nested rules, as [`read_sheets`] does: each at
+    /// its number less one.
+    pub fn lists(&self) -> &[Vec<Selector<'a>>]
+        ensures { map (λ list. list.items) result.now ≡ self.now.lists }
+    {
+        &self.lists
+    }
+
+    /// Returns the declarations of the rule at an index.
+    pub(crate) fn stated(&self, index: usize) -> &[Stated<'a>]
+        requires { index < length self.now.rules }
+        ensures { IfSome (slice_get self.now.rules index) (λ rule.
+            AreStated self.now.properties rule result.now) }
+    {
+        &self.stated[index]
+    }
+
+    /// Returns the properties that are stated.
+    pub(crate) fn properties(&self) -> &Properties<'a>
+        ensures { result.now ≡ self.now.properties }
+    {
+        &self.properties
+    }
+}

@@ -1,0 +1,208 @@
+//! A walk along a page, for the declarations that win.
+ghost use Rattle.std.specs.Prelude.{◌≡◌, ◌<◌, ◌^◌, ℕ, Bool, List, [], IfOk, OnOk, OnErr, length, map, option_map};
+ghost use Rattle.css_matching.specs.ListTrees.{spot};
+ghost use Rattle.css_selectors.specs.Components.{Selector as SelectorText};
+ghost use Rattle.css_selectors.specs.Meanings.{Matches};
+ghost use Rattle.css_index.specs.Tested.{AreTried};
+ghost use Rattle.css_tree.specs.Pages.{Page, page_document};
+ghost use Rattle.css_tree.specs.Reports.{reported_of};
+ghost use Rattle.css_tree.specs.Walks.{IsOpenAt};
+ghost use Rattle.css_styles.specs.Contenders.{contenders};
+ghost use Rattle.css_styles.specs.StyleViews.{StylesText, names_of, own_of, winner_of};
+ghost use Rattle.css_styles.specs.Winners.{AreReadBy, AreWinners, Decides, winners};
+
+use crate::asked::find_asked;
+use crate::contest::{Numbered, find_unbeaten, make_room};
+use crate::gathering::gather;
+use crate::{Own, StyleRules, Winner};
+use css_cascade::Weight;
+use css_selectors::{Selector, Tests};
+use css_tree::{NumberedTree, TreeWalk};
+use std::alloc::{AllocError, Global};
+use std::marker::Model;
+
+/// A walk over the elements of a page: which declarations win on each.
+///
+/// Elements may be asked in any order. Where each comes after the last one in the order of the document,
+/// it opens each element at most once, and only those with children. What a call takes beside the tests is
+/// linear in the declarations of the rules that match the element and of its style attribute, but for
+/// finding the names of the latter.
+#[derive(Drop)]
+pub struct Styles<'s, 'a, 'w> {
+    /// The rules.
+    rules: &'s StyleRules<'a>,
+    /// The walk with their selectors.
+    walk: TreeWalk<'s, 'w>,
+    /// The indices of the rules that match an element. This list and the others are reused.
+    matching: Vec<usize>,
+    /// The declarations that apply to it.
+    contenders: Vec<Numbered<'a>>,
+    /// The best of each property, by its number.
+    best: Vec<Option<Weight>>,
+    /// Allocates what a call needs.
+    alloc: Global,
+}
+
+impl<'s, 'a, 'w> Model for Styles<'s, 'a, 'w> {
+    ghost use Rattle.std.specs.Prelude.{◌≡◌, length};
+    ghost use Rattle.std.specs.Coded.{Coded, codes};
+    ghost use Rattle.css_selectors.specs.Codes.{condition_code};
+    ghost use Rattle.css_selectors.specs.Components.{Simple};
+    ghost use Rattle.css_styles.specs.StyleViews.{StylesText};
+
+    ghost Value = { StylesText };
+
+    ghost coded = { let simples : Coded Simple = Prim.hlevel codes in
+        Prim.hlevel (codes, condition_code simples) };
+
+    ghost view = { λ s. record { rules = s.rules.now.rules; walk = s.walk.walk; place = s.walk.place } };
+
+    ghost invariant = { λ s. length s.walk.walk.selectors ≡ length s.rules.now.rules };
+}
+
+impl<'s, 'a, 'w> Styles<'s, 'a, 'w> {
+    /// Returns these rules with a walk.
+    fn with_walk(
+        alloc: Global,
+        rules: &'s StyleRules<'a>,
+        walk: TreeWalk<'s, 'w>,
+    ) -> Styles<'s, 'a, 'w>
+        requires { length walk.walk.selectors ≡ length rules.now.rules }
+        ensures { result ≡ record {
+          rules = rules.now.rules;
+          walk = walk.entry.walk;
+          place = walk.entry.place;
+        } }
+    {
+        Styles {
+            rules,
+            walk,
+            matching: Vec::new(alloc),
+            contenders: Vec::new(alloc),
+            best: Vec::new(alloc),
+            alloc,
+        }
+    }
+
+    /// Returns a walk with an index of the rules, which it borrows. No element is open. Fails only if an
+    /// allocation fails.
+    pub fn new(alloc: Global, rules: &'s StyleRules<'a>) -> Result<Styles<'s, 'a, 'a>, AllocError>
+        ensures rules { IfOk result (λ styles. styles.rules ≡ rules.now.rules) }
+        ensures selectors { IfOk result (λ styles. styles.walk.selectors
+            ≡ map (λ rule. rule.selector) rules.now.rules) }
+        ensures opened { IfOk result (λ styles. (page : Page) → IsOpenAt page styles.walk styles.place) }
+    {
+        let walk = TreeWalk::new(alloc, rules.as_slice())?;
+        Ok(Styles::with_walk(alloc, rules, walk))
+    }
+
+    /// Returns a walk with an index of these selectors, which are those of the rules as a document reads
+    /// them, one for each rule. No element is open. Fails only if an allocation fails.
+    pub fn with_selectors(
+        alloc: Global,
+        rules: &'s StyleRules<'a>,
+        selectors: &'s [Selector<'w>],
+    ) -> Result<Styles<'s, 'a, 'w>, AllocError>
+        requires { length selectors.now ≡ length rules.now.rules }
+        ensures rules { IfOk result (λ styles. styles.rules ≡ rules.now.rules) }
+        ensures selectors { IfOk result (λ styles. styles.walk.selectors ≡ selectors.now) }
+        ensures opened { IfOk result (λ styles. (page : Page) → IsOpenAt page styles.walk styles.place) }
+    {
+        let walk = TreeWalk::new(alloc, selectors)?;
+        Ok(Styles::with_walk(alloc, rules, walk))
+    }
+
+    /// Returns how many rules there are.
+    pub fn rule_count(&self) -> usize
+        ensures count { result ≡ length self.now.rules }
+        ensures few { result < 2 ^ 63 }
+    {
+        self.rules.count()
+    }
+
+    /// Finds the declarations that win on the element at an index that has these of its own, and counts the
+    /// tests as [`TreeWalk::matching`] does: for each property the one that no other beats, in the order of
+    /// rules and of declarations in them, then those of its presentation declarations, and those of its style
+    /// attribute last. A walk is of one page alone.
+    ///
+    /// An important declaration wins over others; then the origins decide, the presentation declarations being
+    /// hints; then one of the attribute wins over those of rules; of those that are not important one in a
+    /// later layer, and of important ones one in an earlier layer; then one of greater specificity, and then
+    /// the one that is later. Rules with a pseudo-element do not apply to the element. A name is compared as
+    /// it is written, in any case of its ASCII letters if it is not that of a custom property (`--x`);
+    /// shorthands are not expanded.
+    ///
+    /// The previous items of `found` are dropped. Fails only if an allocation fails; then no items are
+    /// left, and the walk goes on.
+    pub fn winners(
+        &mut self,
+        page: &NumberedTree<'_, '_>,
+        element: usize,
+        own: Own<'a>,
+        found: &mut Vec<Winner<'a>>,
+        tests: &mut Tests,
+    ) -> Result<(), AllocError>
+        requires element { element < length page.now.rows }
+        requires opened { IsOpenAt page.now self.old.walk self.old.place }
+        ensures winners { (read : SelectorText → SelectorText) (matches : SelectorText → Bool)
+            → AreReadBy read self.old.rules self.old.walk.selectors
+            → Decides matches (λ s. Matches page_document (read s) (spot page.now element))
+            → OnOk result (map winner_of found.new.items
+            ≡ winners matches self.old.rules (own_of own.entry)) }
+        ensures tests { OnOk result ((tried : List ℕ)
+            × AreTried page_document (spot page.now element) (reported_of (spot page.now element))
+            self.new.walk tried tests.old tests.new) }
+        ensures opened { IsOpenAt page.now self.new.walk self.new.place }
+        ensures rules { self.new.rules ≡ self.old.rules }
+        ensures selectors { self.new.walk.selectors ≡ self.old.walk.selectors }
+        ensures err { OnErr result (found.new.items ≡ []) }
+    {
+        found.clear();
+        self.walk
+            .matching(page, element, &mut self.matching, tests)?;
+        let all = &mut self.contenders;
+        let count = gather(self.alloc, self.rules, &self.matching, own, all)?;
+        make_room(&mut self.best, count)?;
+        find_unbeaten(&self.contenders, &mut self.best, found)
+    }
+
+    /// Finds for each of these properties the declaration that wins on the element at an index that has these
+    /// of its own, as [`Styles::winners`] does. A property has one name or several, as a longhand and the
+    /// shorthands that set it: of the declarations that apply and have one of its names, no other beats the
+    /// one that wins. If there are none, none wins.
+    ///
+    /// They are in the order of the properties, and the previous items of `found` are dropped. For each
+    /// property the time grows as the declarations that apply times its names. Fails only if an allocation
+    /// fails; then no items are left, and the walk goes on.
+    pub fn winners_named(
+        &mut self,
+        page: &NumberedTree<'_, '_>,
+        element: usize,
+        own: Own<'a>,
+        asked: &[&[&str]],
+        found: &mut Vec<Option<Winner<'a>>>,
+        tests: &mut Tests,
+    ) -> Result<(), AllocError>
+        requires element { element < length page.now.rows }
+        requires opened { IsOpenAt page.now self.old.walk self.old.place }
+        ensures winners { (read : SelectorText → SelectorText) (matches : SelectorText → Bool)
+            → AreReadBy read self.old.rules self.old.walk.selectors
+            → Decides matches (λ s. Matches page_document (read s) (spot page.now element))
+            → OnOk result (AreWinners (contenders matches self.old.rules (own_of own.entry))
+            (names_of asked.now) (map (option_map winner_of) found.new.items)) }
+        ensures tests { OnOk result ((tried : List ℕ)
+            × AreTried page_document (spot page.now element) (reported_of (spot page.now element))
+            self.new.walk tried tests.old tests.new) }
+        ensures opened { IsOpenAt page.now self.new.walk self.new.place }
+        ensures rules { self.new.rules ≡ self.old.rules }
+        ensures selectors { self.new.walk.selectors ≡ self.old.walk.selectors }
+        ensures err { OnErr result (found.new.items ≡ []) }
+    {
+        found.clear();
+        self.walk
+            .matching(page, element, &mut self.matching, tests)?;
+        let all = &mut self.contenders;
+        gather(self.alloc, self.rules, &self.matching, own, all)?;
+        find_asked(asked, &self.contenders, found)
+    }
+}
