@@ -1,6 +1,6 @@
 -- Kinds of elements: those with one parent and one name.
 -- Serves `kinds` and `Numbering`.
-use Rattle.std.proofs.Common.{◌≡◌, ℕ, suc, ◌+◌, ◌<◌, ◌≤◌, ◌⊎◌, inl, inr, Bool, true, false, ◌&&◌, cond, List, Option, None, Some, refl, sym, ap, subst, ◌∙◌, add-one, arith, Bor}
+use Rattle.std.proofs.Common.{◌≡◌, ℕ, suc, ◌+◌, ◌<◌, ◌≤◌, ◌⊎◌, inl, inr, Bool, true, false, ◌&&◌, cond, List, length, Option, None, Some, refl, sym, ap, subst, ◌∙◌, add-one, arith, Bor}
 use Rattle.std.specs.Prelude.{◌==◌, bytes_eq}
 use Rattle.std.specs.BTreeMap.{BTreeMap, get}
 use Rattle.std.specs.Bool.{Decides}
@@ -15,9 +15,11 @@ use Rattle.std.proofs.lemmas.Map.Text.{is_eq-slice_cmp}
 use Rattle.std.proofs.lemmas.Slice.Eq.{bytes_eq-Decides}
 use Rattle.simplecss_tree.specs.Rows.{Row}
 use Rattle.simplecss_tree.specs.TreeNodes.{name_at}
-use Rattle.css_tree.specs.Counts.{last_below, first_below}
+use Rattle.css_tree.specs.Counts.{count_below, last_below, first_below}
+use Rattle.css_tree.specs.GroupViews.{is_in_group}
 use Rattle.css_tree.specs.Keys.{kind, kind_cmp, has_kind, IsLarge, AreNamed}
 use Rattle.css_tree.specs.Pages.{family, is_sibling, is_alike}
+use Rattle.css_tree.specs.declared.kinds.TheConstants.{COMPARED}
 use Rattle.css_tree.proofs.Counting.{IsLast, last_below-is, first_below-none, first_below-from, first_below-false, first_below-passes, first_below-same}
 
 order : (m n : ℕ) → (m < n) ⊎ ((m ≡ n) ⊎ (n < m))
@@ -183,23 +185,30 @@ both_equal Equal s = refl
 both_equal Greater s = refl
 
 -- keys that are equal have one family and one name
-equal_keys : (a b : ℕ × Bor (List ℕ))
+pub equal_keys : (a b : ℕ × Bor (List ℕ))
     → is_eq (kind_cmp a b) ≡ (a.0 == b.0 && bytes_eq a.1.now b.1.now)
 equal_keys a b =
     both_equal (nat_cmp a.0 b.0) (slice_cmp nat_cmp a.1.now b.1.now)
     ∙ ap (λ x. x && is_eq (slice_cmp nat_cmp a.1.now b.1.now)) (unsigned_tied a.0 b.0)
     ∙ ap (λ x. a.0 == b.0 && x) (is_eq-slice_cmp a.1.now b.1.now)
 
-flipped : (a b : ℕ) (x y : List ℕ) → (a == b && bytes_eq x y) ≡ (b == a && bytes_eq y x)
+pub flipped : (a b : ℕ) (x y : List ℕ) → (a == b && bytes_eq x y) ≡ (b == a && bytes_eq y x)
 flipped a b x y =
     ap (λ t. t && bytes_eq x y) (same_from_decides (a == b) (b == a) (Decides-eqb a b)
     ((λ h. sym ((Decides-eqb b a).0 h)), (λ e. (Decides-eqb b a).1 (sym e))))
     ∙ ap (λ t. b == a && t) (same_from_decides (bytes_eq x y) (bytes_eq y x) (bytes_eq-Decides x y)
     ((λ h. sym ((bytes_eq-Decides y x).0 h)), (λ e. (bytes_eq-Decides y x).1 (sym e))))
 
+-- a family that has more members than are compared
+pub large-family : (families : List ℕ) (number family count : ℕ) → number ≡ family
+    → count ≡ count_below (is_in_group families number) (length families) → COMPARED < count
+    → IsLarge families family
+large-family families number family count of counted more =
+    subst (IsLarge families) of (subst (λ n. COMPARED < n) counted more)
+
 module _ (rows : List Row) (families : List ℕ) (n : ℕ) where
   -- an element that is like an earlier one
-  pub named-again : (s : ℕ) (old : BTreeMap (ℕ × Bor (List ℕ)) ℕ) → s < n → is_alike rows n s ≡ true
+  named-again : (s : ℕ) (old : BTreeMap (ℕ × Bor (List ℕ)) ℕ) → s < n → is_alike rows n s ≡ true
       → AreNamed rows families old n → AreNamed rows families old (n + 1)
   named-again s old lt is are key large =
       rw add-one (are key large ∙ of (has_kind rows key n) refl)

@@ -1,8 +1,15 @@
+mod AmpersandLemmas
+mod AskedLemmas
 mod Counting
 mod Grouping
+mod MarkLemmas
 mod Numbering
+mod SurroundingLemmas
 mod Reporting
 mod HtmlLemmas
+mod HtmlStateLemmas
 mod LanguageLemmas
 mod KindLemmas
+mod AttributeLemmas
+mod LanguageNames
 mod Walking

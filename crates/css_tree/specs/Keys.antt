@@ -11,7 +11,7 @@ use Rattle.simplecss_tree.specs.Rows.{Row}
 use Rattle.simplecss_tree.specs.TreeNodes.{name_at}
 use Rattle.css_tree.specs.Counts.{count_below, first_below}
 use Rattle.css_tree.specs.GroupViews.{is_in_group}
-use Rattle.css_tree.specs.Pages.{family, is_alike}
+use Rattle.css_tree.specs.Pages.{family, is_alike, language_of}
 use Rattle.css_tree.specs.declared.kinds.TheConstants.{COMPARED}
 
 -- the number of the family of each element
@@ -31,6 +31,12 @@ pub record HasKinds (rows : List Row) (kinds : List ℕ) (n : ℕ) : Type 0 wher
 -- the number of the kind of each element
 abbrev pub AreKinds : List Row → List ℕ → Type 0
 AreKinds rows kinds = HasKinds rows kinds (length rows)
+
+-- the languages of the elements below an index
+pub record AreLanguages (rows : List Row) (languages : List (Bor (List ℕ))) (n : ℕ) : Type 0 where
+  pub all : length languages ≡ n
+  pub each : (i : ℕ) → i < n → (language : Bor (List ℕ)) × (slice_get languages i ≡ Some language)
+      × (language.now ≡ language_of rows i)
 
 -- ---- how the numbers of kinds are found
 

@@ -1,10 +1,17 @@
+pub mod Asked
+pub mod Attributes
 pub mod Counts
 pub mod GroupViews
 pub mod Html
+pub mod HtmlElements
+pub mod HtmlStates
+pub mod HtmlViews
 pub mod Keys
 pub mod Languages
 pub mod Laws
+pub mod Marks
 pub mod Messages
 pub mod Pages
 pub mod Reports
+pub mod Surroundings
 pub mod Walks

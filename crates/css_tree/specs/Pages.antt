@@ -1,6 +1,6 @@
 -- The elements of a tree as nodes of a document. Siblings are elements with the same parent, in the
 -- order of the list.
-use Rattle.std.specs.Prelude.{ℕ, suc, ◌+◌, ◌-◌, Bool, false, ◌&&◌, ◌||◌, ◌==◌, nat_lt, if◌then◌else◌, List, [], length, Option, None, Some, bytes_eq, codes, slice_index_or, is_none}
+use Rattle.std.specs.Prelude.{ℕ, zero, suc, ◌+◌, ◌-◌, Bool, false, ◌&&◌, ◌||◌, ◌==◌, nat_lt, if◌then◌else◌, List, [], length, Option, None, Some, bytes_eq, codes, slice_index_or, is_none}
 use Rattle.std.specs.Option.{option_map, unwrap_or}
 use Rattle.std.specs.Str.{str_eq_ignore_ascii_case}
 use Rattle.css_selectors.specs.Documents.{Document}
@@ -9,14 +9,18 @@ use Rattle.simplecss_tree.specs.Rows.{Row}
 use Rattle.simplecss_tree.specs.TreeNodes.{named_parent, name_at, attribute_at, states_at, language_at}
 use Rattle.simplecss_tree.specs.declared.tree.States.{States}
 use Rattle.css_tree.specs.Counts.{count_below, last_below}
+use Rattle.css_tree.specs.HtmlStates.{is_in_state_named}
 use Rattle.css_tree.specs.Languages.{is_in_range}
 
--- the elements of a tree, which of them have a text of their own that is not empty, and the scoping
--- root, if one was named
+-- the elements of a tree, which of them have a text of their own that is not empty, the scoping root,
+-- if one was named, for each list of selectors that has a number from 1 on which elements it matches, and
+-- whether the tree is that of an HTML document
 pub record Page : Type 0 where
   pub rows : List Row
   pub texts : List Bool
   pub scope : Option ℕ
+  pub marks : List (List Bool)
+  pub is_html : Bool
 
 -- the index of the parent
 abbrev pub parent_index : List Row → ℕ → Option ℕ
@@ -57,10 +61,15 @@ abbrev pub is_scope : Page → ℕ → Option ℕ → Bool
 is_scope page i None = is_none (parent_index page.rows i)
 is_scope page i (Some scope) = i == scope
 
--- whether the list of a number matches an element: that of number 0 matches the scoping root, and no
--- other has a number
+-- whether the list at an index among those with marks matches an element
+abbrev pub is_marked : List (List Bool) → ℕ → ℕ → Bool
+is_marked marks list i = slice_index_or (slice_index_or marks list []) i false
+
+-- whether the list of a number matches an element: that of number 0 matches the scoping root, and those
+-- from 1 on what the marks say
 abbrev pub is_in_list : Page → ℕ → ℕ → Bool
-is_in_list page i number = number == 0 && is_scope page i page.scope
+is_in_list page i zero = is_scope page i page.scope
+is_in_list page i (suc list) = is_marked page.marks list i
 
 -- Whether an element with these states is in the state of a name, whatever its case: one of the
 -- five of a tree, or a link, visited or not.
@@ -72,6 +81,11 @@ is_in_state states name =
     else (if str_eq_ignore_ascii_case name (codes "active") then states.active
     else (if str_eq_ignore_ascii_case name (codes "focus") then states.focus
     else str_eq_ignore_ascii_case name (codes "any-link") && (states.link || states.visited)))))
+
+-- Whether an element of an HTML document is in the state of a name, as attributes decide it.
+abbrev pub is_in_page_state : Page → ℕ → List ℕ → Bool
+is_in_page_state page i name =
+    page.is_html && is_in_state_named page.rows (slice_index_or page.texts i false) i name
 
 -- The language of an element: the attribute `lang` of the nearest among it and its ancestors that
 -- has one. It is empty if none has one.
@@ -90,7 +104,8 @@ page_document = record {
   later_of_type = λ n. count_after (is_alike n.0.rows n.1) n.1 n.0.rows;
   is_named = λ n name. bytes_eq (name_at n.0.rows n.1) name;
   attribute = λ n name. attribute_at n.0.rows n.1 name;
-  is_in_state = λ n name. is_in_state (states_at n.0.rows n.1) name;
+  is_in_state =
+      λ n name. is_in_state (states_at n.0.rows n.1) name || is_in_page_state n.0 n.1 name;
   is_in_language = λ n range. is_in_range range (language_of n.0.rows n.1);
   has_content = λ n. has_content n.0 n.1;
   is_in_list = λ n number. is_in_list n.0 n.1 number;

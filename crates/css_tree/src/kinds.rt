@@ -1,9 +1,8 @@
 //! Kinds of elements: those with one parent and one name.
-ghost use Rattle.std.specs.Prelude.{◌≡◌, ◌<◌, ◌+◌, length, IfOk, OnOk};
+ghost use Rattle.std.specs.Prelude.{◌≡◌, ◌<◌, ◌+◌, length, IfOk};
 ghost use Rattle.simplecss_tree.specs.TreeNodes.{name_at};
-ghost use Rattle.css_tree.specs.Pages.{family};
 ghost use Rattle.css_tree.specs.Keys.{AreFamilies, AreKinds, HasKinds};
-ghost use Rattle.css_tree.specs.Keys.{IsLarge, AreNamed, kind};
+ghost use Rattle.css_tree.specs.Keys.{AreNamed, kind};
 
 use crate::groups::Groups;
 use simplecss_tree::Tree;
@@ -40,38 +39,8 @@ fn kind_by_siblings(tree: &Tree<'_>, families: &Groups, kinds: &[usize], index: 
     index
 }
 
-/// Returns the number of the kind of an element of a large family: its name is compared with that of
-/// its previous sibling, and then searched among those of the family.
-fn kind_by_name<'t>(
-    tree: &Tree<'t>,
-    families: &Groups,
-    kinds: &[usize],
-    named: &mut BTreeMap<(usize, &'t str), usize>,
-    index: usize,
-) -> Result<usize, AllocError>
-    requires within { index < length tree.now }
-    requires families { AreFamilies tree.now families.now }
-    requires kinds { HasKinds tree.now kinds.now index }
-    requires large { IsLarge families.now (family tree.now index) }
-    requires named { AreNamed tree.now families.now named.old index }
-    ensures kind { IfOk result (λ number. number ≡ kind tree.now index) }
-    ensures named { OnOk result (AreNamed tree.now families.now named.new (index + 1)) }
-{
-    let name = name_of(tree, index);
-    if let Some(sibling) = families.before(index).last {
-        if name == name_of(tree, sibling) {
-            return Ok(kinds[sibling]);
-        }
-    }
-    let key = (families.number(index), name);
-    if let Some(number) = named.get(&key) {
-        return Ok(*number);
-    }
-    named.insert(key, index)?;
-    Ok(index)
-}
-
-/// Returns the number of the kind of an element.
+/// Returns the number of the kind of an element. In a large family its name is searched among those of
+/// the family, each with the number of its kind.
 fn kind_of<'t>(
     tree: &Tree<'t>,
     families: &Groups,
@@ -83,13 +52,19 @@ fn kind_of<'t>(
     requires families { AreFamilies tree.now families.now }
     requires kinds { HasKinds tree.now kinds.now index }
     requires named { AreNamed tree.now families.now named.old index }
-    ensures kind { IfOk result (λ number. number ≡ kind tree.now index) }
-    ensures named { OnOk result (AreNamed tree.now families.now named.new (index + 1)) }
+    ensures { IfOk result (λ number. (number ≡ kind tree.now index)
+        × AreNamed tree.now families.now named.new (index + 1)) }
 {
-    if families.count(families.number(index)) > COMPARED {
-        return kind_by_name(tree, families, kinds, named, index);
+    let family = families.number(index);
+    if families.count(family) <= COMPARED {
+        return Ok(kind_by_siblings(tree, families, kinds, index));
     }
-    Ok(kind_by_siblings(tree, families, kinds, index))
+    let key = (family, name_of(tree, index));
+    if let Some(number) = named.get(&key) {
+        return Ok(*number);
+    }
+    named.insert(key, index)?;
+    Ok(index)
 }
 
 /// Returns the number of the kind of each element. Kinds are elements with one parent and one name.

@@ -2,19 +2,27 @@
 //!
 //! `NumberedTree` counts the siblings of each element once. Its elements have the trait `Element`
 //! of `css_selectors`, and `Element` and `Keyed` of `simplecss`, too. Names and values of attributes
-//! compare byte by byte, and the states are those of `simplecss_tree::States` and `any-link`.
+//! compare byte by byte, and the states are those of `simplecss_tree::States`, `any-link`, and on a tree of
+//! an HTML document those that attributes decide (`NumberedTree::set_html`).
 //! `languages` says which languages `:lang()` matches.
 #![tactic(auto)]
 
+mod attributes;
 mod groups;
 pub mod html;
+mod html_elements;
+mod html_states;
 mod kinds;
 pub mod languages;
+mod marking;
+mod marking_laws;
 mod node;
 mod numbered_tree;
 mod port_element;
+mod surroundings;
 mod tree_walk;
 
+pub use marking::MarkingError;
 pub use node::NumberedNode;
 pub use numbered_tree::{NumberedTree, NumberingError};
 pub use tree_walk::TreeWalk;

@@ -93,16 +93,15 @@ impl<'n, 'p, 't> Element for NumberedNode<'n, 'p, 't> {
     }
 
     fn attribute(&self, name: &str) -> Option<&str> {
-        self.tree.plain(self.index).attribute(name)
+        self.tree.attribute(self.index, name)
     }
 
     fn is_in_state(&self, name: &str) -> bool {
-        is_in(&self.tree.plain(self.index), name)
+        is_in(&self.tree.plain(self.index), name) || self.tree.is_in_html_state(self.index, name)
     }
 
     fn is_in_language(&self, range: &str) -> bool {
-        let node = self.tree.plain(self.index);
-        is_in_range(range, node.language().unwrap_or(""))
+        is_in_range(range, self.tree.language(self.index))
     }
 
     fn has_content(&self) -> bool {
@@ -110,7 +109,10 @@ impl<'n, 'p, 't> Element for NumberedNode<'n, 'p, 't> {
     }
 
     fn is_in_list(&self, number: usize) -> bool {
-        number == 0 && self.tree.is_scope(self.index)
+        match number {
+            0 => self.tree.is_scope(self.index),
+            _ => self.tree.is_marked(number - 1, self.index),
+        }
     }
 }
 

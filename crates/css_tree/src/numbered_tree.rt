@@ -1,20 +1,25 @@
 //! Trees whose siblings are counted.
 ghost use Rattle.std.specs.Prelude.{◌≡◌, ◌<◌, ◌≤◌, ◌^◌, ℕ, length, slice_index_or};
-ghost use Rattle.std.specs.Prelude.{IfOk, IfErr, IfSome, MatchOption, slice_set, true, false, None};
+ghost use Rattle.std.specs.Prelude.{codes, IfOk, IfErr, IfSome, MatchOption, slice_set, true, false, None, []};
+ghost use Rattle.std.specs.Option.{option_map};
 ghost use Rattle.css_matching.specs.ListTrees.{spot};
+ghost use Rattle.simplecss_tree.specs.TreeNodes.{attribute_at};
 ghost use Rattle.css_tree.specs.Counts.{count_below, last_below};
 ghost use Rattle.css_tree.specs.Pages.{parent_index, family, is_sibling, is_alike, count_after};
-ghost use Rattle.css_tree.specs.Pages.{has_content, is_scope};
-ghost use Rattle.css_tree.specs.Keys.{AreFamilies};
+ghost use Rattle.css_tree.specs.Pages.{has_content, is_scope, is_marked, is_in_page_state, language_of};
+ghost use Rattle.css_tree.specs.Keys.{AreFamilies, AreLanguages};
 ghost use Rattle.css_tree.specs.declared.numbered_tree.NumberingError.TheVariants.{TooManyElements};
 ghost use Rattle.css_tree.specs.declared.numbered_tree.NumberingError.TheVariants.{Memory};
 
 use crate::NumberedNode;
+use crate::attributes::{many_attributes, value_of};
 use crate::groups::{Groups, Seen};
+use crate::html_states::HtmlStates;
 use crate::kinds::kinds_of;
 use simplecss::Element;
 use simplecss_tree::{Node, Tree};
 use std::alloc::{AllocError, AllocFailed, Global};
+use std::collections::BTreeMap;
 use std::io;
 use std::io::ErrorKind;
 use std::marker::Model;
@@ -72,23 +77,51 @@ pub struct NumberedTree<'p, 't> {
     families: Groups,
     /// The elements by their parents and their names: kinds.
     kinds: Groups,
+    /// The language of each element.
+    languages: Vec<&'t str>,
+    /// The values of the attributes of elements that have many, by the element's index and the name.
+    attributes: BTreeMap<usize, BTreeMap<&'t str, &'t str>>,
     /// Whether each element has a text of its own that is not empty.
     texts: Vec<bool>,
     /// The index of the scoping root, if one was named.
     scope: Option<usize>,
+    /// For each list of selectors that has a number, from 1 on: whether it matches each element.
+    pub(crate) marks: Vec<Vec<bool>>,
+    /// The states of each element that its attributes decide, if the tree is that of an HTML document.
+    pub(crate) html: Option<Vec<HtmlStates>>,
 }
 
 impl<'p, 't> Model for NumberedTree<'p, 't> {
-    ghost use Rattle.std.specs.Prelude.{◌≡◌, length};
+    ghost use Rattle.std.specs.Prelude.{◌≡◌, IfSome, is_some, length, map};
+    ghost use Rattle.css_tree.specs.HtmlViews.{AreStates};
     ghost use Rattle.css_tree.specs.Pages.{Page};
-    ghost use Rattle.css_tree.specs.Keys.{AreFamilies, AreKinds};
+    ghost use Rattle.css_tree.specs.Attributes.{AreFound};
+    ghost use Rattle.css_tree.specs.Keys.{AreFamilies, AreKinds, AreLanguages};
 
     ghost Value = { Page };
 
-    ghost view = { λ t. record { rows = t.tree.now; texts = t.texts.items; scope = t.scope } };
+    ghost view = { λ t. record {
+      rows = t.tree.now;
+      texts = t.texts.items;
+      scope = t.scope;
+      marks = map (λ answers. answers.items) t.marks.items;
+      is_html = is_some t.html;
+    } };
 
     ghost invariant = { λ t. AreFamilies t.tree.now t.families × AreKinds t.tree.now t.kinds
-        × (length t.texts.items ≡ length t.tree.now) };
+        × AreLanguages t.tree.now t.languages.items (length t.tree.now)
+        × AreFound t.tree.now t.attributes
+        × (length t.texts.items ≡ length t.tree.now)
+        × IfSome t.html (λ states. AreStates t.tree.now states.items (length t.tree.now)) };
+}
+
+/// Returns the index of the parent of an element, if it has one.
+fn parent_of(tree: &Tree<'_>, index: usize) -> Option<usize>
+    requires { index < length tree.now }
+    ensures value { result ≡ parent_index tree.now index }
+    ensures before { IfSome result (λ parent. parent < index) }
+{
+    Some(tree.node(index).unwrap().parent_element()?.index())
 }
 
 /// Returns the number of the family of an element: 0 for those without a parent, or one more than
@@ -98,8 +131,8 @@ fn family_of(tree: &Tree<'_>, index: usize) -> usize
     requires few { length tree.now < 2 ^ 32 }
     ensures { result ≡ family tree.now index }
 {
-    match tree.node(index).unwrap().parent_element() {
-        Some(parent) => parent.index() + 1,
+    match parent_of(tree, index) {
+        Some(parent) => parent + 1,
         None => 0,
     }
 }
@@ -116,26 +149,63 @@ fn families_of(alloc: Global, tree: &Tree<'_>) -> Result<Vec<usize>, AllocError>
     Ok(families)
 }
 
-/// Returns the marks of `count` elements without a text.
-fn no_texts(alloc: Global, count: usize) -> Result<Vec<bool>, AllocError>
-    ensures len { IfOk result (λ texts. length texts.items ≡ count) }
-    ensures none { IfOk result (λ texts. (i : ℕ) → slice_index_or texts.items i false ≡ false) }
+/// Returns the value of the attribute `lang` of an element, if it has one.
+fn own_language<'t>(tree: &Tree<'t>, index: usize) -> Option<&'t str>
+    requires { index < length tree.now }
+    ensures { option_map (λ value. value.now) result ≡ attribute_at tree.now index (codes "lang") }
 {
-    let mut texts = Vec::with_capacity(alloc, count)?;
-    for index in 0..count {
-        texts.push(false)?;
+    tree.node(index).unwrap().attribute("lang")
+}
+
+/// Returns the language of an element, given those of the elements before it.
+fn language_after<'t>(tree: &Tree<'t>, before: &[&'t str], index: usize) -> &'t str
+    requires within { index < length tree.now }
+    requires so_far { AreLanguages tree.now before.now index }
+    ensures { result.now ≡ language_of tree.now index }
+{
+    if let Some(language) = own_language(tree, index) {
+        return language;
     }
-    Ok(texts)
+    match parent_of(tree, index) {
+        Some(parent) => before[parent],
+        None => "",
+    }
+}
+
+/// Returns the language of each element, in time that is linear in the elements and their attributes.
+fn languages_of<'t>(alloc: Global, tree: &Tree<'t>) -> Result<Vec<&'t str>, AllocError>
+    ensures { IfOk result (λ found. AreLanguages tree.now found.items (length tree.now)) }
+{
+    let mut found = Vec::with_capacity(alloc, tree.len())?;
+    for index in 0..tree.len() {
+        let language = language_after(tree, &found, index);
+        found.push(language)?;
+    }
+    Ok(found)
+}
+
+/// Returns the marks of `count` members, none of which has a mark.
+pub(crate) fn no_marks(alloc: Global, count: usize) -> Result<Vec<bool>, AllocError>
+    ensures len { IfOk result (λ marks. length marks.items ≡ count) }
+    ensures none { IfOk result (λ marks. (i : ℕ) → slice_index_or marks.items i false ≡ false) }
+{
+    let mut marks = Vec::with_capacity(alloc, count)?;
+    for index in 0..count {
+        marks.push(false)?;
+    }
+    Ok(marks)
 }
 
 impl<'p, 't> NumberedTree<'p, 't> {
-    /// Counts the siblings of each element of a tree. No element has a text yet, and none is named as the
-    /// scoping root.
+    /// Counts the siblings of each element of a tree. No element has a text yet, none is named as the
+    /// scoping root, no list of selectors has a number, and the tree is not that of an HTML document.
     pub fn new(alloc: Global, tree: &'p Tree<'t>) -> Result<NumberedTree<'p, 't>, NumberingError>
         ensures rows { IfOk result (λ page. page.rows ≡ tree.now) }
         ensures texts { IfOk result (λ page. (i : ℕ) → slice_index_or page.texts i false ≡ false) }
         ensures all { IfOk result (λ page. length page.texts ≡ length tree.now) }
         ensures scope { IfOk result (λ page. page.scope ≡ None) }
+        ensures marks { IfOk result (λ page. page.marks ≡ []) }
+        ensures html { IfOk result (λ page. page.is_html ≡ false) }
         ensures err { IfErr result (λ error. error ≡ TooManyElements → 2 ^ 32 ≤ length tree.now) }
     {
         if tree.len() > u32::MAX as usize {
@@ -147,8 +217,12 @@ impl<'p, 't> NumberedTree<'p, 't> {
             tree,
             families,
             kinds: Groups::new(alloc, kinds, tree.len())?,
-            texts: no_texts(alloc, tree.len())?,
+            languages: languages_of(alloc, tree)?,
+            attributes: many_attributes(alloc, tree)?,
+            texts: no_marks(alloc, tree.len())?,
             scope: None,
+            marks: Vec::new(alloc),
+            html: None,
         })
     }
 
@@ -166,6 +240,8 @@ impl<'p, 't> NumberedTree<'p, 't> {
         ensures rows { self.new.rows ≡ self.old.rows }
         ensures texts { self.new.texts ≡ slice_set self.old.texts index true }
         ensures scope { self.new.scope ≡ self.old.scope }
+        ensures marks { self.new.marks ≡ self.old.marks }
+        ensures html { self.new.is_html ≡ self.old.is_html }
     {
         self.texts[index] = true;
     }
@@ -176,6 +252,8 @@ impl<'p, 't> NumberedTree<'p, 't> {
         ensures rows { self.new.rows ≡ self.old.rows }
         ensures texts { self.new.texts ≡ self.old.texts }
         ensures scope { self.new.scope ≡ scope }
+        ensures marks { self.new.marks ≡ self.old.marks }
+        ensures html { self.new.is_html ≡ self.old.is_html }
     {
         self.scope = scope;
     }
@@ -210,7 +288,23 @@ impl<'p, 't> NumberedTree<'p, 't> {
         ensures value { result ≡ parent_index self.now.rows index }
         ensures before { IfSome result (λ parent. parent < index) }
     {
-        Some(self.plain(index).parent_element()?.index())
+        parent_of(self.tree, index)
+    }
+
+    /// Returns the value of an attribute of an element, if it has the attribute.
+    pub(crate) fn attribute(&self, index: usize, name: &str) -> Option<&str>
+        requires { index < length self.now.rows }
+        ensures { option_map (λ value. value.now) result ≡ attribute_at self.now.rows index name.now }
+    {
+        value_of(&self.attributes, &self.plain(index), name)
+    }
+
+    /// Returns the language of an element.
+    pub(crate) fn language(&self, index: usize) -> &'t str
+        requires { index < length self.now.rows }
+        ensures { result.now ≡ language_of self.now.rows index }
+    {
+        self.languages[index]
     }
 
     /// Returns the number of siblings before an element, and the last of them.
@@ -263,6 +357,28 @@ impl<'p, 't> NumberedTree<'p, 't> {
         match self.scope {
             Some(scope) => index == scope,
             None => self.parent(index).is_none(),
+        }
+    }
+
+    /// Whether an element of an HTML document is in the state of a name, as attributes decide it.
+    pub(crate) fn is_in_html_state(&self, index: usize, name: &str) -> bool
+        requires { index < length self.now.rows }
+        ensures { result ≡ is_in_page_state self.now index name.now }
+    {
+        match &self.html {
+            Some(states) => states[index].is_in_named(self.texts[index], name),
+            None => false,
+        }
+    }
+
+    /// Whether a list of selectors matches an element, by the index of the list among those that have a
+    /// number from 1 on.
+    pub(crate) fn is_marked(&self, list: usize, index: usize) -> bool
+        ensures { result ≡ is_marked self.now.marks list index }
+    {
+        match self.marks.get(list) {
+            Some(answers) => answers.get(index).copied().unwrap_or(false),
+            None => false,
         }
     }
 }

@@ -1,5 +1,5 @@
 //! Walks over the elements of a tree whose siblings are counted.
-ghost use Rattle.std.specs.Prelude.{◌≡◌, ◌<◌, ◌≤◌, ℕ, List, [], None, Some, IfOk, OnOk, OnErr, IfSome, MatchOption, length, map, reverse, nat_eq};
+ghost use Rattle.std.specs.Prelude.{◌≡◌, ◌<◌, ℕ, List, [], IfOk, OnOk, OnErr, IfSome, length, map, reverse, nat_eq};
 ghost use Rattle.std.specs.Option.{option_eq};
 ghost use Rattle.css_matching.specs.ListTrees.{spot};
 ghost use Rattle.css_index.specs.Found.{AreMatches};
@@ -7,25 +7,14 @@ ghost use Rattle.css_tree.specs.Pages.{Page, page_document, parent_index};
 ghost use Rattle.css_index.specs.Tested.{AreTried};
 ghost use Rattle.css_tree.specs.Reports.{reported_of};
 ghost use Rattle.css_tree.specs.Walks.{IsOpenAt};
-ghost use Rattle.simplecss_tree.specs.internal.{LeadsTo};
+ghost use Rattle.simplecss_tree.specs.Ways.{LeadsTo, IsAbove};
 
 use crate::NumberedTree;
 use css_index::{HasSelector, SelectorWalk};
 use css_selectors::Tests;
+use simplecss_tree::find_way;
 use std::alloc::{AllocError, Global};
 use std::marker::Model;
-
-/// Returns the index, if it comes after the place.
-fn if_after(index: Option<usize>, place: Option<usize>) -> Option<usize>
-    ensures { MatchOption result
-        (MatchOption place (index ≡ None) (λ last. IfSome index (λ i. i ≤ last)))
-        (λ next. index ≡ Some next) }
-{
-    match (index, place) {
-        (Some(next), Some(last)) if next <= last => None,
-        _ => index,
-    }
-}
 
 /// The elements that are open, and where the walk is.
 #[derive(Drop)]
@@ -49,6 +38,8 @@ impl<'s, 'a> Opened<'s, 'a> {
         requires { IsOpenAt page.now self.old.walk self.old.place }
         ensures opened { IsOpenAt page.now self.new.walk self.new.place }
         ensures selectors { self.new.walk.selectors ≡ self.old.walk.selectors }
+        ensures place { IfSome self.old.place (λ last.
+            self.new.place ≡ parent_index page.now.rows last) }
         ensures above { IfSome self.old.place (λ last. IfSome self.new.place (λ parent. parent < last)) }
     {
         if let Some(last) = self.place {
@@ -57,33 +48,17 @@ impl<'s, 'a> Opened<'s, 'a> {
         }
     }
 
-    /// Closes elements until those that are open are ancestors of an element or that element, and
-    /// appends the indices of those between, with that of the element, the last first.
-    fn close_for(
-        &mut self,
-        page: &NumberedTree<'_, '_>,
-        element: Option<usize>,
-        between: &mut Vec<usize>,
-    ) -> Result<(), AllocError>
+    /// Closes elements until the one at a place above was opened last, or none is open.
+    fn close_to(&mut self, page: &NumberedTree<'_, '_>, above: Option<usize>)
         requires opened { IsOpenAt page.now self.old.walk self.old.place }
-        requires element { IfSome element (λ index. index < length page.now.rows) }
-        requires none { between.old.items ≡ [] }
+        requires above { IsAbove page.now.rows above self.old.place }
         ensures opened { IsOpenAt page.now self.new.walk self.new.place }
         ensures selectors { self.new.walk.selectors ≡ self.old.walk.selectors }
-        ensures between { OnOk result
-            (LeadsTo page.now.rows self.new.place (reverse between.new.items) element) }
+        ensures place { self.new.place ≡ above }
     {
-        let mut above = element;
-        'climb: while !self.is_at(above) {
-            match if_after(above, self.place) {
-                Some(index) => {
-                    between.push(index)?;
-                    above = page.parent(index);
-                }
-                None => self.close(page),
-            }
+        'closes: while !self.is_at(above) {
+            self.close(page);
         }
-        Ok(())
     }
 
     /// Opens elements, the last first.
@@ -187,7 +162,8 @@ impl<'s, 'a> TreeWalk<'s, 'a> {
         indices.clear();
         self.between.clear();
         let parent = page.parent(element);
-        self.opened.close_for(page, parent, &mut self.between)?;
+        let above = find_way(page.tree, self.opened.place, parent, &mut self.between)?;
+        self.opened.close_to(page, above);
         self.opened.open_all(page, parent, &mut self.between)?;
         let node = page.node(element).unwrap();
         self.opened

@@ -1,4 +1,4 @@
 mod Growing
-mod Languages
+pub mod Languages
 pub mod ErrorWrites
 pub mod Walking

@@ -2,4 +2,4 @@ pub mod Rows
 pub mod TreeNodes
 pub mod Messages
 pub mod Walks
-pub mod internal
+pub mod Ways

@@ -1,33 +1,21 @@
 //! Walks over the elements of a tree, by which an index finds the rules that match each.
-ghost use Rattle.std.specs.Prelude.{◌≡◌, ◌+◌, ◌<◌, ◌≤◌, [], None, Some, IfOk, OnOk, OnErr, IfSome, MatchOption};
+ghost use Rattle.std.specs.Prelude.{◌≡◌, ◌+◌, ◌<◌, ◌≤◌, [], IfOk, OnOk, OnErr, IfSome};
 ghost use Rattle.std.specs.Prelude.{List, length, map, reverse, nat_eq};
 ghost use Rattle.std.specs.List.{sum_by};
 ghost use Rattle.std.specs.Option.{option_eq};
 ghost use Rattle.simplecss.specs.Buckets.{Near, IsNear};
-ghost use Rattle.simplecss.specs.ListTrees.{spot};
+ghost use Rattle.simplecss.specs.ListTrees.{spot, parent_by};
 ghost use Rattle.simplecss.specs.Matching.{AreMatches, most_tests};
 ghost use Rattle.simplecss.specs.OpenPaths.{open_for};
 ghost use Rattle.simplecss_tree.specs.Rows.{Row};
-ghost use Rattle.simplecss_tree.specs.TreeNodes.{element_tree, reported_at};
+ghost use Rattle.simplecss_tree.specs.TreeNodes.{element_tree, reported_at, named_parent};
 ghost use Rattle.simplecss_tree.specs.Walks.{IsOpenAt, IsAlong};
-ghost use Rattle.simplecss_tree.specs.internal.{LeadsTo};
+ghost use Rattle.simplecss_tree.specs.Ways.{LeadsTo, IsAbove};
 
-use crate::Tree;
+use crate::{Tree, find_way};
 use simplecss::{HasSelector, OpenPath, RuleIndex, Tests};
 use std::alloc::{AllocError, Global};
 use std::marker::Model;
-
-/// Returns the index, if it comes after the place.
-fn if_after(index: Option<usize>, place: Option<usize>) -> Option<usize>
-    ensures { MatchOption result
-        (MatchOption place (index ≡ None) (λ last. IfSome index (λ i. i ≤ last)))
-        (λ next. index ≡ Some next) }
-{
-    match (index, place) {
-        (Some(next), Some(last)) if next <= last => None,
-        _ => index,
-    }
-}
 
 /// The elements that are open, and where the walk is.
 #[derive(Drop)]
@@ -51,6 +39,8 @@ impl<'a> Opened<'a> {
         requires { IsOpenAt tree.now self.old.path self.old.place }
         ensures opened { IsOpenAt tree.now self.new.path self.new.place }
         ensures selectors { self.new.path.selectors ≡ self.old.path.selectors }
+        ensures place { IfSome self.old.place (λ last.
+            self.new.place ≡ parent_by (named_parent tree.now) last) }
         ensures above { IfSome self.old.place (λ last. IfSome self.new.place (λ parent. parent < last)) }
     {
         if let Some(last) = self.place {
@@ -59,33 +49,17 @@ impl<'a> Opened<'a> {
         }
     }
 
-    /// Closes elements until those that are open are ancestors of an element or that element, and
-    /// appends the indices of those between, with that of the element, the last first.
-    fn close_for(
-        &mut self,
-        tree: &Tree<'_>,
-        element: Option<usize>,
-        between: &mut Vec<usize>,
-    ) -> Result<(), AllocError>
+    /// Closes elements until the one at a place above was opened last, or none is open.
+    fn close_to(&mut self, tree: &Tree<'_>, above: Option<usize>)
         requires opened { IsOpenAt tree.now self.old.path self.old.place }
-        requires element { IfSome element (λ index. index < length tree.now) }
-        requires none { between.old.items ≡ [] }
+        requires above { IsAbove tree.now above self.old.place }
         ensures opened { IsOpenAt tree.now self.new.path self.new.place }
         ensures selectors { self.new.path.selectors ≡ self.old.path.selectors }
-        ensures between { OnOk result
-            (LeadsTo tree.now self.new.place (reverse between.new.items) element) }
+        ensures place { self.new.place ≡ above }
     {
-        let mut above = element;
-        'climb: while !self.is_at(above) {
-            match if_after(above, self.place) {
-                Some(index) => {
-                    between.push(index)?;
-                    above = tree.parent(index);
-                }
-                None => self.close(tree),
-            }
+        'closes: while !self.is_at(above) {
+            self.close(tree);
         }
-        Ok(())
     }
 
     /// Opens elements, the last first.
@@ -115,7 +89,7 @@ impl<'a> Opened<'a> {
 /// A walk over the elements of a tree: the rules that match each, found by the elements that are open,
 /// which are its ancestors.
 ///
-/// Elements may be asked in any order. Where each comes after the last one, it opens each element at
+/// Elements may come in any order. Where each comes after the last one, it opens each element at
 /// most once, and only those with children.
 ///
 /// ```text
@@ -190,7 +164,8 @@ impl<'a> RuleWalk<'a> {
         indices.clear();
         self.between.clear();
         let parent = tree.parent(element);
-        self.opened.close_for(tree, parent, &mut self.between)?;
+        let above = find_way(tree, self.opened.place, parent, &mut self.between)?;
+        self.opened.close_to(tree, above);
         self.opened
             .open_all(&self.index, tree, parent, &mut self.between)?;
         let node = tree.node(element).unwrap();

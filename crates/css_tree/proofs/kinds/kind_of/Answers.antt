@@ -1,0 +1,27 @@
+use Rattle.std.proofs.Common.{◌≡◌, ◌<◌, sym, ◌∙◌, arith}
+use Rattle.css_tree.specs.Pages.{family}
+use Rattle.css_tree.specs.declared.kinds.TheConstants.{COMPARED}
+use Rattle.css_tree.proofs.Counting.{some_same}
+use Rattle.css_tree.proofs.KindLemmas.{large-family, named-found, named-new}
+use Rattle.css_tree.proofs.kinds.kind_of.Goals as goal
+
+pub returns-in-Some : goal.returns-in-Some
+returns-in-Some c =
+    let i = c.args.index in
+    let of : c.number-family.result ≡ family c.args.tree.now i =
+    some_same (sym c.number-family.ensures ∙ c.requires.families.each i c.requires.within) in
+    let more : COMPARED < c.count.result = omega (arith, c.if-count-le-COMPARED.false) in
+    named-found c.args.tree.now c.args.families.now i (c.number-family.result, c.name_of.result) of
+    c.name_of.ensures c.args.named.now c.in-Some.number.now
+    (large-family _ _ _ _ of c.count.ensures more) c.requires.named (sym c.in-Some.ensures.value)
+
+pub returns : goal.returns
+returns c =
+    let of : c.number-family.result ≡ family c.args.tree.now c.args.index =
+    some_same (sym c.number-family.ensures
+    ∙ c.requires.families.each c.args.index c.requires.within) in
+    let more : COMPARED < c.count.result = omega (arith, c.if-count-le-COMPARED.false) in
+    named-new c.args.tree.now c.args.families.now c.args.index
+    (c.number-family.result, c.name_of.result) of c.name_of.ensures c.args.named.now
+    c.insert.new.self (large-family _ _ _ _ of c.count.ensures more) c.requires.named
+    (sym c.in_default.ensures.value) c.in_ok-insert.ensures.updates.0

@@ -1,0 +1,163 @@
+//! What the ancestors of an element of an HTML document decide for it.
+ghost use Rattle.std.specs.Prelude.{◌≡◌, ◌<◌, Some, IfOk, length};
+ghost use Rattle.css_tree.specs.HtmlViews.{AreAround};
+ghost use Rattle.css_tree.specs.Pages.{parent_index};
+ghost use Rattle.css_tree.specs.Surroundings.{own_editing as says_editing, editing_named as editing_by};
+ghost use Rattle.css_tree.specs.Surroundings.{bars as bars_child, ends_group as is_end_of_group};
+ghost use Rattle.css_tree.specs.Surroundings.{within as decided_within, surroundings as decided};
+ghost use Rattle.css_tree.specs.Surroundings.{at_root as decided_at_root, is_grouped_within};
+ghost use Rattle.css_tree.specs.Surroundings.{is_first_legend as is_first_legend_of};
+
+use crate::NumberedTree;
+use crate::html_elements::{has_attribute, is_named};
+use simplecss_tree::Node;
+use std::alloc::{AllocError, Global};
+
+/// What ancestors decide for an element.
+#[derive(Clone, Copy, Debug, PartialEq)]
+pub(crate) struct Surroundings {
+    /// Whether a `fieldset` disables controls.
+    pub(crate) is_barred: bool,
+    /// Whether an `optgroup` disables options.
+    pub(crate) is_grouped: bool,
+    /// Whether the element is edited.
+    pub(crate) is_editable: bool,
+    /// The number of the form: one more than its index, or 0 if there is none.
+    pub(crate) form: usize,
+}
+
+/// Whether a value of `contenteditable` says that an element is edited, or that it is not.
+fn editing_named(text: &str) -> Option<bool>
+    ensures { result ≡ editing_by text.now }
+{
+    if text.is_empty()
+        || text.eq_ignore_ascii_case("true")
+        || text.eq_ignore_ascii_case("plaintext-only")
+    {
+        Some(true)
+    } else if text.eq_ignore_ascii_case("false") {
+        Some(false)
+    } else {
+        None
+    }
+}
+
+/// Whether an element says of itself that it is edited, or that it is not.
+fn own_editing(node: &Node<'_, '_>) -> Option<bool>
+    ensures { result ≡ says_editing node.now.0 node.now.1 }
+{
+    editing_named(node.attribute("contenteditable")?)
+}
+
+/// Whether the options in an element have no `optgroup` around it.
+fn ends_group(node: &Node<'_, '_>) -> bool
+    ensures { result ≡ is_end_of_group node.now.0 node.now.1 }
+{
+    is_named(node, "select")
+        || is_named(node, "option")
+        || is_named(node, "datalist")
+        || is_named(node, "hr")
+}
+
+/// Whether the options in an element are disabled, where it is said whether they are around it.
+fn is_grouped(node: &Node<'_, '_>, above: bool) -> bool
+    ensures { result ≡ is_grouped_within node.now.0 node.now.1 above }
+{
+    if is_named(node, "optgroup") {
+        has_attribute(node, "disabled")
+    } else {
+        !ends_group(node) && above
+    }
+}
+
+/// Whether an element is the first `legend` among the children of its parent.
+fn is_first_legend(page: &NumberedTree<'_, '_>, parent: usize, index: usize) -> bool
+    requires within { index < length page.now.rows }
+    requires parent { parent_index page.now.rows index ≡ Some parent }
+    ensures { result ≡ is_first_legend_of page.now.rows parent index }
+{
+    is_named(&page.plain(index), "legend") && page.alike_before(index) == 0
+}
+
+/// Whether the parent is a disabled `fieldset` that bars its child.
+fn bars(page: &NumberedTree<'_, '_>, parent: usize, index: usize) -> bool
+    requires within { index < length page.now.rows }
+    requires above { parent < length page.now.rows }
+    requires parent { parent_index page.now.rows index ≡ Some parent }
+    ensures { result ≡ bars_child page.now.rows parent index }
+{
+    let node = page.plain(parent);
+    is_named(&node, "fieldset")
+        && has_attribute(&node, "disabled")
+        && !is_first_legend(page, parent, index)
+}
+
+/// Returns what is decided for the child of an element for which `above` is.
+fn surroundings_within(
+    page: &NumberedTree<'_, '_>,
+    parent: usize,
+    index: usize,
+    above: Surroundings,
+) -> Surroundings
+    requires within { index < length page.now.rows }
+    requires above { parent < length page.now.rows }
+    requires parent { parent_index page.now.rows index ≡ Some parent }
+    ensures { result ≡ decided_within page.now.rows parent index above }
+{
+    let node = page.plain(parent);
+    let form = if is_named(&node, "form") {
+        parent + 1
+    } else {
+        above.form
+    };
+    Surroundings {
+        is_barred: bars(page, parent, index) || above.is_barred,
+        is_grouped: is_grouped(&node, above.is_grouped),
+        is_editable: own_editing(&page.plain(index)).unwrap_or(above.is_editable),
+        form,
+    }
+}
+
+/// Returns what is decided for an element without a parent.
+fn surroundings_at_root(page: &NumberedTree<'_, '_>, index: usize) -> Surroundings
+    requires { index < length page.now.rows }
+    ensures { result ≡ decided_at_root page.now.rows index }
+{
+    Surroundings {
+        is_barred: false,
+        is_grouped: false,
+        is_editable: own_editing(&page.plain(index)).unwrap_or(false),
+        form: 0,
+    }
+}
+
+/// Returns what is decided for an element, by what is for those before it.
+fn surroundings_of(
+    page: &NumberedTree<'_, '_>,
+    before: &[Surroundings],
+    index: usize,
+) -> Surroundings
+    requires within { index < length page.now.rows }
+    requires before { AreAround page.now.rows before.now index }
+    ensures { result ≡ decided page.now.rows index }
+{
+    match page.parent(index) {
+        Some(parent) => surroundings_within(page, parent, index, before[parent]),
+        None => surroundings_at_root(page, index),
+    }
+}
+
+/// Returns what is decided for each element.
+pub(crate) fn all_surroundings(
+    alloc: Global,
+    page: &NumberedTree<'_, '_>,
+) -> Result<Vec<Surroundings>, AllocError>
+    ensures { IfOk result (λ all. AreAround page.now.rows all.items (length page.now.rows)) }
+{
+    let mut all = Vec::with_capacity(alloc, page.len())?;
+    for index in 0..page.len() {
+        let decided = surroundings_of(page, all.as_slice(), index);
+        all.push(decided)?;
+    }
+    Ok(all)
+}
