@@ -1,0 +1,13 @@
+pub mod PieceLemmas
+pub mod ValidLemmas
+pub mod SubstitutionLemmas
+pub mod ReadingLemmas
+pub mod TableLemmas
+pub mod SlotLemmas
+pub mod CircleLemmas
+pub mod MergeLemmas
+pub mod ResolvingLemmas
+pub mod StepLemmas
+pub mod UniqueLemmas
+pub mod NameLemmas
+pub mod LineLemmas

@@ -1,0 +1,9 @@
+pub mod Pieces
+pub mod Seams
+pub mod Substitution
+pub mod Validity
+pub mod Resolution
+pub mod Names
+pub mod Lines
+pub mod Views
+pub mod internal

@@ -1,0 +1,28 @@
+-- Properties and values as texts, in which a program hands them over.
+use Rattle.std.specs.Prelude.{ℕ, List, [], ◌∷◌, ◌++◌, length, codes, Option, Some, None}
+use Rattle.std.specs.Option.{option_map}
+use Rattle.std.specs.Fmt.{decimal}
+use Rattle.css_values.specs.Resolution.{Property, Known, not_yet, computed}
+
+-- the properties of texts, which are the name and the value of each
+abbrev pub properties_in : List (List ℕ) → Option (List Property)
+properties_in [] = Some []
+properties_in (name ∷ []) = None
+properties_in (name ∷ (text ∷ more)) =
+    option_map (λ others. record { name = name; text = text } ∷ others) (properties_in more)
+
+-- the length of the value, a newline and the value, or only a newline where there is none
+abbrev pub value_line : Known → List ℕ
+value_line not_yet = codes "\n"
+value_line (computed None) = codes "\n"
+value_line (computed (Some value)) = decimal (length value.text) ++ codes "\n" ++ value.text
+
+-- the same of several
+abbrev pub value_lines : List Known → List ℕ
+value_lines [] = []
+value_lines (known ∷ more) = value_line known ++ value_lines more
+
+-- names, each with a newline after it
+abbrev pub name_lines : List (List ℕ) → List ℕ
+name_lines [] = []
+name_lines (name ∷ more) = name ++ codes "\n" ++ name_lines more

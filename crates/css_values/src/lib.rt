@@ -1,0 +1,25 @@
+//! What a value means as far as names go (CSS Custom Properties for Cascading Variables 1): its
+//! references `var(..)` are replaced by the values of custom properties, which may refer to others.
+//!
+//! Values are texts, and stay so.
+#![tactic(auto)]
+
+mod circles;
+mod data;
+mod drafts;
+mod lines;
+mod names;
+mod pieces;
+mod readings;
+mod resolution;
+mod seams;
+mod table;
+mod validity;
+
+pub use data::{INHERITED, SHORTHANDS};
+pub use drafts::Value;
+pub use lines::{name_lines, properties_in, value_lines};
+pub use names::{is_named_in, longhands_in, shorthands_in};
+pub use resolution::resolve;
+pub use table::{Property, Slot};
+pub use validity::is_valid;
