@@ -1,0 +1,3 @@
+pub mod Converted
+pub mod OneTree
+pub mod Pages

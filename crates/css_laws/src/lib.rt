@@ -1,0 +1,11 @@
+//! Laws of crates that do not know one another. A law is the contract of a function that does nothing,
+//! and no other crate stands on this one.
+#![tactic(auto)]
+
+mod one_tree;
+mod pages;
+mod rule_order;
+
+pub use one_tree::converted_law;
+pub use pages::page_law;
+pub use rule_order::rule_order_law;
