@@ -181,7 +181,7 @@ pub fn sheet_text(alloc: Global, sheet: &StyleSheet<'_>) -> Result<String, Alloc
 }
 
 /// Adds the line of an element: its number, and the numbers of the rules with these indices.
-fn push_line(out: &mut String, number: usize, indices: &[usize]) -> Result<(), AllocError>
+pub fn push_numbers(out: &mut String, number: usize, indices: &[usize]) -> Result<(), AllocError>
     requires { All (λ index. index + 1 < 2 ^ 64) indices.now }
     ensures { OnOk result (string_bytes out.new
         ≡ string_bytes out.old ++ numbers_line number (map (λ index. index + 1) indices.now)) }
@@ -242,7 +242,7 @@ fn push_answer(
         (string_bytes out.old) (string_bytes out.new)) }
 {
     match content {
-        LineContent::Rules => push_line(out, element + 1, indices),
+        LineContent::Rules => push_numbers(out, element + 1, indices),
         LineContent::Winner(name) => push_winner(
             out,
             element + 1,

@@ -1,7 +1,8 @@
 //! An example: the declarations of a sheet that win on the elements of a tree, on a screen.
 #![tactic(auto)]
 
-use css_sheet::{SheetRule, read_sheet, winning};
+use css_sheet::{SheetRule, read_sheet};
+use css_styles::{Own, winning};
 use css_tree::NumberedTree;
 use simplecss_tree::Tree;
 use std::io;
@@ -28,10 +29,14 @@ fn show(
     page: &NumberedTree<'_, '_>,
     number: usize,
 ) -> io::Result<()> {
+    let own = Own {
+        style: "",
+        presentation: "",
+    };
     if let Some(element) = page.node(number) {
         for property in PROPERTIES {
-            if let Some(declaration) = winning(rules, &element, property) {
-                println!(rt; "{number}: {declaration}")?;
+            if let Some(winner) = winning(rules, &element, own, property) {
+                println!(rt; "{number}: {}", winner.declaration)?;
             }
         }
     }
@@ -40,7 +45,7 @@ fn show(
 
 fn main(rt: HostRuntime) -> io::Result<()> {
     let is_on_screen = |name: &str, prelude: &str| name == "media" && prelude == "screen";
-    let rules = read_sheet(rt.alloc(), SHEET, MOST, is_on_screen)?;
+    let sheet = read_sheet(rt.alloc(), SHEET, MOST, is_on_screen)?;
     let mut tree = Tree::new(rt.alloc());
     let root = tree.push(None, "main")?;
     for _ in 0..2 {
@@ -49,7 +54,7 @@ fn main(rt: HostRuntime) -> io::Result<()> {
     }
     let page = NumberedTree::new(rt.alloc(), &tree)?;
     for number in 0..page.len() {
-        show(&rt, rules.as_slice(), &page, number)?;
+        show(&rt, sheet.rules.as_slice(), &page, number)?;
     }
     Ok(())
 }

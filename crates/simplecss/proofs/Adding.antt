@@ -1,11 +1,8 @@
 -- Indices that are added to others.
 -- Serves `RuleIndex::matching_counted` (indices are gathered from chains).
-use Rattle.std.proofs.Common.{◌≡◌, ℕ, zero, suc, ◌<◌, ◌↔◌, ◌⊎◌, get_or, inl, inr, List, [], ◌∷◌, ◌++◌, eqb, sym, ap, ◌∙◌, subst, arith, append_assoc, append-nil}
-use Rattle.std.specs.List.{Contains, dedup}
-use Rattle.std.specs.List.Sorted.{IsPermutation}
+use Rattle.std.proofs.Common.{◌≡◌, ℕ, zero, suc, ◌<◌, ◌↔◌, ◌⊎◌, get_or, inl, inr, List, [], ◌∷◌, ◌++◌, sym, ap, ◌∙◌, subst, arith, append_assoc, append-nil}
+use Rattle.std.specs.List.{Contains}
 use Rattle.std.proofs.lemmas.List.Elements.{Contains-append_left, Contains-append_right, Contains-append_cases}
-use Rattle.std.proofs.lemmas.List.Kept.{Contains-dedup_nat, Contains-from_dedup}
-use Rattle.std.proofs.lemmas.List.Sorted.{Contains-permutation, IsPermutation-sym}
 use Rattle.simplecss.specs.SelectorIndices.{Adds}
 
 pub contains_none : {X : Type 0} (x : X) → Contains [] x → ⊥
@@ -59,14 +56,4 @@ added {P} old new (m, e, p) index =
         | inl x ↦ Contains-append_left old m index x
         | inr y ↦ Contains-append_right old m index ((p index).1 y)
       ],
-    )
-
--- a sort and a removal of repeats keep what a list holds
-pub sorted_same : (old between new : List ℕ) → IsPermutation old between → new ≡ dedup eqb between
-    → (index : ℕ) → Contains new index ↔ Contains old index
-sorted_same old between new moved e index =
-    subst (λ xs. Contains xs index ↔ Contains old index) (sym e) (
-      λ h. Contains-permutation between old index (IsPermutation-sym old between moved)
-          (Contains-from_dedup eqb between index h),
-      λ h. Contains-dedup_nat between index (Contains-permutation old between index moved h),
     )

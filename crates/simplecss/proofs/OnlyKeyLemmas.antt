@@ -126,12 +126,6 @@ known_placed tree node reported element near is only keeps selectors indices kep
     first true b h = refl
     first false b h = absurd (false≢true h)
 
--- what an exact search knows
-pub known_of : (exact : Bool) (selectors : List (List Component)) (A : Type 0) → (IsTrue exact → A)
-    → (index : ℕ) → IsKnown exact selectors index → A × IsOnlyKey (selector_at selectors index)
-known_of true selectors A h index k = (h refl, k)
-known_of false selectors A h index k = absurd k
-
 -- where a search is not exact, nothing is known
 pub never_known : (exact known : Bool) → exact ≡ false → (IsTrue known → IsTrue exact)
     → known ≡ false

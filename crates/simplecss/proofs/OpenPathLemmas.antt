@@ -1,5 +1,5 @@
 -- Paths of open elements.
--- Serves `OpenPath` and `RuleIndex::matching_open`.
+-- Serves `OpenPath` and `RuleIndex::matching_exact`.
 use Rattle.std.proofs.Common.{◌≡◌, ℕ, zero, suc, ◌+◌, ◌<◌, ◌≤◌, ◌⊎◌, ◌↔◌, inl, inr, List, [], ◌∷◌, ◌++◌, Bool, true, false, IsTrue, Option, Some, None, length, take, drop, get_or, map, refl, sym, ap, ◌∙◌, subst, arith, append-nil, MatchOption, Bor, ◌-◌}
 use Rattle.std.specs.Prelude.{◌&&◌, ◌||◌, reverse, nat_lt}
 use Rattle.std.proofs.lemmas.Bool.Decides.{nat_tests}

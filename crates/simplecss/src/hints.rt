@@ -93,8 +93,8 @@ fn push_statement<'a>(
 }
 
 /// Returns the hints on a style sheet's text: on a byte order mark, and then on its statements, in
-/// order. Fails only if an allocation fails. The text is read a second time for them, so a program asks
-/// for them only if its user does. No rule is kept, so time and memory are linear in the text.
+/// order. Fails only if an allocation fails. The text is read a second time for them. No rule is kept, so
+/// time and memory are linear in the text.
 /// [`Place::find`](crate::Place::find) finds the position of each.
 pub fn find_hints<'a>(alloc: Global, text: &'a str) -> Result<Vec<Hint<'a>>, AllocError>
     ensures { IfOk result (λ found. hints_of found.items ≡ hints this_edition text.now) }

@@ -14,7 +14,7 @@ use Rattle.simplecss_c.specs.declared.elements.TreeElement.{TreeElement}
 use Rattle.simplecss_c.specs.declared.elements.ElementFault.{ElementFault}
 use Rattle.simplecss_c.specs.declared.elements.ElementFault.TheVariants.{BadStrings}
 use Rattle.simplecss_c.specs.declared.answer.CallError.{CallError}
-use Rattle.simplecss_c.specs.declared.answer.CallError.TheVariants.{Refused, Tree, Memory, TooManyDeclarations, NotUtf8, AnswerTooLong}
+use Rattle.simplecss_c.specs.declared.answer.CallError.TheVariants.{Refused, Tree, Memory, TooManyDeclarations, NotUtf8, AnswerTooLong, TooManyLayers}
 use Rattle.simplecss_c.specs.Elements.{Strings, key_in, value_in, attributes_in, name_in, element_row, limit_after, last_with, parent_after, IsPath, fault_in, strings_of, with_element, tree_from, states_in}
 use Rattle.simplecss_c.specs.Calls.{FailsFor}
 
@@ -288,3 +288,4 @@ handed_on P (Err reported) Memory F G is due more = subst (FailsFor ⊥ G ⊥) (
 handed_on P (Err reported) TooManyDeclarations F G is due more = absurd due
 handed_on P (Err reported) NotUtf8 F G is due more = absurd due
 handed_on P (Err reported) AnswerTooLong F G is due more = absurd due
+handed_on P (Err reported) TooManyLayers F G is due more = absurd due

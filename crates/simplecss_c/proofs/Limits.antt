@@ -6,7 +6,7 @@ use Rattle.std.specs.Result.{IsErrAnd}
 use Rattle.css_text.specs.declared.SheetError.{SheetError}
 use Rattle.css_text.specs.declared.SheetError.TheVariants as sheet
 use Rattle.simplecss_c.specs.declared.answer.CallError.{CallError}
-use Rattle.simplecss_c.specs.declared.answer.CallError.TheVariants.{Refused, Tree, Memory, TooManyDeclarations, NotUtf8, AnswerTooLong}
+use Rattle.simplecss_c.specs.declared.answer.CallError.TheVariants.{Refused, Tree, Memory, TooManyDeclarations, NotUtf8, AnswerTooLong, TooManyLayers}
 use Rattle.simplecss_c.specs.declared.elements.ElementFault.{ElementFault}
 use Rattle.simplecss_c.specs.Answers.{failure_of}
 use Rattle.simplecss_c.specs.Calls.{FailsFor, FailsWithin, FailsLonger}
@@ -33,6 +33,7 @@ fails_within R F B O L Memory h = h
 fails_within R F B O L TooManyDeclarations h = absurd h
 fails_within R F B O L NotUtf8 h = h
 fails_within R F B O L AnswerTooLong h = absurd h
+fails_within R F B O L TooManyLayers h = absurd h
 
 -- what fails for a reason fails for any wider one
 pub within_wider : {R R' B B' O O' L L' : Type 0} {F F' : ElementFault → Type 0} → (R → R')
@@ -44,6 +45,7 @@ within_wider r f b o l Memory h = tt
 within_wider r f b o l TooManyDeclarations h = o h
 within_wider r f b o l NotUtf8 h = b h
 within_wider r f b o l AnswerTooLong h = l h
+within_wider r f b o l TooManyLayers h = absurd h
 
 -- the same of a call that fails for nothing but a limit on the answer
 pub longer_wider : {L L' : Type 0} (R : Type 0) (F : ElementFault → Type 0) (B O : Type 0)

@@ -13,7 +13,7 @@ use Rattle.css_tree.specs.Pages.{Page}
 use Rattle.simplecss_tree.specs.Rows.{Row}
 use Rattle.simplecss_c.specs.declared.answer.CallError.{CallError}
 use Rattle.simplecss_c.specs.declared.answer.CallError.TheVariants.{Memory}
-use Rattle.simplecss_c.specs.declared.modern.reading.Reading.{Reading}
+use Rattle.simplecss_c.specs.declared.modern.document_kind.DocumentKind.{DocumentKind}
 use Rattle.simplecss_c.specs.declared.pages.LineContent.{LineContent}
 use Rattle.simplecss_c.specs.declared.pages.LineContent.TheVariants.{Numbers, Selected}
 use Rattle.simplecss_c.specs.Outcomes.{outcome_of}
@@ -51,26 +51,26 @@ ReadLines r IsAnswer passed =
     (ReadFails passed (IsAnswer None))
 
 -- the lines that are due for a page
-pub lines-due : {Z : Type 0} (most : ℕ) (content : LineContent) (reading : Reading)
+pub lines-due : {Z : Type 0} (most : ℕ) (content : LineContent) (kind : DocumentKind)
     (selectors : List Selector) (passed : Passed) (rows : List Row) (page : Page) → IsUtf8 passed.strings → passed_tree passed ≡ Ok rows
-    → page ≡ page_with passed.elements rows → (r : Result (String Z) CallError)
-    → MatchResult r (λ text. AreModernLines most content (map (selector_as reading) selectors) page
+    → page ≡ page_with kind passed.elements rows → (r : Result (String Z) CallError)
+    → MatchResult r (λ text. AreModernLines most content (map (selector_as kind) selectors) page
     (Some (string_bytes text)))
-    (FailsLonger (AreModernLines most content (map (selector_as reading) selectors) page None))
-    → ReadLines r (AreReadLines most content reading selectors passed) passed
-lines-due most content reading selectors passed rows page utf8 tree same (Ok text) due = (
+    (FailsLonger (AreModernLines most content (map (selector_as kind) selectors) page None))
+    → ReadLines r (AreReadLines most content kind selectors passed) passed
+lines-due most content kind selectors passed rows page utf8 tree same (Ok text) due = (
   rows,
   utf8,
   tree,
-  subst (λ p. AreModernLines most content (map (selector_as reading) selectors) p
+  subst (λ p. AreModernLines most content (map (selector_as kind) selectors) p
       (Some (string_bytes text))) same due,
 )
-lines-due most content reading selectors passed rows page utf8 tree same (Err error) due =
+lines-due most content kind selectors passed rows page utf8 tree same (Err error) due =
     longer_wider _ _ _ _ (λ longer. (
       rows,
       utf8,
       tree,
-      subst (λ p. AreModernLines most content (map (selector_as reading) selectors) p None) same
+      subst (λ p. AreModernLines most content (map (selector_as kind) selectors) p None) same
           longer,
     )) error due
 
@@ -101,53 +101,53 @@ refusal-due text read same utf8 (Err error) due =
     subst (λ e. IsModernRefusalCall text (Err e)) (sym due) tt
 
 -- the lines that are due for the selectors of texts
-pub match-due : {Z : Type 0} (most : ℕ) (buffer ends : List ℕ) (reading : Reading) (passed : Passed)
+pub match-due : {Z : Type 0} (most : ℕ) (buffer ends : List ℕ) (kind : DocumentKind) (passed : Passed)
     (texts : List (List ℕ)) (selectors : List Selector) → HasTexts buffer ends texts
     → AreSelectorsIn selector_of texts selectors → (r : Result (String Z) CallError)
-    → ReadLines r (AreReadLines most Numbers reading selectors passed) passed
-    → IsModernMatchCall most buffer ends reading passed (outcome_of r)
-match-due most buffer ends reading passed texts selectors has read (Ok text) due =
+    → ReadLines r (AreReadLines most Numbers kind selectors passed) passed
+    → IsModernMatchCall most buffer ends kind passed (outcome_of r)
+match-due most buffer ends kind passed texts selectors has read (Ok text) due =
     (texts, selectors, has, read, due)
-match-due most buffer ends reading passed texts selectors has read (Err error) due =
+match-due most buffer ends kind passed texts selectors has read (Err error) due =
     within_wider (λ is. absurd is) (λ fault is. is) (λ broken. inr broken) (λ is. is)
     (λ longer. (texts, selectors, has, read, longer)) error due
 
 -- why the texts are none
-pub texts-failed : (most : ℕ) (buffer ends : List ℕ) (reading : Reading) (passed : Passed)
+pub texts-failed : (most : ℕ) (buffer ends : List ℕ) (kind : DocumentKind) (passed : Passed)
     (error : CallError)
     → FailsFor (HasBadEnds buffer ends) (λ fault. ⊥) (IsBrokenUtf8 buffer ends) error
-    → IsModernMatchCall most buffer ends reading passed (Err error)
-texts-failed most buffer ends reading passed error h =
+    → IsModernMatchCall most buffer ends kind passed (Err error)
+texts-failed most buffer ends kind passed error h =
     within_wider (λ bad. inl bad) (λ fault is. absurd is) (λ broken. inl broken) (λ is. is)
     (λ is. absurd is) error
     (fails_within (HasBadEnds buffer ends) (λ fault. ⊥) (IsBrokenUtf8 buffer ends) ⊥ ⊥ error h)
 
 -- why the texts are no selectors
-pub selectors-failed : (most : ℕ) (buffer ends : List ℕ) (reading : Reading) (passed : Passed)
+pub selectors-failed : (most : ℕ) (buffer ends : List ℕ) (kind : DocumentKind) (passed : Passed)
     (texts : List (List ℕ)) → HasTexts buffer ends texts → (error : CallError)
     → FailsFor (HasNoSelector selector_of texts) (λ fault. ⊥) ⊥ error
-    → IsModernMatchCall most buffer ends reading passed (Err error)
-selectors-failed most buffer ends reading passed texts has error h =
+    → IsModernMatchCall most buffer ends kind passed (Err error)
+selectors-failed most buffer ends kind passed texts has error h =
     within_wider (λ none. inr (texts, has, none)) (λ fault is. absurd is) (λ is. absurd is)
     (λ is. is) (λ is. absurd is) error
     (fails_within (HasNoSelector selector_of texts) (λ fault. ⊥) ⊥ ⊥ ⊥ error h)
 
 -- the lines that are due for a list of selectors
-pub select-due : {Z : Type 0} (most : ℕ) (text : List ℕ) (reading : Reading) (passed : Passed)
+pub select-due : {Z : Type 0} (most : ℕ) (text : List ℕ) (kind : DocumentKind) (passed : Passed)
     (selectors : List Selector) → IsUtf8 text → selectors_of text ≡ Some selectors
     → (r : Result (String Z) CallError)
-    → ReadLines r (AreReadLines most Selected reading selectors passed) passed
-    → IsModernSelectCall most text reading passed (outcome_of r)
-select-due most text reading passed selectors utf8 is (Ok lines) due = (selectors, utf8, is, due)
-select-due most text reading passed selectors utf8 is (Err error) due =
+    → ReadLines r (AreReadLines most Selected kind selectors passed) passed
+    → IsModernSelectCall most text kind passed (outcome_of r)
+select-due most text kind passed selectors utf8 is (Ok lines) due = (selectors, utf8, is, due)
+select-due most text kind passed selectors utf8 is (Err error) due =
     within_wider (λ is. absurd is) (λ fault is. is) (λ broken. inr broken) (λ is. is)
     (λ longer. (selectors, utf8, is, longer)) error due
 
 -- why the text is no list
-pub list-failed : (most : ℕ) (text read : List ℕ) (reading : Reading) (passed : Passed) → read ≡ text
+pub list-failed : (most : ℕ) (text read : List ℕ) (kind : DocumentKind) (passed : Passed) → read ≡ text
     → (error : CallError) → FailsFor (selectors_of read ≡ None) (λ fault. ⊥) ⊥ error
-    → IsModernSelectCall most text reading passed (Err error)
-list-failed most text read reading passed same error h =
+    → IsModernSelectCall most text kind passed (Err error)
+list-failed most text read kind passed same error h =
     within_wider (λ none. ap selectors_of (sym same) ∙ none) (λ fault is. absurd is)
     (λ is. absurd is) (λ is. is) (λ is. absurd is) error
     (fails_within (selectors_of read ≡ None) (λ fault. ⊥) ⊥ ⊥ ⊥ error h)

@@ -1,5 +1,5 @@
 -- The elements of a tree as a page, which of them have a text, and the failures of calls over them.
--- Serves `modern::pages::page_of` and `modern::{page_lines, matches, select, list}`.
+-- Serves `modern::pages::counted_page`, `modern::pages::page_of` and `modern::{page_lines, matches, select, list}`.
 use Rattle.std.proofs.Common.{◌≡◌, ℕ, ◌+◌, ◌<◌, ◌≤◌, Bool, true, false, List, [], ◌∷◌, ◌++◌, length, map, get_or, set, take, drop, Option, None, Some, refl, sym, ap, ◌∙◌, arith}
 use Rattle.std.specs.Prelude.{Result, Ok, Err, if◌then◌else◌}
 use Rattle.std.proofs.lemmas.List.{take_more, take_more_set, map_more, take_all}
@@ -7,9 +7,11 @@ use Rattle.std.proofs.lemmas.Grind.{common_steps}
 use Rattle.simplecss_tree.specs.Rows.{Row}
 use Rattle.css_tree.specs.Pages.{Page}
 use Rattle.simplecss_c.specs.declared.answer.CallError.{CallError}
-use Rattle.simplecss_c.specs.declared.answer.CallError.TheVariants.{Refused, Tree, Memory, TooManyDeclarations, NotUtf8, AnswerTooLong}
+use Rattle.simplecss_c.specs.declared.answer.CallError.TheVariants.{Refused, Tree, Memory, TooManyDeclarations, NotUtf8, AnswerTooLong, TooManyLayers}
 use Rattle.simplecss_c.specs.declared.elements.ElementFault.{ElementFault}
 use Rattle.simplecss_c.specs.declared.elements.TreeElement.{TreeElement}
+use Rattle.simplecss_c.specs.declared.modern.document_kind.DocumentKind.TheVariants.{AsWritten, Html}
+use Rattle.css_tree.specs.declared.html.HtmlMode.{HtmlMode}
 use Rattle.simplecss_c.specs.Calls.{FailsFor}
 use Rattle.simplecss_c.specs.Elements.{Strings, has_text, fault_in, limit_after, strings_of, tree_from, tree_of, with_element}
 use Rattle.simplecss_c.specs.ModernLines.{page_with}
@@ -53,6 +55,22 @@ tree-length elements buffer ends rows is =
 
 -- ---- which elements have a text
 
+-- pages with the same parts
+pages-same : (page other : Page) → page.rows ≡ other.rows → page.texts ≡ other.texts
+    → page.scope ≡ other.scope → page.marks ≡ other.marks → page.is_html ≡ other.is_html
+    → page ≡ other
+pages-same page other same texts scope marks html =
+    ap (λ r. record { rows = r; texts = page.texts; scope = page.scope; marks = page.marks; is_html = page.is_html })
+    same
+    ∙ ap (λ t. record { rows = other.rows; texts = t; scope = page.scope; marks = page.marks; is_html = page.is_html })
+    texts
+    ∙ ap (λ s. record { rows = other.rows; texts = other.texts; scope = s; marks = page.marks; is_html = page.is_html })
+    scope
+    ∙ ap (λ m. record { rows = other.rows; texts = other.texts; scope = other.scope; marks = m; is_html = page.is_html })
+    marks
+    ∙ ap (λ h. record { rows = other.rows; texts = other.texts; scope = other.scope; marks = other.marks; is_html = h })
+    html
+
 -- those below an index are known
 pub record TextsSoFar (elements : List TreeElement) (rows : List Row) (index : ℕ) (page : Page)
     : Type 0 where
@@ -61,17 +79,22 @@ pub record TextsSoFar (elements : List TreeElement) (rows : List Row) (index : �
   pub known : take index page.texts ≡ map has_text (take index elements)
   pub later : (i : ℕ) → index ≤ i → get_or page.texts i false ≡ false
   pub unscoped : page.scope ≡ None
+  pub unmarked : page.marks ≡ []
+  pub plain : page.is_html ≡ false
 
 -- no element has a text yet
 pub texts-none : (elements : List TreeElement) (rows : List Row) (page : Page) → page.rows ≡ rows
     → length page.texts ≡ length rows → ((i : ℕ) → get_or page.texts i false ≡ false)
-    → length elements ≡ length rows → page.scope ≡ None → TextsSoFar elements rows 0 page
-texts-none elements rows page same all none many unscoped = record {
+    → length elements ≡ length rows → page.scope ≡ None → page.marks ≡ []
+    → page.is_html ≡ false → TextsSoFar elements rows 0 page
+texts-none elements rows page same all none many unscoped unmarked plain = record {
   same = same;
   all = all ∙ sym many;
   known = refl;
   later = λ i _. none i;
   unscoped = unscoped;
+  unmarked = unmarked;
+  plain = plain;
 }
 
 module _ {elements : List TreeElement} {rows : List Row} {index : ℕ} {page : Page}
@@ -79,9 +102,10 @@ module _ {elements : List TreeElement} {rows : List Row} {index : ℕ} {page : P
   where
     -- the element has a text
     pub text-known : (new : Page) → new.rows ≡ page.rows → new.texts ≡ set page.texts index true
-        → new.scope ≡ page.scope → has_text (get_or elements index d) ≡ true
+        → new.scope ≡ page.scope → new.marks ≡ page.marks → new.is_html ≡ page.is_html
+        → has_text (get_or elements index d) ≡ true
         → TextsSoFar elements rows (index + 1) new
-    text-known new same texts scope is = record {
+    text-known new same texts scope marks html is = record {
       same = same ∙ so_far.same;
       all = ap length texts ∙ grind (arith, common_steps, so_far.all);
       known = ap (take (index + 1)) texts
@@ -92,6 +116,8 @@ module _ {elements : List TreeElement} {rows : List Row} {index : ℕ} {page : P
       later = λ i less. ap (λ ts. get_or ts i false) texts
           ∙ grind (arith, common_steps, so_far.later i (omega (arith, less)), less);
       unscoped = scope ∙ so_far.unscoped;
+      unmarked = marks ∙ so_far.unmarked;
+      plain = html ∙ so_far.plain;
     }
 
     -- the element has no text
@@ -107,17 +133,28 @@ module _ {elements : List TreeElement} {rows : List Row} {index : ℕ} {page : P
           ∙ sym (map_more has_text elements index d within);
       later = λ i less. so_far.later i (omega (arith, less));
       unscoped = so_far.unscoped;
+      unmarked = so_far.unmarked;
+      plain = so_far.plain;
     }
 
 -- of all elements it is known
 pub texts-known : (elements : List TreeElement) (rows : List Row) (index : ℕ) (page : Page)
-    → TextsSoFar elements rows index page → index ≡ length elements → page ≡ page_with elements rows
+    → TextsSoFar elements rows index page → index ≡ length elements
+    → page ≡ page_with AsWritten elements rows
 texts-known elements rows index page so_far all =
-    let texts = sym (take_all index page.texts (omega (arith, all, so_far.all)))
-    ∙ so_far.known ∙ ap (map has_text) (take_all index elements (omega (arith, all))) in
-    ap (λ r. record { rows = r; texts = page.texts; scope = page.scope }) so_far.same
-    ∙ ap (λ ts. record { rows = rows; texts = ts; scope = page.scope }) texts
-    ∙ ap (λ s. record { rows = rows; texts = map has_text elements; scope = s }) so_far.unscoped
+    pages-same page (page_with AsWritten elements rows) so_far.same
+    (sym (take_all index page.texts (omega (arith, all, so_far.all)))
+    ∙ so_far.known ∙ ap (map has_text) (take_all index elements (omega (arith, all))))
+    so_far.unscoped so_far.unmarked so_far.plain
+
+-- and the document is HTML
+pub page-html : (mode : HtmlMode) (elements : List TreeElement) (rows : List Row) (old new : Page)
+    → old ≡ page_with AsWritten elements rows → new.rows ≡ old.rows → new.texts ≡ old.texts
+    → new.scope ≡ old.scope → new.marks ≡ old.marks → new.is_html ≡ true
+    → new ≡ page_with (Html mode) elements rows
+page-html mode elements rows old new is same texts scope marks html =
+    pages-same new (page_with (Html mode) elements rows) (same ∙ ap (λ p. p.rows) is)
+    (texts ∙ ap (λ p. p.texts) is) (scope ∙ ap (λ p. p.scope) is) (marks ∙ ap (λ p. p.marks) is) html
 
 -- ---- failures
 
@@ -131,3 +168,4 @@ fails_wider r f b Memory h = tt
 fails_wider r f b TooManyDeclarations h = h
 fails_wider r f b NotUtf8 h = b h
 fails_wider r f b AnswerTooLong h = h
+fails_wider r f b TooManyLayers h = h

@@ -1,7 +1,7 @@
 -- What a call over a tree answers, and one with a limit on its answer.
 -- Serves `calls::{read, matches, select, match_selectors, styles, style_text}`.
 use Rattle.std.proofs.Common.{◌≡◌, ◌<◌, ◌≤◌, ℕ, List, length, Option, None, Some, inl, inr, sym, ap, ◌∙◌, subst}
-use Rattle.std.specs.Prelude.{Result, Ok, Err, MatchResult, string_bytes}
+use Rattle.std.specs.Prelude.{Vec, Result, Ok, Err, MatchResult, string_bytes}
 use Rattle.std.specs.Result.{IsErrAnd}
 use Rattle.std.specs.declared.string.String.{String}
 use Rattle.std.specs.Str.{IsUtf8}
@@ -12,12 +12,12 @@ use Rattle.simplecss.specs.ThisEdition.{this_edition}
 use Rattle.simplecss_tree.specs.Rows.{Row}
 use Rattle.cssq.specs.SelectorRuns.{selector_in}
 use Rattle.simplecss_c.specs.declared.answer.CallError.{CallError}
-use Rattle.simplecss_c.specs.declared.answer.CallError.TheVariants.{Refused, Tree, Memory, TooManyDeclarations, NotUtf8, AnswerTooLong}
-use Rattle.simplecss_c.specs.Outcomes.{outcome_of}
+use Rattle.simplecss_c.specs.declared.answer.CallError.TheVariants.{Refused, Tree, Memory, TooManyDeclarations, NotUtf8, AnswerTooLong, TooManyLayers}
+use Rattle.simplecss_c.specs.Outcomes.{outcome_of, numbers_outcome}
 use Rattle.simplecss_c.specs.declared.pages.LineContent.TheVariants.{Numbers, Selected}
-use Rattle.simplecss_c.specs.Calls.{HasTexts, IsReadWithin, Passed, passed_tree, IsReadCall, IsPageCall, IsStyleCall, IsPortSelectCall, IsPortMatchSelectorsCall, AreSelectorsIn, HasNoSelector, HasBadEnds, IsBrokenUtf8, FailsFor, FailsLonger}
+use Rattle.simplecss_c.specs.Calls.{HasTexts, IsReadWithin, Passed, passed_tree, IsPageCall, IsStyleCall, IsPortSelectCall, IsPortMatchSelectorsCall, AreSelectorsIn, HasNoSelector, HasBadEnds, IsBrokenUtf8, FailsFor, FailsLonger}
 use Rattle.simplecss_c.specs.AnswerLines.{AreLinesOf, AreWinnerLines}
-use Rattle.simplecss_c.specs.SheetLines.{sheet_lines}
+use Rattle.simplecss_c.specs.SheetNumbers.{IsReadCall, sheet_numbers}
 use Rattle.simplecss_c.proofs.Limits.{fails_within, within_wider, longer_wider}
 
 -- the lines that are due, or why there are none
@@ -59,6 +59,7 @@ style_due most buffer ends limit passed name utf8 (Err Memory) h = tt
 style_due most buffer ends limit passed name utf8 (Err TooManyDeclarations) h = h
 style_due most buffer ends limit passed name utf8 (Err NotUtf8) h = inl h
 style_due most buffer ends limit passed name utf8 (Err AnswerTooLong) h = (utf8, h)
+style_due most buffer ends limit passed name utf8 (Err TooManyLayers) h = h
 
 -- the lines that are due for a list of selectors, or why there are none
 pub select_due : {Z : Type 0} (most : ℕ) (text : List ℕ) (passed : Passed)
@@ -122,16 +123,16 @@ match_due most buffer ends passed texts rows has selectors read utf8 tree matche
       subst (λ ss. AreLinesOf most Numbers ss rows None) are longer,
     )) failure due
 
--- the lines of the items of a sheet that are due, of a text that was read, or why there are none
+-- the numbers of the statements of a sheet that are due, of a text that was read, or why there are none
 pub read_due : {Z : Type 0} (most : ℕ) (text read : List ℕ) → read ≡ text → IsUtf8 text
-    → (r : Result (String Z) CallError)
-    → MatchResult r (λ lines. (string_bytes lines ≡ sheet_lines read)
-    × (length (string_bytes lines) ≤ most)) (FailsLonger (most < length (sheet_lines read)))
-    → IsReadCall most text (outcome_of r)
-read_due most text read same utf8 (Ok lines) due = (utf8, due.0 ∙ ap sheet_lines same, due.1)
+    → (r : Result (Vec ℕ Z) CallError)
+    → MatchResult r (λ out. (out.items ≡ sheet_numbers read) × (length out.items ≤ most))
+    (FailsLonger (most < length (sheet_numbers read)))
+    → IsReadCall most text (numbers_outcome r)
+read_due most text read same utf8 (Ok out) due = (utf8, due.0 ∙ ap sheet_numbers same, due.1)
 read_due most text read same utf8 (Err failure) due =
-    longer_wider _ _ _ _ (λ longer. (utf8, subst (λ t. most < length (sheet_lines t)) same longer)) failure
-    due
+    longer_wider _ _ _ _ (λ longer. (utf8, subst (λ t. most < length (sheet_numbers t)) same longer))
+    failure due
 
 -- why the texts of selectors are none
 pub texts_failed : (most : ℕ) (buffer ends : List ℕ) (passed : Passed) (failure : CallError)

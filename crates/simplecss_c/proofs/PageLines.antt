@@ -1,5 +1,5 @@
 -- What the lines of all elements are once they are written, and why they are not written before.
--- Serves `pages::{lines, won_lines}`, `modern::pages::lines_by` and `sheets::sheet_lines`.
+-- Serves `pages::{lines, won_lines}`, `modern::pages::lines_by` and `sheets::sheet_numbers`.
 use Rattle.std.proofs.Common.{◌≡◌, ℕ, ◌≤◌, ◌<◌, List, [], ◌++◌, length, None, Some, sym, ap, ◌∙◌, subst, arith}
 use Rattle.std.specs.Prelude.{Result, Ok, Err, MatchResult}
 use Rattle.std.specs.Result.{IsErrAnd}

@@ -5,7 +5,7 @@ use Rattle.simplecss_c.specs.Elements.{fault_number, fault_element}
 use Rattle.simplecss_c.specs.declared.answer.CallError.{CallError}
 use Rattle.css_text.specs.declared.SheetError.{SheetError}
 use Rattle.css_text.specs.declared.SheetError.TheVariants as sheet
-use Rattle.simplecss_c.specs.declared.answer.CallError.TheVariants.{Refused, Tree, Memory, TooManyDeclarations, NotUtf8, AnswerTooLong}
+use Rattle.simplecss_c.specs.declared.answer.CallError.TheVariants.{Refused, Tree, Memory, TooManyDeclarations, NotUtf8, AnswerTooLong, TooManyLayers}
 use Rattle.simplecss_c.specs.declared.answer.TreeFault.{TreeFault}
 
 -- the status of a failure
@@ -16,6 +16,7 @@ status_of Memory = 3
 status_of TooManyDeclarations = 4
 status_of NotUtf8 = 5
 status_of AnswerTooLong = 4
+status_of TooManyLayers = 7
 
 -- the failure of a call whose sheet is not read
 abbrev pub failure_of : SheetError → CallError
@@ -24,7 +25,8 @@ failure_of sheet.Memory = Memory
 
 -- The whole text is at the start of the buffer, and the rest of the buffer is unchanged; or the
 -- buffer is too small for it, and is unchanged. The length is that of the whole text.
-pub data IsHandedOver (bytes : List ℕ) (status : ℕ) (old new : List ℕ) (len : ℕ) : Type 0 where
+pub data IsHandedOver {A : Type 0} (bytes : List A) (status : ℕ) (old new : List A) (len : ℕ) :
+    Type 0 where
   written : length bytes ≤ length old → status ≡ 0 → new ≡ bytes ++ drop (length bytes) old
       → len ≡ length bytes → IsHandedOver bytes status old new len
   too_small : length old < length bytes → status ≡ 6 → new ≡ old → len ≡ length bytes
@@ -49,6 +51,7 @@ IsFaultSet (Err Memory) old new = new ≡ old
 IsFaultSet (Err TooManyDeclarations) old new = new ≡ old
 IsFaultSet (Err NotUtf8) old new = new ≡ old
 IsFaultSet (Err AnswerTooLong) old new = new ≡ old
+IsFaultSet (Err TooManyLayers) old new = new ≡ old
 
 -- One of the outcomes that a call may have is handed over.
 abbrev pub IsAnswered : (Result (List ℕ) CallError → Type 0) → ℕ → List ℕ → List ℕ → ℕ → Type 0

@@ -17,13 +17,11 @@ use Rattle.simplecss_c.specs.declared.elements.PassedTree.{PassedTree}
 use Rattle.simplecss_c.specs.declared.elements.ElementFault.{ElementFault}
 use Rattle.simplecss_c.specs.declared.elements.TreeElement.{TreeElement}
 use Rattle.simplecss_c.specs.declared.answer.CallError.{CallError}
-use Rattle.simplecss_c.specs.declared.answer.CallError.TheVariants.{Refused, Tree, Memory, TooManyDeclarations, NotUtf8, AnswerTooLong}
+use Rattle.simplecss_c.specs.declared.answer.CallError.TheVariants.{Refused, Tree, Memory, TooManyDeclarations, NotUtf8, AnswerTooLong, TooManyLayers}
 use Rattle.simplecss_c.specs.declared.pages.LineContent.TheVariants.{Numbers, Selected}
 use Rattle.simplecss_c.specs.Texts.{texts_in}
 use Rattle.simplecss_c.specs.Elements.{tree_of}
 use Rattle.simplecss_c.specs.JsonLines.{rule_lines, skipped_lines, selector_lines, read_line}
-use Rattle.simplecss_c.specs.ItemLines.{item_lines}
-use Rattle.simplecss_c.specs.SheetLines.{sheet_lines}
 use Rattle.simplecss_c.specs.AnswerLines.{AreLinesOf, AreMatchLines, AreWinnerLines, AreWinnersLines}
 
 -- A failure has its own reason. Any call may be out of memory.
@@ -34,6 +32,7 @@ FailsFor IsRefused IsFaulty IsBroken Memory = Unit {0}
 FailsFor IsRefused IsFaulty IsBroken TooManyDeclarations = ⊥
 FailsFor IsRefused IsFaulty IsBroken NotUtf8 = IsBroken
 FailsFor IsRefused IsFaulty IsBroken AnswerTooLong = ⊥
+FailsFor IsRefused IsFaulty IsBroken TooManyLayers = ⊥
 
 -- the same of a call with limits on the declarations and on the answer
 abbrev pub FailsWithin : Type 0 → (ElementFault → Type 0) → Type 0 → Type 0 → Type 0 → CallError
@@ -44,6 +43,7 @@ FailsWithin IsRefused IsFaulty IsBroken IsBeyond IsLonger Memory = Unit {0}
 FailsWithin IsRefused IsFaulty IsBroken IsBeyond IsLonger TooManyDeclarations = IsBeyond
 FailsWithin IsRefused IsFaulty IsBroken IsBeyond IsLonger NotUtf8 = IsBroken
 FailsWithin IsRefused IsFaulty IsBroken IsBeyond IsLonger AnswerTooLong = IsLonger
+FailsWithin IsRefused IsFaulty IsBroken IsBeyond IsLonger TooManyLayers = ⊥
 
 -- of a call that fails for nothing but a limit on the answer
 abbrev pub FailsLonger : Type 0 → CallError → Type 0
@@ -139,18 +139,6 @@ abbrev pub IsPortRefusalCall : List ℕ → Result (List ℕ) CallError → Type
 IsPortRefusalCall text (Ok bytes) = IsUtf8 text × (bytes ≡ read_line (list_read this_edition text))
 IsPortRefusalCall text (Err failure) = FailsFor ⊥ (λ fault. ⊥) (¬ (IsUtf8 text)) failure
 
--- a line in JSON for each item of the style sheet, in at most this number of bytes
-abbrev pub IsReadCall : (most : ℕ) → List ℕ → Result (List ℕ) CallError → Type 0
-IsReadCall most text (Ok bytes) = IsUtf8 text × (bytes ≡ sheet_lines text) × (length bytes ≤ most)
-IsReadCall most text (Err failure) =
-    FailsWithin ⊥ (λ fault. ⊥) (¬ (IsUtf8 text)) ⊥
-    (IsUtf8 text × (most < length (sheet_lines text))) failure
-
--- a line in JSON for each item of the style attribute
-abbrev pub IsDeclarationsCall : List ℕ → Result (List ℕ) CallError → Type 0
-IsDeclarationsCall text (Ok bytes) = IsUtf8 text × (bytes ≡ item_lines text)
-IsDeclarationsCall text (Err failure) = FailsFor ⊥ (λ fault. ⊥) (¬ (IsUtf8 text)) failure
-
 -- The value with what closes it, read whole. Which values are refused is not said.
 abbrev pub IsCloseCall : List ℕ → Result (List ℕ) CallError → Type 0
 IsCloseCall value (Ok text) = IsUtf8 value × IsClosed value text
@@ -244,6 +232,7 @@ IsStyleCall most buffer ends limit passed name (Err TooManyDeclarations) =
 IsStyleCall most buffer ends limit passed name (Err AnswerTooLong) =
     IsUtf8 name × IsPage (AreWinnerLines most name) buffer ends limit passed None
 IsStyleCall most buffer ends limit passed name (Err (Tree fault)) = passed_tree passed ≡ Err fault
+IsStyleCall most buffer ends limit passed name (Err TooManyLayers) = ⊥
 IsStyleCall most buffer ends limit passed name (Ok bytes) =
     IsUtf8 name × IsPageCall (AreWinnerLines most name) buffer ends limit passed (Ok bytes)
 

@@ -3,7 +3,7 @@ use Rattle.std.specs.Prelude.{ℕ, ◌==◌, if◌then◌else◌, Option, None, 
 use Rattle.css_tree.specs.declared.html.HtmlMode.TheVariants.{NoQuirks, Quirks}
 use Rattle.simplecss_c.specs.declared.grammar.Grammar.{Grammar}
 use Rattle.simplecss_c.specs.declared.grammar.Grammar.TheVariants.{Modern, Port}
-use Rattle.simplecss_c.specs.declared.modern.reading.Reading.TheVariants.{AsWritten, Html}
+use Rattle.simplecss_c.specs.declared.modern.document_kind.DocumentKind.TheVariants.{AsWritten, Html}
 
 -- The grammar of a number: 0 is that of modern CSS, 1 as HTML reads it, 2 as HTML in quirks mode does,
 -- and 3 is that of the port.

@@ -5,9 +5,6 @@ pub mod Answers
 pub mod Json
 pub mod JsonLines
 pub mod Ranges
-pub mod ItemLines
-pub mod SheetLines
-pub mod Shown
 pub mod AnswerLines
 pub mod Calls
 pub mod Grammars
@@ -16,3 +13,12 @@ pub mod ModernLines
 pub mod ModernCalls
 pub mod GrammarCalls
 pub mod Conditions
+pub mod NumberLines
+pub mod Values
+pub mod MarkedPages
+pub mod WinnerNumbers
+pub mod ItemNumbers
+pub mod SheetNumbers
+pub mod RuleTexts
+pub mod Spellings
+pub mod internal

@@ -7,7 +7,7 @@ use Rattle.css_selectors.specs.Components.{Selector}
 use Rattle.css_selectors.specs.Supported.{supported_list}
 use Rattle.simplecss_tree.specs.Rows.{Row}
 use Rattle.simplecss_c.specs.declared.answer.CallError.{CallError}
-use Rattle.simplecss_c.specs.declared.modern.reading.Reading.{Reading}
+use Rattle.simplecss_c.specs.declared.modern.document_kind.DocumentKind.{DocumentKind}
 use Rattle.simplecss_c.specs.declared.pages.LineContent.{LineContent}
 use Rattle.simplecss_c.specs.declared.pages.LineContent.TheVariants.{Numbers, Selected}
 use Rattle.simplecss_c.specs.Calls.{FailsFor, FailsWithin, HasTexts, HasBadEnds, IsBrokenUtf8, HasNoSelector, HasRefusedText, AreSelectorsIn, Passed, passed_tree}
@@ -27,45 +27,45 @@ IsModernRefusalCall text (Ok bytes) = IsUtf8 text × IsRefusalLine text (support
 IsModernRefusalCall text (Err error) = FailsFor ⊥ (λ fault. ⊥) (¬ (IsUtf8 text)) error
 
 -- which elements of a tree the selectors match, as a document reads them, or none within a limit
-abbrev pub AreReadLines : (most : ℕ) → LineContent → Reading → List Selector → Passed
+abbrev pub AreReadLines : (most : ℕ) → LineContent → DocumentKind → List Selector → Passed
     → Option (List ℕ) → Type 0
-AreReadLines most content reading selectors passed answer =
+AreReadLines most content kind selectors passed answer =
     (rows : List Row) × IsUtf8 passed.strings × (passed_tree passed ≡ Ok rows)
-    × AreModernLines most content (map (selector_as reading) selectors)
-    (page_with passed.elements rows) answer
+    × AreModernLines most content (map (selector_as kind) selectors)
+    (page_with kind passed.elements rows) answer
 
 -- which of the selectors of texts match each element, or none within a limit
-abbrev pub AreModernMatched : (most : ℕ) → List ℕ → List ℕ → Reading → Passed
+abbrev pub AreModernMatched : (most : ℕ) → List ℕ → List ℕ → DocumentKind → Passed
     → Option (List ℕ) → Type 0
-AreModernMatched most buffer ends reading passed answer =
+AreModernMatched most buffer ends kind passed answer =
     (texts : List (List ℕ)) × (selectors : List Selector) × HasTexts buffer ends texts
     × AreSelectorsIn selector_of texts selectors
-    × AreReadLines most Numbers reading selectors passed answer
+    × AreReadLines most Numbers kind selectors passed answer
 
 -- which of the selectors of texts match each element, in at most this number of bytes
-abbrev pub IsModernMatchCall : (most : ℕ) → List ℕ → List ℕ → Reading → Passed
+abbrev pub IsModernMatchCall : (most : ℕ) → List ℕ → List ℕ → DocumentKind → Passed
     → Result (List ℕ) CallError → Type 0
-IsModernMatchCall most buffer ends reading passed (Ok bytes) =
-    AreModernMatched most buffer ends reading passed (Some bytes)
-IsModernMatchCall most buffer ends reading passed (Err error) =
+IsModernMatchCall most buffer ends kind passed (Ok bytes) =
+    AreModernMatched most buffer ends kind passed (Some bytes)
+IsModernMatchCall most buffer ends kind passed (Err error) =
     FailsWithin (HasBadEnds buffer ends ⊎ HasRefusedText selector_of buffer ends)
     (λ fault. passed_tree passed ≡ Err fault)
     (IsBrokenUtf8 buffer ends ⊎ ¬ (IsUtf8 passed.strings)) ⊥
-    (AreModernMatched most buffer ends reading passed None) error
+    (AreModernMatched most buffer ends kind passed None) error
 
 -- which elements one of the selectors of a list matches, or none within a limit
-abbrev pub AreModernSelected : (most : ℕ) → List ℕ → Reading → Passed → Option (List ℕ)
+abbrev pub AreModernSelected : (most : ℕ) → List ℕ → DocumentKind → Passed → Option (List ℕ)
     → Type 0
-AreModernSelected most text reading passed answer =
+AreModernSelected most text kind passed answer =
     (selectors : List Selector) × IsUtf8 text × (selectors_of text ≡ Some selectors)
-    × AreReadLines most Selected reading selectors passed answer
+    × AreReadLines most Selected kind selectors passed answer
 
 -- which elements one of the selectors of a list matches, in at most this number of bytes
-abbrev pub IsModernSelectCall : (most : ℕ) → List ℕ → Reading → Passed
+abbrev pub IsModernSelectCall : (most : ℕ) → List ℕ → DocumentKind → Passed
     → Result (List ℕ) CallError → Type 0
-IsModernSelectCall most text reading passed (Ok bytes) =
-    AreModernSelected most text reading passed (Some bytes)
-IsModernSelectCall most text reading passed (Err error) =
+IsModernSelectCall most text kind passed (Ok bytes) =
+    AreModernSelected most text kind passed (Some bytes)
+IsModernSelectCall most text kind passed (Err error) =
     FailsWithin (selectors_of text ≡ None)
     (λ fault. passed_tree passed ≡ Err fault) (¬ (IsUtf8 text) ⊎ ¬ (IsUtf8 passed.strings)) ⊥
-    (AreModernSelected most text reading passed None) error
+    (AreModernSelected most text kind passed None) error

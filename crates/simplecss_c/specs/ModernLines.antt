@@ -1,5 +1,5 @@
 -- What is written of modern selectors, and of the elements that they match.
-use Rattle.std.specs.Prelude.{◌≡◌, ℕ, ◌+◌, ◌-◌, List, [], ◌∷◌, ◌++◌, codes, length, map, Option, None, Some, if◌then◌else◌, ◌==◌}
+use Rattle.std.specs.Prelude.{◌≡◌, ℕ, Bool, true, false, ◌+◌, ◌-◌, List, [], ◌∷◌, ◌++◌, codes, length, map, Option, None, Some, if◌then◌else◌, ◌==◌}
 use Rattle.std.specs.Str.{IsCharBoundary}
 use Rattle.css_text.specs.Errors.{position_of}
 use Rattle.css_text.specs.Reading.{rest_offset}
@@ -9,7 +9,7 @@ use Rattle.css_sheet.specs.RuleSelectors.{selector_of}
 use Rattle.std.specs.Option.{option_map}
 use Rattle.css_selectors.specs.Components.{PseudoElement, Selector}
 use Rattle.css_selectors.specs.Printing.{selector_text}
-use Rattle.css_selectors.specs.Readings.{Reading, got, refused}
+use Rattle.css_selectors.specs.Readings.{Reading as Reads, got, refused}
 use Rattle.css_selectors.specs.RefusalWords.{quote, why_words}
 use Rattle.css_selectors.specs.Specificities.{specificity}
 use Rattle.css_selectors.specs.declared.refusal.Why.{Why}
@@ -18,6 +18,8 @@ use Rattle.css_tree.specs.Pages.{Page, page_document}
 use Rattle.css_matching.specs.ListTrees.{spot}
 use Rattle.simplecss_tree.specs.Rows.{Row}
 use Rattle.simplecss_c.specs.declared.elements.TreeElement.{TreeElement}
+use Rattle.simplecss_c.specs.declared.modern.document_kind.DocumentKind.{DocumentKind}
+use Rattle.simplecss_c.specs.declared.modern.document_kind.DocumentKind.TheVariants.{AsWritten, Html}
 use Rattle.simplecss_c.specs.declared.pages.LineContent.{LineContent}
 use Rattle.simplecss_c.specs.AnswerLines.{indices_line, AreLinesWithin}
 use Rattle.simplecss_c.specs.Elements.{has_text}
@@ -68,7 +70,7 @@ refusal_text why rest =
 
 -- Nothing of a list of selectors; of any other text the line of why it is none, with the position of
 -- the rest.
-abbrev pub IsRefusalLine : List ℕ → Reading (List Selector) → List ℕ → Type 0
+abbrev pub IsRefusalLine : List ℕ → Reads (List Selector) → List ℕ → Type 0
 IsRefusalLine text (got selectors rest) bytes = bytes ≡ []
 IsRefusalLine text (refused why rest) bytes =
     (pos : TextPos) × (IsCharBoundary text (rest_offset text rest) → pos ≡ position_of text rest)
@@ -76,10 +78,20 @@ IsRefusalLine text (refused why rest) bytes =
 
 -- ---- elements
 
--- the elements of a tree as a page
-abbrev pub page_with : List TreeElement → List Row → Page
-page_with elements rows =
-    record { rows = rows; texts = map has_text elements; scope = None }
+-- the document is HTML
+abbrev pub is_html : DocumentKind → Bool
+is_html AsWritten = false
+is_html (Html mode) = true
+
+-- the elements of a tree as a page of a document that reads selectors in this way
+abbrev pub page_with : DocumentKind → List TreeElement → List Row → Page
+page_with kind elements rows = record {
+  rows = rows;
+  texts = map has_text elements;
+  scope = None;
+  marks = [];
+  is_html = is_html kind;
+}
 
 -- the line of the element at an index, by the indices of the selectors that match it, in order
 abbrev pub IsModernLine : LineContent → List Selector → Page → ℕ → List ℕ → Type 0

@@ -8,11 +8,11 @@ use Rattle.css_selectors.specs.declared.refusal.Why.TheVariants.{Memory as NoMem
 use Rattle.css_tree.specs.Html.{html_selector}
 use Rattle.simplecss_c.specs.declared.answer.CallError.{CallError}
 use Rattle.simplecss_c.specs.declared.answer.CallError.TheVariants.{Refused, Memory}
-use Rattle.simplecss_c.specs.declared.modern.reading.Reading.{Reading}
-use Rattle.simplecss_c.specs.declared.modern.reading.Reading.TheVariants.{AsWritten, Html}
+use Rattle.simplecss_c.specs.declared.modern.document_kind.DocumentKind.{DocumentKind}
+use Rattle.simplecss_c.specs.declared.modern.document_kind.DocumentKind.TheVariants.{AsWritten, Html}
 
 -- a selector as a document reads it
-abbrev pub selector_as : Reading → Selector → Selector
+abbrev pub selector_as : DocumentKind → Selector → Selector
 selector_as AsWritten s = s
 selector_as (Html mode) s = html_selector mode s
 

@@ -3,7 +3,7 @@
 ghost use Rattle.std.specs.Prelude.{◌≡◌, ◌<◌, ◌≤◌, Ok, Err, MatchResult, length};
 ghost use Rattle.std.specs.Prelude.{string_bytes};
 ghost use Rattle.simplecss_c.specs.Answers.{status_of, failure_of, IsHandedOver, Answers, IsFaultSet};
-ghost use Rattle.simplecss_c.specs.Outcomes.{outcome_of, truth_outcome};
+ghost use Rattle.simplecss_c.specs.Outcomes.{outcome_of, numbers_outcome, truth_outcome};
 ghost use Rattle.simplecss_c.specs.declared.answer.CallError.TheVariants.{Memory, AnswerTooLong};
 
 use crate::elements::ElementFault;
@@ -32,6 +32,8 @@ pub enum CallError {
     NotUtf8,
     /// The answer would be longer than the limit.
     AnswerTooLong,
+    /// Sheets have more than 1,024 layers.
+    TooManyLayers,
 }
 
 impl CallError {
@@ -45,6 +47,7 @@ impl CallError {
             CallError::Memory => 3,
             CallError::TooManyDeclarations | CallError::AnswerTooLong => 4,
             CallError::NotUtf8 => 5,
+            CallError::TooManyLayers => 7,
         }
     }
 }
@@ -96,6 +99,17 @@ pub fn check_length(text: &String, most: usize) -> Result<(), CallError>
     Ok(())
 }
 
+/// Fails if an answer has more numbers than it may.
+pub fn check_count(numbers: &Vec<usize>, most: usize) -> Result<(), CallError>
+    ensures { MatchResult result (λ _. length numbers.now.items ≤ most)
+        (λ failure. (failure ≡ AnswerTooLong) × (most < length numbers.now.items)) }
+{
+    if numbers.len() > most {
+        return Err(CallError::AnswerTooLong);
+    }
+    Ok(())
+}
+
 /// A fault of a tree, as the caller of a function gets it.
 #[repr(C)]
 pub struct TreeFault {
@@ -105,9 +119,9 @@ pub struct TreeFault {
     pub element: usize,
 }
 
-/// Copies all bytes to the front of the buffer, or nothing where they are too many for it, and sets
-/// the length to their number.
-pub fn copy_whole(bytes: &[u8], out: &mut [u8], len: &mut usize) -> u32
+/// Copies all bytes or numbers to the front of the buffer, or nothing where they are too many for it, and
+/// sets the length to how many they are.
+pub fn copy_whole<T: Copy>(bytes: &[T], out: &mut [T], len: &mut usize) -> u32
     ensures { IsHandedOver bytes.now result out.old out.new len.new }
 {
     *len = bytes.len();
@@ -116,6 +130,23 @@ pub fn copy_whole(bytes: &[u8], out: &mut [u8], len: &mut usize) -> u32
     }
     out[..bytes.len()].copy_from_slice(bytes);
     DONE
+}
+
+/// Hands over an answer in numbers, and returns the status of the call.
+pub fn hand_over_numbers(
+    outcome: Result<Vec<usize>, CallError>,
+    out: &mut [usize],
+    len: &mut usize,
+) -> u32
+    ensures { Answers (numbers_outcome outcome) result out.old out.new len.new }
+{
+    match outcome {
+        Ok(numbers) => copy_whole(numbers.as_slice(), out, len),
+        Err(failure) => {
+            *len = 0;
+            failure.status()
+        }
+    }
 }
 
 /// Hands over whether a condition holds, as a word, and returns the status of the call.
@@ -156,6 +187,16 @@ fn set_fault(outcome: &Result<String, CallError>, fault: &mut TreeFault)
     }
 }
 
+/// Sets the fault of a tree, if that is why a call has no answer in numbers.
+fn set_fault_of_numbers(outcome: &Result<Vec<usize>, CallError>, fault: &mut TreeFault)
+    ensures { IsFaultSet (numbers_outcome outcome.now) fault.old fault.new }
+{
+    if let Err(CallError::Tree(found)) = outcome {
+        fault.fault = found.number();
+        fault.element = found.element();
+    }
+}
+
 /// Hands over the answer of a call over a tree, whose fault it sets, and returns its status.
 pub fn hand_over_of_tree(
     outcome: Result<String, CallError>,
@@ -168,4 +209,18 @@ pub fn hand_over_of_tree(
 {
     set_fault(&outcome, fault);
     hand_over(outcome, out, len)
+}
+
+/// Hands over the answer in numbers of a call over a tree, whose fault it sets, and returns its status.
+pub fn hand_over_numbers_of_tree(
+    outcome: Result<Vec<usize>, CallError>,
+    out: &mut [usize],
+    len: &mut usize,
+    fault: &mut TreeFault,
+) -> u32
+    ensures answered { Answers (numbers_outcome outcome) result out.old out.new len.new }
+    ensures faulty { IsFaultSet (numbers_outcome outcome) fault.old fault.new }
+{
+    set_fault_of_numbers(&outcome, fault);
+    hand_over_numbers(outcome, out, len)
 }

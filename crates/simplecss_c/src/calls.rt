@@ -1,16 +1,18 @@
 //! What each call answers that the grammars share, and the others that read modern CSS.
 
 ghost use Rattle.std.specs.Prelude.{◌≡◌};
-ghost use Rattle.simplecss_c.specs.Outcomes.{outcome_of};
-ghost use Rattle.simplecss_c.specs.Calls.{IsReadCall, IsDeclarationsCall, IsCloseCall, passed_of};
+ghost use Rattle.simplecss_c.specs.Outcomes.{numbers_outcome, outcome_of};
+ghost use Rattle.simplecss_c.specs.Calls.{IsCloseCall, passed_of};
+ghost use Rattle.simplecss_c.specs.ItemNumbers.{IsDeclarationsCall};
+ghost use Rattle.simplecss_c.specs.SheetNumbers.{IsReadCall};
 ghost use Rattle.simplecss_c.specs.Grammars.{grammar_of};
 ghost use Rattle.simplecss_c.specs.GrammarCalls.{IsListCall, IsRefusalCall, IsMatchSelectorsCall, IsSelectCall};
 
 use crate::answer::CallError;
 use crate::elements::PassedTree;
 use crate::grammar::Grammar;
-use crate::items::item_lines;
-use crate::sheets::sheet_lines;
+use crate::items::item_numbers;
+use crate::sheets::sheet_numbers;
 use crate::texts::text_of;
 use crate::{modern, port};
 use css_syntax::closed_value;
@@ -49,9 +51,7 @@ pub fn match_selectors(
         (passed_of tree.entry) (outcome_of result) }
 {
     match Grammar::from_number(grammar)? {
-        Grammar::Modern(reading) => {
-            modern::match_selectors(alloc, buffer, ends, reading, tree, most)
-        }
+        Grammar::Modern(kind) => { modern::match_selectors(alloc, buffer, ends, kind, tree, most) }
         Grammar::Port => port::match_selectors(alloc, buffer, ends, tree, most),
     }
 }
@@ -68,23 +68,24 @@ pub fn select(
         (outcome_of result) }
 {
     match Grammar::from_number(grammar)? {
-        Grammar::Modern(reading) => modern::select(alloc, text, reading, tree, most),
+        Grammar::Modern(kind) => modern::select(alloc, text, kind, tree, most),
         Grammar::Port => port::select(alloc, text, tree, most),
     }
 }
 
-/// The lines of the items of a style sheet by the modern grammar, in JSON.
-pub fn read(alloc: Global, text: &[u8], most: usize) -> Result<String, CallError>
-    ensures { IsReadCall most text.now (outcome_of result) }
+/// The numbers of the statements of a style sheet by the modern grammar.
+pub fn read(alloc: Global, text: &[u8], most: usize) -> Result<Vec<usize>, CallError>
+    ensures { IsReadCall most text.now (numbers_outcome result) }
 {
-    sheet_lines(alloc, text_of(text)?, most)
+    sheet_numbers(alloc, text_of(text)?, most)
 }
 
-/// The lines of the items of a style attribute by the modern grammar, in JSON.
-pub fn declarations(alloc: Global, text: &[u8]) -> Result<String, CallError>
-    ensures { IsDeclarationsCall text.now (outcome_of result) }
+/// The numbers of the items of a style attribute by the modern grammar.
+pub fn declarations(alloc: Global, text: &[u8]) -> Result<Vec<usize>, CallError>
+    ensures { IsDeclarationsCall text.now (numbers_outcome result) }
 {
-    Ok(item_lines(alloc, text_of(text)?)?)
+    let text = text_of(text)?;
+    Ok(item_numbers(alloc, text, text.len(), false)?)
 }
 
 /// The value with what closes it.

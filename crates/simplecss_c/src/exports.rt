@@ -2,23 +2,40 @@
 //!
 //! Each returns a status: 0 done, 1 refused, 2 a fault of the tree, 3 out of memory, 4 more
 //! declarations than `limit` or an answer of more bytes than `most`, 5 not UTF-8, 6 the buffer is too
-//! small. At 0 the answer is at the front of `out`, and `len` is its length. At 6 nothing was written,
-//! and `len` is the length that the call needs. At any other status nothing was written, and `len` is
-//! 0. `fault` is set at 2 only.
+//! small, 7 more than 1,024 layers. At 0 the answer is at the front of `out`, and `len` is its length. At
+//! 6 nothing was written, and `len` is the length that the call needs. At any other status nothing was
+//! written, and `len` is 0. `fault` is set at 2 only.
 
 ghost use Rattle.simplecss_c.specs.Answers.{IsAnswered, IsAnsweredOfTree, IsHandedOver};
 ghost use Rattle.simplecss_c.specs.Calls.{IsSelectorCall, IsSheetCall, IsPrinted, IsMatchCall};
 ghost use Rattle.simplecss_c.specs.Calls.{IsRuleLines, IsSkippedCall, IsStyleCall, IsStylesCall};
-ghost use Rattle.simplecss_c.specs.Calls.{IsDeclarationsCall, IsReadCall, IsCloseCall, passed_of};
+ghost use Rattle.simplecss_c.specs.Calls.{IsCloseCall, passed_of};
 ghost use Rattle.simplecss_c.specs.Conditions.{IsMediaCall, IsSupportsCall};
+ghost use Rattle.simplecss_c.specs.ItemNumbers.{IsDeclarationsCall};
+ghost use Rattle.simplecss_c.specs.NumberLines.{IsTokensCall, IsNamesCall};
+ghost use Rattle.simplecss_c.specs.SheetNumbers.{IsReadCall};
+ghost use Rattle.simplecss_c.specs.WinnerNumbers.{IsRulesCall, IsNumbersCall, sheets_of};
+ghost use Rattle.simplecss_c.specs.declared.contents.ElementContent.TheVariants.{Winners, Named, Matches};
+ghost use Rattle.simplecss_c.specs.RuleTexts.{IsRuleTextsCall};
+ghost use Rattle.simplecss_c.specs.Spellings.{IsDecodeCall, IsEscapeCall, IsQuoteCall};
+ghost use Rattle.simplecss_c.specs.Values.{IsInheritedCall, IsLonghandsCall, IsResolveCall};
+ghost use Rattle.simplecss_c.specs.Values.{IsShorthandsCall, IsValidCall};
 ghost use Rattle.simplecss_c.specs.Grammars.{grammar_of};
 ghost use Rattle.simplecss_c.specs.GrammarCalls.{IsListCall, IsRefusalCall};
 ghost use Rattle.simplecss_c.specs.GrammarCalls.{IsMatchSelectorsCall, IsSelectCall};
 
-use crate::answer::{TreeFault, copy_whole, hand_over, hand_over_of_tree, hand_over_truth};
+use crate::answer::{
+    TreeFault, copy_whole, hand_over, hand_over_numbers, hand_over_numbers_of_tree,
+    hand_over_of_tree, hand_over_truth,
+};
 use crate::conditions::DeviceNumbers;
+use crate::contents::{AskedNames, ElementContent, OwnTexts};
 use crate::elements::PassedTree;
-use crate::{calls, conditions, port};
+use crate::winners::Sheets;
+use crate::{
+    calls, conditions, element_numbers, port, rule_texts, spellings, tokens, values, winners,
+};
+use css_values::{INHERITED, SHORTHANDS};
 use std::alloc::Global;
 
 /// The version of the library. The changelog begins with it.
@@ -104,33 +121,33 @@ pub extern "C" fn simplecss_select(
     hand_over_of_tree(outcome, out, len, fault)
 }
 
-/// Writes a line of JSON for each item of a style sheet by the modern grammar, with offsets into the
-/// text.
+/// Writes numbers of each statement of a style sheet by the modern grammar, with offsets into the text: ten of
+/// what it is and where; how many there are of its group rules, its selectors and its items; and these: six of
+/// each group rule, eight of each selector, and ten of each item.
 #[unsafe(no_mangle)]
 pub extern "C" fn simplecss_read(
     alloc: Global,
     text: &[u8],
     most: usize,
-    out: &mut [u8],
+    out: &mut [usize],
     len: &mut usize,
 ) -> u32
     ensures { IsAnswered (IsReadCall most text.now) result out.old out.new len.new }
 {
-    hand_over(calls::read(alloc, text, most), out, len)
+    hand_over_numbers(calls::read(alloc, text, most), out, len)
 }
 
-/// Writes a line of JSON for each item of a style attribute by the modern grammar, with offsets into
-/// the text.
+/// Writes ten numbers of each item of a style attribute by the modern grammar, with offsets into the text.
 #[unsafe(no_mangle)]
 pub extern "C" fn simplecss_declarations(
     alloc: Global,
     text: &[u8],
-    out: &mut [u8],
+    out: &mut [usize],
     len: &mut usize,
 ) -> u32
     ensures { IsAnswered (IsDeclarationsCall text.now) result out.old out.new len.new }
 {
-    hand_over(calls::declarations(alloc, text), out, len)
+    hand_over_numbers(calls::declarations(alloc, text), out, len)
 }
 
 /// Writes the value of a declaration with what closes it, where the end of the text left a string, a
@@ -145,6 +162,181 @@ pub extern "C" fn simplecss_close(
     ensures { IsAnswered (IsCloseCall value.now) result out.old out.new len.new }
 {
     hand_over(calls::close(alloc, value), out, len)
+}
+
+/// Writes five numbers for each token of a text: its kind, where it begins and ends, and where what is
+/// in it does.
+#[unsafe(no_mangle)]
+pub extern "C" fn simplecss_tokens(
+    alloc: Global,
+    text: &[u8],
+    out: &mut [usize],
+    len: &mut usize,
+) -> u32
+    ensures { IsAnswered (IsTokensCall text.now) result out.old out.new len.new }
+{
+    hand_over_numbers(tokens::tokens(alloc, text), out, len)
+}
+
+/// Writes six numbers for each name in lists of selectors, by the tokens of each text: its kind, where
+/// its sign, the name and what follows it begin, how many parentheses are open around it, and how many
+/// up to the first one of `:not()`.
+#[unsafe(no_mangle)]
+pub extern "C" fn simplecss_names(
+    alloc: Global,
+    texts: &[u8],
+    ends: &[usize],
+    out: &mut [usize],
+    len: &mut usize,
+) -> u32
+    ensures { IsAnswered (IsNamesCall texts.now ends.now) result out.old out.new len.new }
+{
+    hand_over_numbers(tokens::names(alloc, texts, ends), out, len)
+}
+
+/// Writes the text that a name denotes, or what is in a string: its escapes are decoded.
+#[unsafe(no_mangle)]
+pub extern "C" fn simplecss_decode(
+    alloc: Global,
+    text: &[u8],
+    in_string: usize,
+    out: &mut [u8],
+    len: &mut usize,
+) -> u32
+    ensures { IsAnswered (IsDecodeCall text.now in_string) result out.old out.new len.new }
+{
+    hand_over(spellings::decode(alloc, text, in_string), out, len)
+}
+
+/// Writes an identifier that denotes the name. A NUL is written as U+FFFD.
+#[unsafe(no_mangle)]
+pub extern "C" fn simplecss_escape(
+    alloc: Global,
+    name: &[u8],
+    out: &mut [u8],
+    len: &mut usize,
+) -> u32
+    ensures { IsAnswered (IsEscapeCall name.now) result out.old out.new len.new }
+{
+    hand_over(spellings::escape(alloc, name), out, len)
+}
+
+/// Writes a string, in double quotes, that denotes the text. A NUL is written as U+FFFD.
+#[unsafe(no_mangle)]
+pub extern "C" fn simplecss_quote(
+    alloc: Global,
+    text: &[u8],
+    out: &mut [u8],
+    len: &mut usize,
+) -> u32
+    ensures { IsAnswered (IsQuoteCall text.now) result out.old out.new len.new }
+{
+    hand_over(spellings::quote(alloc, text), out, len)
+}
+
+/// Writes numbers of each style rule of sheets, in the order of the cascade: of its sheet, where its
+/// declarations begin there, the rank of its layer, how many declarations it has, and six for each of them:
+/// of the offset and the length of its name and of its value, and whether it is important and closed.
+#[unsafe(no_mangle)]
+pub extern "C" fn simplecss_rules(
+    alloc: Global,
+    sheets: &Sheets<'_>,
+    limit: usize,
+    out: &mut [usize],
+    len: &mut usize,
+) -> u32
+    ensures { IsAnswered (IsRulesCall limit (sheets_of sheets.now)) result out.old out.new len.new }
+{
+    hand_over_numbers(winners::rules(alloc, *sheets, limit), out, len)
+}
+
+/// Writes a line of JSON for each style rule of sheets, in the order of the cascade: the `text` of its
+/// selector, its `pseudo_element` and its `specificity`.
+#[unsafe(no_mangle)]
+pub extern "C" fn simplecss_rule_texts(
+    alloc: Global,
+    sheets: &Sheets<'_>,
+    limit: usize,
+    most: usize,
+    out: &mut [u8],
+    len: &mut usize,
+) -> u32
+    ensures { IsAnswered (IsRuleTextsCall most limit (sheets_of sheets.now)) result out.old out.new len.new }
+{
+    hand_over(
+        rule_texts::rule_texts(alloc, *sheets, limit, most),
+        out,
+        len,
+    )
+}
+
+/// Writes for each element of a tree how many declarations win on it, of sheets and of its own, and two
+/// numbers for each: of where it is, by its rule in the order of the cascade, and of its place there.
+#[unsafe(no_mangle)]
+pub extern "C" fn simplecss_winners(
+    alloc: Global,
+    sheets: &Sheets<'_>,
+    grammar: usize,
+    limit: usize,
+    tree: &PassedTree<'_>,
+    own: &OwnTexts<'_>,
+    most: usize,
+    out: &mut [usize],
+    len: &mut usize,
+    fault: &mut TreeFault,
+) -> u32
+    ensures { IsAnsweredOfTree (IsNumbersCall (Winners own.now) (grammar_of grammar) most limit
+        (sheets_of sheets.now) (passed_of tree.now)) result out.old out.new len.new fault.old fault.new }
+{
+    let content = ElementContent::Winners(*own);
+    let outcome = element_numbers::numbers(alloc, content, *sheets, grammar, limit, *tree, most);
+    hand_over_numbers_of_tree(outcome, out, len, fault)
+}
+
+/// Writes for each element of a tree, and for each property that is asked for, two numbers of the
+/// declaration that wins of those with one of its names.
+#[unsafe(no_mangle)]
+pub extern "C" fn simplecss_winners_named(
+    alloc: Global,
+    sheets: &Sheets<'_>,
+    grammar: usize,
+    limit: usize,
+    tree: &PassedTree<'_>,
+    own: &OwnTexts<'_>,
+    asked: &AskedNames<'_>,
+    most: usize,
+    out: &mut [usize],
+    len: &mut usize,
+    fault: &mut TreeFault,
+) -> u32
+    ensures { IsAnsweredOfTree (IsNumbersCall (Named own.now asked.now) (grammar_of grammar) most limit
+        (sheets_of sheets.now) (passed_of tree.now)) result out.old out.new len.new fault.old fault.new }
+{
+    let content = ElementContent::Named(*own, *asked);
+    let outcome = element_numbers::numbers(alloc, content, *sheets, grammar, limit, *tree, most);
+    hand_over_numbers_of_tree(outcome, out, len, fault)
+}
+
+/// Writes for each element of a tree how many rules of sheets match it, and the number of each in the order
+/// of the cascade.
+#[unsafe(no_mangle)]
+pub extern "C" fn simplecss_matches(
+    alloc: Global,
+    sheets: &Sheets<'_>,
+    grammar: usize,
+    limit: usize,
+    tree: &PassedTree<'_>,
+    most: usize,
+    out: &mut [usize],
+    len: &mut usize,
+    fault: &mut TreeFault,
+) -> u32
+    ensures { IsAnsweredOfTree (IsNumbersCall Matches (grammar_of grammar) most limit
+        (sheets_of sheets.now) (passed_of tree.now)) result out.old out.new len.new fault.old fault.new }
+{
+    let content = ElementContent::Matches;
+    let outcome = element_numbers::numbers(alloc, content, *sheets, grammar, limit, *tree, most);
+    hand_over_numbers_of_tree(outcome, out, len, fault)
 }
 
 /// Writes what a list of media queries says on a device: `true`, `false` or `unknown`. It holds if that is
@@ -176,6 +368,77 @@ pub extern "C" fn simplecss_supports(
 {
     let outcome = conditions::supports(alloc, text, properties, ends);
     hand_over_truth(outcome, out, len)
+}
+
+/// Writes the computed values of the first `wanted` of an element's properties, whose names and values
+/// lie one after another in a buffer: of each the length, a newline and the value, or only a newline where
+/// it has none.
+#[unsafe(no_mangle)]
+pub extern "C" fn simplecss_values(
+    alloc: Global,
+    texts: &[u8],
+    ends: &[usize],
+    wanted: usize,
+    limit: usize,
+    most: usize,
+    out: &mut [u8],
+    len: &mut usize,
+) -> u32
+    ensures { IsAnswered (IsResolveCall wanted limit most texts.now ends.now)
+        result out.old out.new len.new }
+{
+    hand_over(
+        values::values(alloc, texts, ends, wanted, limit, most),
+        out,
+        len,
+    )
+}
+
+/// Writes `true` if each reference of a value is valid, else `false`.
+#[unsafe(no_mangle)]
+pub extern "C" fn simplecss_valid_value(
+    alloc: Global,
+    value: &[u8],
+    out: &mut [u8],
+    len: &mut usize,
+) -> u32
+    ensures { IsAnswered (IsValidCall value.now) result out.old out.new len.new }
+{
+    hand_over_truth(values::is_valid_value(alloc, value), out, len)
+}
+
+/// Writes the longhands that a shorthand sets, with spaces between them. Another name is refused.
+#[unsafe(no_mangle)]
+pub extern "C" fn simplecss_longhands(
+    alloc: Global,
+    name: &[u8],
+    out: &mut [u8],
+    len: &mut usize,
+) -> u32
+    ensures { IsAnswered (IsLonghandsCall SHORTHANDS.now name.now) result out.old out.new len.new }
+{
+    hand_over(values::longhands(alloc, name), out, len)
+}
+
+/// Writes the shorthands that set a longhand, each with a newline after it.
+#[unsafe(no_mangle)]
+pub extern "C" fn simplecss_shorthands(
+    alloc: Global,
+    name: &[u8],
+    out: &mut [u8],
+    len: &mut usize,
+) -> u32
+    ensures { IsAnswered (IsShorthandsCall SHORTHANDS.now name.now) result out.old out.new len.new }
+{
+    hand_over(values::shorthands(alloc, name), out, len)
+}
+
+/// Writes `true` if a property is inherited, else `false`.
+#[unsafe(no_mangle)]
+pub extern "C" fn simplecss_inherited(name: &[u8], out: &mut [u8], len: &mut usize) -> u32
+    ensures { IsAnswered (IsInheritedCall INHERITED.now name.now) result out.old out.new len.new }
+{
+    hand_over_truth(values::is_inherited(name), out, len)
 }
 
 /// Writes the printed selector of a text by the grammar of the port, a TAB, its specificity as three

@@ -1,14 +1,14 @@
 //! By which grammar a call reads selectors.
 
 use crate::answer::CallError;
-use crate::modern::Reading;
+use crate::modern::DocumentKind;
 use css_tree::html::HtmlMode;
 
 /// By which grammar a call reads selectors.
 #[derive(Clone, Copy, Debug, PartialEq)]
 pub enum Grammar {
     /// That of modern CSS, whose names a document reads in this way.
-    Modern(Reading),
+    Modern(DocumentKind),
     /// That of the port: CSS 2.1, as the Rust crate reads it.
     Port,
 }
@@ -24,9 +24,9 @@ impl Grammar {
             (λ error. (error ≡ Refused) × (grammar_of number ≡ None)) }
     {
         match number {
-            0 => Ok(Grammar::Modern(Reading::AsWritten)),
-            1 => Ok(Grammar::Modern(Reading::Html(HtmlMode::NoQuirks))),
-            2 => Ok(Grammar::Modern(Reading::Html(HtmlMode::Quirks))),
+            0 => Ok(Grammar::Modern(DocumentKind::AsWritten)),
+            1 => Ok(Grammar::Modern(DocumentKind::Html(HtmlMode::NoQuirks))),
+            2 => Ok(Grammar::Modern(DocumentKind::Html(HtmlMode::Quirks))),
             3 => Ok(Grammar::Port),
             _ => Err(CallError::Refused),
         }

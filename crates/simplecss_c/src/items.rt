@@ -1,46 +1,37 @@
-//! The items of a list of declarations, in JSON.
+//! The items of a list of declarations, as numbers.
 
-ghost use Rattle.std.specs.Prelude.{◌≡◌, ◌<◌, ◌≤◌, ◌^◌, ◌-◌, ◌++◌, OnOk, IfOk, length, string_bytes};
-ghost use Rattle.css_syntax.specs.Views.{declaration_of, item_of, list_part_of};
-ghost use Rattle.simplecss_c.specs.JsonLines.{line};
-ghost use Rattle.simplecss_c.specs.Ranges.{further, comma_if};
-ghost use Rattle.simplecss_c.specs.ItemLines.{declaration_members, item_kind as kind_of};
-ghost use Rattle.simplecss_c.specs.ItemLines.{item_members, item_object, item_array};
-ghost use Rattle.simplecss_c.specs.ItemLines.{item_lines as lines_of};
+ghost use Rattle.std.specs.Prelude.{◌≡◌, ◌<◌, ◌^◌, ◌-◌, ◌++◌, OnOk, IfOk, length};
+ghost use Rattle.css_syntax.specs.Views.{at_rule_of, declaration_of, list_part_of};
+ghost use Rattle.simplecss_c.specs.ItemNumbers.{fault_number as fault_number_of, item_row as item_row_of};
+ghost use Rattle.simplecss_c.specs.ItemNumbers.{declaration_row as declaration_row_of};
+ghost use Rattle.simplecss_c.specs.ItemNumbers.{at_rule_row as at_rule_row_of, fault_row as fault_row_of};
+ghost use Rattle.simplecss_c.specs.ItemNumbers.{item_numbers as item_numbers_of};
 
-use crate::ranges::{push_at_rule, push_extent, push_fault, push_flag, push_head};
 use css_syntax::declarations::{FoundPart, read_part};
 use css_syntax::places::{at_rule_prelude, declaration_value};
-use css_syntax::{Declaration, Item};
+use css_syntax::{AtRule, Declaration, Fault, Item};
 use std::alloc::{AllocError, Global};
 
-/// Appends the members of a declaration, each after a comma. It begins at `start`, and its value at
-/// `value`.
-fn push_declaration(
-    out: &mut String,
-    one: &Declaration<'_>,
-    start: usize,
-    value: usize,
-) -> Result<(), AllocError>
-    requires start { start < 2 ^ 63 }
-    requires value { value < 2 ^ 63 }
-    ensures { OnOk result (string_bytes out.new ≡ string_bytes out.old
-        ++ further (declaration_members start value (declaration_of one.now))) }
-{
-    push_extent(out, "name", start, one.name.len())?;
-    push_extent(out, "value", value, one.value.len())?;
-    push_flag(out, "important", one.important)?;
-    push_flag(out, "closed", one.closed)
-}
+/// The kind of a declaration.
+const DECLARATION: usize = 0;
+/// The kind of an at-rule with a block.
+const AT_RULE: usize = 1;
+/// The kind of an at-rule without a block.
+const AT_STATEMENT: usize = 2;
 
-/// Returns the kind of an item.
-fn item_kind(item: &Item<'_>) -> &'static str
-    ensures { result.now ≡ kind_of (item_of item.now) }
+/// Returns the number of what is skipped for this reason.
+fn fault_number(fault: Fault) -> usize
+    ensures { result ≡ fault_number_of fault }
 {
-    match item {
-        Item::Declaration(_) => "declaration",
-        Item::AtRule(_) => "at-rule",
-        Item::Skipped(_) => "skipped",
+    match fault {
+        Fault::BrokenDeclaration => 4,
+        Fault::BadString => 5,
+        Fault::BadUrl => 6,
+        Fault::StrayBracket => 7,
+        Fault::TooDeep => 8,
+        Fault::NoBlock => 9,
+        Fault::NestedRule => 10,
+        Fault::InvalidSelector => 11,
     }
 }
 
@@ -53,101 +44,106 @@ pub fn offset_of(end: usize, rest: &str) -> usize
     end.saturating_sub(rest.len())
 }
 
-/// Appends the members of an item after its kind and its range, each after a comma. The text that
-/// the item is in ends at this offset.
-fn push_members(out: &mut String, found: &FoundPart<'_>, end: usize) -> Result<(), AllocError>
+/// Returns the numbers of a declaration of this length. It begins at `start`, and its value at `value`.
+fn declaration_row(one: &Declaration<'_>, start: usize, count: usize, value: usize) -> [usize; 10]
+    ensures { result ≡ declaration_row_of start count value (declaration_of one.now) }
+{
+    [
+        DECLARATION,
+        start,
+        count,
+        usize::from(one.closed),
+        start,
+        one.name.len(),
+        value,
+        one.value.len(),
+        usize::from(one.important),
+        0,
+    ]
+}
+
+/// Returns the numbers of an at-rule of this length. It begins at `start`, its prelude at `prelude`, and the
+/// contents of its block at `block`.
+pub fn at_rule_row(
+    rule: &AtRule<'_>,
+    start: usize,
+    count: usize,
+    prelude: usize,
+    block: usize,
+) -> [usize; 10]
+    requires { start < 2 ^ 63 }
+    ensures { result ≡ at_rule_row_of start count prelude block (at_rule_of rule.now) }
+{
+    let (kind, closed, at, len) = match &rule.block {
+        Some(found) => (AT_RULE, usize::from(found.closed), block, found.text.len()),
+        None => (AT_STATEMENT, 1, 0, 0),
+    };
+    [
+        kind,
+        start,
+        count,
+        closed,
+        start + 1,
+        rule.name.len(),
+        prelude,
+        rule.prelude.text.len(),
+        at,
+        len,
+    ]
+}
+
+/// Returns the numbers of what is skipped, which has this length.
+pub fn fault_row(fault: Fault, start: usize, count: usize) -> [usize; 10]
+    ensures { result ≡ fault_row_of start count fault }
+{
+    [fault_number(fault), start, count, 0, 0, 0, 0, 0, 0, 0]
+}
+
+/// Returns the numbers of an item. The text that it is in ends at this offset.
+fn item_row(found: &FoundPart<'_>, end: usize) -> [usize; 10]
     requires { end < 2 ^ 63 }
-    ensures { OnOk result (string_bytes out.new ≡ string_bytes out.old
-        ++ further (item_members end found.now.from.now found.now.inside.now
-        (item_of found.now.part.item))) }
+    ensures { result
+        ≡ item_row_of end found.now.from.now found.now.inside.now (list_part_of found.now.part) }
 {
     let start = offset_of(end, found.from);
+    let count = found.part.text.len();
     match &found.part.item {
         Item::Declaration(one) => {
             let value = offset_of(end, declaration_value(found.from));
-            push_declaration(out, one, start, value)
+            declaration_row(one, start, count, value)
         }
         Item::AtRule(rule) => {
             let prelude = offset_of(end, at_rule_prelude(found.from));
-            push_at_rule(out, rule, start, prelude, offset_of(end, found.inside))
+            at_rule_row(rule, start, count, prelude, offset_of(end, found.inside))
         }
-        Item::Skipped(fault) => push_fault(out, *fault),
+        Item::Skipped(fault) => fault_row(*fault, start, count),
     }
 }
 
-/// Appends an item of a text that ends at this offset.
-fn push_item(out: &mut String, found: &FoundPart<'_>, end: usize) -> Result<(), AllocError>
+/// Appends the numbers of an item. The text that it is in ends at this offset.
+fn push_item(out: &mut Vec<usize>, found: &FoundPart<'_>, end: usize) -> Result<(), AllocError>
     requires { end < 2 ^ 63 }
-    ensures { OnOk result (string_bytes out.new ≡ string_bytes out.old
-        ++ item_object end found.now.from.now found.now.inside.now
-        (list_part_of found.now.part)) }
+    ensures { OnOk result (out.new.items ≡ out.old.items
+        ++ item_row_of end found.now.from.now found.now.inside.now (list_part_of found.now.part)) }
 {
-    let start = offset_of(end, found.from);
-    out.push('{')?;
-    push_head(
-        out,
-        item_kind(&found.part.item),
-        start,
-        start + found.part.text.len(),
-    )?;
-    push_members(out, found, end)?;
-    out.push('}')
+    out.extend_from_slice(&item_row(found, end))
 }
 
-/// Appends an item of an array, after a comma if the array has begun.
-fn push_listed(
-    out: &mut String,
-    has_begun: bool,
-    found: &FoundPart<'_>,
+/// Returns the numbers of the items of a style attribute, or of the contents of a block, that ends at this
+/// offset.
+pub fn item_numbers(
+    alloc: Global,
+    text: &str,
     end: usize,
-) -> Result<(), AllocError>
+    in_block: bool,
+) -> Result<Vec<usize>, AllocError>
     requires { end < 2 ^ 63 }
-    ensures { OnOk result (string_bytes out.new ≡ string_bytes out.old
-        ++ (comma_if has_begun ++ item_object end found.now.from.now found.now.inside.now
-        (list_part_of found.now.part))) }
+    ensures { IfOk result (λ out. out.items ≡ item_numbers_of end in_block text.now) }
 {
-    if has_begun {
-        out.push(',')?;
-    }
-    push_item(out, found, end)
-}
-
-/// Appends the items of a block whose contents end at this offset, as an array.
-pub fn push_items(out: &mut String, text: &str, end: usize) -> Result<(), AllocError>
-    requires { end < 2 ^ 63 }
-    ensures { OnOk result (string_bytes out.new
-        ≡ string_bytes out.old ++ item_array end text.now) }
-{
-    out.push('[')?;
+    let mut out = Vec::new(alloc);
     let mut rest = text;
-    let mut has_begun = false;
-    'items: while let Some(found) = read_part(rest, true) {
-        push_listed(out, has_begun, &found, end)?;
-        has_begun = true;
-        rest = found.rest;
-    }
-    out.push(']')
-}
-
-/// Appends the line of an item of a text that ends at this offset.
-fn push_line(out: &mut String, found: &FoundPart<'_>, end: usize) -> Result<(), AllocError>
-    requires { end < 2 ^ 63 }
-    ensures { OnOk result (string_bytes out.new ≡ string_bytes out.old
-        ++ line (item_object end found.now.from.now found.now.inside.now
-        (list_part_of found.now.part))) }
-{
-    push_item(out, found, end)?;
-    out.push('\n')
-}
-
-/// Returns the lines of the items of a style attribute.
-pub fn item_lines(alloc: Global, text: &str) -> Result<String, AllocError>
-    ensures { IfOk result (λ lines. string_bytes lines ≡ lines_of text.now) }
-{
-    let mut out = String::new(alloc);
-    let mut rest = text;
-    'items: while let Some(found) = read_part(rest, false) {
-        push_line(&mut out, &found, text.len())?;
+    'items: while let Some(found) = read_part(rest, in_block) {
+        push_item(&mut out, &found, end)?;
         rest = found.rest;
     }
     Ok(out)

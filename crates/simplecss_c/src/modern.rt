@@ -7,17 +7,18 @@ ghost use Rattle.simplecss_c.specs.ModernCalls.{IsModernListCall, IsModernRefusa
 ghost use Rattle.simplecss_c.specs.ModernCalls.{IsModernMatchCall, IsModernSelectCall};
 ghost use Rattle.simplecss_c.specs.Outcomes.{outcome_of};
 
+mod document_kind;
 mod lists;
 mod pages;
-mod reading;
 
 use crate::answer::CallError;
 use crate::elements::{PassedTree, read_tree};
 use crate::pages::LineContent;
 use crate::texts::{text_of, texts_of};
 use css_selectors::Selector;
-use pages::{lines, page_of};
-pub use reading::Reading;
+pub use document_kind::{DocumentKind, html_lists, html_rule_selectors};
+use pages::lines;
+pub use pages::page_of;
 use std::alloc::Global;
 
 /// The lines of a list of selectors, in JSON.
@@ -38,21 +39,21 @@ pub fn refusal(alloc: Global, text: &[u8]) -> Result<String, CallError>
 fn page_lines(
     alloc: Global,
     content: LineContent,
-    reading: Reading,
+    kind: DocumentKind,
     selectors: &[Selector<'_>],
     tree: PassedTree<'_>,
     most: usize,
 ) -> Result<String, CallError>
     requires { length selectors.now < 2 ^ 63 }
-    ensures { MatchResult result (λ text. AreReadLines most content reading selectors.now
+    ensures { MatchResult result (λ text. AreReadLines most content kind selectors.now
         (passed_of tree.entry) (Some (string_bytes text)))
         (FailsWithin ⊥ (λ fault. passed_tree (passed_of tree.entry) ≡ Err fault)
         (¬ (IsUtf8 (passed_of tree.entry).strings)) ⊥
-        (AreReadLines most content reading selectors.now (passed_of tree.entry) None)) }
+        (AreReadLines most content kind selectors.now (passed_of tree.entry) None)) }
 {
     let rows = read_tree(alloc, tree.elements, tree.strings, tree.ends)?;
-    let page = page_of(alloc, &rows, tree.elements)?;
-    lines(alloc, content, reading, selectors, &page, most)
+    let page = page_of(alloc, kind, &rows, tree.elements)?;
+    lines(alloc, content, kind, selectors, &page, most)
 }
 
 /// The numbers of the selectors that match each element of a tree.
@@ -60,35 +61,28 @@ pub fn match_selectors(
     alloc: Global,
     buffer: &[u8],
     ends: &[usize],
-    reading: Reading,
+    kind: DocumentKind,
     tree: PassedTree<'_>,
     most: usize,
 ) -> Result<String, CallError>
-    ensures { IsModernMatchCall most buffer.now ends.now reading (passed_of tree.entry)
+    ensures { IsModernMatchCall most buffer.now ends.now kind (passed_of tree.entry)
         (outcome_of result) }
 {
     let texts = texts_of(alloc, buffer, ends)?;
     let selectors = lists::read_selectors(alloc, &texts)?;
-    page_lines(alloc, LineContent::Numbers, reading, &selectors, tree, most)
+    page_lines(alloc, LineContent::Numbers, kind, &selectors, tree, most)
 }
 
 /// The numbers of the elements of a tree that one of the selectors of a list matches.
 pub fn select(
     alloc: Global,
     text: &[u8],
-    reading: Reading,
+    kind: DocumentKind,
     tree: PassedTree<'_>,
     most: usize,
 ) -> Result<String, CallError>
-    ensures { IsModernSelectCall most text.now reading (passed_of tree.entry) (outcome_of result) }
+    ensures { IsModernSelectCall most text.now kind (passed_of tree.entry) (outcome_of result) }
 {
     let selectors = lists::read_list(alloc, text_of(text)?)?;
-    page_lines(
-        alloc,
-        LineContent::Selected,
-        reading,
-        &selectors,
-        tree,
-        most,
-    )
+    page_lines(alloc, LineContent::Selected, kind, &selectors, tree, most)
 }

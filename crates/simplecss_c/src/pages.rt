@@ -3,7 +3,6 @@
 ghost use Rattle.std.specs.Prelude.{◌≡◌, ◌+◌, ◌^◌, ◌<◌, ◌++◌, All, OnOk, MatchResult, List, ℕ, None, Some};
 ghost use Rattle.std.specs.Prelude.{length, map, string_bytes};
 ghost use Rattle.simplecss.specs.RuleViews.{rules_of};
-ghost use Rattle.cssq.specs.MatchRuns.{numbers_line};
 ghost use Rattle.simplecss_c.specs.AnswerLines.{selected_line, indices_line, IsLineOf, AreLinesOf};
 ghost use Rattle.simplecss_c.specs.AnswerLines.{IsWinnerLine, IsWinnersLine};
 ghost use Rattle.simplecss_c.specs.AnswerLines.{IsWonLine, AreWonLines};
@@ -13,7 +12,7 @@ ghost use Rattle.simplecss_tree.specs.Walks.{IsAlong};
 use crate::answer::{CallError, check_length};
 use crate::json::push_declarations;
 use cssq::cascade::{winners_among, winning_among};
-use cssq::runs::push_winner;
+use cssq::runs::{push_numbers, push_winner};
 use simplecss::{HasSelector, Rule, Tests};
 use simplecss_tree::{Node, RuleWalk, Tree};
 use std::alloc::{AllocError, Global};
@@ -35,20 +34,6 @@ pub enum WonContent<'n> {
     Named(&'n str),
     /// All, in JSON.
     All,
-}
-
-/// Appends an element's number, and the numbers of the rules with these indices.
-fn push_numbers(out: &mut String, number: usize, indices: &[usize]) -> Result<(), AllocError>
-    requires { All (λ index. index + 1 < 2 ^ 64) indices.now }
-    ensures { OnOk result (string_bytes out.new
-        ≡ string_bytes out.old ++ numbers_line number (map (λ index. index + 1) indices.now)) }
-{
-    write!(out, "{number}:")?;
-    for index in indices {
-        let rule_number = *index + 1;
-        write!(out, " {rule_number}")?;
-    }
-    out.push('\n')
 }
 
 /// Appends an element's number, if there is an index.

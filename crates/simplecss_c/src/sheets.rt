@@ -1,81 +1,80 @@
-//! The items of a style sheet by the modern grammar, in JSON.
+//! The statements of a style sheet by the modern grammar, as numbers.
 
-ghost use Rattle.std.specs.Prelude.{◌≡◌, ◌<◌, ◌^◌, ◌+◌, ◌++◌, ◌∷◌, ◌≤◌, [], OnOk, MatchResult, codes};
-ghost use Rattle.std.specs.Prelude.{length, map, option_map, string_bytes};
+ghost use Rattle.std.specs.Prelude.{◌≡◌, ◌<◌, ◌^◌, ◌-◌, ◌+◌, ◌++◌, ◌≤◌, OnOk, IfOk, MatchResult};
+ghost use Rattle.std.specs.Prelude.{length, map, option_map};
 ghost use Rattle.css_syntax.specs.Views.{prelude_of, block_of, statement_of, sheet_part_of};
 ghost use Rattle.css_syntax.specs.SelectorLists.{listed_of};
 ghost use Rattle.css_syntax.specs.SelectorViews.{form_of};
 ghost use Rattle.css_sheet.specs.Places.{places_of};
 ghost use Rattle.css_sheet.specs.ReaderViews.{level_of, condition_at};
 ghost use Rattle.css_sheet.specs.RuleViews.{rule_selector_of};
-ghost use Rattle.css_sheet.specs.SheetOrder.{with_element};
+ghost use Rattle.css_sheet.specs.NestedSelectors.{with_element};
 ghost use Rattle.css_selectors.specs.SpecificityViews.{counts_of};
-ghost use Rattle.simplecss_c.specs.Json.{member};
-ghost use Rattle.simplecss_c.specs.Ranges.{further};
-ghost use Rattle.simplecss_c.specs.SheetLines.{level_object, level_array, element_value};
-ghost use Rattle.simplecss_c.specs.SheetLines.{specificity_value, selector_with};
-ghost use Rattle.simplecss_c.specs.SheetLines.{selector_object, selector_array, rule_members};
-ghost use Rattle.simplecss_c.specs.SheetLines.{shown_of, shown_kind, shown_members, sheet_line};
-ghost use Rattle.simplecss_c.specs.SheetLines.{sheet_lines as lines_of};
-ghost use Rattle.simplecss_c.specs.Shown.{shown_text};
 ghost use Rattle.simplecss_c.specs.Calls.{FailsLonger};
+ghost use Rattle.simplecss_c.specs.SheetNumbers.{level_row as level_row_of, level_numbers as level_numbers_of};
+ghost use Rattle.simplecss_c.specs.SheetNumbers.{element_numbers as element_numbers_of};
+ghost use Rattle.simplecss_c.specs.SheetNumbers.{read_numbers as read_numbers_of};
+ghost use Rattle.simplecss_c.specs.SheetNumbers.{selector_row as selector_row_of};
+ghost use Rattle.simplecss_c.specs.SheetNumbers.{selector_numbers as selector_numbers_of};
+ghost use Rattle.simplecss_c.specs.SheetNumbers.{shown_of, rule_row as rule_row_of, shown_row as shown_row_of};
+ghost use Rattle.simplecss_c.specs.SheetNumbers.{shown_selectors as shown_selectors_of};
+ghost use Rattle.simplecss_c.specs.SheetNumbers.{shown_items as shown_items_of, counted};
+ghost use Rattle.simplecss_c.specs.SheetNumbers.{statement_numbers, sheet_numbers as sheet_numbers_of};
+ghost use Rattle.simplecss_c.specs.internal.Shown.{shown_text};
 
-use crate::answer::{CallError, check_length};
-use crate::items::{offset_of, push_items};
-use crate::json::push_specificity;
-use crate::ranges::{push_at_rule, push_extent, push_fault, push_flag, push_head, push_range};
+use crate::answer::{CallError, check_count};
+use crate::items::{at_rule_row, fault_row, item_numbers, offset_of};
 use css_selectors::Specificity;
 use css_sheet::{Level, Places, RuleSelector, SheetReader, read_listed};
 use css_syntax::selectors::{FoundSelector, SelectorForm, next_part, prelude_fault, read_part};
 use css_syntax::{AtRule, Fault, RuleSet, SheetPart, Statement};
 use std::alloc::{AllocError, Global};
-use std::fmt::Write as _;
 
-/// Appends a group rule that an item is in.
-fn push_level(out: &mut String, level: &Level<'_>) -> Result<(), AllocError>
-    ensures { OnOk result (string_bytes out.new
-        ≡ string_bytes out.old ++ level_object (condition_at (level_of level.now))) }
+/// The kind of a rule set.
+const RULE: usize = 3;
+
+/// Returns the numbers of a group rule that an item is in.
+fn level_row(level: &Level<'_>) -> [usize; 6]
+    ensures { result ≡ level_row_of (condition_at (level_of level.now)) }
 {
-    let name = level.places.start + 1;
+    let places = level.places;
     let end = level.after_end - level.after.len();
-    let start = level.places.start;
-    out.push_str("{\"name\":")?;
-    push_range(out, name, name + level.name.len())?;
-    push_extent(out, "prelude", level.places.prelude, level.prelude.len())?;
-    write!(out, ",\"start\":{start},\"end\":{end}}}")
+    [
+        places.start,
+        end.saturating_sub(places.start),
+        places.start + 1,
+        level.name.len(),
+        places.prelude,
+        level.prelude.len(),
+    ]
 }
 
-/// Appends the group rules that an item is in, as an array.
-fn push_levels(out: &mut String, levels: &[Level<'_>]) -> Result<(), AllocError>
-    ensures { OnOk result (string_bytes out.new
-        ≡ string_bytes out.old
-        ++ level_array (map (λ level. condition_at (level_of level)) levels.now)) }
+/// Returns the numbers of the group rules that an item is in.
+fn level_numbers(alloc: Global, levels: &[Level<'_>]) -> Result<Vec<usize>, AllocError>
+    ensures { IfOk result (λ out. out.items
+        ≡ level_numbers_of (map (λ level. condition_at (level_of level)) levels.now)) }
 {
-    out.push('[')?;
-    for (index, level) in levels.iter().enumerate() {
-        if index > 0 {
-            out.push(',')?;
-        }
-        push_level(out, level)?;
+    let mut out = Vec::new(alloc);
+    let mut left = levels;
+    'levels: while let [level, others @ ..] = left {
+        out.extend_from_slice(&level_row(level))?;
+        left = others;
     }
-    out.push(']')
+    Ok(out)
 }
 
-/// Appends the range of the pseudo-element at the end of a selector, from its first colon on, or
-/// null.
-fn push_element(
-    out: &mut String,
-    form: &SelectorForm<'_>,
-    start: usize,
-    end: usize,
-) -> Result<(), AllocError>
+/// Returns the offset and the length of the pseudo-element at the end of a selector, from its first colon on,
+/// or 0 and 0.
+fn element_numbers(form: &SelectorForm<'_>, start: usize, count: usize) -> [usize; 2]
     requires { start < 2 ^ 63 }
-    ensures { OnOk result (string_bytes out.new
-        ≡ string_bytes out.old ++ element_value (form_of form.now) start end) }
+    ensures { result ≡ element_numbers_of (form_of form.now) start count }
 {
     match form {
-        SelectorForm::WithElement(element) => push_range(out, start + element.front.len(), end),
-        _ => out.push_str("null"),
+        SelectorForm::WithElement(element) => {
+            let front = element.front.len();
+            [start + front, count.saturating_sub(front)]
+        }
+        _ => [0, 0],
     }
 }
 
@@ -93,102 +92,60 @@ fn with_element(counts: Specificity, pseudo_element: Option<&str>) -> Specificit
     }
 }
 
-/// Appends the specificity of a selector with its pseudo-element, if it is read, or null.
-fn push_counts(out: &mut String, read: &RuleSelector<'_>) -> Result<(), AllocError>
-    ensures { OnOk result (string_bytes out.new ≡ string_bytes out.old
-        ++ specificity_value read.now.selector (rule_selector_of read.now).pseudo_element) }
+/// Returns whether a selector is read, and its specificity with its pseudo-element.
+fn read_numbers(read: &RuleSelector<'_>) -> [usize; 4]
+    ensures { result
+        ≡ read_numbers_of read.now.selector (rule_selector_of read.now).pseudo_element }
 {
     match &read.selector {
         Some(selector) => {
             let counts = with_element(selector.specificity(), read.pseudo_element);
-            push_specificity(out, counts)
+            [
+                1,
+                counts.ids as usize,
+                counts.classes as usize,
+                counts.names as usize,
+            ]
         }
-        None => out.push_str("null"),
+        None => [0, 0, 0, 0],
     }
 }
 
-/// Appends a selector with this range, of this form, as it is read.
-fn push_read(
-    out: &mut String,
-    form: &SelectorForm<'_>,
-    read: &RuleSelector<'_>,
-    start: usize,
-    end: usize,
-) -> Result<(), AllocError>
-    requires { start < 2 ^ 63 }
-    ensures { OnOk result (string_bytes out.new ≡ string_bytes out.old
-        ++ selector_with start end (form_of form.now) (rule_selector_of read.now)) }
-{
-    out.push_str("{\"text\":")?;
-    push_range(out, start, end)?;
-    push_flag(out, "is_read", read.selector.is_some())?;
-    out.push_str(",\"specificity\":")?;
-    push_counts(out, read)?;
-    out.push_str(",\"pseudo_element\":")?;
-    push_element(out, form, start, end)?;
-    out.push('}')
-}
-
-/// Appends a selector of a list whose text ends at this offset.
+/// Appends the numbers of a selector of a list whose text ends at this offset.
 fn push_selector(
-    out: &mut String,
+    out: &mut Vec<usize>,
     alloc: Global,
     found: &FoundSelector<'_>,
     end: usize,
 ) -> Result<(), AllocError>
     requires { end < 2 ^ 63 }
-    ensures { OnOk result (string_bytes out.new
-        ≡ string_bytes out.old ++ selector_object end (record {
-          listed = listed_of found.now.selector;
-          from = found.now.from.now;
-        })) }
+    ensures { OnOk result (out.new.items ≡ out.old.items ++ selector_row_of end (record {
+      listed = listed_of found.now.selector;
+      from = found.now.from.now;
+    })) }
 {
     let start = offset_of(end, found.from);
-    let stop = start + found.selector.text.len();
-    match read_listed(alloc, &found.selector) {
-        Ok(read) => push_read(out, &found.selector.form, &read, start, stop),
-        Err(error) => Err(error),
-    }
+    let count = found.selector.text.len();
+    let read = read_listed(alloc, &found.selector)?;
+    out.push(start)?;
+    out.push(count)?;
+    out.extend_from_slice(&read_numbers(&read))?;
+    out.extend_from_slice(&element_numbers(&found.selector.form, start, count))
 }
 
-/// Appends the selectors of a list whose text ends at this offset, as an array.
-fn push_selectors(out: &mut String, alloc: Global, text: &str, end: usize) -> Result<(), AllocError>
+/// Returns the numbers of the selectors of a list whose text ends at this offset.
+fn selector_numbers(alloc: Global, text: &str, end: usize) -> Result<Vec<usize>, AllocError>
     requires { end < 2 ^ 63 }
-    ensures { OnOk result (string_bytes out.new
-        ≡ string_bytes out.old ++ selector_array end text.now) }
+    ensures { IfOk result (λ out. out.items ≡ selector_numbers_of end text.now) }
 {
-    out.push('[')?;
+    let mut out = Vec::new(alloc);
     let mut part = read_part(text);
-    push_selector(out, alloc, &part, end)?;
+    push_selector(&mut out, alloc, &part, end)?;
     'parts: while let Some(next) = next_part(part.rest) {
-        out.push(',')?;
-        push_selector(out, alloc, &next, end)?;
+        push_selector(&mut out, alloc, &next, end)?;
         part = next;
     }
-    out.push(']')
-}
-
-/// Appends the members of a rule set after its group rules, each after a comma.
-fn push_rule(
-    out: &mut String,
-    alloc: Global,
-    rule: &RuleSet<'_>,
-    places: Places,
-) -> Result<(), AllocError>
-    ensures { OnOk result (string_bytes out.new
-        ≡ string_bytes out.old ++ further (rule_members (places_of places)
-        (prelude_of rule.now.prelude) (block_of rule.now.block))) }
-{
-    let prelude = rule.prelude.text;
-    let prelude_end = (places.prelude + prelude.len()).min(places.block);
-    push_extent(out, "prelude", places.prelude, prelude.len())?;
-    out.push_str(",\"block\":")?;
-    push_range(out, places.block, places.block_end)?;
-    push_flag(out, "closed", rule.block.closed)?;
-    out.push_str(",\"selectors\":")?;
-    push_selectors(out, alloc, prelude, prelude_end)?;
-    out.push_str(",\"items\":")?;
-    push_items(out, rule.block.text, places.block_end)
+    Ok(out)
 }
 
 /// What a statement is in an answer.
@@ -216,77 +173,128 @@ fn show<'s, 'a>(statement: &'s Statement<'a>) -> Shown<'s, 'a>
     }
 }
 
-/// Returns the kind of a statement.
-fn kind_of(shown: &Shown<'_, '_>) -> &'static str
-    ensures { result.now ≡ shown_kind (shown_text shown.now) }
+/// Returns the numbers of a rule set of this length.
+fn rule_row(rule: &RuleSet<'_>, places: Places, count: usize) -> [usize; 10]
+    ensures { result ≡ rule_row_of (places_of places) count (prelude_of rule.now.prelude)
+        (block_of rule.now.block) }
+{
+    [
+        RULE,
+        places.start,
+        count,
+        usize::from(rule.block.closed),
+        places.prelude,
+        rule.prelude.text.len(),
+        places.block,
+        places.block_end.saturating_sub(places.block),
+        0,
+        0,
+    ]
+}
+
+/// Returns the numbers of a statement of this length.
+fn shown_row(shown: &Shown<'_, '_>, places: Places, count: usize) -> [usize; 10]
+    ensures { result ≡ shown_row_of (places_of places) count (shown_text shown.now) }
 {
     match shown {
-        Shown::Rule(_) => "rule",
-        Shown::AtRule(_) => "at-rule",
-        Shown::Skipped(_) => "skipped",
+        Shown::Rule(rule) => rule_row(rule, places, count),
+        Shown::AtRule(rule) => {
+            at_rule_row(rule, places.start, count, places.prelude, places.block)
+        }
+        Shown::Skipped(fault) => fault_row(*fault, places.start, count),
     }
 }
 
-/// Appends the members of a statement after its group rules, each after a comma.
-fn push_members(
-    out: &mut String,
+/// Returns the numbers of the selectors of a rule set. Anything else has none.
+fn shown_selectors(
     alloc: Global,
     shown: &Shown<'_, '_>,
     places: Places,
-) -> Result<(), AllocError>
-    ensures { OnOk result (string_bytes out.new
-        ≡ string_bytes out.old
-        ++ further (shown_members (places_of places) (shown_text shown.now))) }
+) -> Result<Vec<usize>, AllocError>
+    ensures { IfOk result (λ out. out.items
+        ≡ shown_selectors_of (places_of places) (shown_text shown.now)) }
 {
-    match shown {
-        Shown::Rule(rule) => push_rule(out, alloc, rule, places),
-        Shown::AtRule(rule) => {
-            push_at_rule(out, rule, places.start, places.prelude, places.block)
-        }
-        Shown::Skipped(fault) => push_fault(out, *fault),
-    }
+    let Shown::Rule(rule) = shown else {
+        return Ok(Vec::new(alloc));
+    };
+    let prelude = rule.prelude.text;
+    let end = (places.prelude + prelude.len()).min(places.block);
+    selector_numbers(alloc, prelude, end)
 }
 
-/// Appends the line of a statement that is in these group rules.
+/// Returns the numbers of the items of a rule set. Anything else has none.
+fn shown_items(
+    alloc: Global,
+    shown: &Shown<'_, '_>,
+    places: Places,
+) -> Result<Vec<usize>, AllocError>
+    ensures { IfOk result (λ out. out.items
+        ≡ shown_items_of (places_of places) (shown_text shown.now)) }
+{
+    let Shown::Rule(rule) = shown else {
+        return Ok(Vec::new(alloc));
+    };
+    item_numbers(alloc, rule.block.text, places.block_end, true)
+}
+
+/// Appends a row, and three numbers more.
+fn push_head(out: &mut Vec<usize>, row: &[usize], more: [usize; 3]) -> Result<(), AllocError>
+    ensures { OnOk result (out.new.items ≡ out.old.items ++ (row.now ++ more)) }
+{
+    out.extend_from_slice(row)?;
+    out.extend_from_slice(&more)
+}
+
+/// Appends a row, how many numbers there are of group rules, of selectors and of items, and these.
+fn push_counted(
+    out: &mut Vec<usize>,
+    row: &[usize],
+    levels: &[usize],
+    selectors: &[usize],
+    items: &[usize],
+) -> Result<(), AllocError>
+    ensures { OnOk result (out.new.items
+        ≡ out.old.items ++ counted row.now levels.now selectors.now items.now) }
+{
+    push_head(out, row, [levels.len(), selectors.len(), items.len()])?;
+    out.extend_from_slice(levels)?;
+    out.extend_from_slice(selectors)?;
+    out.extend_from_slice(items)
+}
+
+/// Appends the numbers of a statement that is in these group rules.
 fn push_part(
-    out: &mut String,
+    out: &mut Vec<usize>,
     alloc: Global,
     levels: &[Level<'_>],
     places: Places,
     part: &SheetPart<'_>,
 ) -> Result<(), AllocError>
-    ensures { OnOk result (string_bytes out.new
-        ≡ string_bytes out.old ++ sheet_line (record {
-          conditions = map (λ level. condition_at (level_of level)) levels.now;
-          part = sheet_part_of part.now;
-          places = places_of places;
-        })) }
+    ensures { OnOk result (out.new.items ≡ out.old.items ++ statement_numbers (record {
+      conditions = map (λ level. condition_at (level_of level)) levels.now;
+      part = sheet_part_of part.now;
+      places = places_of places;
+    })) }
 {
     let shown = show(&part.statement);
-    out.push('{')?;
-    push_head(
-        out,
-        kind_of(&shown),
-        places.start,
-        places.start + part.text.len(),
-    )?;
-    out.push_str(",\"levels\":")?;
-    push_levels(out, levels)?;
-    push_members(out, alloc, &shown, places)?;
-    out.push_str("}\n")
+    let row = shown_row(&shown, places, part.text.len());
+    let levels = level_numbers(alloc, levels)?;
+    let selectors = shown_selectors(alloc, &shown, places)?;
+    let items = shown_items(alloc, &shown, places)?;
+    push_counted(out, &row, &levels, &selectors, &items)
 }
 
-/// Returns the lines of the statements of a sheet, in at most this number of bytes.
-pub fn sheet_lines(alloc: Global, text: &str, most: usize) -> Result<String, CallError>
+/// Returns the numbers of the statements of a sheet, at most so many.
+pub fn sheet_numbers(alloc: Global, text: &str, most: usize) -> Result<Vec<usize>, CallError>
     ensures { MatchResult result
-        (λ lines. (string_bytes lines ≡ lines_of text.now) × (length (string_bytes lines) ≤ most))
-        (FailsLonger (most < length (lines_of text.now))) }
+        (λ out. (out.items ≡ sheet_numbers_of text.now) × (length out.items ≤ most))
+        (FailsLonger (most < length (sheet_numbers_of text.now))) }
 {
-    let mut out = String::new(alloc);
+    let mut out = Vec::new(alloc);
     let mut reader = SheetReader::new(alloc, text);
     'items: while let Some(part) = reader.read_next()? {
         push_part(&mut out, alloc, reader.levels(), reader.places(), &part)?;
-        check_length(&out, most)?;
+        check_count(&out, most)?;
     }
     Ok(out)
 }

@@ -155,8 +155,8 @@ fn report_list_end<'a, P: Report<'a>>(
     report.report(Skipped { from, after, why })
 }
 
-/// Skips a closing brace that follows a block, if one does, and reports it.
-fn skip_brace<'a, P: Report<'a>>(report: &mut P, s: &mut Stream<'a>) -> Result<(), AllocError>
+/// Consumes a closing brace that follows a block, if one does, and reports it.
+fn consume_brace<'a, P: Report<'a>>(report: &mut P, s: &mut Stream<'a>) -> Result<(), AllocError>
     ensures text { text_of s.new ≡ text_of s.old }
     ensures rest { rest_of s.new ≡ past_byte close_brace (rest_of s.old) }
     ensures reported { OnOk result (P.state report.new
@@ -173,11 +173,11 @@ fn skip_brace<'a, P: Report<'a>>(report: &mut P, s: &mut Stream<'a>) -> Result<(
     })
 }
 
-/// Skips the rest of a block whose declarations end at `text`, with its closing brace and one more
+/// Consumes the rest of a block whose declarations end at `text`, with its closing brace and one more
 /// that follows it, and reports what is skipped.
 #[cold]
 #[inline(never)]
-fn skip_broken<'a, P: Report<'a>>(
+fn consume_broken<'a, P: Report<'a>>(
     report: &mut P,
     text: &'a str,
     s: &mut Stream<'a>,
@@ -191,7 +191,7 @@ fn skip_broken<'a, P: Report<'a>>(
     skip_to_block_end(s);
     report_list_end(report, text, s.slice_tail())?;
     s.try_consume_byte(b'}');
-    skip_brace(report, s)
+    consume_brace(report, s)
 }
 
 /// Whether a list of declarations ends at the cursor: at a closing brace or at the end of the text.
@@ -314,7 +314,7 @@ fn consume_block<'a, P: Report<'a>>(
             s.try_consume_byte(b'}');
             Ok(())
         }
-        Some(text) => skip_broken(report, text, s),
+        Some(text) => consume_broken(report, text, s),
     }
 }
 

@@ -165,9 +165,9 @@ pub fn take_declaration<'a>(s: &mut Stream<'a>) -> Option<Declaration<'a>>
     })
 }
 
-/// Skips the terms of a value, and as much of the first term that is not read as was read of it.
-/// Returns the text from the start of that term on.
-fn skip_terms<'a>(s: &mut Stream<'a>) -> &'a str
+/// Returns the text after the terms of a value and the blank that follows them, from the first term that
+/// is not read on. The cursor is moved as far as that term was read.
+fn past_terms<'a>(s: &mut Stream<'a>) -> &'a str
     ensures text { text_of s.new ≡ text_of s.old }
     ensures from { result.now ≡ (terms this_edition (rest_of s.old)).1 }
     ensures rest { FailsAt (term this_edition result.now) (rest_of s.new) }
@@ -188,7 +188,7 @@ pub fn find_open_value(text: &str) -> Option<&str>
 {
     let mut s = Stream::new(text);
     take_stated_name(&mut s)?;
-    let from = skip_terms(&mut s);
+    let from = past_terms(&mut s);
     if from.is_empty() {
         return None;
     }
@@ -213,5 +213,5 @@ pub fn find_value_end(text: &str) -> Option<&str>
 {
     let mut s = Stream::new(text);
     take_stated_name(&mut s)?;
-    Some(skip_terms(&mut s))
+    Some(past_terms(&mut s))
 }

@@ -3,15 +3,18 @@
 //! For each text, what it has is printed in fields, of which each ends with the byte 1; a NUL byte ends
 //! the text. The fields of a statement are its kind, its name, its prelude and its block; those of an
 //! item of a list are its kind, its name, its value and its flags. What is skipped has its fault in
-//! place of a name, and its text. With `block` the list is that of a block. With `names` the escapes in the names of declarations are decoded.
+//! place of a name, and its text. With `block` the list is that of a block. With `names` the escapes in
+//! the names of declarations are decoded.
 //! The fields of a rule set, which may be in group rules, are the preludes of these with a comma after
 //! each, why it is dropped, its prelude and its block; those of its selectors are the text, the
 //! selector that is read of it, the name of the pseudo-element, and why the rule set is dropped. With
 //! `order` the rules are printed in the order of the cascade, but for those in `@media print`: the text
-//! of the selector, the name of the pseudo-element and the block. With `printed` and `list` the
+//! of the selector, the name of the pseudo-element and the block; with `nesting` these rules and the lists
+//! that `&` stands for in them. With `printed` and `list` the
 //! declarations are printed, not in fields: each with what closes its value and a blank, or as one
 //! list.
 
+use css_selectors::{Condition, Selector, Simple};
 use css_sheet::{RuleSelector, SheetError, SheetReader, read_selectors, read_sheet};
 use css_syntax::selectors::prelude_fault;
 use css_syntax::{
@@ -200,13 +203,13 @@ fn holds(name: &str, prelude: &str) -> bool {
 /// Writes the rules of a text in the order of the cascade, or that they have more declarations than
 /// these, or too many layers.
 fn write_order<W: Write>(alloc: Global, out: &mut W, text: &str, most: usize) -> io::Result<()> {
-    let rules = match read_sheet(
+    let sheet = match read_sheet(
         alloc,
         text,
         most,
         |name: &str, prelude: &str| holds(name, prelude),
     ) {
-        Ok(rules) => rules,
+        Ok(sheet) => sheet,
         Err(SheetError::TooManyDeclarations) => {
             return write_fields(out, "too many declarations", "", "", "");
         }
@@ -215,9 +218,47 @@ fn write_order<W: Write>(alloc: Global, out: &mut W, text: &str, most: usize) ->
         }
         Err(error) => return Err(error.into()),
     };
-    for rule in &rules {
+    for rule in &sheet.rules {
         let pseudo_element = rule.pseudo_element.unwrap_or("");
         write_fields(out, rule.text, pseudo_element, rule.block, "")?;
+    }
+    Ok(())
+}
+
+/// Returns the number of the list that `&` stands for in a selector, if it is in one of the compounds.
+fn list_number(selector: &Selector<'_>) -> usize {
+    for part in selector.parts() {
+        for condition in &part.conditions {
+            if let Condition::Simple(Simple::Nesting(list)) = condition {
+                return list.number;
+            }
+        }
+    }
+    0
+}
+
+/// Writes the rules of a text in the order of the cascade: the selector without its pseudo-element, the
+/// number of the list that `&` stands for in it with the offset of the block, and the block. Then the
+/// selectors of each list, with the number of that in them.
+fn write_nested<W: Write>(alloc: Global, out: &mut W, text: &str) -> io::Result<()> {
+    let sheet = read_sheet(
+        alloc,
+        text,
+        usize::MAX,
+        |name: &str, prelude: &str| holds(name, prelude),
+    )?;
+    for rule in &sheet.rules {
+        let selector = format!(in alloc; "{}", rule.selector)?;
+        let place = format!(in alloc; "{} {}", list_number(&rule.selector), rule.start)?;
+        write_fields(out, "rule", &selector, &place, rule.block)?;
+    }
+    for list in &sheet.lists {
+        for selector in list {
+            let printed = format!(in alloc; "{selector}")?;
+            let number = format!(in alloc; "{}", list_number(selector))?;
+            write_fields(out, "list", &printed, &number, "")?;
+        }
+        write_fields(out, "end", "", "", "")?;
     }
     Ok(())
 }
@@ -270,8 +311,9 @@ pub(crate) enum Part {
     Rules,
     Names,
     Selectors,
-    /// The rules, if they have at most so many declarations.
+    /// The rules, if they have at most this number of declarations.
     Order(usize),
+    Nested,
     Printed,
     List,
 }
@@ -287,6 +329,7 @@ impl Part {
             ["names"] => Some(Part::Names),
             ["selectors"] => Some(Part::Selectors),
             ["order", most] => most.parse().ok().map(Part::Order),
+            ["nesting"] => Some(Part::Nested),
             ["printed"] => Some(Part::Printed),
             ["list"] => Some(Part::List),
             _ => None,
@@ -303,6 +346,7 @@ impl Part {
             Part::Names => write_names(alloc, out, text)?,
             Part::Selectors => write_selectors(alloc, out, text)?,
             Part::Order(most) => write_order(alloc, out, text, most)?,
+            Part::Nested => write_nested(alloc, out, text)?,
             Part::Printed => write_printed(alloc, out, text)?,
             Part::List => write_list(alloc, out, text)?,
         }

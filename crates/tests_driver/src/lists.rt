@@ -95,16 +95,14 @@ fn numbered<'p, 't>(
 /// Writes for each list its first selector's specificity, a colon, the numbers of the elements that one
 /// of its selectors matches, from 0 on, the byte 1, the list as it is serialized, and a NUL byte; or, if
 /// it is refused, where and why.
-pub(crate) fn write_matched<W: Write>(
+fn write_matched<W: Write>(
     alloc: Global,
     out: &mut W,
-    lines: &str,
+    page: &NumberedTree<'_, '_>,
     lists: &str,
 ) -> io::Result<()> {
-    let tree = read_tree(alloc, lines)?;
-    let page = numbered(alloc, &tree, lines)?;
     for list in lists.split('\0') {
-        write_list(alloc, out, &page, list)?;
+        write_list(alloc, out, page, list)?;
     }
     Ok(())
 }
@@ -148,27 +146,24 @@ fn write_lists<W: Write>(out: &mut W, all: &[Listed<'_>], indices: &[usize]) -> 
 
 /// Writes for each element the numbers of the lists of which one index over all of them finds a
 /// selector, from 0 on, and a NUL byte.
-pub(crate) fn write_found_by_index<W: Write>(
+fn write_indexed<W: Write>(
     alloc: Global,
     out: &mut W,
-    lines: &str,
-    lists: &str,
+    page: &NumberedTree<'_, '_>,
+    all: &[Listed<'_>],
 ) -> io::Result<()> {
-    let tree = read_tree(alloc, lines)?;
-    let page = numbered(alloc, &tree, lines)?;
-    let all = read_listed(alloc, lists)?;
-    let index = SelectorIndex::new(alloc, all.as_slice())?;
+    let index = SelectorIndex::new(alloc, all)?;
     let mut indices = Vec::new(alloc);
     for number in 0..page.len() {
         if let Some(element) = page.node(number) {
             index.matching(&element, &mut indices)?;
         }
-        write_lists(out, all.as_slice(), indices.as_slice())?;
+        write_lists(out, all, indices.as_slice())?;
     }
     Ok(())
 }
 
-/// Writes for each element of the page what a walk along it finds.
+/// Writes what [`write_indexed`] does, as a walk along the page finds it.
 fn write_walked<W: Write>(
     alloc: Global,
     out: &mut W,
@@ -184,15 +179,30 @@ fn write_walked<W: Write>(
     Ok(())
 }
 
-/// Writes what [`write_found_by_index`] does, as a walk along the page finds it.
-pub(crate) fn write_found_by_walk<W: Write>(
+/// How selectors are found.
+#[derive(Clone, Copy)]
+pub(crate) enum Search {
+    /// Each is tested.
+    Each,
+    /// By an index.
+    Index,
+    /// By a walk along the page.
+    Walk,
+}
+
+/// Writes the answers on the tree of these lines and lists of selectors.
+pub(crate) fn write_on_tree<W: Write>(
     alloc: Global,
     out: &mut W,
+    search: Search,
     lines: &str,
     lists: &str,
 ) -> io::Result<()> {
     let tree = read_tree(alloc, lines)?;
     let page = numbered(alloc, &tree, lines)?;
-    let all = read_listed(alloc, lists)?;
-    write_walked(alloc, out, &page, all.as_slice())
+    match search {
+        Search::Each => write_matched(alloc, out, &page, lists),
+        Search::Index => write_indexed(alloc, out, &page, read_listed(alloc, lists)?.as_slice()),
+        Search::Walk => write_walked(alloc, out, &page, read_listed(alloc, lists)?.as_slice()),
+    }
 }

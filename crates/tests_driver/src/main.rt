@@ -12,20 +12,10 @@ mod tokens;
 mod tree;
 
 use css::Part;
+use lists::Search;
 use std::alloc::Global;
 use std::io::{BufWriter, ErrorKind, Read, Write};
 use std::{env, io};
-
-/// How selectors are found.
-#[derive(Clone, Copy)]
-enum Search {
-    /// Each is tested.
-    Each,
-    /// By an index.
-    Index,
-    /// By a walk along the page.
-    Walk,
-}
 
 /// Writes the answers on a tree and lists of selectors.
 fn write_on_tree<W: Write>(
@@ -38,11 +28,7 @@ fn write_on_tree<W: Write>(
         return Err(io::Error::from(ErrorKind::InvalidData));
     };
     let (lines, lists) = input.split_once('\0').unwrap_or((input, ""));
-    match search {
-        Search::Each => lists::write_matched(alloc, out, lines, lists),
-        Search::Index => lists::write_found_by_index(alloc, out, lines, lists),
-        Search::Walk => lists::write_found_by_walk(alloc, out, lines, lists),
-    }
+    lists::write_on_tree(alloc, out, search, lines, lists)
 }
 
 /// Writes the answers that the words ask for.

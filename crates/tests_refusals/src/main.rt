@@ -79,27 +79,6 @@ fn show_sheet<R: Log>(rt: &HostRuntime, made: &Made<'_>, log: &R, text: &str) ->
     }
 }
 
-/// Reads a second text into the sheet of a first one. If that fails, the sheet is shown unchanged,
-/// and the second text is read again.
-fn show_more<R: Log>(
-    rt: &HostRuntime,
-    made: &Made<'_>,
-    log: &R,
-    text: &str,
-    more: &str,
-) -> io::Result<()> {
-    let mut sheet = StyleSheet::parse(log, rt.alloc(), text)?;
-    begin(rt);
-    let read = sheet.parse_more(log, rt.alloc(), more);
-    end(rt, made);
-    if read.is_err() {
-        println!(rt; "refused")?;
-        println!(rt; "{sheet}")?;
-        sheet.parse_more(log, rt.alloc(), more)?;
-    }
-    println!(rt; "{sheet}")
-}
-
 /// Reads texts into a sheet, within a limit of 100 declarations.
 fn read_within<'a, R: Log>(
     sheet: &mut StyleSheet<'a>,
@@ -114,23 +93,40 @@ fn read_within<'a, R: Log>(
     sheet.read(how, alloc, texts)
 }
 
-/// Reads a second text into the sheet of a first one, within a limit that it does not exceed. If that
-/// fails, the error and the unchanged sheet are shown, and the second text is read again.
-fn show_within<R: Log>(
+/// Reads a second text into a sheet by the call of this name.
+fn read_second<'a, R: Log>(
+    sheet: &mut StyleSheet<'a>,
+    log: &R,
+    alloc: Global,
+    call: &str,
+    text: &'a str,
+) -> Result<(), SheetError> {
+    if call == "within" {
+        return read_within(sheet, log, alloc, &[text]);
+    }
+    sheet.parse_more(log, alloc, text)?;
+    Ok(())
+}
+
+/// Reads a second text into the sheet of a first one, all of it or within a limit that it does not
+/// exceed. If that fails, the error and the unchanged sheet are shown, and the second text is read
+/// again.
+fn show_second<R: Log>(
     rt: &HostRuntime,
     made: &Made<'_>,
     log: &R,
+    call: &str,
     text: &str,
     more: &str,
 ) -> io::Result<()> {
     let mut sheet = StyleSheet::parse(log, rt.alloc(), text)?;
     begin(rt);
-    let read = read_within(&mut sheet, log, rt.alloc(), &[more]);
+    let read = read_second(&mut sheet, log, rt.alloc(), call, more);
     end(rt, made);
     if let Err(error) = read {
         println!(rt; "{error}")?;
         println!(rt; "{sheet}")?;
-        read_within(&mut sheet, log, rt.alloc(), &[more])?;
+        read_second(&mut sheet, log, rt.alloc(), call, more)?;
     }
     println!(rt; "{sheet}")
 }
@@ -244,12 +240,9 @@ fn found_rules(
     let mut indices = Vec::new(alloc);
     let mut sum = 0_usize;
     for node_index in 0..page.len() {
-        let Some(element) = page.node(node_index) else {
-            break;
-        };
-        index.matching(&sheet.rules, &element, &mut indices)?;
-        for found in &indices {
-            sum = sum.saturating_add(*found).saturating_add(1);
+        if let Some(element) = page.node(node_index) {
+            index.matching(&sheet.rules, &element, &mut indices)?;
+            sum = sum.saturating_add(walks::sum_of(indices.as_slice()));
         }
     }
     Ok(sum)
@@ -296,10 +289,9 @@ fn winner_count(
 ) -> Result<usize, AllocError> {
     let mut sum = 0_usize;
     for node_index in 0..page.len() {
-        let Some(element) = page.node(node_index) else {
-            break;
-        };
-        sum = sum.saturating_add(winners(alloc, sheet, &element)?.len());
+        if let Some(element) = page.node(node_index) {
+            sum = sum.saturating_add(winners(alloc, sheet, &element)?.len());
+        }
     }
     Ok(sum)
 }
@@ -347,12 +339,9 @@ fn found_selectors(
     let mut indices = Vec::new(alloc);
     let mut sum = 0_usize;
     for node_index in 0..page.len() {
-        let Some(element) = page.node(node_index) else {
-            break;
-        };
-        index.matching(&element, &mut indices)?;
-        for found in &indices {
-            sum = sum.saturating_add(*found).saturating_add(1);
+        if let Some(element) = page.node(node_index) {
+            index.matching(&element, &mut indices)?;
+            sum = sum.saturating_add(walks::sum_of(indices.as_slice()));
         }
     }
     Ok(sum)
@@ -367,8 +356,14 @@ fn show_numbered(rt: &HostRuntime, made: &Made<'_>, names: &[&str]) -> io::Resul
     show_number(rt, page.map(|page| page.len()))
 }
 
-/// Finds selectors by an index for the elements of a tree of the names.
-fn show_modern(rt: &HostRuntime, made: &Made<'_>, text: &str, names: &[&str]) -> io::Result<()> {
+/// Finds selectors for the elements of a tree of the names, by an index or by a walk.
+fn show_modern(
+    rt: &HostRuntime,
+    made: &Made<'_>,
+    call: &str,
+    text: &str,
+    names: &[&str],
+) -> io::Result<()> {
     let Ok(selectors) = ModernSelector::parse_list(rt.alloc(), text) else {
         return println!(rt; "no selectors");
     };
@@ -377,7 +372,11 @@ fn show_modern(rt: &HostRuntime, made: &Made<'_>, text: &str, names: &[&str]) ->
         return println!(rt; "no tree");
     };
     begin(rt);
-    let sum = found_selectors(rt.alloc(), selectors.as_slice(), &page);
+    let sum = if call == "tree_walk" {
+        walks::found_selectors(rt.alloc(), selectors.as_slice(), &page)
+    } else {
+        found_selectors(rt.alloc(), selectors.as_slice(), &page)
+    };
     end(rt, made);
     show_number(rt, sum)
 }
@@ -388,21 +387,6 @@ fn show_rule_walk(rt: &HostRuntime, made: &Made<'_>, text: &str, names: &[&str])
     let tree = chain(rt.alloc(), names)?;
     begin(rt);
     let sum = walks::found_rules(rt.alloc(), &sheet.rules, &tree);
-    end(rt, made);
-    show_number(rt, sum)
-}
-
-/// Finds selectors by a walk along a tree of the names.
-fn show_tree_walk(rt: &HostRuntime, made: &Made<'_>, text: &str, names: &[&str]) -> io::Result<()> {
-    let Ok(selectors) = ModernSelector::parse_list(rt.alloc(), text) else {
-        return println!(rt; "no selectors");
-    };
-    let tree = chain(rt.alloc(), names)?;
-    let Ok(page) = NumberedTree::new(rt.alloc(), &tree) else {
-        return println!(rt; "no tree");
-    };
-    begin(rt);
-    let sum = walks::found_selectors(rt.alloc(), selectors.as_slice(), &page);
     end(rt, made);
     show_number(rt, sum)
 }
@@ -423,8 +407,7 @@ fn show<R: Log>(rt: &HostRuntime, made: &Made<'_>, log: &R, words: &[&str]) -> i
     match words {
         ["selector", text] => show_selector(rt, made, log, text),
         ["sheet", text] => show_sheet(rt, made, log, text),
-        ["more", text, more] => show_more(rt, made, log, text, more),
-        ["within", text, more] => show_within(rt, made, log, text, more),
+        [call @ ("more" | "within"), text, more] => show_second(rt, made, log, call, text, more),
         ["copies", text] => show_copies(rt, made, text),
         ["page", text] => show_page(rt, made, text),
         ["sheets", texts @ ..] => show_sheets(rt, made, log, texts),
@@ -450,9 +433,10 @@ fn show<R: Log>(rt: &HostRuntime, made: &Made<'_>, log: &R, words: &[&str]) -> i
             show_number(rt, tree.map(|tree| tree.len()))
         }
         ["numbered", names @ ..] => show_numbered(rt, made, names),
-        ["modern", text, names @ ..] => show_modern(rt, made, text, names),
+        [call @ ("modern" | "tree_walk"), text, names @ ..] => {
+            show_modern(rt, made, call, text, names)
+        }
         ["rule_walk", text, names @ ..] => show_rule_walk(rt, made, text, names),
-        ["tree_walk", text, names @ ..] => show_tree_walk(rt, made, text, names),
         ["run_selector", text] => {
             begin(rt);
             let outcome = run_selector(log, rt.alloc(), text, &mut out);

@@ -6,7 +6,7 @@ use simplecss_tree::{RuleWalk, Tree};
 use std::alloc::{AllocError, Global};
 
 /// Returns the sum of the numbers of these indices, from 1 on.
-fn sum_of(indices: &[usize]) -> usize {
+pub(crate) fn sum_of(indices: &[usize]) -> usize {
     let mut sum = 0_usize;
     for index in indices {
         sum = sum.saturating_add(*index).saturating_add(1);

@@ -1,6 +1,5 @@
 //! The indices of the rules whose key an element or one of its neighbours reports.
-ghost use Rattle.std.specs.Prelude.{◌≡◌, ◌<◌, ◌↔◌, ℕ, OnOk, Contains, IsTrue, Option, Some, length, filter};
-ghost use Rattle.std.specs.List.Sorted.{IsStrictlyIncreasing};
+ghost use Rattle.std.specs.Prelude.{◌≡◌, ◌<◌, ℕ, OnOk, Contains, IsTrue, Option, Some, length, filter};
 ghost use Rattle.std.specs.Option.{option_map};
 ghost use Rattle.simplecss_selector.specs.KeyViews.{key_value};
 ghost use Rattle.simplecss.specs.internal.LastByKey.{last_for, IdLeads, ClassLeads, AttributeLeads};
@@ -18,18 +17,9 @@ use super::last_by_key::LastByKey;
 use super::open_path::OpenPath;
 use super::recent::Recent;
 use super::rule_index::RuleIndex;
+use css_matching::sort_once;
 use simplecss_selector::{AttributeOperator, Key, Keyed};
 use std::alloc::AllocError;
-
-/// Puts the indices in order, each once.
-fn sort_once(indices: &mut Vec<usize>)
-    ensures ascending { IsStrictlyIncreasing indices.new.items }
-    ensures same { (index : ℕ) → Contains indices.new.items index
-        ↔ Contains indices.old.items index }
-{
-    indices.sort_unstable();
-    indices.dedup();
-}
 
 /// Adds the last index of the key, if it has one.
 #[inline(always)]

@@ -14,7 +14,7 @@ use std::marker::Model;
 use std::snapshot::Snapshot;
 
 /// The elements that are open while a tree is walked in order: those of which a descendant is matched
-/// next. By them [`RuleIndex::matching_open`] leaves out each rule that needs an ancestor which an
+/// next. By them [`RuleIndex::matching_exact`] leaves out each rule that needs an ancestor which an
 /// element does not have, and it does not look up what the parent reports.
 ///
 /// A walk of the tree enters each element before its children, and leaves it after them:
@@ -22,7 +22,7 @@ use std::snapshot::Snapshot;
 /// ```text
 /// path.enter(&index, &element)?;
 /// for child in children {
-///     index.matching_open(&sheet.rules, &child, &path, &mut indices, &mut Tests::new())?;
+///     index.matching_exact(&sheet.rules, &child, &path, &mut indices, &mut Tests::new())?;
 /// }
 /// path.leave();
 /// ```

@@ -220,36 +220,10 @@ impl<'a> RuleIndex<'a> {
         self.matching_recent(rules, element, indices, &mut recent, tests)
     }
 
-    /// Does what [`RuleIndex::matching_counted`] does for an element whose ancestors are the open
-    /// elements of a path. A rule is tested only if its key is reported, and if open elements report
-    /// each key that it needs of ancestors.
-    pub fn matching_open<T: HasSelector<'a>, E: Keyed>(
-        &self,
-        rules: &[T],
-        element: &E,
-        path: &OpenPath<'_>,
-        indices: &mut Vec<usize>,
-        tests: &mut Tests,
-    ) -> Result<(), AllocError>
-        requires index { self.now ≡ map T.selector_in rules.now }
-        requires path { path.now.selectors ≡ self.now }
-        requires open { IsOpenTo E.tree E.node E.reported path.now
-            (E.tree.parent (E.node element.now)) }
-        ensures matches { OnOk result
-            (AreMatches E.tree (E.node element.now) self.now indices.new.items) }
-        ensures tests { OnOk result ((near : Near)
-            × IsNear E.tree E.node E.reported element.now near
-            × (tests.old + length (open_for near path.now) ≤ tests.new)
-            × (tests.new ≤ tests.old + sum_by (most_tests E.tree (E.node element.now))
-            (open_for near path.now))) }
-        ensures err { OnErr result (indices.new.items ≡ []) }
-        ensures untested { OnErr result (tests.new ≡ tests.old) }
-    {
-        self.matching_along(rules, element, path, false, indices, tests)
-    }
-
-    /// Does what [`RuleIndex::matching_open`] does for an element that reports no more than it
-    /// matches. A rule that requires nothing but its key is not tested.
+    /// Does what [`RuleIndex::matching_counted`] does for an element that reports no more than it
+    /// matches, and whose ancestors are the open elements of a path. A rule is tested only if its key is
+    /// reported, and if open elements report each key that it needs of ancestors. One that requires
+    /// nothing but its key is not tested.
     pub fn matching_exact<T: HasSelector<'a>, E: Exact>(
         &self,
         rules: &[T],
@@ -271,42 +245,11 @@ impl<'a> RuleIndex<'a> {
         ensures err { OnErr result (indices.new.items ≡ []) }
         ensures untested { OnErr result (tests.new ≡ tests.old) }
     {
-        self.matching_along(rules, element, path, true, indices, tests)
-    }
-
-    /// Does what [`RuleIndex::matching_open`] does, or, if the search is exact, what
-    /// [`RuleIndex::matching_exact`] does.
-    #[inline(always)]
-    fn matching_along<T: HasSelector<'a>, E: Keyed>(
-        &self,
-        rules: &[T],
-        element: &E,
-        path: &OpenPath<'_>,
-        is_exact: bool,
-        indices: &mut Vec<usize>,
-        tests: &mut Tests,
-    ) -> Result<(), AllocError>
-        requires index { self.now ≡ map T.selector_in rules.now }
-        requires path { path.now.selectors ≡ self.now }
-        requires open { IsOpenTo E.tree E.node E.reported path.now
-            (E.tree.parent (E.node element.now)) }
-        requires exact { IsTrue is_exact
-            → ReportsOnlyKeys E.tree (E.node element.now) (E.reported element.now) }
-        ensures matches { OnOk result
-            (AreMatches E.tree (E.node element.now) self.now indices.new.items) }
-        ensures tests { OnOk result ((near : Near)
-            × IsNear E.tree E.node E.reported element.now near
-            × (is_exact ≡ false → tests.old + length (open_for near path.now) ≤ tests.new)
-            × (tests.new ≤ tests.old + sum_by (most_tests E.tree (E.node element.now))
-            (open_for near path.now))) }
-        ensures err { OnErr result (indices.new.items ≡ []) }
-        ensures untested { OnErr result (tests.new ≡ tests.old) }
-    {
         if let Err(error) = candidates_open(self, element, path, indices) {
             indices.clear();
             return Err(error);
         }
-        drop_others(rules, element, self, is_exact, indices, tests);
+        drop_others(rules, element, self, true, indices, tests);
         Ok(())
     }
 

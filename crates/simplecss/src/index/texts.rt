@@ -67,7 +67,7 @@ fn put<'a>(slots: &mut Vec<Slot<'a>>, text: &'a str, index: usize)
     slots[place] = joined(slot, text, index);
 }
 
-/// Returns so many slots for the texts of a map, or none if memory for them is refused.
+/// Returns `count` slots with the texts of a map, or none if an allocation fails.
 fn slots_of<'a>(alloc: Global, indices: &BTreeMap<&'a str, usize>, count: usize) -> Vec<Slot<'a>>
     requires { 0 < count }
     ensures { AreTold result.items (index_for_text indices.now) }

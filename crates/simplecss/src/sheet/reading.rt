@@ -90,7 +90,7 @@ pub(crate) fn read_rules<'a, P: Report<'a>>(
 }
 
 /// Reads the statements of a text, reports what they skip, and keeps no rule.
-pub(crate) fn skip_statements<'a, P: Report<'a>>(
+pub(crate) fn consume_statements<'a, P: Report<'a>>(
     report: &mut P,
     alloc: Global,
     text: &'a str,

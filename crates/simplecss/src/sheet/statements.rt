@@ -56,8 +56,8 @@ fn report_stray<'a, P: Report<'a>>(report: &mut P, from: &'a str) -> Result<(), 
     report.report(Skipped { from, after, why })
 }
 
-/// Skips a comma, if one follows, and reports it.
-fn skip_comma<'a, P: Report<'a>>(report: &mut P, s: &mut Stream<'a>) -> Result<(), AllocError>
+/// Consumes a comma, if one follows, and reports it.
+fn consume_comma<'a, P: Report<'a>>(report: &mut P, s: &mut Stream<'a>) -> Result<(), AllocError>
     ensures text { text_of s.new ≡ text_of s.old }
     ensures rest { rest_of s.new ≡ past_byte comma (rest_of s.old) }
     ensures reported { OnOk result (P.state report.new
@@ -221,7 +221,7 @@ impl<'a> RuleReader<'a> {
         ensures reported { OnOk result (P.state report.new
             ≡ add_each P.add (P.state report.old) (rule_set_skips this_edition (rest_of s.old))) }
     {
-        skip_comma(report, s)?;
+        consume_comma(report, s)?;
         consume_parts(report, alloc, s, &mut self.selectors)?;
         consume_next_block(report, s, &mut self.declarations)
     }

@@ -179,7 +179,7 @@ pub fn find_skipped<'a>(alloc: Global, text: &'a str) -> Result<Vec<Skipped<'a>>
     let mut kept = Kept {
         skips: Vec::new(alloc),
     };
-    reading::skip_statements(&mut kept, alloc, text)?;
+    reading::consume_statements(&mut kept, alloc, text)?;
     let Kept { skips } = kept;
     Ok(skips)
 }

@@ -7,8 +7,9 @@ ghost use Rattle.simplecss_c.specs.ModernLines.{page_with, IsModernLine, AreMode
 ghost use Rattle.simplecss_c.specs.Calls.{FailsLonger};
 ghost use Rattle.simplecss_c.specs.Readings.{selector_as};
 ghost use Rattle.simplecss_c.specs.declared.answer.CallError.TheVariants.{Memory};
+ghost use Rattle.simplecss_c.specs.declared.modern.document_kind.DocumentKind.TheVariants.{AsWritten};
 
-use super::reading::{Reading, html_selectors};
+use super::document_kind::{DocumentKind, html_selectors};
 use crate::answer::{CallError, check_length};
 use crate::elements::{TreeElement, has_text};
 use crate::pages::{LineContent, push_indices};
@@ -30,13 +31,13 @@ impl From<NumberingError> for CallError {
 }
 
 /// The tree whose siblings are counted, and which of its elements have a text.
-pub fn page_of<'p, 't>(
+fn counted_page<'p, 't>(
     alloc: Global,
     tree: &'p Tree<'t>,
     elements: &[TreeElement],
 ) -> Result<NumberedTree<'p, 't>, CallError>
     requires { length elements.now ≡ length tree.now }
-    ensures { MatchResult result (λ page. page ≡ page_with elements.now tree.now)
+    ensures { MatchResult result (λ page. page ≡ page_with AsWritten elements.now tree.now)
         (λ error. error ≡ Memory) }
 {
     let mut page = NumberedTree::new(alloc, tree)?;
@@ -46,6 +47,27 @@ pub fn page_of<'p, 't>(
         }
     }
     Ok(page)
+}
+
+/// The page of a tree, as a document that reads selectors in this way has it.
+pub fn page_of<'p, 't>(
+    alloc: Global,
+    kind: DocumentKind,
+    tree: &'p Tree<'t>,
+    elements: &[TreeElement],
+) -> Result<NumberedTree<'p, 't>, CallError>
+    requires { length elements.now ≡ length tree.now }
+    ensures { MatchResult result (λ page. page ≡ page_with kind elements.now tree.now)
+        (λ error. error ≡ Memory) }
+{
+    let mut page = counted_page(alloc, tree, elements)?;
+    match kind {
+        DocumentKind::AsWritten => Ok(page),
+        DocumentKind::Html(_) => {
+            page.set_html(alloc)?;
+            Ok(page)
+        }
+    }
 }
 
 /// Appends the line of an element, which is given by its index, by a walk. What was in `indices` is
@@ -117,20 +139,20 @@ fn lines_as_written(
 pub fn lines(
     alloc: Global,
     content: LineContent,
-    reading: Reading,
+    kind: DocumentKind,
     selectors: &[Selector<'_>],
     page: &NumberedTree<'_, '_>,
     most: usize,
 ) -> Result<String, CallError>
     requires { length selectors.now < 2 ^ 63 }
     ensures { MatchResult result (λ text. AreModernLines most content
-        (map (selector_as reading) selectors.now) page.now (Some (string_bytes text)))
-        (FailsLonger (AreModernLines most content (map (selector_as reading) selectors.now)
+        (map (selector_as kind) selectors.now) page.now (Some (string_bytes text)))
+        (FailsLonger (AreModernLines most content (map (selector_as kind) selectors.now)
         page.now None)) }
 {
-    match reading {
-        Reading::AsWritten => lines_as_written(alloc, content, selectors, page, most),
-        Reading::Html(mode) => {
+    match kind {
+        DocumentKind::AsWritten => lines_as_written(alloc, content, selectors, page, most),
+        DocumentKind::Html(mode) => {
             let selectors = html_selectors(alloc, mode, selectors)?;
             lines_as_written(alloc, content, &selectors, page, most)
         }

@@ -11,8 +11,8 @@ use Rattle.cssq.specs.internal.PageRuns.{AppendsElementLine}
 use Rattle.cssq.proofs.Indexed.{numbers_reported, same_selectors}
 use Rattle.cssq.proofs.runs.push_answer.Goals as goal
 
-pub push_line-requires : goal.push_line-requires
-push_line-requires c = λ k d within.
+pub push_numbers-requires : goal.push_numbers-requires
+push_numbers-requires c = λ k d within.
     let bound : length c.args.rules.now < 2 ^ 63 = search rules in
     let at = c.requires.within k d within in
     omega (arith, bound, at)
@@ -21,15 +21,15 @@ pub returns-in-Rules : goal.returns-in-Rules
 returns-in-Rules c rows found =
     let are = subst (λ selectors. AreMatches page_tree (spot rows c.args.element) selectors
     c.args.indices.now) (same_selectors rule_of c.args.rules.now) found in
-    subst (λ content. OnOk c.push_line.result
+    subst (λ content. OnOk c.push_numbers.result
     (AppendsElementLine content (rules_of c.args.rules.now) rows c.args.element
-    (string_bytes c.args.out.now) (string_bytes c.push_line.new.out))) (sym c.in-Rules.is)
-    (on_ok_weaker c.push_line.result (λ wrote. (
+    (string_bytes c.args.out.now) (string_bytes c.push_numbers.new.out))) (sym c.in-Rules.is)
+    (on_ok_weaker c.push_numbers.result (λ wrote. (
       numbers_line (c.args.element + 1) (map (λ element. element + 1) c.args.indices.now),
       numbers_reported (rules_of c.args.rules.now) (spot rows c.args.element)
           c.args.indices.now are rows c.args.element refl,
       wrote,
-    )) c.push_line.ensures)
+    )) c.push_numbers.ensures)
 
 pub returns-in-Winner : goal.returns-in-Winner
 returns-in-Winner c rows found =

@@ -13,9 +13,9 @@ returns-in_err-texts c =
     let ends = c.args.ends.now in
     let passed = passed_of c.args.tree in
     let error = c.in_err-texts.field-0.0 in
-    handed-on (IsModernMatchCall c.args.most buffer ends c.args.reading passed) c.from_residual.result error
+    handed-on (IsModernMatchCall c.args.most buffer ends c.args.kind passed) c.from_residual.result error
     c.from_residual.ensures.1
-    (texts-failed c.args.most buffer ends c.args.reading passed error c.in_err-texts.ensures)
+    (texts-failed c.args.most buffer ends c.args.kind passed error c.in_err-texts.ensures)
 
 pub returns-in_err-selectors : goal.returns-in_err-selectors
 returns-in_err-selectors c =
@@ -23,9 +23,9 @@ returns-in_err-selectors c =
     let ends = c.args.ends.now in
     let passed = passed_of c.args.tree in
     let error = c.in_err-selectors.field-0.0 in
-    handed-on (IsModernMatchCall c.args.most buffer ends c.args.reading passed)
+    handed-on (IsModernMatchCall c.args.most buffer ends c.args.kind passed)
     c.from_residual-in_err-selectors.result error c.from_residual-in_err-selectors.ensures.1
-    (selectors-failed c.args.most buffer ends c.args.reading passed
+    (selectors-failed c.args.most buffer ends c.args.kind passed
     (map (λ text. text.now) c.in_ok-texts.texts.items) c.in_ok-texts.ensures error
     (subst (λ (texts : List (Bor (List ℕ))). FailsFor (HasNoSelector selector_of
     (map (λ text. text.now) texts)) (λ fault. ⊥) ⊥ error) c.deref.ensures.value
@@ -34,7 +34,7 @@ returns-in_err-selectors c =
 pub returns : goal.returns
 returns c =
     let passed = passed_of c.args.tree in
-    match-due c.args.most c.args.buffer.now c.args.ends.now c.args.reading passed
+    match-due c.args.most c.args.buffer.now c.args.ends.now c.args.kind passed
     (map (λ text. text.now) c.in_ok-texts.texts.items) c.in_ok-selectors.selectors.items
     c.in_ok-texts.ensures
     (subst (λ (texts : List (Bor (List ℕ))). AreSelectorsIn selector_of
@@ -42,5 +42,5 @@ returns c =
     c.in_ok-selectors.ensures)
     c.page_lines.result
     (subst (λ (selectors : List Selector). ReadLines c.page_lines.result
-    (AreReadLines c.args.most Numbers c.args.reading selectors passed) passed)
+    (AreReadLines c.args.most Numbers c.args.kind selectors passed) passed)
     c.deref-2.ensures.value c.page_lines.ensures)

@@ -28,11 +28,11 @@ returns-in-None-clause-reported g c =
 
 pub returns-in-Some-clause-reads : goal.returns-in-Some-clause-reads
 returns-in-Some-clause-reads g c =
-    on_ok_weaker c.skip_broken.result
+    on_ok_weaker c.consume_broken.result
     (block-broken this_edition (rest_of c.args.s.now) c.in-Some.text.now
-    (rest_of c.consume_declarations.new.s) (rest_of c.skip_broken.new.s)
+    (rest_of c.consume_declarations.new.s) (rest_of c.consume_broken.new.s)
     (map declaration_of c.consume_declarations.new.declarations.items) c.in-Ok.ensures.values
-    (rw c.in-Some.is at c.in-Ok.ensures.list)) c.skip_broken.ensures.rest
+    (rw c.in-Some.is at c.in-Ok.ensures.list)) c.consume_broken.ensures.rest
 
 pub returns-in-Some-clause-reported : goal.returns-in-Some-clause-reported
 returns-in-Some-clause-reported g c =
@@ -42,9 +42,9 @@ returns-in-Some-clause-reported g c =
     let lost =
     broken_part c.in-Some.text.now (from_block_end (rest_of c.consume_declarations.new.s))
     in
-    on_ok_weaker c.skip_broken.result
-    (λ (e : g.P.Report.state c.skip_broken.new.report ≡ add_each add middle lost).
+    on_ok_weaker c.consume_broken.result
+    (λ (e : g.P.Report.state c.consume_broken.new.report ≡ add_each add middle lost).
     e
     ∙ ap (add_each add middle) (sym (list_skips-broken this_edition here c.in-Some.text.now
     (rest_of c.consume_declarations.new.s) (rw c.in-Some.is at c.in-Ok.ensures.list)))
-    ∙ c.in-Ok.ensures.reported) c.skip_broken.ensures.reported
+    ∙ c.in-Ok.ensures.reported) c.consume_broken.ensures.reported

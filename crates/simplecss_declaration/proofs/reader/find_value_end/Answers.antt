@@ -24,5 +24,5 @@ pub returns : goal.returns
 returns c =
     let whole : rest_of c.new-s.result ≡ c.args.text.now =
     rw (c.new-s.ensures.offset, c.new-s.ensures.text) refl in
-    ap Some c.skip_terms.ensures.from ∙ sym (ap (past_terms this_edition)
+    ap Some c.past_terms.ensures.from ∙ sym (ap (past_terms this_edition)
     (rw whole at c.in_ok-take_stated_name.ensures.reads))

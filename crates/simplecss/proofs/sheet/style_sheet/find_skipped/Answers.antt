@@ -8,6 +8,6 @@ use Rattle.simplecss.proofs.sheet.style_sheet.find_skipped.Goals as goal
 pub returns : goal.returns
 returns c =
     let all = skipped this_edition c.args.text.now in
-    c.in_ok-skip_statements.ensures
+    c.in_ok-consume_statements.ensures
     ∙ add_each-kept (map skip_of c.new.result.items) all
     ∙ ap (λ l. map skip_of l ++ all) c.new.ensures.items

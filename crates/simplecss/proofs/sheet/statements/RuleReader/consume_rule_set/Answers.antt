@@ -11,10 +11,10 @@ returns-clause-reported g c = on_ok_weaker c.consume_next_block.result
     (λ (e : g.P.Report.state c.consume_next_block.new.report
     ≡ add_each g.P.Report.add (g.P.Report.state c.consume_parts.new.report)
     (next_block_skips this_edition (rest_of c.consume_parts.new.s))).
-    add-rule_set g.P.Report.add this_edition (rest_of c.args.s.now) (rest_of c.skip_comma.new.s)
+    add-rule_set g.P.Report.add this_edition (rest_of c.args.s.now) (rest_of c.consume_comma.new.s)
     (rest_of c.consume_parts.new.s)
-    (g.P.Report.state c.args.report.now) (g.P.Report.state c.skip_comma.new.report)
+    (g.P.Report.state c.args.report.now) (g.P.Report.state c.consume_comma.new.report)
     (g.P.Report.state c.consume_parts.new.report) (g.P.Report.state c.consume_next_block.new.report)
-    c.skip_comma.ensures.rest (sym (ap (λ r. r.1) c.in_ok-consume_parts.ensures.reads))
-    c.in_ok-skip_comma.ensures.reported c.in_ok-consume_parts.ensures.reported e)
+    c.consume_comma.ensures.rest (sym (ap (λ r. r.1) c.in_ok-consume_parts.ensures.reads))
+    c.in_ok-consume_comma.ensures.reported c.in_ok-consume_parts.ensures.reported e)
     c.consume_next_block.ensures.reported

@@ -1,0 +1,52 @@
+-- Pages with marks, and why there are none.
+-- Serves `marks::{mark_lists, mark_as, mark}` and `matches::page_matches`.
+use Rattle.std.proofs.Common.{◌≡◌, List, [], ◌∷◌, map, refl, sym, ap, ◌∙◌, subst}
+use Rattle.std.specs.Prelude.{Result, Ok, Err, MatchResult}
+use Rattle.std.specs.Result.{IsErrAnd}
+use Rattle.std.proofs.lemmas.List.{map-id}
+use Rattle.css_selectors.specs.Components.{Selector}
+use Rattle.css_sheet.specs.SheetOrder.{SheetRuleText}
+use Rattle.css_sheet.specs.SheetRuleViews.{sheet_rule_of}
+use Rattle.css_sheet.specs.declared.sheet_rules.SheetRule.{SheetRule}
+use Rattle.css_tree.specs.Marks.{with_marks}
+use Rattle.css_tree.specs.Pages.{Page}
+use Rattle.simplecss_c.specs.declared.answer.CallError.{CallError}
+use Rattle.simplecss_c.specs.declared.answer.CallError.TheVariants.{Memory, AnswerTooLong}
+use Rattle.simplecss_c.specs.Calls.{FailsLonger}
+
+-- nothing but the marks is new
+pub with-new-marks : (old new : Page) → new.rows ≡ old.rows → new.texts ≡ old.texts
+    → new.scope ≡ old.scope → new.is_html ≡ old.is_html → new ≡ with_marks old new.marks
+with-new-marks old new rows texts scope html =
+    ap (λ r. record { rows = r; texts = new.texts; scope = new.scope; marks = new.marks; is_html = new.is_html }) rows
+    ∙ ap (λ t. record { rows = old.rows; texts = t; scope = new.scope; marks = new.marks; is_html = new.is_html }) texts
+    ∙ ap (λ s. record { rows = old.rows; texts = old.texts; scope = s; marks = new.marks; is_html = new.is_html }) scope
+    ∙ ap (λ h. record { rows = old.rows; texts = old.texts; scope = old.scope; marks = new.marks; is_html = h }) html
+
+-- selectors that are read as they are written
+pub lists-written : (lists : List (List Selector)) → map (map (λ s. s)) lists ≡ lists
+lists-written [] = refl
+lists-written (list ∷ lists) =
+    ap (λ l. l ∷ map (map (λ s. s)) lists) (map-id list) ∙ ap (λ ls. list ∷ ls) (lists-written lists)
+
+-- the selectors of rules
+pub rule-selectors : (rules : List SheetRule)
+    → map (λ (rule : SheetRule). rule.selector) rules
+    ≡ map (λ (rule : SheetRuleText). rule.selector) (map sheet_rule_of rules)
+rule-selectors [] = refl
+rule-selectors (rule ∷ rules) = ap (λ ss. rule.selector ∷ ss) (rule-selectors rules)
+
+-- a limit on tests that is exceeded
+pub tests-failed : {V : Type 0} (P : V → Type 0) (IsLonger : Type 0) (r : Result V CallError)
+    (failure : CallError) → IsErrAnd r (λ reported. reported ≡ failure)
+    → (failure ≡ AnswerTooLong) × IsLonger → MatchResult r P (FailsLonger IsLonger)
+tests-failed P IsLonger (Ok x) failure is longer = absurd is
+tests-failed P IsLonger (Err reported) failure is longer =
+    subst (FailsLonger IsLonger) (sym (is ∙ longer.0)) longer.1
+
+-- what is made after the tests, or memory ran out
+pub after-tests : {V : Type 0} (P : V → Type 0) (Within IsLonger : Type 0) (r : Result V CallError)
+    → Within → MatchResult r P (λ failure. failure ≡ Memory)
+    → MatchResult r (λ x. P x × Within) (FailsLonger IsLonger)
+after-tests P Within IsLonger (Ok x) within made = (made, within)
+after-tests P Within IsLonger (Err failure) within is = subst (FailsLonger IsLonger) (sym is) tt

@@ -1,0 +1,108 @@
+use Rattle.std.proofs.Common.{Bor, List, ℕ, ◌≡◌, ◌<◌, ◌≤◌, ◌∙◌, ap, map, subst}
+use Rattle.css_sheet.specs.declared.sheet_error.SheetError.TheVariants.{TooManyDeclarations, TooManyLayers}
+use Rattle.css_sheet.specs.declared.sheet_rules.Sheet.{Sheet}
+use Rattle.css_cascade.specs.Layers.{most_layers}
+use Rattle.css_sheet.specs.SheetOrder.{cascade_rules, nested_lists, texts_in}
+use Rattle.css_sheet.specs.SheetRuleViews.{sheet_of}
+use Rattle.simplecss_c.specs.WinnerNumbers.{AreRules, AreSheets, FailsBeside, HasSheets, held_declarations, held_layers, is_held, sheets_of, sheets_with}
+use Rattle.simplecss_c.proofs.ModernCalls.{handed-match}
+use Rattle.simplecss_c.proofs.WinnerCalls.{texts-beside, groups-beside, memory-beside, rules-beside}
+use Rattle.simplecss_c.proofs.winners.read_rules.Goals as goal
+
+pub returns-in_err-texts : goal.returns-in_err-texts
+returns-in_err-texts c =
+    let sheets = sheets_of c.args.sheets in
+    let error = c.in_err-texts.field-0.0 in
+    handed-match (λ read. AreRules sheets c.args.limit read.rules read.lists)
+    (FailsBeside sheets c.args.limit ⊥ (λ fault. ⊥) ⊥ ⊥) c.from_residual.result error
+    c.from_residual.ensures.1
+    (texts-beside sheets c.args.limit ⊥ (λ fault. ⊥) ⊥ ⊥ error c.in_err-texts.ensures)
+
+pub returns-in_err-groups : goal.returns-in_err-groups
+returns-in_err-groups c =
+    let sheets = sheets_of c.args.sheets in
+    let error = c.in_err-groups.field-0.0 in
+    handed-match (λ read. AreRules sheets c.args.limit read.rules read.lists)
+    (FailsBeside sheets c.args.limit ⊥ (λ fault. ⊥) ⊥ ⊥) c.from_residual-in_err-groups.result error
+    c.from_residual-in_err-groups.ensures.1
+    (groups-beside sheets c.args.limit ⊥ (λ fault. ⊥) ⊥ ⊥ error c.in_err-groups.ensures)
+
+pub returns-in_err-placed : goal.returns-in_err-placed
+returns-in_err-placed c =
+    memory-beside (λ read. AreRules (sheets_of c.args.sheets) c.args.limit read.rules read.lists)
+    (sheets_of c.args.sheets) c.args.limit c.from_residual-in_err-placed.result
+    c.from_residual-in_err-placed.ensures.1
+
+pub returns-in_err-rules : goal.returns-in_err-rules
+returns-in_err-rules c =
+    let passed = sheets_of c.args.sheets in
+    let error = c.in_err-rules.field-0.0 in
+    let texts = map (λ (text : Bor (List ℕ)). text.now) c.in_ok-texts.texts.items in
+    let groups = map (λ (text : Bor (List ℕ)). text.now) c.in_ok-groups.groups.items in
+    let sheets = map sheet_of c.in_ok-placed.placed.items in
+    let has : HasSheets passed texts groups = record {
+      sheets = c.in_ok-texts.ensures;
+      held = c.in_ok-groups.ensures;
+    } in
+    let are : AreSheets passed sheets groups = (
+      texts,
+      has,
+      c.in_ok-placed.ensures
+          ∙ ap (λ (ts : List (Bor (List ℕ))). sheets_with passed.origins (map (λ t. t.now) ts))
+          c.deref.ensures.value,
+    ) in
+    rules-beside (λ read. AreRules passed c.args.limit read.rules read.lists) passed c.args.limit sheets groups are
+    c.from_residual-in_err-rules.result error c.from_residual-in_err-rules.ensures.1
+    (subst (λ (gs : List (Bor (List ℕ))). error ≡ TooManyDeclarations
+    → c.args.limit < held_declarations sheets (map (λ g. g.now) gs)) c.deref-3.ensures.value
+    (subst (λ (ss : List Sheet). error ≡ TooManyDeclarations
+    → c.args.limit < held_declarations (map sheet_of ss)
+    (map (λ g. g.now) c.deref-3.result.now)) c.deref-2.ensures.value c.in_err-rules.ensures.refused))
+    (subst (λ (gs : List (Bor (List ℕ))). error ≡ TooManyLayers
+    → most_layers < held_layers sheets (map (λ g. g.now) gs)) c.deref-3.ensures.value
+    (subst (λ (ss : List Sheet). error ≡ TooManyLayers
+    → most_layers < held_layers (map sheet_of ss)
+    (map (λ g. g.now) c.deref-3.result.now)) c.deref-2.ensures.value
+    c.in_err-rules.ensures.layers_refused))
+
+pub returns : goal.returns
+returns c =
+    let passed = sheets_of c.args.sheets in
+    let read = c.in_ok-rules.rules in
+    let texts = map (λ (text : Bor (List ℕ)). text.now) c.in_ok-texts.texts.items in
+    let groups = map (λ (text : Bor (List ℕ)). text.now) c.in_ok-groups.groups.items in
+    let sheets = map sheet_of c.in_ok-placed.placed.items in
+    let has : HasSheets passed texts groups = record {
+      sheets = c.in_ok-texts.ensures;
+      held = c.in_ok-groups.ensures;
+    } in (
+      sheets,
+      groups,
+      (
+        texts,
+        has,
+        c.in_ok-placed.ensures
+            ∙ ap (λ (ts : List (Bor (List ℕ))). sheets_with passed.origins (map (λ t. t.now) ts))
+            c.deref.ensures.value,
+      ),
+      subst (λ (gs : List (Bor (List ℕ))). held_declarations sheets (map (λ g. g.now) gs)
+          ≤ c.args.limit) c.deref-3.ensures.value
+          (subst (λ (ss : List Sheet). held_declarations (map sheet_of ss)
+          (map (λ g. g.now) c.deref-3.result.now) ≤ c.args.limit) c.deref-2.ensures.value
+          c.in_ok-rules.ensures.within),
+      subst (λ (gs : List (Bor (List ℕ))). held_layers sheets (map (λ g. g.now) gs) ≤ most_layers)
+          c.deref-3.ensures.value
+          (subst (λ (ss : List Sheet). held_layers (map sheet_of ss)
+          (map (λ g. g.now) c.deref-3.result.now) ≤ most_layers) c.deref-2.ensures.value
+          c.in_ok-rules.ensures.layers_within),
+      subst (λ (gs : List (Bor (List ℕ))). read.rules
+          ≡ cascade_rules (is_held (map (λ g. g.now) gs)) sheets) c.deref-3.ensures.value
+          (subst (λ (ss : List Sheet). read.rules
+          ≡ cascade_rules (is_held (map (λ g. g.now) c.deref-3.result.now)) (map sheet_of ss))
+          c.deref-2.ensures.value c.in_ok-rules.ensures.rules),
+      subst (λ (gs : List (Bor (List ℕ))). read.lists
+          ≡ nested_lists (is_held (map (λ g. g.now) gs)) (texts_in sheets)) c.deref-3.ensures.value
+          (subst (λ (ss : List Sheet). read.lists
+          ≡ nested_lists (is_held (map (λ g. g.now) c.deref-3.result.now)) (texts_in (map sheet_of ss)))
+          c.deref-2.ensures.value c.in_ok-rules.ensures.lists),
+    )

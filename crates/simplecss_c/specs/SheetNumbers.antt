@@ -1,0 +1,142 @@
+-- The statements of a style sheet by the modern grammar as numbers, with the offsets and the lengths of their
+-- pieces.
+use Rattle.std.specs.Prelude.{◌≡◌, ◌<◌, ◌≤◌, ℕ, ◌+◌, ◌-◌, true, List, [], ◌∷◌, ◌++◌, length, min, Option, None, Some, Result, Ok, Err}
+use Rattle.std.specs.List.{flat_map}
+use Rattle.std.specs.Str.{IsUtf8}
+use Rattle.css_syntax.specs.declared.quality.Fault.{Fault}
+use Rattle.css_syntax.specs.Parts.{Stated}
+use Rattle.css_syntax.specs.Statements.{BlockText, AtRuleText, StatementText, rule_set, at_rule_statement, skipped_statement}
+use Rattle.css_syntax.specs.SelectorGrammar.{SelectorText, plain, with_element, other_valid, invalid}
+use Rattle.css_syntax.specs.SelectorLists.{prelude_fault}
+use Rattle.css_syntax.specs.PlacedSelectors.{PlacedSelector, placed_selectors}
+use Rattle.css_sheet.specs.Places.{PlacesText}
+use Rattle.css_sheet.specs.RuleSelectors.{SelectorRead, selector_read}
+use Rattle.css_sheet.specs.NestedSelectors.{with_element as with_name}
+use Rattle.css_sheet.specs.SheetItems.{ConditionText, SheetItemText, sheet_items}
+use Rattle.css_selectors.specs.Components.{Selector}
+use Rattle.css_selectors.specs.Specificities.{Counts, specificity}
+use Rattle.simplecss_c.specs.declared.answer.CallError.{CallError}
+use Rattle.simplecss_c.specs.Calls.{FailsWithin}
+use Rattle.simplecss_c.specs.ItemNumbers.{at_rule_row, fault_row, item_numbers}
+use Rattle.simplecss_c.specs.NumberLines.{offset}
+use Rattle.simplecss_c.specs.WinnerNumbers.{number_if}
+
+-- ---- group rules
+
+-- Six numbers of a group rule that an item is in: where it begins, its length, and the offset and the length
+-- of its name, which follows its first byte, and of its prelude.
+abbrev pub level_row : ConditionText → List ℕ
+level_row c =
+    c.places.start ∷ (c.end - c.places.start) ∷ (c.places.start + 1) ∷ length c.name ∷ c.places.prelude
+    ∷ length c.prelude ∷ []
+
+-- those of group rules, from the outermost
+abbrev pub level_numbers : List ConditionText → List ℕ
+level_numbers conditions = flat_map level_row conditions
+
+-- ---- selectors
+
+-- of the pseudo-element at the end of a selector, from its first colon on, its offset and its length, or 0 and 0
+abbrev pub element_numbers : SelectorText → (start count : ℕ) → List ℕ
+element_numbers plain start count = 0 ∷ 0 ∷ []
+element_numbers (with_element front name) start count = (start + length front) ∷ (count - length front) ∷ []
+element_numbers other_valid start count = 0 ∷ 0 ∷ []
+element_numbers invalid start count = 0 ∷ 0 ∷ []
+
+-- whether a selector is read, and its specificity with its pseudo-element, or three times 0
+abbrev pub read_numbers : Option Selector → (pseudo_element : Option (List ℕ)) → List ℕ
+read_numbers None pseudo_element = 0 ∷ 0 ∷ 0 ∷ 0 ∷ []
+read_numbers (Some s) pseudo_element =
+    (λ (c : Counts). 1 ∷ c.ids ∷ c.classes ∷ c.names ∷ []) (with_name (specificity s) pseudo_element)
+
+-- Eight numbers of a selector of this form, as it is read: its offset and its length; whether it is a modern
+-- one without its pseudo-element, and its specificity; and the offset and the length of its pseudo-element.
+abbrev pub selector_with : (start count : ℕ) → SelectorText → SelectorRead → List ℕ
+selector_with start count form read =
+    start ∷ count ∷ (read_numbers read.selector read.pseudo_element ++ element_numbers form start count)
+
+-- those of a selector of a list whose text ends at this offset
+abbrev pub selector_row : (end : ℕ) → PlacedSelector → List ℕ
+selector_row end placed =
+    selector_with (offset end placed.from) (length placed.listed.text) placed.listed.form
+    (selector_read placed.listed)
+
+-- those of the selectors of a list whose text ends at this offset
+abbrev pub selector_numbers : (end : ℕ) → List ℕ → List ℕ
+selector_numbers end text = flat_map (selector_row end) (placed_selectors text)
+
+-- ---- statements
+
+-- What a statement is: a rule set, an at-rule, or something that is skipped.
+pub data ShownText : Type 0 where
+  shown_rule : (prelude : Stated) (block : BlockText) → ShownText
+  shown_at_rule : AtRuleText → ShownText
+  shown_skipped : Fault → ShownText
+
+abbrev pub unless_faulty : Stated → BlockText → Option Fault → ShownText
+unless_faulty prelude block None = shown_rule prelude block
+unless_faulty prelude block (Some fault) = shown_skipped fault
+
+-- a rule set with a bad prelude, or with one part that is no selector, is skipped
+abbrev pub shown_of : StatementText → ShownText
+shown_of (rule_set prelude block) = unless_faulty prelude block (prelude_fault prelude)
+shown_of (at_rule_statement rule) = shown_at_rule rule
+shown_of (skipped_statement fault) = shown_skipped fault
+
+-- Ten numbers of a rule set: that it is one, where it begins, its length, and whether its block is closed; the
+-- offset and the length of its prelude and of what is in its block; and 0 and 0.
+abbrev pub rule_row : PlacesText → (count : ℕ) → Stated → BlockText → List ℕ
+rule_row places count prelude block =
+    3 ∷ places.start ∷ count ∷ number_if block.closed ∷ places.prelude ∷ length prelude.text
+    ∷ places.block ∷ (places.block_end - places.block) ∷ 0 ∷ 0 ∷ []
+
+-- ten of a statement of this length
+abbrev pub shown_row : PlacesText → (count : ℕ) → ShownText → List ℕ
+shown_row places count (shown_rule prelude block) = rule_row places count prelude block
+shown_row places count (shown_at_rule rule) =
+    at_rule_row places.start count places.prelude places.block rule
+shown_row places count (shown_skipped fault) = fault_row places.start count fault
+
+-- the offset at which the prelude of a rule set ends: never after the contents of its block begin
+abbrev pub prelude_end : PlacesText → Stated → ℕ
+prelude_end places prelude = min (places.prelude + length prelude.text) places.block
+
+-- the numbers of the selectors of a rule set; of anything else none
+abbrev pub shown_selectors : PlacesText → ShownText → List ℕ
+shown_selectors places (shown_rule prelude block) =
+    selector_numbers (prelude_end places prelude) prelude.text
+shown_selectors places (shown_at_rule rule) = []
+shown_selectors places (shown_skipped fault) = []
+
+-- those of the items of its block
+abbrev pub shown_items : PlacesText → ShownText → List ℕ
+shown_items places (shown_rule prelude block) = item_numbers places.block_end true block.text
+shown_items places (shown_at_rule rule) = []
+shown_items places (shown_skipped fault) = []
+
+-- a row, how many numbers there are of group rules, of selectors and of items, and these
+abbrev pub counted : (row levels selectors items : List ℕ) → List ℕ
+counted row levels selectors items =
+    row ++ (length levels ∷ length selectors ∷ length items ∷ (levels ++ (selectors ++ items)))
+
+-- the numbers of a statement
+abbrev pub shown_numbers : PlacesText → (count : ℕ) → List ConditionText → ShownText → List ℕ
+shown_numbers places count conditions shown =
+    counted (shown_row places count shown) (level_numbers conditions) (shown_selectors places shown)
+    (shown_items places shown)
+
+abbrev pub statement_numbers : SheetItemText → List ℕ
+statement_numbers item =
+    shown_numbers item.places (length item.part.text) item.conditions (shown_of item.part.statement)
+
+-- those of the statements of a sheet
+abbrev pub sheet_numbers : List ℕ → List ℕ
+sheet_numbers text = flat_map statement_numbers (sheet_items text)
+
+-- the numbers of each statement of the style sheet, at most so many
+abbrev pub IsReadCall : (most : ℕ) → List ℕ → Result (List ℕ) CallError → Type 0
+IsReadCall most text (Ok numbers) =
+    IsUtf8 text × (numbers ≡ sheet_numbers text) × (length numbers ≤ most)
+IsReadCall most text (Err failure) =
+    FailsWithin ⊥ (λ fault. ⊥) (¬ (IsUtf8 text)) ⊥
+    (IsUtf8 text × (most < length (sheet_numbers text))) failure

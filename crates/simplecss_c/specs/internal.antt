@@ -1,0 +1,4 @@
+-- Definitions that no public contract names.
+pub mod Shown
+pub mod Held
+pub mod Contents
