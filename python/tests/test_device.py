@@ -162,12 +162,36 @@ class Sheets(unittest.TestCase):
         return "; ".join(map(str, simplecss.StyleSheet(self.CSS).styles(tree, **options)[0]))
 
     def test_rules_apply_where_their_conditions_hold(self):
-        self.assertEqual(self.styles(), "n: 1; o: 3")
-        self.assertEqual(self.styles(media="screen"), "n: 1; o: 3")
-        self.assertEqual(self.styles(media=Device(width=375)), "n: 1; m: 2")
-        self.assertEqual(self.styles(media=Device(width=400)), "n: 1; m: 2; o: 3")
-        self.assertEqual(self.styles(media=Device(width=375, type="print")), "n: 1; m: 2; o: 3")
-        self.assertEqual(self.styles(media=lambda text: "layer" in text), "n: 1; q: 4")
+        self.assertEqual(self.styles(), "q: 4; n: 1; o: 3")
+        self.assertEqual(self.styles(media="screen"), "q: 4; n: 1; o: 3")
+        self.assertEqual(self.styles(media=Device(width=375)), "q: 4; n: 1; m: 2")
+        self.assertEqual(self.styles(media=Device(width=400)), "q: 4; n: 1; m: 2; o: 3")
+        device = Device(width=375, type="print")
+        self.assertEqual(self.styles(media=device), "q: 4; n: 1; m: 2; o: 3")
+        asked = []
+        self.assertEqual(self.styles(media=asked.append), "q: 4; n: 1")
+        self.assertEqual(asked, ["(max-width: 400px)", "@supports (display: grid)"])
+
+    def test_layers(self):
+        tree = simplecss.Tree.from_html("<p id=a>", is_part=True)
+        for css, expected in (
+            ("@layer x { #a { n: 1 } } p { n: 2 }", "n: 2"),
+            ("@layer y, x; @layer x { p { n: 1 } } @layer y { #a { n: 2 } }", "n: 1"),
+            (
+                "@layer y, x; @layer x { p { n: 1 ! important } } @layer y { p { n: 2 !important } }",
+                "n: 2 !important",
+            ),
+            (
+                "@media print { @layer y, x; } @layer x { p { n: 1 } } @layer y { p { n: 2 } }",
+                "n: 2",
+            ),
+            (
+                "p { @media screen { n: 1; @supports (color: red) { m: 2 } } @media print { n: 3 } o: 4 }",
+                "n: 1; m: 2; o: 4",
+            ),
+        ):
+            found = simplecss.StyleSheet(css).styles(tree)[0]
+            self.assertEqual("; ".join(map(str, found)), expected, css)
 
     def test_inline_writes_no_rule_with_a_condition(self):
         text = simplecss.inline("<p>", self.CSS, important=False)

@@ -2,6 +2,7 @@
 recipes of examples/python, examples/pre-commit and examples/github run. What a recipe needs and is
 missing is named, and its test left out."""
 
+import doctest
 import importlib.util
 import json
 import os
@@ -49,6 +50,15 @@ def read(name: str) -> str:
         return file.read()
 
 
+class Guide(unittest.TestCase):
+    """What docs/PYTHON.md begins with."""
+
+    def test_answers(self) -> None:
+        name = os.path.join(EXAMPLES, "..", "docs", "PYTHON.md")
+        failed, tried = doctest.testfile(name, module_relative=False, encoding="utf-8")
+        self.assertEqual((failed, tried), (0, 6))
+
+
 class Examples(unittest.TestCase):
     """The inlined pages."""
 
@@ -57,6 +67,7 @@ class Examples(unittest.TestCase):
         for name, inlined in (
             ("mail.html", "mail.inlined.html"),
             ("drawing.svg", "drawing.inlined.svg"),
+            ("width.svg", "width.inlined.svg"),
         ):
             self.assertEqual(simplecss.inline(read(name), at=name), read(inlined), name)
 
@@ -136,6 +147,17 @@ class Recipes(unittest.TestCase):
             f"{long}: 120000 bytes are more than 104448\n",
         )
         self.assertNotIn(good, (bad, long))
+
+    def test_pixels(self) -> None:
+        """Lengths in em are pixels, and nothing else is changed."""
+        script = os.path.join(EXAMPLES, "python", "pixels.py")
+        sheet = self.write(
+            "em.css", "a{margin:1.5em -.5EM 1e1em;b:'2em' 2rem url(3em)}/*4em*/.\\31 em{}"
+        )
+        self.assertEqual(
+            self.ran(sys.executable, script, sheet),
+            "a{margin:24px -8px 160px;b:'2em' 2rem url(3em)}/*4em*/.\\31 em{}",
+        )
 
     def sheets(self) -> List[str]:
         """Writes a sheet without a mistake and one with one."""

@@ -18,6 +18,30 @@ def style_of(css, page="<p class='a b' id=x>", **options):
     return text.partition(' style="')[2].partition('"')[0].replace("&quot;", "'")
 
 
+class Names(unittest.TestCase):
+    def test_classes_and_ids_that_the_page_has_are_found(self):
+        for selector, tag, is_found in (
+            (".a", "<p class='b a'>", True),
+            (".a", "<p class='b\fA'>", True),
+            (".A.b", "<p class='b\ta'>", True),
+            ("#X.a", "<p id=x class=a>", True),
+            (".A", "<!doctype html><p class=a>", False),
+            (".\\61 b", "<!doctype html><p class=ab>", True),
+            (".a\u00a0b", "<p class='a\u00a0b'>", True),
+            (".a\\b c", "<p class='a\x0bc'>", True),
+            (".a", "<p class='a\u00a0b'>", False),
+            ("p:not(.a)", "<p class=b>", True),
+            (":is(.a, p)", "<p class=b>", True),
+            ("[class~=a]:not(#x)", "<p class=a>", True),
+            (".b p", "<p class=a>", False),
+        ):
+            inliner = simplecss.Inliner(f"{selector} {{ top: 1px }}")
+            # At the second page what the selectors need is known.
+            for _ in range(2):
+                found = 'style="top: 1px"' in inliner.inline(tag)
+                self.assertEqual(found, is_found, selector)
+
+
 class Declarations(unittest.TestCase):
     def test_a_broken_declaration_is_dropped_alone(self):
         for block, expected in (
@@ -437,6 +461,57 @@ class KeptRules(unittest.TestCase):
             '<a class=x style="top: 1px">1</a><b style="color: blue">2</b>',
         )
 
+    def test_layers(self):
+        """Of a page in which all rules are in layers, or some, or some stay."""
+        for css, style in (
+            ("@layer y, x; @layer x { a { n: 1 } } @layer y { #i { n: 2 } }", "n: 1"),
+            (
+                "@layer x { a { n: 1 !important } } @layer y { a { n: 2 !important } }",
+                "n: 1 !important",
+            ),
+            ("@layer x { a { n: 1 } } a { n: 2 !important } a { n: 3 }", "n: 2 !important"),
+            ("@layer x { @layer z { a { n: 1 } } a { n: 2 } @layer w { a { n: 3 } } }", "n: 2"),
+            ("@layer { a { n: 1 } } @layer { a { n: 2 } }", "n: 2"),
+            # What stays has a place among what is written.
+            ("@layer x { a:hover { n: 1 } } @layer y { a { n: 2 } }", "n: 2"),
+            (
+                "@layer y { b:hover { n: 1 } } @layer { a:hover { n: 2 } } @layer y { a { n: 3 } }",
+                "",
+            ),
+            ("@layer x { a:hover { n: 1 !important } } @layer y { a { n: 2 !important } }", ""),
+            ("@layer y { a { n: 2 } } a:hover { n: 1 }", ""),
+            # The order of layers is that of what holds.
+            ("@media print { @layer y; } @layer x { a { n: 1 } } @layer y { a { n: 2 } }", ""),
+            ("@layer x { @layer y {} @layer z { a { n: 1 } } @layer y { a { n: 2 } } }", ""),
+            ("a { @layer y { m: 1 } } @layer x { a { n: 1 } }", ""),
+            ("@layer x { a { n: 1 }", ""),
+        ):
+            self.assertEqual(style_of(css, "<a id=i>", important=False), style, css)
+
+    def test_what_stays_in_layers(self):
+        for css, kept in (
+            (
+                "@layer y { a { n: 1 } b { n: 2 } b:hover { n: 3 } } @layer x { a { n: 4 } }",
+                "@layer y {\nb:hover { n: 3 }\n}\n@layer x {\n}",
+            ),
+            (
+                "@layer x { a { n: 1 } a:hover { n: 2 } }",
+                "@layer x {\na:hover { n: 2 !important }\n}",
+            ),
+            (
+                "@layer x { a { n: 1 } } @layer y { a:hover { n: 2 } } @layer z { a:focus { n: 3 } }",
+                "@layer x {\na { n: 1 }\n}\n@layer y { a:hover { n: 2 } }\n@layer z { a:focus { n: 3 } }",
+            ),
+            (
+                "@layer x, y; @layer x { a { n: 1 } @media print { a { n: 2 } } }",
+                "@layer x, y;\n@layer x {\n@media print { a { n: 2 !important } }\n}",
+            ),
+            ("@layer x, y; @layer y { a { n: 1 } }", ""),
+        ):
+            found = inline("<a id=i>", css)
+            style = f"<style>\n{kept}\n</style>" if kept else ""
+            self.assertEqual(found.partition("<a")[0].strip("\n"), style, css)
+
     def test_what_cannot_be_is_written(self):
         for css, style in (
             ("a:hover { n: 1 } #i { n: 2 }", ""),
@@ -459,7 +534,8 @@ class KeptRules(unittest.TestCase):
             ("a { n: 1; m: 2; o: 3 } b { @media x { i { & u { n: 2 } } m: 3 } }", "o: 3"),
             ("a { n: 1; m: 2 } a { n: {{ x }}; o: 3 }", "n: 1; m: 2"),
             ("a { n: 1; m: f({}); o: '{' }", "n: 1; m: f({}); o: '{'"),
-            ("a { n: 1 !important } @layer x { a { n: 2 !important } }", ""),
+            ("a { n: 1 !important } @layer x { a { n: 2 !important } }", "n: 2 !important"),
+            ("a { n: 1 !important } @layer x { a:hover { n: 2 !important } }", ""),
             ("a { n: 1 } a:not(:hover) { n: 2 }", ""),
             ("a { n: 1 } a:not(.b):hover { n: 2 }", ""),
             ("a { n: 1 } a:not(a):hover { n: 2 }", "n: 1"),
@@ -620,7 +696,7 @@ class Options(unittest.TestCase):
             '<p id=x style="n: 1">',
         )
         page = r"<style>.a\:b:hover { n: 1 }</style><p class='a:b c'>"
-        self.assertIn("class='a:b c'", inline(page, remove_classes=True))
+        self.assertIn('class="a:b"', inline(page, remove_classes=True))
 
     def test_a_link_with_a_class(self):
         page = "<body><link class=x rel=stylesheet href='data:text/css,p{n:1}'><p class=x>"
@@ -711,7 +787,8 @@ class Options(unittest.TestCase):
             # A rule that stays beats any attribute, so that it needs no mark for that.
             ("g{fill:red} g:hover{fill:blue}", '<g fill="red"/>'),
             ("@media x{g{fill:blue}} #a g,g{fill:red}", '<g style="fill: red"/>'),
-            ("@layer x{g{fill:blue}} g{fill:red}", '<g style="fill: red"/>'),
+            ("@layer x{g:hover{fill:blue}} g{fill:red}", '<g style="fill: red"/>'),
+            ("@layer x{g{fill:blue}} g{fill:red}", '<g fill="red"/>'),
             ("@media x{g{fill:blue!important}} g{fill:red}", '<g fill="red"/>'),
             ("@media x{g{all:unset}} g{fill:red}", '<g style="fill: red"/>'),
         ):
@@ -793,6 +870,16 @@ class ManyDocuments(unittest.TestCase):
         # The sheet, and the block in it that is one of rules.
         self.assertLessEqual(names.count("simplecss_read"), 4)
         self.assertEqual(texts[7].rpartition("</style>")[2], '<a style="n: 1">7')
+
+    def test_a_text_is_read_once(self):
+        """The same text for many documents, also with other options."""
+        css = f"{self.CSS} b {{ n: 3 }}"
+        call = _library.call
+        with unittest.mock.patch.object(_library, "call", side_effect=call) as calls:
+            for number in range(100):
+                self.assertIn('style="n: 1"', inline(f"<a>{number}", css, attributes=number < 50))
+        names = [each.args[0] for each in calls.call_args_list]
+        self.assertLessEqual(names.count("simplecss_read"), 4)
 
     def test_options_of_each(self):
         sheets = {"http://h/x/a.css": "b{m:2}", "http://h/y/a.css": "b{m:3}"}

@@ -15,12 +15,13 @@ sys.path.insert(0, os.path.join(os.path.dirname(os.path.abspath(__file__)), ".."
 
 import simplecss  # noqa: E402
 from simplecss import __main__ as command  # noqa: E402
-from simplecss import _families, _inline, _jobs, _lint, _split, _staying, _urls  # noqa: E402
+from simplecss import _jobs, _lint, _staying, _urls, _values  # noqa: E402
 from simplecss import _library as library  # noqa: E402
 from simplecss._linked import Shelf  # noqa: E402
-from simplecss._port import PortReading  # noqa: E402
-from simplecss._reading import read_sheet  # noqa: E402
-from simplecss._selectors import Reading, states_in  # noqa: E402
+from simplecss._found_names import classes_in, names_in  # noqa: E402
+from simplecss._reading import ReadSelector, read_sheet  # noqa: E402
+from simplecss._selectors import states_in  # noqa: E402
+from simplecss._traits import traits_of  # noqa: E402
 from simplecss.html import decode_page  # noqa: E402
 
 # Under this time nothing is said about how time grows.
@@ -70,14 +71,17 @@ def rebased(css):
 
 
 def without_pseudo_classes(selector):
-    return _staying._PSEUDO_CLASS.sub("", selector)
-
-
-def rewritten(selector):
-    return PortReading(Reading.HTML, False).rewrite(selector)
+    return _staying._wider(ReadSelector(selector, selector, None, None, (0, 0)))
 
 
 LINEAR = (
+    (
+        "rules of a short sheet in a group rule with a long head",
+        simplecss.minify,
+        lambda n: f"@media {'x ' * n}{{{'a{b : c}' * (n // 4)}}}",
+        2_000,
+    ),
+    ("brackets of a short sheet", simplecss.minify, lambda n: "@layer x{ /**/ a {} (" * n, 2_000),
     (
         "comments of a selector",
         lambda css: simplecss.inline("<p>", css),
@@ -104,13 +108,7 @@ LINEAR = (
         lambda n: ":a((" + "/*/" * n,
         2_000,
     ),
-    ("digits of a value", _families.is_known, lambda n: "1" * n + "x", 4_000),
-    (
-        "attributes of a printed selector",
-        rewritten,
-        lambda n: "[a='] " + "[" * n,
-        4_000,
-    ),
+    ("digits of a value", _values.is_known, lambda n: "1" * n + "x", 4_000),
     (
         "elements with attributes, lint",
         lambda text: _lint.findings("a.html", text),
@@ -164,16 +162,21 @@ PATTERNS = (
     ("quotes", without_pseudo_classes, lambda n: ":a(" + "'" * n),
     (
         "numbers",
-        _split._is_known_selector,
+        traits_of,
         lambda n: ":nth-child(" + " " * n + "n" + " " * n,
     ),
-    ("digits", _split._is_known_selector, lambda n: ":nth-child(" + "1" * n),
-    ("functions", _split._is_known_selector, lambda n: ":not(" * n),
-    ("points", _families.is_known, lambda n: "1." * n),
-    ("classes", _inline._ESCAPED_CLASS.search, lambda n: ".a" * n),
-    ("names of classes", _inline._CLASS.findall, lambda n: "." + "a" * n),
-    ("clients", _split._CLIENTS.search, lambda n: "u " * n),
-    ("blanks of clients", _split._CLIENTS.search, lambda n: "u" + " " * n),
+    ("digits", traits_of, lambda n: ":nth-child(" + "1" * n),
+    ("functions", traits_of, lambda n: ":not(" * n),
+    ("points", _values.is_known, lambda n: "1." * n),
+    ("numbers in numbers", traits_of, lambda n: ":nth-child(" * n),
+    ("bars", traits_of, lambda n: "|=" * n),
+    ("classes", lambda css: classes_in([css]), lambda n: ".a" * n),
+    ("names of classes", lambda css: classes_in([css]), lambda n: "." + "a" * n),
+    ("clients", traits_of, lambda n: "u " * n + "+"),
+    ("blanks of clients", traits_of, lambda n: "u" + " " * n + "+"),
+    ("tokens", lambda css: list(simplecss.tokens(css)), lambda n: "\\" * n),
+    ("names of selectors", names_in, lambda n: ":is(" * n + ")" * n),
+    ("bytes of names", names_in, lambda n: "\xe9 " * n),
 )
 
 
@@ -286,11 +289,24 @@ class Limits(unittest.TestCase):
         with self.assertRaisesRegex(simplecss.LimitError, unit):
             call()
 
+    def test_group_rules(self):
+        tree = simplecss.Tree.from_html("<b></b>")
+        layers = "".join(f"@layer l{number} {{ b {{ c: d }} }}" for number in range(1025))
+        self.check_limit(lambda: simplecss.StyleSheet(layers).styles(tree), "1,024 layers")
+        queries = (f"(min-width: {n // 99}px) and (min-height: {n % 99}px)" for n in range(10_000))
+        text = "".join(f"@media {each} {{ b {{ c: d }} }}" for each in queries)
+        self.assertEqual(list(map(len, simplecss.StyleSheet(text).styles(tree))), [0, 0, 0, 1])
+        deep = "b{" + "@media screen{" * 9000 + "c:d" + "}" * 9001
+        self.assertEqual(list(map(len, simplecss.StyleSheet(deep).styles(tree))), [0, 0, 0, 1])
+
     def test_rules_of_elements(self):
         tree = simplecss.Tree.from_html("<b></b>" * 97)
         sheet = simplecss.StyleSheet("*{a:b}" * 10, answer_limit=999)
         self.check_limit(lambda: sheet.match(tree))
-        self.check_limit(lambda: sheet.styles(tree))
+        self.assertEqual(sum(map(len, sheet.styles(tree))), 100)
+        few = simplecss.StyleSheet("*{a:b}" * 10, answer_limit=99)
+        self.check_limit(lambda: few.styles(tree))
+        self.check_limit(lambda: few.style(tree, "a"))
         sheet = simplecss.StyleSheet("*{a:b}" * 10, answer_limit=1000)
         self.assertEqual(sum(map(len, sheet.match(tree))), 1000)
         self.assertEqual(sheet.match(tree)[99], list(range(10)))
@@ -311,11 +327,11 @@ class Limits(unittest.TestCase):
         page = simplecss.Tree.from_html("<b></b>" * 4000)
         self.check_limit(lambda: simplecss.StyleSheet("*{a:b}" * 4000).match(page))
         self.check_limit(lambda: simplecss.inline("<b></b>" * 4000, "*{a:b}" * 4000))
-        self.addCleanup(setattr, library, "_MOST_WRITTEN", library._MOST_WRITTEN)
-        library._MOST_WRITTEN = 2**20
+        self.addCleanup(setattr, library, "_MOST_NUMBERS", library._MOST_NUMBERS)
+        library._MOST_NUMBERS = 2**17
         self.check_limit(
             lambda: simplecss.StyleSheet("@media{" * 63 + "{}" * 1_000).skipped,
-            "more than 1048576 bytes",
+            "more than 131072 numbers",
         )
 
     def test_declarations_of_elements(self):
@@ -528,9 +544,9 @@ class White(unittest.TestCase):
     def test_case(self):
         # The sign for kelvin is a K to Unicode.
         self.assertEqual(simplecss.declarations("\u212a:x")[0].name, "\u212a")
-        self.assertFalse(_split._is_known_selector("a:lin\u212a"))
-        self.assertTrue(_split._is_known_selector("a:LINK"))
-        self.assertFalse(_families.is_known("blac\u212a"))
+        self.assertFalse(traits_of("a:lin\u212a").is_known)
+        self.assertTrue(traits_of("a:LINK").is_known)
+        self.assertFalse(_values.is_known("blac\u212a"))
 
     def test_classes_of_any_name_stay(self):
         for name in ("a\U0001f600", "--x", "\u4e00"):
@@ -621,6 +637,9 @@ class Products(unittest.TestCase):
         def matched(text):
             simplecss.StyleSheet(text).match(simplecss.Tree.from_html("<p>"))
 
+        def styled(text):
+            simplecss.StyleSheet(text).styles(simplecss.Tree.from_html("<p><b>"))
+
         cases = (
             (
                 lambda n: f"@supports (a:b){' or (c:d)' * n}{{p{{}}}}@media {'((a) and ' * n}{{p{{}}}}",
@@ -659,6 +678,19 @@ class Products(unittest.TestCase):
                 inlined,
             ),
             (lambda n: ("x" + "</p>" * n, f"p{{{declared(n, 'a')}}}"), 600, inlined),
+            (lambda n: ("<p>", "p{b:c}p:hover{b:d}" * n), 500, inlined),
+            (lambda n: ("<p>", "@layer x{p{b:c}p:hover{b:d}}" * n), 300, inlined),
+            (
+                lambda n: (
+                    "<p>",
+                    "".join(f"@layer l{i}{{p{{b:c}}p:hover{{b:d}}}}" for i in range(n)),
+                ),
+                250,
+                inlined,
+            ),
+            (lambda n: "b{" * n + "c:d", 4000, styled),
+            (lambda n: "ul b,p b{&>c,&+d{e:f}" * n, 500, styled),
+            (lambda n: "".join(f"@layer l{i}{{p{{b:c}}}}" for i in range(n)), 250, styled),
             (lambda n: "<marquee>" * n + "<b></b>" * n, 1200, built),
             (lambda n: "<div>" * n, 1500, built),
             (lambda n: "".join(f"<b a b c d e f=x{i}>" for i in range(n)), 1500, built),

@@ -125,6 +125,12 @@ class Loaded(unittest.TestCase):
         ):
             self.assertEqual(self.color(head), expected, head)
 
+    def test_alternates_beside_what_is_written(self):
+        link = "<link rel='alternate stylesheet' title=x href=a.css><p>"
+        for head, is_written in (("", True), ("<style title=x></style>", False)):
+            found = inline(head + link, "p{color:green}", load=self.SHEETS.get)
+            self.assertEqual("<p style=" in found, is_written, head)
+
     def test_order(self):
         link, style = (
             "<link rel=stylesheet href=a.css>",
@@ -143,7 +149,7 @@ class Loaded(unittest.TestCase):
             ("x{} @import 'a.css';", "screen", None),
             ("@charset 'x'; @layer y; ? {} @import 'a.css';", "screen", "red"),
             ("@media screen{@import 'a.css';}", "screen", None),
-            ("@import '\\61.css';", "screen", None),
+            ("@import '\\61.css';", "screen", "red"),
         ):
             self.assertEqual(self.color(f"<style>{css}</style>", media=media), expected, css)
 

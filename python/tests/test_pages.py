@@ -416,10 +416,11 @@ class CommandLine(unittest.TestCase):
         css = "p { color: red } p:hover { margin: 0 }"
         pages = [f"<p id=a{each}>" for each in range(4)]
         wanted = [simplecss.inline(page, css) for page in pages]
-        sheet = simplecss.StyleSheet(css)
-        with mock.patch.object(library, "call", wraps=library.call) as call:
-            self.assertEqual([simplecss.inline(page, sheet) for page in pages], wanted)
-        self.assertEqual([each.args[0] for each in call.mock_calls].count("simplecss_read"), 1)
+        # The second is another text, which is not read yet.
+        for sheet in (simplecss.StyleSheet(css), css + " "):
+            with mock.patch.object(library, "call", wraps=library.call) as call:
+                self.assertEqual([simplecss.inline(page, sheet) for page in pages], wanted)
+            self.assertEqual([each.args[0] for each in call.mock_calls].count("simplecss_read"), 1)
         self.assertIn('style="color: red"', wanted[0])
         for other in (
             simplecss.StyleSheet(),

@@ -149,9 +149,8 @@ class Selectors(unittest.TestCase):
         tree = simplecss.Tree.from_html("<ul><li class=a><b>")
         self.assertTrue(simplecss.Selector("LI.a").matches(tree.select_one("li")))
         self.assertFalse(simplecss.Selector("li.b").matches(tree.select_one("li")))
-        self.assertTrue(
-            simplecss.Selector("LI.a", grammar="simplecss").matches(tree.select_one("li"))
-        )
+        of_the_crate = simplecss.Selector("li.a", grammar="simplecss")
+        self.assertTrue(of_the_crate.matches(tree.select_one("li")))
 
     def test_modern_selectors(self):
         tree = simplecss.Tree.from_html(MODERN_PAGE)
@@ -376,6 +375,119 @@ class Modern(unittest.TestCase):
             self.assertIsInstance(sheet.skipped, list)
 
 
+# Sheets of CSS Nesting 1, and what each is equivalent to there, but for specificity.
+NESTED = (
+    (".a { color: blue; & > .b { color: red; } }", ".a { color: blue } .a > .b { color: red }"),
+    (".a { color: blue; &.b { color: red; } }", ".a { color: blue } .a.b { color: red }"),
+    (
+        ".a, .b { color: blue; + .c, &.d { color: red; } }",
+        ".a, .b { color: blue } :is(.a, .b) + .c, :is(.a, .b).d { color: red }",
+    ),
+    (
+        ".a { color: blue; & .b & .c & .d { color: red; } }",
+        ".a { color: blue } .a .b .a .c .a .d { color: red }",
+    ),
+    (".a { color: blue; .b & { color: red; } }", ".a { color: blue } .b .a { color: red }"),
+    (".a { color: blue; :not(&) { color: red; } }", ".a { color: blue } :not(.a) { color: red }"),
+    (
+        ".a { color: red; + .b + & { color: blue; } }",
+        ".a { color: red } .a + .b + .a { color: blue }",
+    ),
+    (".a { color: blue; & { padding: 2ch; } }", ".a { color: blue } .a { padding: 2ch }"),
+    (".a { color: blue; && { padding: 2ch; } }", ".a { color: blue } .a.a { padding: 2ch }"),
+    (
+        "figure { margin: 0; > figcaption { top: 0; > p { left: 0; } } }",
+        "figure { margin: 0 } figure > figcaption { top: 0 } figure > figcaption > p { left: 0 }",
+    ),
+    (
+        ".a { display: grid; @media (orientation: landscape) { grid-auto-flow: column; } }",
+        ".a { display: grid } @media (orientation: landscape) { .a { grid-auto-flow: column } }",
+    ),
+    (
+        ".a { display: grid; @media (orientation: landscape) { grid-auto-flow: column;"
+        " @media (min-width > 1024px) { max-inline-size: 1024px; } } }",
+        ".a { display: grid } @media (orientation: landscape) { .a { grid-auto-flow: column } }"
+        " @media (orientation: landscape) and (min-width > 1024px) { .a { max-inline-size: 1024px } }",
+    ),
+    (
+        "html { @layer base { block-size: 100%; @layer support { & body { min-block-size: 100%; } } } }",
+        "@layer base { html { block-size: 100% } }"
+        " @layer base.support { html body { min-block-size: 100% } }",
+    ),
+    (
+        ".a { color: red; @media print { & { color: blue } .b & { color: green } } }",
+        ".a { color: red } @media print { .a { color: blue } .b .a { color: green } }",
+    ),
+    ("article { color: green; & { color: blue; } color: red; }", "article { color: red }"),
+)
+NESTED_PAGE = """
+<body><p class=a><b class=b></b><b class="a b"></b><b class=c></b><b class="a d"></b></p>
+<div class=b><p class=a><i class=b><i class=a><i class=c><i class=a><i class=d></i></i></i></i></i></p>
+<p class=b></p><p class="a c"></p></div><figure><figcaption><p></p></figcaption></figure><article></article>
+"""
+
+
+class Nested(unittest.TestCase):
+    """Style rules in style rules."""
+
+    def test_styles(self):
+        tree = simplecss.Tree.from_html(NESTED_PAGE)
+        for nested, flat in NESTED:
+            for media in ("screen", "print"):
+                with self.subTest(nested=nested, media=media):
+                    ours, theirs = map(simplecss.StyleSheet, (nested, flat))
+                    self.assertEqual(
+                        ours.styles(tree, media=media), theirs.styles(tree, media=media)
+                    )
+                    # What matches an element has the same declarations.
+                    found = [
+                        [
+                            {each for rule in rules for each in sheet.rules[rule].declarations}
+                            for rules in sheet.match(tree, media=media)
+                        ]
+                        for sheet in (ours, theirs)
+                    ]
+                    if "article" not in nested:
+                        self.assertEqual(*found)
+
+    def test_rules(self):
+        text = "a, b { c: d; > e { f: g; @media x { & h::before { i: j } } } k: l } m { n: o }"
+        found = [
+            (each.selector, each.specificity, str(each.declarations[0]), each.parents)
+            for each in simplecss.StyleSheet("p { q: r }", text).rules
+        ]
+        self.assertEqual(
+            found,
+            [
+                ("p", (0, 0, 1), "q: r", ()),
+                ("a", (0, 0, 1), "c: d", ()),
+                ("b", (0, 0, 1), "c: d", ()),
+                ("a", (0, 0, 1), "k: l", ()),
+                ("b", (0, 0, 1), "k: l", ()),
+                ("m", (0, 0, 1), "n: o", ()),
+                ("> e", (0, 0, 2), "f: g", ("a, b",)),
+                ("& h", (0, 0, 4), "i: j", ("a, b", "> e")),
+            ],
+        )
+        last = simplecss.StyleSheet(text).rules[-1]
+        self.assertEqual((last.pseudo_element, last.conditions), ("before", (("media", "x"),)))
+
+    def test_deep(self):
+        """Rules in 90 others take no longer than their text, and are rules."""
+        tree = simplecss.Tree.from_xml("<a/>")
+        sheet = simplecss.StyleSheet("a{" + "&{" * 90 + "b:c" + "}" * 91)
+        self.assertEqual([len(each) for each in sheet.styles(tree)], [1])
+        # The outermost rule has no declarations of its own.
+        self.assertEqual([each for each in sheet.match(tree)], [[0, 1]])
+
+    def test_limits(self):
+        tree = simplecss.Tree.from_xml(f"<a>{'<b/>' * 2000}</a>")
+        sheet = simplecss.StyleSheet("b{&{c:d}}" * 2000, answer_limit=100_000)
+        for ask in (sheet.styles, sheet.match):
+            with self.assertRaises(simplecss.LimitError):
+                ask(tree)
+
+
 class Trees(unittest.TestCase):
     def names(self, text):
         """Returns the names and the indices of the parents of the elements of a part of a page."""
@@ -529,7 +641,7 @@ class Trees(unittest.TestCase):
         tree = simplecss.Tree.from_html('<a class="x\n\ty">')
         for grammar in ("modern", "simplecss"):
             self.assertEqual(tree.select(".x.y", grammar=grammar), [tree[3]])
-            self.assertEqual(tree.select("[class='x  y'], [class='x y']", grammar=grammar), [])
+            self.assertEqual(tree.select("[class='x y'], [class='x']", grammar=grammar), [])
 
     def test_languages(self):
         tree = simplecss.Tree.from_html("<div lang=de-AT><p>a<p lang=EN>b</div><p>c")
@@ -541,12 +653,15 @@ class Trees(unittest.TestCase):
             "<!DOCTYPE html><A HREF=x><INPUT TYPE=Text TITLE=Ab CLASS=C>"
         )
         old = simplecss.Tree.from_html("<p class=A id=B>")
-        for grammar in ("modern", "simplecss"):
-            for selectors in ("A[Href]", "input[type=TEXT]", "INPUT", "A:link"):
-                self.assertEqual(len(tree.select(selectors, grammar=grammar)), 1, selectors)
-            for selectors in ("[title=ab]", ".c", "a[HREF=X]"):
-                self.assertEqual(tree.select(selectors, grammar=grammar), [], selectors)
-            self.assertEqual(len(old.select("p.a#b", grammar=grammar)), 1)
+        for selectors in ("A[Href]", "input[type=TEXT]", "INPUT", "A:link"):
+            self.assertEqual(len(tree.select(selectors)), 1, selectors)
+            self.assertEqual(tree.select(selectors, grammar="simplecss"), [], selectors)
+        for selectors in ("[title=ab]", ".c", "a[HREF=X]"):
+            self.assertEqual(tree.select(selectors), [], selectors)
+        self.assertEqual(len(old.select("p.a#b")), 1)
+        # By the grammar of the Rust crate, byte by byte with the tree in lower case.
+        self.assertEqual(len(tree.select("a[href]", grammar="simplecss")), 1)
+        self.assertEqual(len(old.select("p.a#b", grammar="simplecss")), 1)
 
     def test_states(self):
         page = "<a href=x>1</a><a>2</a><a href=y id=y>3</a><map><area href>"
@@ -777,6 +892,44 @@ class Matching(unittest.TestCase):
             sheet.style(tree, "top", specified=True)[tree.select_one("p")].value, "2px"
         )
         self.assertEqual(sheet.style(tree, "top")[tree.select_one("p")].value, "1px")
+
+    def test_presentation(self):
+        tree = simplecss.Tree.from_html("<p align=right><p align='a;b: c'><p align='x !important'>")
+        sheet = simplecss.StyleSheet(
+            "* { text-align: inherit; a: b }",
+            "@layer { .x { text-align: left } }",
+            origins=("user",),
+        )
+
+        def presentation(element):
+            align = element.attributes.get("align")
+            return {} if align is None else {"text-align": align}
+
+        styles = sheet.styles(tree, specified=True, presentation=presentation)
+        self.assertEqual(
+            [[str(each) for each in styles[p]] for p in tree.select("p")],
+            # After what is the user's; a value alone is none.
+            [["a: b", "text-align: right"]] + [["text-align: inherit", "a: b"]] * 2,
+        )
+        found = sheet.style(tree, "TEXT-align", specified=True, presentation=presentation)
+        self.assertEqual(str(found[tree.select("p")[0]]), "text-align: right")
+
+    def test_origins(self):
+        text = "p { a: b !important; c: d }"
+        tree = simplecss.Tree.from_html("<p>")
+        sheet = simplecss.StyleSheet(text, text.replace("b", "e"), origins=["user-agent", "author"])
+        for each in (sheet, pickle.loads(pickle.dumps(sheet))):
+            won = [str(one) for one in each.styles(tree)[-1]]
+            self.assertEqual(won, ["a: b !important", "c: d"])
+        for origins, grammar in (
+            (("other",), "modern"),
+            (("user",), "simplecss"),
+            ("user", "modern"),
+        ):
+            with self.assertRaises(ValueError):
+                simplecss.StyleSheet(text, origins=origins, grammar=grammar)
+        with self.assertRaises(ValueError):
+            simplecss.StyleSheet(text, origins=("user", "user"))
 
     def test_inherit(self):
         sheet = simplecss.StyleSheet("ul { color: red; top: 1px; left: 2px } .a { top: inherit }")

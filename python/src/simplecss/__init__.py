@@ -14,14 +14,18 @@ if TYPE_CHECKING:
     from ._declaration import Declaration
     from ._device import Device
     from ._elements import TreeError
+    from ._found_names import Name
     from ._inline import Inliner, inline
     from ._library import LibraryError, LimitError, __version__, is_proved, library_path
     from ._linked import Unread
     from ._lint import Finding, lint
+    from ._minify import minify
+    from ._properties import is_inherited, is_valid_value, longhands, shorthands
     from ._reading import AtRule, Condition, declarations
     from ._selectors import Selector, SelectorError
     from ._sheet import Rule, Skipped, StyleSheet, Unsupported
     from ._split import NotWritten
+    from ._tokens import Token, escape, quote, tokens
     from ._tree import Element, Item, Tree
     from ._unused import Unused
 
@@ -38,12 +42,14 @@ __all__ = [
     "Item",
     "LibraryError",
     "LimitError",
+    "Name",
     "NotWritten",
     "Rule",
     "Selector",
     "SelectorError",
     "Skipped",
     "StyleSheet",
+    "Token",
     "Tree",
     "TreeError",
     "Unread",
@@ -51,10 +57,18 @@ __all__ = [
     "Unused",
     "__version__",
     "declarations",
+    "escape",
     "inline",
+    "is_inherited",
     "is_proved",
+    "is_valid_value",
     "library_path",
     "lint",
+    "longhands",
+    "minify",
+    "quote",
+    "shorthands",
+    "tokens",
 ]
 
 if not TYPE_CHECKING:
@@ -63,14 +77,18 @@ if not TYPE_CHECKING:
         "_declaration": "Declaration",
         "_device": "Device",
         "_elements": "TreeError",
+        "_found_names": "Name",
         "_inline": "Inliner inline",
         "_library": "LibraryError LimitError __version__ is_proved library_path",
         "_linked": "Unread",
         "_lint": "Finding lint",
+        "_minify": "minify",
+        "_properties": "is_inherited is_valid_value longhands shorthands",
         "_reading": "AtRule Condition declarations",
         "_selectors": "Selector SelectorError",
         "_sheet": "Rule Skipped StyleSheet Unsupported",
         "_split": "NotWritten",
+        "_tokens": "Token escape quote tokens",
         "_tree": "Element Item Tree",
         "_unused": "Unused",
     }

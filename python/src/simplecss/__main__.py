@@ -1,4 +1,4 @@
-"""The command line: `python3 -m simplecss match|select|style|inline|lint|unused`."""
+"""The command line: `python3 -m simplecss match|select|style|inline|lint|minify|unused`."""
 
 from __future__ import annotations
 
@@ -202,19 +202,29 @@ def _select(words: argparse.Namespace) -> int:
 
 def _inline(words: argparse.Namespace) -> int:
     pages, words.sheets = _parted(words.files, 0)
+    return _write_each(words, pages, "pages")
+
+
+def _minify(words: argparse.Namespace) -> int:
+    pages = [name for name in words.sheets if _lint.is_page(name)]
+    if pages:
+        raise Failure(f"{pages[0]} is no style sheet", USAGE)
+    files = [each for name in words.sheets for each in _files_of(name, True)]
+    return _write_each(words, [each for each in files if not _lint.is_page(each.name)], "sheets")
+
+
+def _write_each(words: argparse.Namespace, pages: Sequence[_File], kind: str) -> int:
+    """Writes what comes of each page or sheet, or writes it into a file: the output, or one in it if
+    that is a folder."""
     if words.output is None:
         if len(pages) > 1 and not words.json:
-            raise Failure("several pages need -o FOLDER", USAGE)
+            raise Failure(f"several {kind} need -o FOLDER", USAGE)
         return _show_each(words, pages)[0]
-    return _write_each(words, pages, Path(words.output))
-
-
-def _write_each(words: argparse.Namespace, pages: Sequence[_File], output: Path) -> int:
-    """Writes each page into a file: the output, or one in it if that is a folder."""
+    output = Path(words.output)
     is_folder = len(pages) != 1 or output.is_dir() or words.output.endswith(("/", os.sep))
     paths = [output / each.inner if is_folder else output for each in pages]
     if len(set(paths)) < len(paths):
-        raise Failure("two of the pages have one name", USAGE)
+        raise Failure(f"two of the {kind} have one name", USAGE)
     status = DONE
     job = words.job(words, False)
     for outcome, path in zip(_each(job, [each.name for each in pages]), paths):
@@ -317,7 +327,9 @@ class _ArgumentParser(argparse.ArgumentParser):
 
 
 def _parser() -> argparse.ArgumentParser:
-    parser = _ArgumentParser(prog="simplecss", description="CSS on real files.")
+    parser = _ArgumentParser(
+        prog="simplecss", description="Read, match, inline and check CSS in files."
+    )
     parser.add_argument("--version", action="version", version=f"simplecss {__version__}")
     commands = parser.add_subparsers(dest="command", required=True)
 
@@ -331,9 +343,9 @@ def _parser() -> argparse.ArgumentParser:
 
     text = "Show which rules match each element."
     _add_reading(add("match", _read_pages, _jobs.Match, text))
-    text = "Show which declaration of a name wins on each element."
+    text = "Show which declaration of a property wins on each element."
     command = add("style", _read_pages, _jobs.Style, text)
-    command.add_argument("name", metavar="NAME")
+    command.add_argument("name", metavar="NAME", help="the property")
     _add_reading(command)
     text = "Show the elements that a list of selectors matches."
     _add_select(add("select", _select, _jobs.Select, text))
@@ -347,12 +359,18 @@ def _parser() -> argparse.ArgumentParser:
         " out on its line."
     )
     _add_lint(command)
+    text = "Write style sheets without comments, blanks and rules that say nothing."
+    command = add("minify", _minify, _jobs.Minify, text)
+    text = "the file of the sheet, or a folder for those of several"
+    command.add_argument("-o", dest="output", metavar="PATH", help=text)
+    text = "style sheets, folders or patterns of them"
+    command.add_argument("sheets", nargs="+", metavar="SHEET", help=text)
     text = "Show the selectors of style sheets that match nothing on any of the pages."
     command = add("unused", _unused, _jobs.Job, text)
     text = "write the sheets without the rules that match nothing"
     command.add_argument("--print", action="store_true", help=text)
     _add_folder(command)
-    text = "style sheets (the linked ones without any), and pages, folders or patterns of them"
+    text = "style sheets (default: the linked ones), and pages, folders or patterns of them"
     command.add_argument("files", nargs="+", metavar="FILE", help=text)
     return parser
 
@@ -372,7 +390,7 @@ def _add_grammar(command: Any) -> None:
 
 
 def _add_folder(command: Any) -> None:
-    text = "where the files of linked sheets are (the folder of each page, if not said)"
+    text = "the folder of linked sheets (default: the folder of each page)"
     command.add_argument("--folder", metavar="PATH", help=text)
 
 
@@ -386,7 +404,7 @@ def _pixels(word: str) -> int:
 
 def _add_device(command: Any) -> None:
     usual = Device()
-    text = "what the page is shown on"
+    text = "the media type (default: screen)"
     command.add_argument("--media", choices=TYPES, default=usual.type, help=text)
     text = "the width in pixels"
     command.add_argument("--width", type=_pixels, default=usual.width, metavar="PX", help=text)
@@ -399,7 +417,7 @@ def _add_reading(command: Any) -> None:
     _add_grammar(command)
     _add_folder(command)
     _add_device(command)
-    text = "style sheets (those of each page without any), and pages, folders or patterns of them"
+    text = "style sheets (default: those of each page), and pages, folders or patterns of them"
     command.add_argument("files", nargs="+", metavar="FILE", help=text)
 
 
@@ -413,28 +431,31 @@ def _add_select(command: Any) -> None:
         "--quiet", action="store_true", help="write nothing; status 1 if there are none"
     )
     _add_grammar(command)
-    command.add_argument("selectors", metavar="SELECTORS")
-    command.add_argument("pages", nargs="+", metavar="PAGE")
+    command.add_argument("selectors", metavar="SELECTORS", help="a list, such as `a, b > c`")
+    text = "a page, folder or pattern"
+    command.add_argument("pages", nargs="+", metavar="PAGE", help=text)
 
 
 def _add_inline(command: Any) -> None:
     _add_folder(command)
     text = "the file of the page, or a folder for those of several"
     command.add_argument("-o", dest="output", metavar="PATH", help=text)
-    command.add_argument("--base-url", metavar="URL", help="what relative urls are taken from")
-    command.add_argument("--preserve", metavar="SELECTORS", help="style elements that stay")
-    command.add_argument("--ignore", metavar="SELECTORS", help="elements that stay as they are")
+    command.add_argument("--base-url", metavar="URL", help="resolve relative urls against it")
+    command.add_argument(
+        "--preserve", metavar="SELECTORS", help="leave these style elements as they are"
+    )
+    command.add_argument("--ignore", metavar="SELECTORS", help="leave these elements as they are")
     for name, text in (
         ("keep-style", "leave all style elements"),
         ("remove-classes", "remove the classes that no rule needs any more"),
         ("attributes", "write `width`, `bgcolor` and the like beside styles"),
-        ("as-attributes", "write attributes of SVG, as `fill`, in place of styles"),
-        ("part", "take pages as parts of others, as the rows of a table"),
+        ("as-attributes", "write attributes of SVG, such as `fill`, in place of styles"),
+        ("part", "read pages as parts of others, such as rows of a table"),
         (
             "no-important",
-            "leave what a rule that stays could override, in place of `!important`",
+            "add no `!important`: leave what a rule that stays could override",
         ),
-        ("report", "say on standard error what could not be written"),
+        ("report", "report on standard error what is not written"),
     ):
         command.add_argument(f"--{name}", action="store_true", help=text)
     text = "a page, and more pages, folders or patterns of them, and style sheets"
@@ -448,15 +469,16 @@ def _add_lint(command: Any) -> None:
         "--select",
         action="append",
         metavar="KIND",
-        help="report these kinds only, as `unsupported`",
+        help="report only these kinds, such as `unsupported`",
     )
     command.add_argument("--ignore", action="append", metavar="KIND", help="leave these kinds out")
     command.add_argument("--all", action="store_true", help="report what is unsupported, too")
-    text = "correct in the files of sheets what has one right answer"
+    text = "correct mistakes that have one right answer in the sheets"
     command.add_argument("--fix", action="store_true", help=text)
     _add_grammar(command)
     _add_folder(command)
-    command.add_argument("sheets", nargs="+", metavar="FILE")
+    text = "style sheets, pages, folders or patterns of them"
+    command.add_argument("sheets", nargs="+", metavar="FILE", help=text)
 
 
 def _say(message: str) -> None:

@@ -17,16 +17,17 @@ _POINTERS = ("none", "coarse", "fine")
 # A resolution is told in thousandths.
 _THOUSAND = 1000
 _MOST = 2**32 - 1
+# The group rule that always holds.
+LAYER = "layer"
 # What a list of media queries says.
 HOLDS, UNKNOWN = "true", "unknown"
 
 
 class Device(NamedTuple):
-    """What media queries ask about: a screen of 1,280 x 800 pixels with a mouse, as far as nothing
-    else is said.
+    """A device that media queries ask about.
 
-    `type` is "screen", "print" or "speech", `pointer` is "none", "coarse" or "fine", and
-    `resolution` is in dots for each pixel.
+    By default it is a screen of 1,280 x 800 pixels with a mouse. `type` is "screen", "print" or
+    "speech", `pointer` is "none", "coarse" or "fine", and `resolution` is in dots for each pixel.
     """
 
     width: int = 1280
@@ -61,6 +62,8 @@ def device_of(media: Union[str, Device]) -> Device:
 
 def holds(condition: Condition, media: Media) -> bool:
     """Whether the rules of a group rule apply."""
+    if condition.name == LAYER:
+        return True
     if isinstance(media, Device) or not callable(media):
         return says(condition, device_of(media)) == HOLDS
     return media(condition.prelude if condition.name == "media" else str(condition))

@@ -25,7 +25,6 @@ from typing import (
 )
 
 from . import _library as library
-from ._port import PortReading, has_lines, prepared
 from ._selectors import (
     MODERN,
     NUMBERS,
@@ -36,6 +35,7 @@ from ._selectors import (
     matched,
     selector_error,
 )
+from ._words import BLANKS, lower, words_of
 from ._xml import XmlDocument
 from .html import HTML, RAW, SVG, Builder, Made, Node, Text, decode, with_line_feeds
 
@@ -46,9 +46,12 @@ LINK = frozenset(("link",))
 SVG_SPACE = "http://www.w3.org/2000/svg"
 # The number of the library for an element that has a text of its own.
 _HAS_TEXT = 32
+# How many numbers of what wins on an element there is room for at first.
+_ROOM_FOR_ELEMENT = 64
 # How many lists of selectors have their answers kept.
 _MOST_ANSWERS = 32
 _LINK_NAMES = ("a", "area")
+_TO_SPACES = str.maketrans(BLANKS, " " * len(BLANKS))
 # What begins a text in which no references are read.
 _CDATA = "<![CDATA["
 
@@ -57,7 +60,7 @@ States = Mapping[str, Iterable[str]]
 
 
 class TreeError(ValueError):
-    """A document is no tree that selectors can match.
+    """A document is not a tree that selectors can match.
 
     `row` and `column` begin at 1, and are `None` where the position is not known.
     """
@@ -101,7 +104,7 @@ def states_of(names: Iterable[str]) -> FrozenSet[str]:
     """Returns names of states as a set. Another name raises `ValueError`."""
     states = frozenset(names)
     if not states <= STATES.keys():
-        raise ValueError(f"no state of an element: {sorted(states - STATES.keys())[0]!r}")
+        raise ValueError(f"unknown state: {sorted(states - STATES.keys())[0]!r}")
     return states
 
 
@@ -115,7 +118,6 @@ class _Computed:
         self.lines: Optional[List[int]] = None
         self.ends: Optional[List[int]] = None
         self.children: Optional[List[List[int]]] = None
-        self.port_reading: Optional[PortReading] = None
 
 
 class Elements:
@@ -309,6 +311,10 @@ class Elements:
             return with_line_feeds(source[start:end])
         return decode(source[start:end])
 
+    def end_at(self, index: int) -> int:
+        """Returns where an element ends in the source, or -1 if that is not known."""
+        return -1 if self.spans is None else self.spans[index][2]
+
     def source_of(self, index: int) -> Optional[str]:
         """Returns the text of the document from the start tag of an element to its end."""
         if self.spans is None or self.source is None:
@@ -357,8 +363,7 @@ class Elements:
 
     def _find(self, selectors: str, grammar: str) -> List[int]:
         arrays = self._arrays(grammar)
-        text = prepared(selectors, self.port_reading) if grammar == PORT else selectors
-        words = [library.encode(text), self._number_of(grammar), arrays]
+        words = [library.encode(selectors), self._number_of(grammar), arrays]
         name = "simplecss_select"
         # Each element is written once at most.
         most = library.NO_LIMIT
@@ -367,26 +372,35 @@ class Elements:
             raise selector_error(selectors, grammar)
         return [number - 1 for number in lines_of(library.output_of(name, answer))]
 
+    def classes_and_ids(self) -> Set[str]:
+        """Returns the words of all `class` and the values of all `id`, in lower case."""
+        values = {each["class"] for each in self.attributes if "class" in each}
+        words = words_of(lower(" ".join(values)))
+        return {*words, *(lower(each["id"]) for each in self.attributes if "id" in each)}
+
     def matched(self, selectors: Sequence[str], limit: int, grammar: str = MODERN) -> List[bytes]:
         """Returns for each element the numbers of the selectors that match it, which begin at 1,
-        with spaces between them. Those of the grammar of the Rust crate are as they are read for
-        the tree. More numbers than `limit` raise `LimitError`."""
+        with spaces between them. More numbers than `limit` raise `LimitError`."""
         return matched(self._arrays(grammar), selectors, self._number_of(grammar), limit)
+
+    def numbers(
+        self, name: str, sheets: library.SheetArrays, more: Sequence[Any], width: int, limit: int
+    ) -> "array.array[int]":
+        """Returns what a call, which takes `more`, writes of each element for sheets: how many winners or
+        rules it has, and so many numbers for each of these. More of them than `limit` raise `LimitError`.
+        """
+        words = (sheets, self._number_of(MODERN), library.NO_LIMIT, self._arrays(MODERN), *more)
+        room = 1024 + _ROOM_FOR_ELEMENT * len(self)
+        most = min(len(self) + width * limit, library.NO_LIMIT)
+        try:
+            return library.numbers_of(name, *words, room=room, with_fault=True, most=most)
+        except library.LimitError:
+            raise library.Room(limit).passed() from None
 
     def _number_of(self, grammar: str) -> int:
         """Returns the number of a grammar for the library: of the modern one as the document reads
         it."""
         return NUMBERS[grammar] if grammar == PORT else self.reading
-
-    @property
-    def port_reading(self) -> PortReading:
-        """How selectors of the grammar of the Rust crate are read for the elements."""
-        found = self._computed.port_reading
-        if found is None:
-            values = (attributes.get("class", "") for attributes in self.attributes)
-            found = PortReading(self.reading, any(map(has_lines, values)))
-            self._computed.port_reading = found
-        return found
 
     def _arrays(self, grammar: str) -> library.TreeArrays:
         """Returns the arrays of the tree, as calls of the library for a grammar take them."""
@@ -399,7 +413,7 @@ class Elements:
         return arrays[grammar]
 
     def _make_arrays(self, grammar: str) -> library.TreeArrays:
-        pairs = self._compared_attributes(self.port_reading if grammar == PORT else None)
+        pairs = self._compared_attributes(grammar == PORT)
         compared = [pairs[id(attributes)] for attributes in self.attributes]
         counts = [len(each) // 2 for each in compared]
         shaped = zip(self.depths, counts, self._numbered_states())
@@ -411,9 +425,10 @@ class Elements:
             strings += each
         return library.TreeArrays(shapes, strings)
 
-    def _compared_attributes(self, port: Optional[PortReading]) -> Dict[int, List[str]]:
+    def _compared_attributes(self, is_port: bool) -> Dict[int, List[str]]:
         """Returns the keys and values of attributes as they are compared, by their identity: equal
-        tags have the same."""
+        tags have the same. By the grammar of the Rust crate, spaces alone part the words of a
+        class."""
         reading = self.reading
         every = {id(attributes): attributes for attributes in self.attributes}
         changing = reading.may_change(set(itertools.chain.from_iterable(every.values())))
@@ -421,8 +436,8 @@ class Elements:
         for key, attributes in every.items():
             if not changing.isdisjoint(attributes):
                 attributes = reading.attributes(attributes)
-            if port is not None:
-                attributes = port.attributes(attributes)
+            if is_port and "class" in attributes:
+                attributes = {**attributes, "class": attributes["class"].translate(_TO_SPACES)}
             found[key] = list(itertools.chain.from_iterable(attributes.items()))
         return found
 

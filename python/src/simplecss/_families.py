@@ -1,17 +1,17 @@
-"""Properties of which one may set what another does, and values that every browser knows."""
+"""Properties of which one may set what another does."""
 
 from __future__ import annotations
 
 import functools
-import re
 from typing import AbstractSet
 
-from ._patterns import pattern
+from ._properties import first_set_with
 
 # The family of `all`, which sets what every property does.
 EVERYTHING = "*"
-PREFIX = pattern(r"-(?:webkit|moz|ms|o)-|[*_]")
-# The beginnings of names of which one property may set another, by the family that they are of.
+_MAKERS = frozenset(("webkit", "moz", "ms", "o"))
+# The beginnings of names of which one property may set another, by the family that they are of:
+# beside what the library says of shorthands.
 _FAMILIES = {
     "line": "font",
     "top": "inset",
@@ -46,22 +46,14 @@ _LONG_FAMILIES = {
 }
 # How long a name is that is not kept.
 _LONG = 64
-# A value that every browser knows, as far as its form shows.
-_PLAIN_VALUE = pattern(
-    r"(?:(?:[-+]?(?:[0-9]+(?:\.[0-9]+)?|\.[0-9]+)(?:%|px|em|ex|pt|pc|in|cm|mm)?"
-    r"|#(?:[0-9a-f]{3}|[0-9a-f]{6})"
-    r"""|"[^"]*"|'[^']*'|url\([^()]*\)|rgb\([0-9%, ]*\)"""
-    r"|absolute|always|aqua|auto|avoid|baseline|black|block|blue|bold|bolder|both|bottom|break-word"
-    r"|capitalize|center|circle|collapse|dashed|decimal|disc|dotted|double|fixed|fuchsia|gr[ae]y"
-    r"|green|hidden|inherit|inline|inline-block|inside|italic|justify|large|left|lighter|lime"
-    r"|line-through|list-item|lowercase|maroon|medium|middle|navy|no-repeat|none|normal|nowrap"
-    r"|oblique|olive|outside|overline|pre|purple|red|relative|repeat|repeat-[xy]|right|scroll"
-    r"|separate|show|hide|silver|small|small-caps|smaller|larger|solid|square|static|sub|super"
-    r"|table|table-cell|table-row|teal|text-bottom|text-top|thick|thin|top|transparent|underline"
-    r"|uppercase|visible|white|yellow|x-small|x-large|xx-small|xx-large|sans-serif|serif|monospace"
-    r"|arial|helvetica|georgia|verdana|tahoma|times)(?:[ ,/]+|\Z)){1,4}",
-    re.IGNORECASE | re.ASCII,
-)
+
+
+def without_prefix(name: str) -> str:
+    """Returns a name without the prefix of a browser, or the mark by which some alone read it."""
+    if name[:1] in ("*", "_"):
+        return name[1:]
+    dash, maker, rest = name[:1], *name[1:].partition("-")[::2]
+    return rest if dash == "-" and maker in _MAKERS and rest else name
 
 
 def _family_of(name: str) -> str:
@@ -69,7 +61,9 @@ def _family_of(name: str) -> str:
         return name
     if name == "all":
         return EVERYTHING
-    plain = PREFIX.sub("", name, count=1)
+    # Those that one shorthand sets are of one family, and so are logical and physical ones.
+    first = first_set_with(name)
+    plain = without_prefix(first_set_with(without_prefix(name)) if first == name else first)
     words = plain.split("-")
     family = _LONG_FAMILIES.get("-".join(words[:2])) or _FAMILIES.get(words[0])
     return family or plain
@@ -86,8 +80,3 @@ def family_of(name: str) -> str:
 def is_in(name: str, families: AbstractSet[str]) -> bool:
     """Whether a property is of one of the families."""
     return bool(families) and (EVERYTHING in families or family_of(name) in families)
-
-
-def is_known(value: str) -> bool:
-    """Whether a value has a form that every browser knows."""
-    return _PLAIN_VALUE.fullmatch(value) is not None

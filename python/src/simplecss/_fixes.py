@@ -7,6 +7,7 @@ from typing import List, Optional, Tuple
 from . import _names as names
 from ._lint import Finding, lint
 from ._reading import Source
+from ._tokens import tokens
 from ._words import lower
 
 # How often a sheet is read again: a correction may be within another one.
@@ -55,7 +56,7 @@ def _right(finding: Finding) -> Optional[str]:
         return finding.text + ";"
     if finding.hint is None:
         return None
-    name = lower(finding.text.lstrip("@:"))
+    name = next((lower(each.value) for each in tokens(finding.text) if each.text != ":"), "")
     known = {
         "unknown at-rule": names.at_rules,
         "unknown media feature": names.media_features,

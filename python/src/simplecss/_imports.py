@@ -3,11 +3,14 @@ that."""
 
 from __future__ import annotations
 
+import functools
 from typing import Dict, Iterator, List, NamedTuple, Optional, Set, Tuple
 
-from ._linked import Shelf, has_imports, imported, imports_of, in_force
-from ._reading import ReadAtRule, Source, Span, Statement, read_sheet
-from ._staying import Place, StayingRule, rules_of
+from ._linked import Shelf, imported, imports_of, in_force
+from ._order import LAYER, count_layers, layers_of
+from ._reading import ReadAtRule, RuleSet, Source, Span, Statement, read_sheet
+from ._staying import Place, StayingRule, has_rules, rules_of
+from ._tokens import is_escaping, without_gaps
 from ._urls import rebased
 
 # What it means that a sheet was not read.
@@ -23,6 +26,46 @@ class ReadSheet:
         self.placed: List[Tuple[Source, Statement]] = []
         self.reasons: Dict[Tuple[Source, Span], str] = {}
         self.staying: List[Tuple["ReadSheet", bool]] = []
+        # Whether it imports others.
+        self.has_imports = False
+
+    @functools.cached_property
+    def knows_layers(self) -> Optional[bool]:
+        """Whether the order of its layers is known, whatever holds; `None` if it has none."""
+        every = sum(map(count_layers, self._texts_with_layers()))
+        inner = [each.knows_layers is not None or has_layer for each, has_layer in self.staying]
+        if every or any(inner):
+            return every == len(self._preludes) and not self.reasons
+        return None
+
+    @functools.cached_property
+    def layer_count(self) -> int:
+        """How many layers it has at most."""
+        kinds = ([each.kind for each in without_gaps(prelude)] for prelude in self._preludes)
+        return sum(max(1, each.count("ident")) for each in kinds)
+
+    @functools.cached_property
+    def _preludes(self) -> List[str]:
+        """The preludes of its layers that are in nothing but layers, and of what says their order."""
+        groups: Dict[Tuple[Source, Span], str] = {}
+        for source, statement in self.placed:
+            layers = layers_of(source, statement.levels)
+            groups.update(((source, each.span), each.condition.prelude) for _, each in layers)
+            if len(layers) == len(statement.levels) and _is_order(statement):
+                assert isinstance(statement, ReadAtRule)
+                groups[source, statement.span] = statement.rule.prelude
+        return list(groups.values())
+
+    def _texts_with_layers(self) -> Iterator[str]:
+        """Yields the texts in which layers may be: of group rules and at-rules, and of rules with
+        rules in them."""
+        seen: Set[Tuple[Source, Span]] = set()
+        for source, statement in self.placed:
+            span = statement.levels[0].span if statement.levels else statement.span
+            is_plain = isinstance(statement, RuleSet) and not has_rules(statement.items)
+            if (statement.levels or not is_plain) and (source, span) not in seen:
+                seen.add((source, span))
+                yield source.at(span)
 
     def may_move(self) -> bool:
         """Whether it may be put in place of what imports it: it has nothing that must be at the
@@ -41,6 +84,14 @@ class ReadSheet:
         for source, statement in self.placed:
             place = Place(number, False, animated, is_layered)
             yield from rules_of(source, [statement], place)
+
+
+def _is_order(statement: Statement) -> bool:
+    """Whether a statement only says the order of layers."""
+    if not isinstance(statement, ReadAtRule) or statement.rule.name != LAYER:
+        return False
+    is_whole = statement.is_closed or statement.rule.block is None
+    return is_whole and not is_escaping(statement.rule.prelude)
 
 
 class SheetReader:
@@ -63,8 +114,9 @@ class SheetReader:
         moved = self._based(css if url is None else rebased(css, url, self.shelf.room))
         source, statements = read_sheet(moved)
         found = ReadSheet()
-        inner = self._imports(css, url, above) if has_imports(css) else []
         rules = list(imports_of(statements))
+        inner = self._imports(css, url, above) if rules else []
+        found.has_imports = bool(rules)
         last = max((at for at, each in enumerate(inner) if not each.is_moved), default=-1)
         moving: Dict[Span, ReadSheet] = {}
         for at, (rule, each) in enumerate(zip(rules, inner)):

@@ -5,11 +5,12 @@ What a sheet has, and which of its selectors match an element, are the library's
 
 from __future__ import annotations
 
+import functools
 import os
-import re
 import weakref
 from typing import (
     AbstractSet,
+    Callable,
     Dict,
     FrozenSet,
     Iterable,
@@ -17,7 +18,7 @@ from typing import (
     List,
     NamedTuple,
     Optional,
-    Pattern,
+    Sequence,
     Set,
     Tuple,
     TYPE_CHECKING,
@@ -26,14 +27,15 @@ from typing import (
 )
 
 from . import _library as library
-from ._declaration import Declaration, cascaded
-from ._families import EVERYTHING, family_of, is_in, is_known
+from ._declaration import Declaration
+from ._families import EVERYTHING, family_of, is_in
+from ._found_names import classes_in, pseudo_names
 from ._imports import LOSES, ReadSheet, SheetReader
-from ._linked import Load, Name, Shelf, has_imports
+from ._linked import Load, Name, Shelf
 from ._marking import (
     BACK,
     HIGHEST,
-    LOWEST,
+    LAYERED,
     Group,
     Kind,
     Marking,
@@ -44,13 +46,25 @@ from ._marking import (
     goes_back,
     raised_by,
 )
+from ._order import Grouped, Reach, Strength, Winners
 from ._page import Content, Page, written
 from ._reading import ReadDeclaration, ReadSelector, Source, read_block
-from ._selectors import NAMING, Specificity, states_in
+from ._selectors import SelectorTexts, states_in
 from ._presenting import attributes_of, is_presentable
-from ._split import Leftover, NotWritten, Rule, SplitSheet, SplitStatement, ended, statements_of
-from ._staying import GREATEST, Block, LeftBlock, Place, StayingRule, marked, rules_of
+from ._split import (
+    Leftover,
+    NotWritten,
+    Order,
+    Rule,
+    SplitSheet,
+    SplitStatement,
+    ended,
+    selectors_of,
+    statements_of,
+)
+from ._staying import Block, LeftBlock, Place, StayingRule, marked, rules_of
 from ._urls import joined
+from ._values import color_in, has_ident, is_known, one_of, size_in
 from ._words import BLANKS, lower, words_of
 from ._xml import is_xml as is_xml_name
 from .html import decode_page
@@ -61,22 +75,22 @@ if TYPE_CHECKING:
 # Characters that a sheet has, and the name of a file usually has not.
 _OF_SHEETS = frozenset("{}()@;\"'<\n")
 _URL_ATTRIBUTES = frozenset(("href", "src", "background", "action", "poster"))
-_CLASS = re.compile(rf"\.({NAMING}+)", re.ASCII)
-_ESCAPED_CLASS = re.compile(rf"\.{NAMING}*\\", re.ASCII)
 # The attributes that say the same as a property: for which elements, and for which values.
 _CELLS = frozenset(("td", "th", "tr"))
 _TABLES = _CELLS | {"table"}
 _SIZED = frozenset(("table", "td", "th", "img"))
-_SIZE_FORM = re.compile(r"([0-9]+%?)(?:px)?")
-_COLOR_FORM = re.compile(r"(#[0-9a-f]{6}|[a-z]+)")
-_ATTRIBUTES: Dict[str, Tuple[Tuple[str, FrozenSet[str], Pattern[str]], ...]] = {
-    "width": (("width", _SIZED, _SIZE_FORM),),
-    "height": (("height", _SIZED, _SIZE_FORM),),
-    "background-color": (("bgcolor", _TABLES | {"body"}, _COLOR_FORM),),
-    "text-align": (("align", _CELLS, re.compile("(left|right|center|justify)")),),
-    "vertical-align": (("valign", _CELLS, re.compile("(top|middle|bottom|baseline)")),),
+_ATTRIBUTES: Dict[str, Tuple[Tuple[str, FrozenSet[str], Callable[[str], Optional[str]]], ...]] = {
+    "width": (("width", _SIZED, size_in),),
+    "height": (("height", _SIZED, size_in),),
+    "background-color": (("bgcolor", _TABLES | {"body"}, color_in),),
+    "text-align": (("align", _CELLS, one_of("left", "right", "center", "justify")),),
+    "vertical-align": (("valign", _CELLS, one_of("top", "middle", "bottom", "baseline")),),
 }
 
+# How long a sheet is of which nothing is kept for the next document.
+_MOST_KEPT = 1_000_000
+# How many layers the library orders.
+_MOST_LAYERS = 1024
 # What the names of properties that set a colour have.
 _COLORED = "color background border outline fill stroke column text caret -webkit --".split()
 
@@ -101,14 +115,41 @@ class _Options(NamedTuple):
     answer_limit: int = library.USUAL_ANSWER_LIMIT
 
 
+# What a `Kind` is made of.
+_KindKey = Tuple[int, int, str, bool, str]
 # Declarations by family and importance.
 _Families = Dict[Tuple[str, bool], FrozenSet[Declaration]]
 
 
-# What is read of a sheet, and its statements.
-_Found = Tuple[ReadSheet, List[SplitStatement]]
+class _Found:
+    """What is read of a sheet, and its statements: without layers, and with those that stay."""
+
+    def __init__(self, read: ReadSheet) -> None:
+        self.read = read
+        self._split: Dict[bool, SplitSheet] = {}
+        self._linked: Dict[bool, SplitSheet] = {}
+
+    def split(self, knows_layers: bool) -> SplitSheet:
+        """Returns its statements, of which the first has the number 0."""
+        if knows_layers not in self._split:
+            self._split[knows_layers] = SplitSheet(statements_of(self.read, 0, knows_layers))
+        return self._split[knows_layers]
+
+    def linked(self, knows_layers: bool) -> SplitSheet:
+        """Returns the same with rules for links among those that are written."""
+        if knows_layers not in self._linked:
+            self._linked[knows_layers] = _with_links([self.split(knows_layers)])[0]
+        return self._linked[knows_layers]
+
+
 _found_of: "weakref.WeakKeyDictionary[StyleSheet, Dict[Optional[str], _Found]]"
 _found_of = weakref.WeakKeyDictionary()
+
+
+@functools.lru_cache(maxsize=2)
+def _found_in(css: str) -> Dict[Optional[str], _Found]:
+    """Returns what is found of a text, by the base of its urls: many mails have the same sheet."""
+    return {}
 
 
 class _Prepared:
@@ -121,6 +162,8 @@ class _Prepared:
         self._found: Dict[Optional[str], _Found] = {}
         if not isinstance(css, str):
             self._found = _found_of.setdefault(css, self._found)
+        elif len(css) <= _MOST_KEPT:
+            self._found = _found_in(css)
 
     def reader(self, page: Page, at: Optional[Name]) -> SheetReader:
         """Returns what reads the sheets of a page, which is there."""
@@ -135,9 +178,8 @@ class _Prepared:
         if base in self._found:
             reader.texts.append(self.css)
             return self._found[base]
-        read = reader.read(self.css, None)
-        found = read, statements_of(read, 0)
-        if not has_imports(self.css):
+        found = _Found(reader.read(self.css, None))
+        if not found.read.has_imports:
             self._found[base] = found
         return found
 
@@ -151,6 +193,58 @@ class _PageInliner:
         self.reader = prepared.reader(page, at)
         # Whether what stays is made important, where that lets something be written.
         self.is_marking = options.important and not options.keep_style
+        ignore = options.ignore
+        self.ignored = page.elements.found_set(ignore) if ignore else frozenset()
+        self.sheet = prepared.sheet(self.reader)
+        self.own_sheets = list(self._read_all())
+        self.knows_layers = self._knows_layers()
+        self._take_sheets(self.knows_layers)
+        # How many declarations may yet be compared, and how many characters the page may yet grow
+        # by.
+        self.compared = library.Room(options.answer_limit)
+        self.growth = library.Room(options.answer_limit, "characters of style attributes")
+        # The statements of the rules that match an element, by their numbers.
+        self.numbered: Dict[int, SplitStatement] = {}
+        self.winners: List[List[Group]] = []
+        self.groups: Dict[int, List[Group]] = {}
+        self.as_it_is: Dict[Tuple[int, int], FrozenSet[str]] = {}
+        self.families: Dict[int, _Families] = {}
+        self.owned: Dict[str, Optional[List[Declaration]]] = {}
+        # The sets of rules, and of rules that stay, that match elements.
+        self.rule_sets: List[Tuple[int, ...]] = []
+        self.rival_sets: List[Tuple[int, ...]] = []
+        # The elements of each kind, the families that are left of it, and what it has.
+        self.kinds: Dict[Kind, List[int]] = {}
+        self.left_of: Dict[Kind, Set[str]] = {}
+        self.views: Dict[Kind, View] = {}
+        self.rivals: Dict[Tuple[int, Tuple[Tuple[int, Strength], ...]], Rivals] = {}
+        self.left_blocks: Dict[int, LeftBlock] = {}
+        self.leftover = Leftover()
+
+    def _read_all(self) -> Iterator[Tuple[Content, ReadSheet, bool, bool]]:
+        """Yields the sheets of the page: the element, what is read, and whether it is written into
+        attributes, and may change."""
+        page, preserve = self.page, self.options.preserve
+        preserved = page.elements.found_set(preserve) if preserve else frozenset()
+        for content in page.sources:
+            found = self._read(content) if page.is_style_sheet(content) else None
+            if found is not None:
+                may_change = content.element not in preserved
+                yield content, found, page.is_plain(content) and may_change, may_change
+
+    def _knows_layers(self) -> bool:
+        """Whether the order of all layers is known."""
+        whole = [read for _, read, is_written, _ in self.own_sheets if not is_written]
+        reads = [self.sheet.read, *(read for _, read, _, _ in self.own_sheets)]
+        layered = [each for each in reads if each.knows_layers is not None]
+        if not all(each.knows_layers and each not in whole for each in layered):
+            return False
+        if layered and any(each.reasons for each in reads):
+            return False
+        return sum(each.layer_count for each in layered) <= _MOST_LAYERS
+
+    def _take_sheets(self, knows_layers: bool) -> None:
+        """Takes the sheet and those of the page, whose layers are written if their order is known."""
         self.sheets: List[SplitSheet] = []
         # Whether an `@import` stays.
         self.has_staying = False
@@ -158,68 +252,25 @@ class _PageInliner:
         self.animated: Set[str] = set()
         self.others: List[Tuple[Content, Source, int]] = []
         self.kept: List[StayingRule] = []
-        ignore = options.ignore
-        self.ignored = page.elements.found_set(ignore) if ignore else frozenset()
-        self._read_all(prepared)
-        if self.is_marking and not page.is_xml:
-            self._take_links()
-        self.statements = [each for sheet in self.sheets for each in sheet.statements]
-        self.numbered = {each.number: each for each in self.statements}
-        # How many declarations may yet be compared, and how many characters the page may yet grow
-        # by.
-        self.compared = library.Room(options.answer_limit)
-        self.growth = library.Room(options.answer_limit, "characters of style attributes")
-        self.rules: List[List[Group]] = []
-        self.selectors: List[str] = []
-        self._prepare()
-        self.winners: Dict[int, List[Group]] = {}
-        self.as_it_is: Dict[Tuple[int, int], FrozenSet[str]] = {}
-        self.families: Dict[int, _Families] = {}
-        self.owned: Dict[str, Optional[List[Declaration]]] = {}
-        # The sets of rules, and of rules that stay, that match elements.
-        self.rule_sets: List[List[int]] = []
-        self.rival_sets: List[List[int]] = []
-        # The elements of each kind, the families that are left of it, and what it has.
-        self.kinds: Dict[Kind, List[int]] = {}
-        self.left_of: Dict[Kind, Set[str]] = {}
-        self.views: Dict[Kind, View] = {}
-        self.rivals: Dict[Tuple[int, Tuple[Tuple[int, Rank], ...]], Rivals] = {}
-        self.left_blocks: Dict[int, LeftBlock] = {}
-        self.leftover = Leftover()
-        # The order of blocks that stay.
-        blocks = dict.fromkeys(each.block for each in self.kept)
-        self.places: Dict[Block, int] = {block: at for at, block in enumerate(blocks, 1)}
-
-    def _read_all(self, prepared: _Prepared) -> None:
-        """Reads a sheet and those of the page."""
-        page, preserve = self.page, self.options.preserve
-        preserved = page.elements.found_set(preserve) if preserve else frozenset()
-        read, statements = prepared.sheet(self.reader)
-        number = self._add(read, statements, None, 0)
-        for content in page.sources():
-            found = self._read(content) if page.is_style_sheet(content) else None
-            if found is None:
-                continue
-            may_change = content.element not in preserved
-            if page.is_plain(content) and may_change:
-                number = self._add(found, statements_of(found, number), content, number)
+        number = self._add(self.sheet.read, self.sheet.split(knows_layers), 0)
+        for content, read, is_written, may_change in self.own_sheets:
+            if is_written:
+                sheet = SplitSheet(statements_of(read, number, knows_layers), content)
+                number = self._add(read, sheet, number)
             else:
-                self._keep_whole(found, content, number, may_change)
+                self._keep_whole(read, content, number, may_change)
                 number += 1
+        if self.is_marking and not self.page.is_xml:
+            self._take_links()
+        self._prepare()
 
-    def _add(
-        self,
-        read: ReadSheet,
-        statements: List[SplitStatement],
-        content: Optional[Content],
-        number: int,
-    ) -> int:
-        """Adds a sheet of these statements, whose first has a number. Returns the next number."""
-        self.sheets.append(SplitSheet(statements, content))
+    def _add(self, read: ReadSheet, sheet: SplitSheet, number: int) -> int:
+        """Adds a sheet, whose first statement has a number. Returns the next number."""
+        self.sheets.append(sheet)
         self.has_staying = self.has_staying or bool(read.reasons)
         for each, has_layer in read.staying:
             self.kept.extend(each.rules(number, self.animated, has_layer))
-        return number + len(statements)
+        return number + len(sheet.statements)
 
     def _keep_whole(self, read: ReadSheet, content: Content, number: int, may_mark: bool) -> None:
         """Notes the rules of a sheet that stays where it is."""
@@ -241,46 +292,27 @@ class _PageInliner:
         return None if css is None else self.reader.read(css, content.href)
 
     def _prepare(self) -> None:
-        """Makes the rules that are written into attributes, in the order of the cascade."""
-        rules: List[Rule] = []
-        room = self.options.limit
-        for statement in self.statements:
-            kept, animated = statement.kept_rules
-            self.kept.extend(kept)
+        """Collects the rules that are written into attributes, and those that stay."""
+        limit, sheets = self.options.limit, self.sheets
+        if sum(each.most for each in sheets) > limit < sum(each.count for each in sheets):
+            raise library.LimitError("the rules would hold more declarations than the limit")
+        is_alone = len(self.sheets) == 1 and not self.kept
+        for sheet in self.sheets:
+            kept, animated = sheet.kept_rules
+            self.kept += kept
             self.animated |= animated
-            room -= len(statement.groups) * len(statement.going)
-            if room < 0:
-                raise library.LimitError("the rules would hold more declarations than the limit")
-            rules.extend(statement.rules)
-        rules.sort(key=lambda rule: rule.specificity)
-        self.selectors = [rule.selector for rule in rules]
-        self.rules = [rule.groups for rule in rules]
+        self.rules: List[Rule] = [rule for sheet in self.sheets for rule in sheet.rules]
+        sheet = self.sheets[0]
+        self.selectors = sheet.selectors if is_alone else selectors_of(self.rules, self.kept)
 
     def _take_links(self) -> None:
         """Takes rules for links among those that are written, where visited links stay as they
         are."""
-        later = {
-            lower(each.text): statement
-            for sheet in self.sheets
-            for statement in sheet.statements
-            for each in statement.staying
-        }
-        for sheet in self.sheets:
-            sheet.statements = [
-                self._with_links(each, later) if each.links else each for each in sheet.statements
-            ]
-
-    def _with_links(
-        self, statement: SplitStatement, later: Dict[str, SplitStatement]
-    ) -> SplitStatement:
-        """Returns a statement whose rules for links are written, if visited links stay as they
-        are."""
-        going = []
-        for each in statement.links:
-            visited = later.get(lower(each.text).replace(":link", ":visited"))
-            if "link" not in states_in(each.text) or _is_of_links(statement, visited):
-                going.append(each)
-        return statement.with_going(going) if going else statement
+        if not any(sheet.has_links for sheet in self.sheets):
+            return
+        is_alone = len(self.sheets) == 1
+        linked = self.sheet.linked(self.knows_layers) if is_alone else None
+        self.sheets = [linked] if linked else _with_links(self.sheets)
 
     def write(self) -> None:
         """Writes what wins on each element into its attribute, and what stays into style
@@ -300,23 +332,27 @@ class _PageInliner:
 
     def _sort_elements(self) -> None:
         """Sorts the elements that are shown by their kinds."""
-        matching, self.rule_sets = self._matched(self.selectors)
-        rivals, self.rival_sets = self._matched([rule.selector for rule in self.kept])
         elements, tags, ignored = self.page.elements, self.page.tags, self.ignored
-        attributes = elements.attributes
         drawn = elements.drawn if self._has_attributes() else frozenset()
-        for index, is_shown in enumerate(self.page.shown()):
-            if not is_shown:
-                continue
-            own = attributes[index].get("style", "")
-            own = own if own and (self.is_marking or BACK in lower(own)) else ""
-            rules, others = matching[index], rivals[index]
-            is_rivaled = self.is_marking and self.rival_sets[others]
-            if own or is_rivaled or self.rule_sets[rules]:
+        styles = self._own_styles()
+        found: Dict[_KindKey, List[int]] = {}
+        for index, (is_shown, (rules, others, is_matched)) in enumerate(
+            zip(self.page.shown(), self._matched())
+        ):
+            own = styles.get(index, "")
+            if is_shown and (is_matched or own):
                 has_tag = tags[index] is not None and index not in ignored
                 name = elements.names[index] if index in drawn else ""
-                kind = Kind(rules, others, own, has_tag, name)
-                self.kinds.setdefault(kind, []).append(index)
+                found.setdefault((rules, others, own, has_tag, name), []).append(index)
+        self.kinds = {Kind(*key): indices for key, indices in found.items()}
+
+    def _own_styles(self) -> Dict[int, str]:
+        """Returns the own `style` of elements, where it matters what it says."""
+        return {
+            index: attributes["style"]
+            for index, attributes in enumerate(self.page.elements.attributes)
+            if "style" in attributes and (self.is_marking or has_ident(attributes["style"], BACK))
+        }
 
     def _has_attributes(self) -> bool:
         """Whether drawings get attributes in place of styles. Where all sheets stay, these would beat
@@ -324,13 +360,69 @@ class _PageInliner:
         is_beaten = self.options.keep_style and bool(self.sheets[0].statements)
         return self.options.as_attributes and not is_beaten
 
-    def _matched(self, selectors: List[str]) -> Tuple[List[int], List[List[int]]]:
-        """Returns for each element the number of the set of selectors that match it, and the sets,
-        of which most elements share few."""
-        numbers: Dict[bytes, int] = {}
+    def _matched(self) -> Iterator[Tuple[int, int, bool]]:
+        """Returns for each element the numbers of the set of rules that match it, and of the set of
+        those that stay, and whether one of these matters. Most elements share few sets."""
+        count = len(self.rules)
+        possible = self.selectors.possible(self.page.elements.classes_and_ids)
+        selectors = self.selectors
+        if len(possible) < len(selectors):
+            selectors = SelectorTexts(map(selectors.__getitem__, possible))
         lines = self.page.elements.matched(selectors, self.options.answer_limit)
-        found = [numbers.setdefault(line, len(numbers)) for line in lines]
-        return found, [[int(each) - 1 for each in line.split()] for line in numbers]
+        rule_sets: Dict[Tuple[int, ...], int] = {}
+        rival_sets: Dict[Tuple[int, ...], int] = {}
+        found: Dict[bytes, Tuple[int, int, bool]] = {}
+        for line in dict.fromkeys(lines):
+            numbers = [possible[int(each) - 1] for each in line.split()]
+            rules = tuple(each for each in numbers if each < count)
+            rivals = tuple(each - count for each in numbers if each >= count)
+            found[line] = (
+                rule_sets.setdefault(rules, len(rule_sets)),
+                rival_sets.setdefault(rivals, len(rival_sets)),
+                bool(rules) or self.is_marking and bool(rivals),
+            )
+        self.rule_sets, self.rival_sets = list(rule_sets), list(rival_sets)
+        every = {rule for rules in rule_sets for rule in rules}
+        for each in every:
+            self.numbered[self.rules[each].number] = self.rules[each].statement
+        self.order = self._ordered(every, {rule for rules in rival_sets for rule in rules})
+        self._find_winners(every)
+        return map(found.__getitem__, lines)
+
+    def _ordered(self, rules: Iterable[int], kept: Iterable[int]) -> Order:
+        """Returns where rules that match something are in the cascade."""
+        statements = (each for sheet in self.sheets for each in sheet.ordering)
+        return Order(
+            statements if self.knows_layers else (),
+            {rule: self.rules[rule] for rule in sorted(rules)},
+            {rule: self.kept[rule] for rule in sorted(kept)},
+        )
+
+    def _find_winners(self, every: Iterable[int]) -> None:
+        """Finds what wins of each set of rules, which are of these."""
+        groups = {rule: self._groups(rule) for rule in every}
+        for rules in self.rule_sets:
+            self.compared.take(sum(len(groups[rule]) for rule in rules))
+        names = {
+            rule: (
+                self.order.strengths[rule],
+                [Grouped(each.name, each.important) for each in those],
+            )
+            for rule, those in groups.items()
+        }
+        self.winners = [
+            [groups[rule][at] for rule, at in won] for won in Winners(names).of(self.rule_sets)
+        ]
+
+    def _groups(self, rule: int) -> List[Group]:
+        """Returns the declarations of a rule by name and importance, each where its last one is."""
+        found = self.groups.get(rule)
+        if found is None:
+            statement, strength = self.rules[rule].statement, self.order.strengths[rule]
+            number = statement.number
+            found = [Group(tuple(each), strength, number) for each in statement.grouped]
+            self.groups[rule] = found
+        return found
 
     def _decide(self) -> Marking:
         """Decides what is left in sheets of each kind of element, and what gets `!important`."""
@@ -363,9 +455,9 @@ class _PageInliner:
         """Returns the families in which a declaration goes back to what sheets say."""
         rules = self.rule_sets[kind.rules]
         found = {each for rule in rules for each in self._statement(rule).back}
-        if rules and BACK in lower(kind.own):
+        if rules and has_ident(kind.own, BACK):
             own = self._own(kind.own)
-            is_all = own is None or any(each.name == "all" for each in self._winners(kind.rules))
+            is_all = own is None or any(each.name == "all" for each in self.winners[kind.rules])
             back = {family_of(each.name) for each in own or () if goes_back((each,))}
             found |= _ALL_FAMILIES if is_all else back
         return found
@@ -374,10 +466,11 @@ class _PageInliner:
         """Returns the families that have to be left of a kind if nothing gets `!important`."""
         key = (kind.rules, kind.rivals)
         if key not in self.as_it_is:
-            winners = self._winners(kind.rules)
-            rivals = _strongest(self.kept[each] for each in self.rival_sets[kind.rivals])
-            self.compared.take(len(winners) + sum(1 + len(each.declarations) for each in rivals))
-            declared = [(each, self._families(each)) for each in rivals]
+            winners = self.winners[kind.rules]
+            rivals = self._strongest(self.rival_sets[kind.rivals])
+            rules = [rule for rule, _ in rivals]
+            self.compared.take(len(winners) + sum(1 + len(each.block.declared) for each in rules))
+            declared = [_Rival(*each, self._families(each[0])) for each in rivals]
             self.as_it_is[key] = _left_families(winners, declared)
         return self.as_it_is[key]
 
@@ -398,34 +491,45 @@ class _PageInliner:
         ranks = self._left_ranks(kind)
         key = (kind.rivals, tuple(ranks.items()))
         if key not in self.rivals:
-            blocks: Dict[Block, List[StayingRule]] = {}
+            blocks: Dict[Block, List[int]] = {}
             for at in self.rival_sets[kind.rivals]:
-                blocks.setdefault(self.kept[at].block, []).append(self.kept[at])
+                blocks.setdefault(self.kept[at].block, []).append(at)
             self.compared.take(len(blocks) + len(ranks))
             every = [self._rival(block, rules) for block, rules in blocks.items()]
             for number, rank in ranks.items():
-                every.append(Rival(self._left_block(number), rank, rank, False))
+                every.append(Rival(self._left_block(number), Reach(rank, rank), False))
             self.rivals[key] = Rivals(every)
         return self.rivals[key]
 
-    def _rival(self, block: Block, rules: List[StayingRule]) -> Rival:
-        """Returns a block of which these rules may apply."""
-        number, place = rules[0].number, self.places[block]
-        if rules[0].is_layered:
-            return Rival(block, HIGHEST, HIGHEST, True)
-        if not all(each.is_ranked for each in rules):
-            return Rival(block, LOWEST, (GREATEST, number, place), False)
-        ranks = [(each.specificity, number, place) for each in rules]
-        definite = [rank for rank, each in zip(ranks, rules) if each.is_definite]
-        return Rival(block, max(definite) if definite else min(ranks), max(ranks), False)
+    def _rival(self, block: Block, rules: List[int]) -> Rival:
+        """Returns a block of which these rules that stay may apply."""
+        if self.kept[rules[0]].is_layered:
+            return Rival(block, LAYERED, True)
+        reaches = [self.order.reaches[each] for each in rules]
+        least = [each.least for each in reaches]
+        definite = [each for each, rule in zip(least, rules) if self.kept[rule].is_definite]
+        most = max(each.most for each in reaches)
+        return Rival(block, Reach(max(definite) if definite else min(least), most), False)
 
-    def _left_ranks(self, kind: Kind) -> Dict[int, Rank]:
-        """Returns the ranks of what is left of the rule sets that match a kind of element."""
-        found: Dict[int, Rank] = {}
+    def _strongest(self, rules: Iterable[int]) -> List[Tuple[StayingRule, Strength]]:
+        """Returns of the rules that stay of each rule set the one that may be strongest, and how
+        strong that is."""
+        found: Dict[int, Tuple[StayingRule, Strength]] = {}
+        for at in rules:
+            rule = self.kept[at]
+            most = (LAYERED if rule.is_layered else self.order.reaches[at]).most
+            key = id(rule.block)
+            if key not in found or found[key][1] < most:
+                found[key] = rule, most
+        return list(found.values())
+
+    def _left_ranks(self, kind: Kind) -> Dict[int, Strength]:
+        """Returns how strong what is left is of the rule sets that match a kind of element."""
+        found: Dict[int, Strength] = {}
         for rule in self.rule_sets[kind.rules]:
-            group = self.rules[rule][0]
-            if group.number in self.leftover.families:
-                found[group.number] = max(group.rank, found.get(group.number, group.rank))
+            number, rank = self.rules[rule].number, self.order.strengths[rule]
+            if number in self.leftover.families:
+                found[number] = max(rank, found.get(number, rank))
         return found
 
     def _left_block(self, number: int) -> LeftBlock:
@@ -447,7 +551,7 @@ class _PageInliner:
     def _written(self, kind: Kind) -> List[Group]:
         """Returns what wins on a kind of element and is not left."""
         left = self.left_of[kind]
-        return [each for each in self._winners(kind.rules) if not is_in(each.name, left)]
+        return [each for each in self.winners[kind.rules] if not is_in(each.name, left)]
 
     def _write_kind(self, kind: Kind, indices: List[int], marking: Marking) -> None:
         """Writes the attributes of the elements of a kind."""
@@ -500,20 +604,12 @@ class _PageInliner:
             for index in indices:
                 self.page.set_attribute(index, group.name, value)
 
-    def _winners(self, key: int) -> List[Group]:
-        """Returns what wins of a set of rules."""
-        if key not in self.winners:
-            rules = self.rule_sets[key]
-            self.compared.take(sum(len(self.rules[rule]) for rule in rules))
-            self.winners[key] = cascaded(each for rule in rules for each in self.rules[rule])
-        return self.winners[key]
-
     def _families(self, rival: StayingRule) -> _Families:
         """Returns the declarations of a rule that stays, by family and importance."""
-        key = id(rival.declarations)
+        key = id(rival.block)
         if key not in self.families:
             found: Dict[Tuple[str, bool], List[Declaration]] = {}
-            for each in rival.declarations:
+            for each in rival.block.declared:
                 found.setdefault((family_of(each.name), each.important), []).append(each)
             self.families[key] = {name: frozenset(those) for name, those in found.items()}
         return self.families[key]
@@ -528,18 +624,15 @@ class _PageInliner:
     def _remove_classes(self) -> None:
         """Removes the classes that no rule that stays names."""
         written = {sheet.content for sheet in self.sheets}
-        links = {each for each in self.page.sources() if each.href is not None}
+        links = {each for each in self.page.sources if each.href is not None}
         if self.has_staying or not links <= written:
             # What they name is in no text that is here.
             return
-        kept = " ".join(sheet.kept("\n", self.leftover) for sheet in self.sheets)
-        kept += " ".join(
-            self.page.sheet_of(each) for each in self.page.styles() if each not in written
-        )
-        is_unclear = "[class" in lower(kept) or _ESCAPED_CLASS.search(kept)
-        if self.options.keep_style or is_unclear:
+        kept = [sheet.kept("\n", self.leftover) for sheet in self.sheets]
+        kept += [self.page.sheet_of(each) for each in self.page.styles if each not in written]
+        named = None if self.options.keep_style else classes_in(kept)
+        if named is None:
             return
-        named = frozenset(_CLASS.findall(kept))
         for index, attributes in enumerate(self.page.elements.attributes):
             if "class" in attributes and index not in self.ignored:
                 words = [each for each in words_of(attributes["class"]) if each in named]
@@ -549,13 +642,15 @@ class _PageInliner:
         """Yields what could not be written into attributes, and why."""
         for url, reason in self.reader.shelf.unread:
             yield NotWritten(url, f"{reason}: {LOSES}")
-        for statement in self.statements:
-            yield from statement.not_written(self.leftover)
+        for sheet in self.sheets:
+            for statement in sheet.statements:
+                if statement.has_text(self.leftover):
+                    yield from statement.not_written(self.leftover)
 
     def _leave(self, kind: Kind, families: AbstractSet[str]) -> None:
         """Notes that the declarations of families stay, of all rules that match a kind. Where `all`
         wins, it would set what stays, so that all stays."""
-        if families and any(each.name == "all" for each in self._winners(kind.rules)):
+        if families and any(each.name == "all" for each in self.winners[kind.rules]):
             families = _ALL_FAMILIES
         self.left_of[kind] |= families
         is_all = EVERYTHING in families
@@ -573,18 +668,18 @@ class _PageInliner:
 
     def _statement(self, rule: int) -> SplitStatement:
         """Returns the statement that a rule is of."""
-        return self.numbered[self.rules[rule][0].number]
+        return self.rules[rule].statement
 
     def _named(self, groups: List[Group], kind: Kind) -> Dict[str, List[Group]]:
         """Returns what the rules of a kind have of the names whose values a browser may not know."""
         unknown = {each.name for each in groups if not is_known(each.declarations[0].value)}
         named: Dict[str, List[Group]] = {name: [] for name in unknown}
-        rules = self.rule_sets[kind.rules] if unknown else []
-        self.compared.take(sum(len(self.rules[rule]) for rule in rules))
-        for rule in rules:
-            for each in self.rules[rule]:
-                if each.name in unknown:
-                    named[each.name].append(each)
+        rules = self.rule_sets[kind.rules] if unknown else ()
+        groups = [each for rule in rules for each in self._groups(rule)]
+        self.compared.take(len(groups))
+        for each in groups:
+            if each.name in unknown:
+                named[each.name].append(each)
         return named
 
     def _texts(
@@ -614,22 +709,29 @@ class _PageInliner:
         """Returns the declarations of groups in the order of the cascade, of which importance is
         apart."""
         found = [
-            ((group.specificity, group.number, place), group, each)
+            ((group.rank, place), group, each)
             for group in groups
-            for place, each in zip(self.numbered[group.number].places_of(group), group.declarations)
+            for place, each in zip(self._places_of(group), group.declarations)
         ]
         found.sort(key=lambda each: each[0])
         return [(group, each) for _, group, each in found]
 
+    def _places_of(self, group: Group) -> List[int]:
+        """Returns where the declarations of a group are in its block."""
+        return self.numbered[group.number].places_of(group.name, group.important)
+
     def _keep_clients(self) -> None:
         """Keeps the rules for mail clients that match nothing in the page."""
-        used = {self.rules[rule][0].number for rules in self.rule_sets for rule in rules}
         self.leftover.unmatched = {
-            each.number for each in self.statements if each.clients and each.number not in used
+            each.number
+            for sheet in self.sheets
+            for each in sheet.for_clients
+            if each.number not in self.numbered
         }
 
     def _write_sheets(self) -> None:
         newline = self.page.newline
+        self.leftover.has_layers = any(each.has_layers(self.leftover) for each in self.sheets)
         for sheet in self.sheets:
             kept = sheet.kept(newline, self.leftover)
             if sheet.content is None:
@@ -647,21 +749,11 @@ class _PageInliner:
                 self.page.set_sheet(content, marked(source, (0, len(source.data)), marks))
 
 
-def _strongest(rules: Iterable[StayingRule]) -> List[StayingRule]:
-    """Returns of the rules of each rule set the one of the greatest specificity."""
-    found: Dict[int, StayingRule] = {}
-    for rule in rules:
-        other = found.get(id(rule.declarations))
-        if other is None or other.specificity < rule.specificity:
-            found[id(rule.declarations)] = rule
-    return list(found.values())
-
-
 def _beaten(winner: Group, groups: List[Group]) -> List[Group]:
     """Returns what a winner beats of its name, from the last that every browser knows on."""
     if not groups:
         return []
-    groups = sorted(groups, key=lambda each: (each.important, each.specificity, each.number))
+    groups = sorted(groups, key=lambda each: (each.important, each.rank))
     groups = groups[: groups.index(winner)]
     for at in range(len(groups) - 1, -1, -1):
         if is_known(groups[at].declarations[0].value):
@@ -680,6 +772,30 @@ def _level(declaration: Declaration, is_raised: bool, is_demoted: bool) -> int:
     return _RAISED if is_raised else _PLAIN
 
 
+def _with_links(sheets: Sequence[SplitSheet]) -> List[SplitSheet]:
+    """Returns sheets of which rules for links are written, where visited links stay as they are."""
+    later = {
+        lower(each.text): statement
+        for sheet in sheets
+        for statement in sheet.statements
+        for each in statement.staying
+    }
+    return [
+        SplitSheet([_linked(each, later) for each in sheet.statements], sheet.content)
+        for sheet in sheets
+    ]
+
+
+def _linked(statement: SplitStatement, later: Dict[str, SplitStatement]) -> SplitStatement:
+    """Returns a statement whose rules for links are written, if visited links stay as they are."""
+    going = []
+    for each in statement.links if statement.staying else ():
+        visited = later.get(_of_visited(lower(each.text)))
+        if "link" not in states_in(each.text) or _is_of_links(statement, visited):
+            going.append(each)
+    return statement.with_going(going) if going else statement
+
+
 def _is_of_links(statement: SplitStatement, visited: Optional[SplitStatement]) -> bool:
     """Whether visited links look the same if what a statement says of links is said of them, too:
     of visited links only colours are taken, which another statement sets."""
@@ -689,65 +805,81 @@ def _is_of_links(statement: SplitStatement, visited: Optional[SplitStatement]) -
     return names <= others
 
 
+def _of_visited(selector: str) -> str:
+    """Returns what a selector of links is for those that were visited."""
+    pieces, at = [], 0
+    for name in pseudo_names(selector):
+        if name.name == "link" and not name.is_element:
+            pieces += [selector[at : name.start], ":visited"]
+            at = name.end
+    return "".join([*pieces, selector[at:]])
+
+
 def _has_color(name: str) -> bool:
     """Whether a property may set a colour."""
     return name == "all" or any(word in name for word in _COLORED)
 
 
 class _Mine(NamedTuple):
-    """What would be written of one name: how strong it is, and its declarations."""
+    """What would be written of one name: where it is in the cascade, the number of its statement, and
+    its declarations."""
 
-    strength: Tuple[Specificity, int]
+    rank: Rank
+    number: int
     declarations: FrozenSet[Declaration]
+
+
+class _Rival(NamedTuple):
+    """A rule that stays, how strong it may be, and its declarations."""
+
+    rule: StayingRule
+    strength: Strength
+    families: _Families
 
 
 def _by_family(groups: List[Group]) -> Dict[Tuple[str, bool], List[_Mine]]:
     """Returns what would be written by family and importance, the weakest first."""
     found: Dict[Tuple[str, bool], List[_Mine]] = {}
-    for group in sorted(groups, key=_strength):
-        mine = _Mine(_strength(group), frozenset(group.declarations))
+    for group in sorted(groups, key=lambda each: each.rank):
+        mine = _Mine(group.rank, group.number, frozenset(group.declarations))
         found.setdefault((family_of(group.name), group.important), []).append(mine)
     return found
 
 
-def _left_families(
-    groups: List[Group], rivals: List[Tuple[StayingRule, _Families]]
-) -> FrozenSet[str]:
+def _left_families(groups: List[Group], rivals: List[_Rival]) -> FrozenSet[str]:
     """Returns the families of which a rule that stays may beat what would be written."""
     families = _by_family(groups) if rivals else {}
-    # Of rules that set everything, the strongest by importance beats what another one does.
-    strongest: Dict[bool, StayingRule] = {}
+    # Of rules that set everything, the rank of the strongest by importance beats what another one
+    # does.
+    strongest: Dict[bool, Rank] = {}
     left: Set[str] = set()
-    for rival, declared in rivals:
-        for (family, important), those in declared.items():
-            if rival.is_layered and not important:
+    for rival in rivals:
+        for (family, important), those in rival.families.items():
+            if rival.rule.is_layered and not important:
                 continue
+            rank = rival.strength.of(important)
             if family == EVERYTHING:
-                other = strongest.get(important, rival)
-                strongest[important] = max(other, rival, key=_strength)
+                strongest[important] = max(strongest.get(important, rank), rank)
             for each in {family, EVERYTHING}:
-                if _may_beat(rival, those, families.get((each, important), [])):
+                mine = families.get((each, important), [])
+                if _may_beat(rank, rival.rule.number, those, mine):
                     left.add(each)
     for (family, important), mine in families.items():
         if important in strongest and family != EVERYTHING:
-            if _strength(strongest[important]) >= mine[0].strength:
+            if strongest[important] >= mine[0].rank:
                 left.add(family)
     return frozenset(left)
 
 
-def _strength(rule: "StayingRule | Group") -> Tuple[Specificity, int]:
-    return rule.specificity, rule.number
-
-
-def _may_beat(rival: StayingRule, declared: FrozenSet[Declaration], mine: List[_Mine]) -> bool:
+def _may_beat(rank: Rank, number: int, declared: FrozenSet[Declaration], mine: List[_Mine]) -> bool:
     """Whether declarations of a rule that stays may beat others that would be written, the weakest
     of which come first. Those of two names are never the same, so that few are looked at.
     """
     for each in mine:
-        if _strength(rival) < each.strength:
+        if rank < each.rank:
             return False
         # Of several values of one name a browser may take another one than the last.
-        is_single = len(each.declarations) == 1 or rival.number == each.strength[1]
+        is_single = len(each.declarations) == 1 or number == each.number
         if not (is_single and declared <= each.declarations):
             return True
     return False
@@ -759,14 +891,16 @@ def _set_attributes(page: Page, index: int, groups: Iterable[Group]) -> None:
     for group in groups:
         value = lower(group.declarations[-1].value)
         for attribute, names, form in _ATTRIBUTES.get(group.name, ()):
-            found = form.fullmatch(value)
+            found = form(value)
             if found and name in names and attribute not in page.elements.attributes[index]:
-                page.set_attribute(index, attribute, found.group(1))
+                page.set_attribute(index, attribute, found)
 
 
 class Inliner:
-    """Writes style sheets into the `style` attributes of documents: `inline` with a sheet and options
-    that are taken once, for any number of documents."""
+    """Writes a style sheet into the `style` attributes of many documents.
+
+    It takes the sheet and the options of `inline` once.
+    """
 
     def __init__(
         self,
@@ -803,10 +937,10 @@ class Inliner:
         is_part: bool = False,
         report: Optional[List[NotWritten]] = None,
     ) -> Document:
-        """Returns a document with the sheets written into `style` attributes, as `inline` does."""
+        """Returns a document with the sheets in its `style` attributes, as `inline` does."""
         has_xml = is_xml_name(os.fspath(at or "")) if is_xml is None else is_xml
         if has_xml and is_part:
-            raise ValueError("a part of a document is one of HTML")
+            raise ValueError("only a document in HTML can be a part of a page")
         if isinstance(html, bytes):
             text, encode = decode_page(html)
             encode.expect_same(text, html)
@@ -869,14 +1003,14 @@ def inline(
     are, and with `keep_style` all do. Elements that the selectors `ignore` match stay as they are,
     and so do the rules for them. `remove_classes` removes the classes that no rule needs any more.
     `attributes` writes `width`, `bgcolor` and the like beside styles. With `as_attributes` drawings
-    get presentation attributes, as `fill`, in place of styles. `is_xml` says whether the document is
+    get presentation attributes, such as `fill`, in place of styles. `is_xml` says whether the document is
     XML, as XHTML and SVG are, if the name in `at` does not say it; one that is not well-formed raises
     `TreeError`. `is_part` says that it is a part of a page in HTML, also one of a table, as a row.
     `report` gets what could not be written.
 
     Sheets whose rules would hold more declarations than `limit` raise `LimitError`. So do more
     rules than `answer_limit`, each counted once for each element that it matches, and a page that
-    would grow by more characters. `None` is no limit.
+    would grow by more characters. `None` sets no limit.
 
     For many documents, an `Inliner` reads the sheet once.
     """

@@ -17,6 +17,7 @@ from ._imports import LOSES
 from ._inline import inline
 from ._library import LibraryError, LimitError, Room, most_written
 from ._linked import Name, Shelf, Unread, sheets_of
+from ._minify import minify
 from ._output import json_line, printable, printable_lines
 from ._selectors import SelectorError
 from ._sheet import StyleSheet
@@ -314,6 +315,15 @@ class Lint(Job):
             except OSError as error:
                 raise Failure(f"cannot write {name}: {error.strerror}", UNREADABLE) from None
         return result
+
+
+class Minify(Job):
+    """Writes the short text of a sheet."""
+
+    def _do(self, name: str) -> Outcome:
+        text = minify(read(name))
+        self._write(json_line({"file": name, "css": text}) if self.words.json else f"{text}\n")
+        return self._outcome(name)
 
 
 class Linked(Job):

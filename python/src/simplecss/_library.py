@@ -20,15 +20,16 @@ OUT_OF_MEMORY = 3
 TOO_MANY_DECLARATIONS = 4
 NOT_UTF8 = 5
 TOO_SMALL = 6
+TOO_MANY_LAYERS = 7
 
 # A limit that allows any number, and those that hold where none is named: of the declarations of
 # rules, and of what an answer has.
 NO_LIMIT: int = 2 ** (8 * ctypes.sizeof(ctypes.c_size_t)) - 1
 USUAL_LIMIT = 1_000_000
 USUAL_ANSWER_LIMIT = 10_000_000
-# What may be written of a text: so many bytes, or so many for each byte of a longer text.
-_MOST_WRITTEN = 2**26
-_MOST_FOR_BYTE = 32
+# What may be written of a text: so many bytes or numbers, or so many for each byte of a longer text.
+_MOST_WRITTEN, _MOST_FOR_BYTE = 2**26, 32
+_MOST_NUMBERS, _MOST_NUMBERS_FOR_BYTE = 2**23, 8
 
 # The name of the library on this system.
 _NAME = {"win32": "simplecss.dll", "darwin": "libsimplecss.dylib"}.get(
@@ -39,12 +40,11 @@ SIZE = next(c for c in "QLI" if array.array(c).itemsize == ctypes.sizeof(ctypes.
 
 
 class LibraryError(OSError):
-    """The library was not found, or is not one that this package can use."""
+    """The C library is missing, or this package cannot use it."""
 
 
 class LimitError(ValueError):
-    """The rules of a style sheet would hold more declarations than its limit, or an answer would
-    have more than its own."""
+    """A style sheet or an answer would be larger than its limit."""
 
 
 def limit_of(limit: Optional[int]) -> int:
@@ -74,6 +74,11 @@ class Room:
 def most_written(length: int) -> int:
     """Returns how much may be written of a text of this length."""
     return max(_MOST_WRITTEN, _MOST_FOR_BYTE * length)
+
+
+def most_numbers(length: int) -> int:
+    """Returns how many numbers may be written of a text of this length."""
+    return max(_MOST_NUMBERS, _MOST_NUMBERS_FOR_BYTE * length)
 
 
 class TreeFault(NamedTuple):
@@ -114,6 +119,100 @@ class _Tree(ctypes.Structure):
     ]
 
 
+class _Sheets(ctypes.Structure):
+    _fields_ = [
+        ("texts", ctypes.c_char_p),
+        ("texts_len", ctypes.c_size_t),
+        ("ends", ctypes.POINTER(ctypes.c_size_t)),
+        ("ends_count", ctypes.c_size_t),
+        ("origins", ctypes.POINTER(ctypes.c_size_t)),
+        ("origins_count", ctypes.c_size_t),
+        ("groups", ctypes.c_char_p),
+        ("groups_len", ctypes.c_size_t),
+        ("group_ends", ctypes.POINTER(ctypes.c_size_t)),
+        ("group_ends_count", ctypes.c_size_t),
+    ]
+
+
+class SheetArrays:
+    """The texts of style sheets and of the group rules that hold, which a call takes as a
+    structure."""
+
+    def __init__(
+        self, texts: Sequence[bytes], groups: Sequence[bytes], origins: Sequence[int] = ()
+    ) -> None:
+        """Takes the texts of sheets, the keyword and the prelude of each group rule, and the numbers of
+        the origins of the sheets."""
+        ends, group_ends = ends_of(map(len, texts)), ends_of(map(len, groups))
+        numbers = array_of(origins)
+        joined, joined_groups = b"".join(texts), b"".join(groups)
+        self.structure = _Sheets(
+            joined,
+            len(joined),
+            ctypes.cast(ends, ctypes.POINTER(ctypes.c_size_t)),
+            len(ends),
+            ctypes.cast(numbers, ctypes.POINTER(ctypes.c_size_t)),
+            len(numbers),
+            joined_groups,
+            len(joined_groups),
+            ctypes.cast(group_ends, ctypes.POINTER(ctypes.c_size_t)),
+            len(group_ends),
+        )
+
+
+class _Own(ctypes.Structure):
+    _fields_ = [
+        ("texts", ctypes.c_char_p),
+        ("texts_len", ctypes.c_size_t),
+        ("ends", ctypes.POINTER(ctypes.c_size_t)),
+        ("ends_count", ctypes.c_size_t),
+    ]
+
+
+class OwnArrays:
+    """The texts of elements' declarations that are in no rule, which a call takes as a structure."""
+
+    def __init__(self, texts: Sequence[bytes]) -> None:
+        """Takes two texts for each element, or none at all: the `style` attribute, and the presentation
+        declarations."""
+        ends, joined = ends_of(map(len, texts)), b"".join(texts)
+        self.structure = _Own(
+            joined,
+            len(joined),
+            ctypes.cast(ends, ctypes.POINTER(ctypes.c_size_t)),
+            len(ends),
+        )
+
+
+class _Asked(ctypes.Structure):
+    _fields_ = [
+        ("names", ctypes.c_char_p),
+        ("names_len", ctypes.c_size_t),
+        ("ends", ctypes.POINTER(ctypes.c_size_t)),
+        ("ends_count", ctypes.c_size_t),
+        ("counts", ctypes.POINTER(ctypes.c_size_t)),
+        ("counts_count", ctypes.c_size_t),
+    ]
+
+
+class AskedArrays:
+    """The names of properties that are asked for, which a call takes as a structure."""
+
+    def __init__(self, properties: Sequence[Sequence[bytes]]) -> None:
+        """Takes the names of each property."""
+        names = list(itertools.chain.from_iterable(properties))
+        ends, joined = ends_of(map(len, names)), b"".join(names)
+        counts = array_of(map(len, properties))
+        self.structure = _Asked(
+            joined,
+            len(joined),
+            ctypes.cast(ends, ctypes.POINTER(ctypes.c_size_t)),
+            len(ends),
+            ctypes.cast(counts, ctypes.POINTER(ctypes.c_size_t)),
+            len(counts),
+        )
+
+
 class TreeArrays:
     """The arrays of a tree, which a call takes as a structure."""
 
@@ -139,6 +238,10 @@ class TreeArrays:
             ctypes.cast(ends, ctypes.POINTER(ctypes.c_size_t)),
             len(ends),
         )
+
+
+# What has a structure that a call takes.
+_ARRAYS = (SheetArrays, OwnArrays, AskedArrays, TreeArrays)
 
 
 def library_path() -> str:
@@ -181,11 +284,11 @@ def _library() -> ctypes.CDLL:
 
 
 def is_proved() -> bool:
-    """Whether the library that is used was made by the toolchain that proves it.
+    """Whether the toolchain that proves the library also built it.
 
-    One that cargo compiled from the same sources gives the same answers. It is trusted beyond that:
-    the eraser, the names of Rattle's library over Rust's, and rustc. It may abort the process where
-    memory is refused.
+    One that cargo compiled from the same sources gives the same answers. Then you also trust the
+    eraser, the names of Rattle's library over Rust's, and rustc, and the process may abort if an
+    allocation fails.
     """
     return not hasattr(_library(), "simplecss_is_erased")
 
@@ -230,11 +333,16 @@ def encode(text: str) -> bytes:
     return text.encode("utf-8")
 
 
+def array_of(numbers: Iterable[int]) -> "ctypes.Array[ctypes.c_size_t]":
+    """Returns an array of numbers, as C has it."""
+    sizes = _sizes(numbers)
+    return (ctypes.c_size_t * len(sizes)).from_buffer_copy(sizes)
+
+
 def ends_of(lengths: Iterable[int]) -> "ctypes.Array[ctypes.c_size_t]":
     """Returns where each text ends in the buffer that has texts of these lengths one after
     another."""
-    ends = _sizes(itertools.accumulate(lengths))
-    return (ctypes.c_size_t * len(ends)).from_buffer_copy(ends)
+    return array_of(itertools.accumulate(lengths))
 
 
 def call(
@@ -243,12 +351,13 @@ def call(
     room: int,
     with_fault: bool = False,
     most: Optional[int] = None,
+    width: int = 1,
 ) -> Answer:
     """Calls a function of the library.
 
     An argument is a text, an array of ends, a tree, a structure, or a number. `room` is the length
-    of the first buffer; a call that needs a longer one is made again. `most` is passed last to a
-    function that takes it: an answer of more bytes raises `LimitError`.
+    of the first buffer, of items of `width` bytes; a call that needs a longer one is made again. `most`
+    is passed last to a function that takes it: an answer of more items raises `LimitError`.
     """
     function = _function(name)
     words: List[Any] = []
@@ -256,8 +365,8 @@ def call(
         if isinstance(argument, int):
             words.append(ctypes.c_size_t(argument))
             continue
-        if isinstance(argument, (ctypes.Structure, TreeArrays)):
-            structure = argument.structure if isinstance(argument, TreeArrays) else argument
+        if isinstance(argument, (ctypes.Structure, *_ARRAYS)):
+            structure = argument if isinstance(argument, ctypes.Structure) else argument.structure
             words.append(ctypes.byref(structure))
             continue
         words.append(argument)
@@ -268,18 +377,21 @@ def call(
     length = ctypes.c_size_t(0)
     tail: Tuple[Any, ...] = (ctypes.byref(found),) if with_fault else ()
     while True:
-        buffer = ctypes.create_string_buffer(room)
+        buffer = ctypes.create_string_buffer(room * width)
         status = function(*words, buffer, ctypes.c_size_t(room), ctypes.byref(length), *tail)
         if status != TOO_SMALL:
             break
         room = length.value
     if status == OUT_OF_MEMORY:
         raise MemoryError(name)
+    if status == TOO_MANY_LAYERS:
+        raise LimitError("the sheets have more than 1,024 layers")
     if status == TOO_MANY_DECLARATIONS:
         what = "the rules would hold more declarations than the limit"
-        raise LimitError(what if most is None else f"the answer would have more than {most} bytes")
+        unit = "bytes" if width == 1 else "numbers"
+        raise LimitError(what if most is None else f"the answer would have more than {most} {unit}")
     fault = TreeFault(found.fault, found.element) if status == TREE_FAULT else None
-    output = ctypes.string_at(buffer, length.value) if status == DONE else b""
+    output = ctypes.string_at(buffer, length.value * width) if status == DONE else b""
     return Answer(status, output, fault)
 
 
@@ -288,3 +400,18 @@ def output_of(name: str, answer: Answer) -> bytes:
     if answer.status != DONE:
         raise LibraryError(f"{name}: unexpected status {answer.status}")
     return answer.output
+
+
+def numbers_of(
+    name: str,
+    *arguments: Any,
+    room: int,
+    with_fault: bool = False,
+    most: Optional[int] = None,
+) -> "array.array[int]":
+    """Returns the numbers that a call wrote, which had no reason to fail."""
+    found = _sizes(())
+    width = found.itemsize
+    answer = call(name, *arguments, room=room, with_fault=with_fault, most=most, width=width)
+    found.frombytes(output_of(name, answer))
+    return found

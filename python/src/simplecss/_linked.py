@@ -18,8 +18,8 @@ from typing import (
 
 from . import _library as library
 from ._elements import Elements
-from ._patterns import pattern
 from ._reading import Condition, Fault, ReadAtRule, Source, Statement, read_sheet
+from ._tokens import without_gaps
 from ._urls import SCHEME, import_of, joined
 from ._words import BLANKS, lower, words_of
 
@@ -28,8 +28,6 @@ if TYPE_CHECKING:
 
 # How deep sheets import one another.
 _DEEPEST = 16
-_OPENING = pattern(r"\A([\t\n\f\r ]*)<!--")
-_CLOSING = pattern(r"-->([\t\n\f\r ]*)\Z")
 _DATA = "data:"
 
 Name = Union[str, "os.PathLike[str]"]
@@ -37,7 +35,10 @@ Load = Callable[[str], Optional[str]]
 
 
 class Unread(NamedTuple):
-    """A sheet that is named and was not read: its url as it is written, and why."""
+    """A sheet that a page names and that was not read.
+
+    `url` is as the page writes it, and `reason` says why.
+    """
 
     url: str
     reason: str
@@ -153,7 +154,7 @@ class Shelf:
         """Returns the file in the folder that a url leads to, if there is one whose name is that of
         a style sheet. One that the system refuses raises an error."""
         if self._folder is None:
-            raise _Refused("no folder is named that it could be in")
+            raise _Refused("no folder is given for it")
         import urllib.parse
         from pathlib import PurePosixPath
 
@@ -186,12 +187,6 @@ class PageSheet(NamedTuple):
     statements: List[Statement]
     conditions: Tuple[Condition, ...]
     url: Optional[str]
-
-
-def without_marks(css: str) -> str:
-    """Returns the sheet of a `style` element, in which the marks of a comment around it, which hide
-    it from the oldest browsers, are blanks."""
-    return _CLOSING.sub(r"   \1", _OPENING.sub(r"\1    ", css))
 
 
 def imports_of(statements: Iterable[Statement]) -> Iterator[ReadAtRule]:
@@ -238,7 +233,7 @@ def _is_sheet(elements: Elements, index: int) -> bool:
     return name == "style" and _is_style(attributes)
 
 
-def _in_use(elements: Elements) -> List[int]:
+def in_use(elements: Elements) -> List[int]:
     """Returns the elements `style` and `link` whose sheets are in use (CSSOM, "add a CSS style
     sheet"): those without a title, and those of the first title of one that is no alternate.
     """
@@ -263,10 +258,10 @@ def _in_use(elements: Elements) -> List[int]:
 def sheets_of(elements: Elements, shelf: Shelf) -> Iterator[PageSheet]:
     """Yields the sheets of a page in the order of the cascade."""
     shelf.take_base(elements)
-    for index in _in_use(elements):
+    for index in in_use(elements):
         attributes = elements.attributes[index]
         url = attributes.get("href", "").strip(BLANKS) if elements.names[index] == "link" else None
-        css = without_marks(elements.own_text_of(index)) if url is None else None
+        css = elements.own_text_of(index) if url is None else None
         if url:
             css = shelf.read(url)
         if css is not None:
@@ -303,8 +298,7 @@ class Imported(NamedTuple):
     def has_layer(self) -> bool:
         """Whether it is in a layer."""
         return any(
-            each.name == "import" and lower(each.prelude).startswith("layer")
-            for each in self.conditions
+            each.name == "import" and _first_of(each.prelude) in _LAYERS for each in self.conditions
         )
 
 
@@ -323,9 +317,13 @@ def in_force(statements: Iterable[Statement]) -> Iterator[Statement]:
         yield each
 
 
-def has_imports(css: str) -> bool:
-    """Whether a sheet may import others."""
-    return "@import" in lower(css)
+# What an import into a layer begins with, after its url.
+_LAYERS = (("ident", "layer"), ("function", "layer"))
+
+
+def _first_of(prelude: str) -> Optional[Tuple[str, str]]:
+    """Returns the kind of the first token of a text, and what it denotes, in lower case."""
+    return next(((each.kind, lower(each.value)) for each in without_gaps(prelude)), None)
 
 
 def imported(
@@ -346,6 +344,6 @@ def imported(
     css = shelf.read(place)
     if css is None:
         return None
-    is_layer = lower(found.rest).startswith(("layer", "supports("))
-    conditions = (Condition("import", found.rest),) if is_layer else condition_of(found.rest)
+    is_apart = _first_of(found.rest) in (*_LAYERS, ("function", "supports"))
+    conditions = (Condition("import", found.rest),) if is_apart else condition_of(found.rest)
     return Imported(css, place, conditions)

@@ -25,9 +25,10 @@ from ._linked import Shelf, sheets_of
 from ._mistakes import KINDS, problems_of_block, problems_of_sheet
 from ._output import json_line, printable
 from ._page import Page
-from ._reading import Source, is_read_as, read_block, read_sheet
+from ._reading import Source, read_block, read_sheet
 from ._selectors import MODERN, PORT, grammar_of
 from ._sheet import StyleSheet
+from ._tokens import tokens
 from ._words import lower, words_of
 from ._xml import is_xml
 from .html import attributes_of, decode_value
@@ -47,8 +48,11 @@ def kind_of(reason: str) -> str:
 
 
 class Finding(NamedTuple):
-    """A part of a sheet: its file, where it begins, why it is reported, its text, where it ends,
-    and what was meant, as far as that is near."""
+    """What `lint` finds in a style sheet.
+
+    It has its file, where it begins, the reason, its text, where it ends, and a hint at what was
+    probably meant, if there is one.
+    """
 
     file: str
     row: int
@@ -61,7 +65,7 @@ class Finding(NamedTuple):
 
     @property
     def kind(self) -> str:
-        """The reason as one word, as `broken-declaration`."""
+        """The reason as one word, such as `broken-declaration`."""
         return kind_of(self.reason)
 
     @property
@@ -109,18 +113,16 @@ def _reported_by_port(part: _SheetText) -> Iterator[_Report]:
 
 def _ignored(part: _SheetText) -> Dict[int, Set[str]]:
     """Returns the beginnings of the kinds that comments turn off, by the rows of the comments in a
-    sheet. The words are in comments if the sheet with line breaks for them is read as the same.
-    """
-    css = part.css
-    if _IGNORE not in css or not is_read_as(
-        css, css.replace(_IGNORE, "\n" * len(_IGNORE)), part.is_attribute
-    ):
-        return {}
+    sheet."""
     rows: Dict[int, Set[str]] = {}
-    for row, line in enumerate(css.split("\n"), 1):
-        for text in line.split(_IGNORE)[1:]:
-            words = words_of(text.partition("*/")[0].replace(",", " "))
-            rows.setdefault(row, set()).update(words or [""])
+    row = 1
+    for token in tokens(part.css) if _IGNORE in part.css else ():
+        if token.kind == "comment":
+            for at, line in enumerate(token.text.removesuffix("*/").split("\n"), row):
+                for text in line.split(_IGNORE)[1:]:
+                    words = words_of(text.replace(",", " "))
+                    rows.setdefault(at, set()).update(words or [""])
+        row += token.text.count("\n")
     return rows
 
 
@@ -133,7 +135,7 @@ def _parts_of(page: Page) -> Iterator[_SheetText]:
     """Yields the sheets of a page: of its elements and attributes `style`."""
     text = page.text
     position = Source(text).position
-    for content in page.styles():
+    for content in page.styles:
         if page.is_style_sheet(content):
             yield _SheetText(page.sheet_of(content), *position(content.inner[0]))
     for tag in page.tags:

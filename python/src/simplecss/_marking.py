@@ -9,6 +9,7 @@ sheet for that kind, and all is decided again.
 
 from __future__ import annotations
 
+import bisect
 from typing import (
     AbstractSet,
     Callable,
@@ -19,26 +20,29 @@ from typing import (
     Mapping,
     NamedTuple,
     Optional,
+    Sequence,
     Set,
     Tuple,
 )
 
 from . import _library as library
 from ._declaration import Declaration
-from ._families import EVERYTHING, family_of, is_known
-from ._selectors import Specificity
-from ._staying import GREATEST, Block, Marks
-from ._words import lower
+from ._families import EVERYTHING, family_of
+from ._order import Reach, Strength
+from ._staying import Block, Marks
+from ._values import has_ident, is_known
 
-# How strong a rule is: its specificity, the number of its statement, and its place in that.
-Rank = Tuple[Specificity, int, int]
-LOWEST: Rank = ((-1, 0, 0), 0, 0)
-HIGHEST: Rank = ((GREATEST[0] * 2, 0, 0), 0, 0)
+# Where declarations are among those of the same importance, in the order of the cascade.
+Rank = int
+LOWEST: Rank = -(2**32)
+HIGHEST: Rank = 2**62
 # That of the own `style` of an element.
-_OWN: Rank = ((GREATEST[0] + 1, 0, 0), 0, 0)
+_OWN: Rank = 2**61
+# Where a rule may be that is in a layer, of which the place is not known: above what is important.
+LAYERED = Reach(Strength(HIGHEST, HIGHEST, 0), Strength(HIGHEST, HIGHEST, 0))
 
 # What goes back to what sheets say.
-BACK = "revert-layer"
+BACK = frozenset(("revert-layer",))
 
 # A family of a block.
 Unit = Tuple[Block, str]
@@ -49,7 +53,7 @@ class Group(NamedTuple):
     takes the last that it knows."""
 
     declarations: Tuple[Declaration, ...]
-    specificity: Specificity
+    strength: Strength
     number: int
 
     @property
@@ -62,7 +66,7 @@ class Group(NamedTuple):
 
     @property
     def rank(self) -> Rank:
-        return (self.specificity, self.number, 0)
+        return self.strength.of(self.important)
 
 
 class Kind(NamedTuple):
@@ -78,11 +82,10 @@ class Kind(NamedTuple):
 
 
 class Rival(NamedTuple):
-    """A block that stays and may apply, and the ranks between which it is."""
+    """A block that stays and may apply, and the strengths between which it is."""
 
     block: Block
-    least: Rank
-    most: Rank
+    reach: Reach
     is_layered: bool
 
 
@@ -103,7 +106,7 @@ class Rivals:
     def may_lose(self, family: str, rank: Rank) -> bool:
         """Whether one that has a family, or all, may be below a rank, or is in a layer."""
         return any(
-            (each.is_layered or each.least < rank) and each.block.has_plain(family)
+            (each.is_layered or each.reach.least.normal < rank) and each.block.has_plain(family)
             for each in (*self.by_family.get(family, ()), *self.whole)
         )
 
@@ -167,22 +170,53 @@ class _Base(NamedTuple):
 
 
 class _Staying(NamedTuple):
-    """Declarations of one importance of a block that may apply, and between which ranks they are."""
+    """Declarations of one importance of a block that may apply, and between which ranks they are; how
+    high they would be as important ones, and how many layers are before theirs."""
 
     least: Rank
     most: Rank
+    raised: Rank
+    layer: int
     unit: Unit
     declarations: List[Declaration]
 
 
-def _is_same(one: Iterable[Declaration], other: Tuple[Declaration, ...]) -> bool:
-    declared = tuple(one)
-    return declared == other or len(other) == 1 and all(each == other[0] for each in declared)
+def _staying(rival: Rival, unit: Unit, declarations: List[Declaration]) -> _Staying:
+    """Returns declarations of one importance of a block."""
+    least, most = rival.reach
+    important = declarations[0].important
+    ranks = least.of(important), most.of(important), most.important
+    return _Staying(*ranks, most.layer, unit, declarations)
+
+
+# What declarations of one name say: of several equal ones no more than one does.
+_Said = Tuple[Declaration, ...]
+
+
+def _said(declarations: Sequence[Declaration]) -> _Said:
+    """Returns what declarations say."""
+    first = declarations[:1]
+    return tuple(first if all(each == first[0] for each in declarations) else declarations)
+
+
+class _Ranked:
+    """What declarations say, in the order of their ranks."""
+
+    def __init__(self, found: Iterable[Tuple[Rank, _Said]]) -> None:
+        pairs = sorted(found, key=lambda pair: pair[0])
+        self.ranks = [rank for rank, _ in pairs]
+        self._first = pairs[0][1] if pairs else ()
+        differing = (at for at, (_, said) in enumerate(pairs) if said != self._first)
+        self._other = next(differing, len(pairs))
+
+    def has_other(self, count: int, said: _Said) -> bool:
+        """Whether one of so many, the first ones, says something else."""
+        return count > (self._other if said == self._first else 0)
 
 
 def goes_back(declarations: Iterable[Declaration]) -> bool:
     """Whether one of the declarations goes back to what sheets say."""
-    return any(BACK in lower(each.value) for each in declarations)
+    return any(has_ident(each.value, BACK) for each in declarations)
 
 
 class _Problem:
@@ -230,10 +264,10 @@ class _Problem:
         if plain and not rival.is_layered:
             if is_animated or not rival.block.can_mark(family):
                 self._clauses.forbidden.add(unit)
-            self._normal.append(_Staying(rival.least, rival.most, unit, plain))
+            self._normal.append(_staying(rival, unit, plain))
         urgent = [each for each in declared if each.important]
         if urgent:
-            self._important.append(_Staying(rival.least, rival.most, unit, urgent))
+            self._important.append(_staying(rival, unit, urgent))
         self._names.update(each.name for each in declared if each.important or not rival.is_layered)
 
     def solve(self) -> None:
@@ -253,44 +287,55 @@ class _Problem:
         """What is important and stays is below what is important and written, which need not be
         important if all that stays and is so is above it."""
         written = [each for each in self._urgent if each.rank != _OWN]
+        above = _Ranked((-each.most, _said(each.declarations)) for each in self._important)
         is_needed = any(
-            each.most >= base.rank and not _is_same(each.declarations, base.declarations)
+            above.has_other(bisect.bisect_right(above.ranks, -base.rank), _said(base.declarations))
             for base in written
-            for each in self._important
         )
+        least = min((each.least for each in self._important), default=HIGHEST)
+        most = max((each.most for each in self._important), default=LOWEST)
         for base in written if is_needed else ():
-            if all(each.least >= base.rank for each in self._important):
+            if least >= base.rank:
                 self.demoted.add((base.rank, base.declarations[0].name))
-            elif any(each.most >= base.rank for each in self._important):
+            elif most >= base.rank:
                 self.has_no_way = True
 
     def _weigh_normal(self) -> None:
         """What is above something written must be important, unless that, or what stays and is
         important, would then be below it."""
-        top = LOWEST
-        for base in self._bases:
-            over = [
-                each.unit
-                for each in self._normal
-                if each.most > base.rank and not _is_same(each.declarations, base.declarations)
-            ]
-            if over or self._important:
-                top = max(top, base.rank)
-            self.musts += over
+        bases = _Ranked((base.rank, _said(base.declarations)) for base in self._bases)
+        above = _Ranked((-each.most, _said(each.declarations)) for each in self._normal)
+        self.musts += (
+            each.unit
+            for each in self._normal
+            if bases.has_other(bisect.bisect_left(bases.ranks, each.most), _said(each.declarations))
+        )
+        weighed = (
+            base.rank
+            for base in self._bases
+            if self._important
+            or above.has_other(
+                bisect.bisect_left(above.ranks, -base.rank), _said(base.declarations)
+            )
+        )
+        top = max(weighed, default=LOWEST)
         lowest = min((each.least for each in self._important), default=HIGHEST)
         for each in self._normal:
-            if each.least < top or each.most > lowest:
+            if each.least < top or each.raised > lowest:
                 self._clauses.forbidden.add(each.unit)
 
     def _keep_order(self) -> None:
         """Keeps the order of what stays: what is above something important is important, and of two
-        in no order both or none are."""
+        in no order both or none are. Of two layers the order of what is important is the other
+        one."""
         is_single = len(self._names) == 1
         floor = min((each.rank for each in self._bases), default=LOWEST) if is_single else LOWEST
         units = sorted(
             (each for each in self._normal if each.most >= floor),
             key=lambda each: each.least,
         )
+        if len({each.layer for each in units}) > 1:
+            self._clauses.forbidden.update(each.unit for each in units)
         for one, other in zip(units, units[1:]):
             self._clauses.imply(one.unit, other.unit)
         reach = 0
@@ -407,7 +452,7 @@ def raised_by(view: View, marked: Set[Unit]) -> Dict[str, Rank]:
     found: Dict[str, Rank] = {}
     for family in view.names():
         those = view.rivals.by_family.get(family, ())
-        ranks = [rival.most for rival in those if (rival.block, family) in marked]
+        ranks = [rival.reach.most.normal for rival in those if (rival.block, family) in marked]
         if ranks:
             found[family] = min(ranks)
     return found

@@ -11,7 +11,8 @@ from ._declaration import Declaration
 from ._device import UNKNOWN, Device, says
 from ._elements import STATES
 from ._library import encode
-from ._pseudo import Name, is_name, name_at, names_in
+from ._found_names import Name, pseudo_names
+from ._properties import parts_of
 from ._reading import (
     BlockItem,
     Fault,
@@ -27,16 +28,18 @@ from ._reading import (
     read_sheet,
 )
 from ._selectors import OF_TREE
-from ._words import BLANKS, lower, words_of
+from ._tokens import Token, tokens, without_gaps
+from ._values import has_prefix, may_fail
+from ._words import lower, words_of
 
 KINDS: Dict[str, str] = {
     "bad string": "a string has no end on its line",
     "bad url": "a url without quotes has no end, or a blank or a quote in it",
     "block not closed": "no `}` ends the block of this rule",
-    "broken declaration": "this is no declaration, as one without a colon or a value",
+    "broken declaration": "this is not a declaration: it has no colon or no value, for example",
     "comment not closed": "no `*/` ends the comment",
     "empty rule": "a rule without a declaration does nothing",
-    "invalid selector": "browsers leave out a rule with a selector that is none",
+    "invalid selector": "browsers leave out a rule with an invalid selector",
     "misspelt important": "a word after `!` is nearly `important`",
     "no block": "a rule has no `{`",
     "overridden declaration": "a shorthand after it in the block sets what this one does",
@@ -75,9 +78,9 @@ _NOTHING_WITHOUT_RULES = frozenset(("container", "font-face", "media", "supports
 # The pseudo-classes that elements of trees may match.
 _KNOWN_CLASSES = OF_TREE | {*STATES, "any-link"}
 _IMPORTANT = names.Names(("important",))
-# How many characters of a text are read again to find where something begins, and at how many
-# places; and how many names of a selector are.
-_MOST_READ, _MOST_PLACES, _MOST_NAMES = 2_000, 16, 8
+# How many characters of a declaration are read again as two, and how many names of a selector are
+# reported.
+_MOST_READ, _MOST_NAMES = 2_000, 8
 
 
 class Place(enum.Enum):
@@ -150,18 +153,24 @@ def _misspelt_feature(level: Level) -> Optional[Problem]:
     """Returns the name that is no media feature, and nearly one with which it would be known what
     the queries say."""
     prelude, known = level.condition.prelude, names.media_features()
-    pieces = prelude.split("(")
-    for number, piece in enumerate(pieces[1 : _MOST_NAMES + 1], 1):
-        name = name_at(piece)
+    for token in itertools.islice(_features(prelude), _MOST_NAMES):
+        name = lower(token.value)
         hint = None if known.knows(name) else known.nearest(name)
         if hint is None:
             continue
-        right = "(".join([*pieces[:number], hint + piece[len(name) :], *pieces[number + 1 :]])
+        right = prelude[: token.start] + hint + prelude[token.end :]
         if says(level.condition._replace(prelude=right), Device()) != UNKNOWN:
-            before = "(".join([*pieces[:number], ""])
-            start = level.head[1] - len(encode(prelude)) + len(encode(before))
-            return Problem("unknown media feature", (start, start + len(encode(name))), hint)
+            start = level.head[1] - len(encode(prelude[token.start :]))
+            return Problem("unknown media feature", (start, start + len(encode(token.text))), hint)
     return None
+
+
+def _features(prelude: str) -> Iterator[Token]:
+    """Yields the names that are first in parentheses."""
+    found = without_gaps(prelude)
+    for one, other in zip(found, found[1:]):
+        if one.text == "(" and other.kind == "ident":
+            yield other
 
 
 def _of_rule(source: Source, rule: RuleSet, shows_all: bool) -> Iterator[Problem]:
@@ -186,7 +195,8 @@ def _of_rule(source: Source, rule: RuleSet, shows_all: bool) -> Iterator[Problem
 
 def _ends_empty(source: Source, span: Span) -> bool:
     """Whether a text ends with a block that has no more than blanks, no comment either."""
-    return source.data[span[0] : span[1]].translate(None, BLANKS.encode()).endswith(b"{}")
+    found = [each.text for each in tokens(source.at(span)) if each.kind != "whitespace"]
+    return found[-2:] == ["{", "}"]
 
 
 def _of_at_rule(
@@ -250,14 +260,12 @@ def _end_of(statements: Sequence[Statement]) -> int:
 
 def _open_comment(source: Source, start: int) -> Iterator[Problem]:
     """Yields the comment that is not closed after the last of what is read."""
-    data = source.data
-    start = data.find(b"/*", start)
-    while start >= 0:
-        end = data.find(b"*/", start + 2)
-        if end < 0:
-            yield Problem("comment not closed", (start, len(data)))
-            return
-        start = data.find(b"/*", end + 2)
+    rest = source.at((start, len(source.data)))
+    last = list(tokens(rest))[-1:]
+    if last and last[0].kind == "comment" and _is_open(last[0]):
+        yield Problem(
+            "comment not closed", (len(source.data) - len(encode(last[0].text)), len(source.data))
+        )
 
 
 # ---- selectors
@@ -265,12 +273,10 @@ def _open_comment(source: Source, start: int) -> Iterator[Problem]:
 
 def _of_selector(selector: ReadSelector) -> Iterator[Problem]:
     """Yields the names in a selector that no pseudo-class and no pseudo-element has."""
-    unknown = (each for each in names_in(selector.text) if not _kind_of(each).knows(each.name))
+    unknown = (each for each in pseudo_names(selector.text) if not _kind_of(each).knows(each.name))
     for name in itertools.islice(unknown, _MOST_NAMES):
-        if is_name(selector.text, name, selector.specificity is not None):
-            start = selector.span[0] + len(encode(selector.text[: name.start]))
-            span = (start, start + len(encode(selector.text[name.start : name.end])))
-            yield _unknown(name, span)
+        start = selector.span[0] + len(encode(selector.text[: name.start]))
+        yield _unknown(name, (start, start + len(encode(selector.text[name.start : name.end]))))
 
 
 def _kind_of(name: Name) -> names.Names:
@@ -291,8 +297,7 @@ def _unknown(name: Name, span: Span) -> Problem:
 
 def _has_unknown_state(selector: str) -> bool:
     """Whether a selector has a state that no element is in here."""
-    unknown = (each for each in names_in(selector) if each.name not in _KNOWN_CLASSES)
-    return any(is_name(selector, each, True) for each in itertools.islice(unknown, _MOST_NAMES))
+    return any(each.name not in _KNOWN_CLASSES for each in pseudo_names(selector))
 
 
 # ---- declarations
@@ -333,29 +338,30 @@ def _of_fault(source: Source, fault: Fault, shows_all: bool) -> Iterator[Problem
         yield Problem(reason, fault.span)
 
 
-# What begins a string and a url.
-_MARKS = {"bad string": ("'", '"'), "bad url": ("url(",)}
+# The tokens that are strings and urls.
+_STRINGS = frozenset(("string", "bad-string"))
+_MARKS = {"bad string": _STRINGS, "bad url": frozenset(("url", "bad-url"))}
+_COMMENTS = frozenset(("comment",))
 
 
 def _of_nested(text: str, span: Span, shows_all: bool) -> Iterator[Problem]:
     """Yields the string without an end for which what is after its line is read as a rule in this
     one, or the rule."""
-    line = text.partition("\n")[0]
-    at = _opened(line, _MARKS["bad string"])
-    if at and not _is_whole(line) and _is_whole(line + line[at : at + 1]):
-        start = span[0] + len(encode(line[:at]))
-        yield Problem("bad string", (start, span[0] + len(encode(line))))
+    bad = next((each for each in tokens(text) if each.kind == "bad-string"), None)
+    if bad and bad.start and _is_whole(text[: bad.end] + bad.text[:1]):
+        places = (len(encode(text[:at])) for at in (bad.start, bad.end))
+        start, end = (span[0] + each for each in places)
+        yield Problem("bad string", (start, end))
     elif shows_all:
         yield Problem("unsupported nested rule", span)
 
 
 def _of_broken(text: str, span: Span, shows_all: bool) -> Iterator[Problem]:
     """Yields why a declaration is broken, as far as that is known."""
-    before, mark, after = text.rpartition("!")
-    word = lower("".join(words_of(after)))
-    if mark and (word in _IMPORTANT or _IMPORTANT.nearest(word)):
-        if _is_whole(before.rstrip(f"!{BLANKS}")):
-            start = span[0] + len(encode(before))
+    mark = _mark_in(text)
+    if mark is not None and (mark.word in _IMPORTANT or _IMPORTANT.nearest(mark.word)):
+        if _is_whole(text[: mark.first]):
+            start = span[0] + len(encode(text[: mark.last]))
             yield Problem("misspelt important", (start, span[1]), "!important")
             return
     if text[:1] == "*" and _is_whole(text[1:]):
@@ -366,18 +372,41 @@ def _of_broken(text: str, span: Span, shows_all: bool) -> Iterator[Problem]:
     yield from merged or [Problem("broken declaration", span)]
 
 
+class _Mark(NamedTuple):
+    """The last exclamation mark of a text: where it is, where it or those directly before it begin,
+    and the word after it, in lower case."""
+
+    last: int
+    first: int
+    word: str
+
+
+def _mark_in(text: str) -> Optional[_Mark]:
+    """Returns the last exclamation mark of a text, if it has one."""
+    found = without_gaps(text)
+    marks = [index for index, each in enumerate(found) if each.text == "!"]
+    if not marks:
+        return None
+    last = first = marks[-1]
+    while first and found[first - 1].text == "!":
+        first -= 1
+    word = lower("".join(each.value for each in found[last + 1 :]))
+    return _Mark(found[last].start, found[first - 1].end if first else 0, word)
+
+
 def _merged(text: str, start: int) -> Iterator[Problem]:
     """Yields the first of two declarations without a semicolon between them: the word before the
     second colon is a property, and what is before it and from it on are declarations.
     """
-    parts = text.split(":", 2)
-    words = words_of(parts[1]) if len(parts) == 3 and len(text) <= _MOST_READ else []
-    if len(words) < 2 or lower(words[-1]) not in names.properties():
+    found = without_gaps(text) if len(text) <= _MOST_READ else []
+    colons = [index for index, each in enumerate(found) if each.text == ":"][:2]
+    if len(colons) < 2 or colons[1] - colons[0] < 3:
         return
-    at = len(parts[0]) + 1 + parts[1].rindex(words[-1])
-    before = text[:at].rstrip(BLANKS)
-    if _is_whole(before) and _is_whole(text[at:]):
-        yield Problem("semicolon missing", (start, start + len(encode(before))))
+    before, name = found[colons[1] - 2 : colons[1]]
+    if name.kind != "ident" or lower(name.value) not in names.properties():
+        return
+    if _is_whole(text[: before.end]) and _is_whole(text[name.start :]):
+        yield Problem("semicolon missing", (start, start + len(encode(text[: before.end]))))
 
 
 def _is_whole(text: str) -> bool:
@@ -386,32 +415,27 @@ def _is_whole(text: str) -> bool:
     return len(items) == 1 and isinstance(items[0], ReadDeclaration) and items[0].is_closed
 
 
-def _opened(text: str, marks: Sequence[str]) -> int:
-    """Returns where something that is not closed begins: at the last mark before which all is
-    closed. If that is not found, it is where the text begins."""
-    if len(text) > _MOST_READ:
-        return 0
-    places = [at for mark in marks for at in _places(lower(text), mark)]
-    found = 0
-    for at in sorted(places)[:_MOST_PLACES]:
-        found = at if _is_whole(text[:at] + "x") else found
-    return found
+def _is_open(token: Token) -> bool:
+    """Whether a token has no end: a bad one, or one that the end of the text closes."""
+    if token.kind == "comment":
+        return len(token.text) < 4 or not token.text.endswith("*/")
+    if token.kind == "string":
+        return len(token.text) - len(token.inside) < 2
+    return token.kind in ("bad-string", "bad-url") or token.kind == "url" and token.text[-1] != ")"
 
 
-def _places(text: str, mark: str) -> Iterator[int]:
-    """Yields where a mark is in a text."""
-    at = text.find(mark)
-    while at >= 0:
-        yield at
-        at = text.find(mark, at + 1)
+def _opened(text: str, kinds: FrozenSet[str]) -> int:
+    """Returns where the first token of these kinds begins that has no end. If there is none, it is
+    where the text begins."""
+    return next((each.start for each in tokens(text) if each.kind in kinds and _is_open(each)), 0)
 
 
 def _not_closed(text: str, span: Span) -> Problem:
     """Returns what the end of the text closes of a declaration: a comment, a string or a bracket."""
-    at = _opened(text, ("/*",))
+    at = _opened(text, _COMMENTS)
     if at and _is_whole(text + "*/"):
         return Problem("comment not closed", (span[0] + len(encode(text[:at])), span[1]))
-    at = _opened(text, _MARKS["bad string"])
+    at = _opened(text, _STRINGS)
     before = text[:at] if _is_whole(text + text[at : at + 1]) else ""
     return Problem("value not closed", (span[0] + len(encode(before)), span[1]))
 
@@ -446,15 +470,10 @@ def _is_lost(before: Declaration, after: Declaration, count: int, places: Dict[s
     if before.value == after.value:
         return True
     is_beside = places[before.name] == count
-    return not is_beside and not before.value.startswith("-") and not _may_fail(after.value)
-
-
-def _may_fail(value: str) -> bool:
-    """Whether a browser may not support a value that others do."""
-    return "(" in value or value.startswith("-")
+    return not is_beside and not has_prefix(before.value) and not may_fail(after.value)
 
 
 def _parts_of(declaration: Declaration) -> FrozenSet[str]:
     """Returns the properties that a shorthand sets, if browsers support its value."""
     name, value, _ = declaration
-    return frozenset() if _may_fail(value) else names.shorthands().get(name, frozenset())
+    return frozenset() if may_fail(value) else parts_of(lower(name))

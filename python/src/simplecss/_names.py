@@ -86,22 +86,6 @@ def names_of(section: str) -> Tuple[str, ...]:
 
 
 @functools.lru_cache(maxsize=None)
-def shorthands() -> Dict[str, FrozenSet[str]]:
-    """Returns the properties that each shorthand sets, and the shorthands of some of these."""
-    parts: Dict[str, Set[str]] = {}
-    those: Set[str] = set()
-    for word in names_of("shorthands"):
-        if word.endswith(":"):
-            those = parts[word[:-1]] = set()
-        else:
-            those.add(word)
-    return {
-        name: frozenset((*those, *(other for other in parts if parts[other] < those)))
-        for name, those in parts.items()
-    }
-
-
-@functools.lru_cache(maxsize=None)
 def properties() -> Names:
     """Returns the properties of elements."""
     return Names((*property_names(), *names_of("properties")))

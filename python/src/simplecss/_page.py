@@ -2,13 +2,18 @@
 
 from __future__ import annotations
 
+import array
 import bisect
+import functools
+import operator
 import re
 from typing import (
+    AbstractSet,
     Callable,
     Dict,
     FrozenSet,
     Iterable,
+    Iterator,
     List,
     Match,
     NamedTuple,
@@ -18,8 +23,9 @@ from typing import (
 )
 
 from ._elements import Elements, TreeError
-from ._linked import is_alternate, is_sheet_link, without_marks
+from ._linked import in_use, is_alternate, is_sheet_link
 from ._patterns import pattern
+from ._tokens import replaced, tokens
 from ._words import BLANKS, lower
 from ._xml import XmlError, read_xml
 from .html import (
@@ -40,11 +46,10 @@ _HEAD_PARTS = frozenset("head title meta link base style script noscript templat
 _RAW = frozenset("iframe noembed noframes noscript script style textarea title xmp".split())
 # The element of which older browsers take the tags of a `style` away.
 _SELECT = "select"
-# The parts of a sheet in which a backslash escapes: strings, comments and the contents of `url()`.
-_ESCAPABLE = pattern(
-    r"""/\*.*?(?:\*/|\Z)|"[^"\\]*(?:\\.[^"\\]*)*"?|'[^'\\]*(?:\\.[^'\\]*)*'?|url\([^)"']*""",
-    re.DOTALL | re.IGNORECASE | re.ASCII,
-)
+_NOTED = _RAW | {_SELECT}
+_STYLE = "style"
+# The tokens in which a backslash escapes what else is markup.
+_ESCAPABLE = frozenset("comment string bad-string url bad-url".split())
 # What is written as an escape of CSS: control characters, which XML may not have, and which some
 # encodings read as marks.
 _CONTROLS = r"\0-\x08\x0b\x0e-\x1f\x7f-\x9f\ufffe\uffff"
@@ -53,17 +58,18 @@ _DECLARED = pattern(r"\ufeff?[\t\n\r ]*<\?xml[\t\n\r ]")
 # What begins a tag, a comment or another declaration.
 _MARKUP = pattern("<(?=[A-Za-z/!?])")
 _MARKUP_OF_NAME = pattern("<(?=[A-Za-z])")
-# The same in a string, after a backslash that makes it an escape, and what is another escape.
-_MARKUP_IN_STRING = pattern(r"(\\[^<])|\\?<(?=[A-Za-z/!?])", re.DOTALL)
 # What a page has if not all browsers may take the tag of a `style` for one of HTML.
 _DRAWN = pattern("<(?:svg|math|frameset|select)", re.IGNORECASE | re.ASCII)
 _NOSCRIPT = pattern("<noscript", re.IGNORECASE | re.ASCII)
 _CDATA = "<![CDATA["
 _SECTION = pattern(r"<!\[CDATA\[(.*?)(?:\]\]>|\Z)", re.DOTALL)
 _TAG_NAME = pattern(r"<[^\t\n\f\r />]+")
+# What may be before the `>` of a tag, and is not the end of its name or of an attribute.
+_UNENDED = frozenset((*BLANKS, "/", "="))
 
 Span = Tuple[int, int]
 _NONE: FrozenSet[str] = frozenset()
+_NO_INDICES: FrozenSet[int] = frozenset()
 # The namespace that is noted of every element of XML, whatever its own is.
 _XML = MATH + 1
 # The head of a page in HTML, which has one, comes after its root.
@@ -80,30 +86,29 @@ class Content(NamedTuple):
     href: Optional[str] = None
 
 
-# A control character, or one that is not ASCII. With a backslash before it, it is an escape.
-_HAS_CONTROL = pattern(f"[{_CONTROLS}]")
-_CONTROL = pattern(rf"(\\[^{_CONTROLS}])|\\?([{_CONTROLS}])", re.DOTALL)
-_FOREIGN = pattern(r"(\\[\t\n\f\r -~])|\\?([^\t\n\f\r -~])", re.DOTALL)
+_CONTROL = pattern(f"[{_CONTROLS}]")
+_FOREIGN = pattern("[^\\t\\n\\f\\r -~]")
+_WITHOUT_BLANKS = str.maketrans("", "", BLANKS)
 
 
-def _escaped(found: Match[str]) -> str:
-    return found.group(1) or f"\\{ord(found.group(2)):x} "
+def _escaped(found: Match[str]) -> Tuple[int, int, str]:
+    """Returns where a character is, and its escape."""
+    return found.start(), found.end(), f"\\{ord(found.group()):x} "
 
 
 def written(css: str, lacking: FrozenSet[str] = _NONE) -> str:
     """Returns css with escapes for its control characters and for those that are lacking, which are
     not ASCII, and with a newline for each form feed."""
-
-    def escaped(found: Match[str]) -> str:
-        character = found.group(2)
-        is_kept = character is None or character not in lacking and not _CONTROL.match(character)
-        return found.group() if is_kept else _escaped(found)
-
     if lacking:
-        css = _FOREIGN.sub(escaped, css)
-    elif not css.isprintable() and _HAS_CONTROL.search(css):
-        css = _CONTROL.sub(_escaped, css)
+        found = (each for each in _FOREIGN.finditer(css) if _is_unwritten(each.group(), lacking))
+        css = replaced(css, map(_escaped, found))
+    elif not css.translate(_WITHOUT_BLANKS).isprintable():
+        css = replaced(css, map(_escaped, _CONTROL.finditer(css)))
     return css.replace("\f", "\n")
+
+
+def _is_unwritten(character: str, lacking: FrozenSet[str]) -> bool:
+    return character in lacking or _CONTROL.match(character) is not None
 
 
 def style_text(css: str, names: FrozenSet[str], is_drawn: bool = False) -> str:
@@ -120,7 +125,7 @@ def style_text(css: str, names: FrozenSet[str], is_drawn: bool = False) -> str:
     if "<" not in css:
         return css
     if is_drawn:
-        text = _ESCAPABLE.sub(lambda part: _MARKUP_IN_STRING.sub(_marked, part.group()), css)
+        text = _with_escapes(css, lambda text: replaced(text, map(_marked, _MARKUP.finditer(text))))
         # As in `(400px<width)`.
         text = _MARKUP_OF_NAME.sub("< ", text)
         found = _MARKUP.search(text)
@@ -128,15 +133,22 @@ def style_text(css: str, names: FrozenSet[str], is_drawn: bool = False) -> str:
             raise ValueError(f"`<{text[found.end()]}` outside of a string could begin markup")
         return text
     end = re.compile(f"<(?=(/(?:{'|'.join(sorted(names))})))", re.IGNORECASE | re.ASCII)
-    text = _ESCAPABLE.sub(lambda part: end.sub(r"<\\", part.group()), css)
+    text = _with_escapes(css, lambda text: end.sub(r"<\\", text))
     found = end.search(text)
     if found:
         raise ValueError(f"`<{found[1]}` outside of a string would end the element that it is in")
     return text
 
 
-def _marked(found: Match[str]) -> str:
-    return found.group(1) or "\\3c "
+def _with_escapes(css: str, escaped: Callable[[str], str]) -> str:
+    """Returns css with escapes in those of its tokens that may have some for markup."""
+    return "".join(
+        escaped(each.text) if each.kind in _ESCAPABLE else each.text for each in tokens(css)
+    )
+
+
+def _marked(found: Match[str]) -> Tuple[int, int, str]:
+    return found.start(), found.end(), "\\3c "
 
 
 def _content(text: str) -> str:
@@ -243,7 +255,8 @@ class Page:
         # and others read it alike: browsers with and without scripts, and those that show a drawing
         # in a page.
         self.tags: List[Optional[Span]] = []
-        self.ends: List[Span] = []
+        # Where each element's content ends.
+        self._inner_ends = array.array("l")
         self._lacks = lacks
         # Some programs take what begins as XML for XML.
         self._is_drawn = bool(_DRAWN.search(text) or _DECLARED.match(text))
@@ -270,7 +283,7 @@ class Page:
     def _read_html(self) -> None:
         builder = Builder(self.text)
         try:
-            builder.build()
+            builder.read()
             other = _Other(self.text, True) if _NOSCRIPT.search(self.text) else None
         except TooDeep as error:
             raise TreeError(str(error), None, None) from None
@@ -278,30 +291,52 @@ class Page:
         nodes = self.elements.take_nodes(builder)
         self._head_end = len(self.text) if builder.head_end is None else builder.head_end
         self._head_end = max(self._head_end, self._front[1])
-        seen = set()
-        for index, node in enumerate(nodes):
-            is_own = node.tag not in seen and (node.tag is None or node.tag[0] >= self._front[1])
-            tag = node.tag if is_own else None
-            seen.add(tag)
-            self._note(index, node)
-            if other is not None and tag is not None:
-                if other.is_text(tag, node.end[1] if node.name == "style" else tag[1]):
-                    self._raw[index] |= {"noscript"}
-                elif not other.is_alike(tag, node.name, node.space, node.end):
-                    tag = None
-            self.tags.append(tag)
-            self.ends.append(node.end)
+        self._spaces = bytearray(node.space for node in nodes)
+        self._inner_ends.extend(node.inner_end for node in nodes)
+        self._take_tags(nodes)
+        self._note_raw(_NO_INDICES if other is None else self._compared(nodes, other))
+        for index in self.elements.drawn if _STYLE in self.elements.names else ():
+            if self.elements.names[index] == _STYLE:
+                self._drawn[index] = self._drawn_sheet(index)
 
-    def _note(self, index: int, node: Node) -> None:
-        """Notes what is written differently into an element."""
-        parent = self.elements.parents[index]
-        above = self._raw[parent] if parent >= 0 else _NONE
-        is_noted = node.space == HTML and (node.name in _RAW or node.name == _SELECT)
-        self._raw.append(above | {node.name} if is_noted else above)
-        self._spaces.append(node.space)
-        if node.space == SVG and node.name == "style":
-            texts = (self._foreign_text(*each) for each in node.children if isinstance(each, tuple))
-            self._drawn[index] = "".join(texts)
+    def _take_tags(self, nodes: List[Node]) -> None:
+        """Takes the start tags: each is of the first element that has it."""
+        first = self._front[1]
+        seen: Set[int] = set()
+        for node in nodes:
+            start = node.start
+            is_own = start >= first and start not in seen
+            seen.add(start)
+            self.tags.append((start, node.inner) if is_own else None)
+
+    def _note_raw(self, texts: AbstractSet[int]) -> None:
+        """Notes which elements of raw text each element is or is in, of which `texts` are in the text
+        of a `noscript`."""
+        raw = self._raw
+        for index, (name, parent) in enumerate(zip(self.elements.names, self.elements.parents)):
+            found = raw[parent] if parent >= 0 else _NONE
+            if name in _NOTED and self._spaces[index] == HTML:
+                found |= {name}
+            raw.append(found | {"noscript"} if index in texts else found)
+
+    def _drawn_sheet(self, index: int) -> str:
+        """Returns the sheet of a `style` element of SVG."""
+        found = self.elements.texts.within(index, self.elements.end_of(index))
+        return "".join(self._foreign_text(*text) for owner, text in found if owner == index)
+
+    def _compared(self, nodes: List[Node], other: _Other) -> Set[int]:
+        """Leaves out the tags that another reader reads otherwise. Returns the elements that are in
+        the text of a `noscript` for it."""
+        texts: Set[int] = set()
+        for index, node in enumerate(nodes):
+            tag = self.tags[index]
+            if tag is None:
+                continue
+            if other.is_text(tag, node.outer_end if node.name == _STYLE else tag[1]):
+                texts.add(index)
+            elif not other.is_alike(tag, node.name, node.space, node.end):
+                self.tags[index] = None
+        return texts
 
     def _foreign_text(self, start: int, end: int) -> str:
         text = self.text[start:end]
@@ -322,23 +357,31 @@ class Page:
             self._raw.append(_NONE)
             self._spaces.append(_XML)
             self.tags.append(tag if is_alike else None)
-            self.ends.append(end)
+            self._inner_ends.append(each.inner_end)
+
+    def _end(self, index: int) -> Span:
+        """Returns where the end tag of an element is, or twice where it ends without one."""
+        return self._inner_ends[index], self.elements.end_at(index)
+
+    def _has_end(self, index: int) -> bool:
+        """Whether an element has an end tag."""
+        start, end = self._end(index)
+        return start < end
 
     # ---- style elements
 
+    @functools.cached_property
     def styles(self) -> List[Content]:
-        """Returns the `style` elements that the document has tags for."""
+        """The `style` elements that the document has tags for."""
         return [
-            Content(index, (tag[0], self.ends[index][1]), (tag[1], self.ends[index][0]))
-            for index, tag in enumerate(self.tags)
-            if tag is not None
-            and self.elements.names[index] == "style"
-            and self._spaces[index] != MATH
+            Content(index, (tag[0], self._end(index)[1]), (tag[1], self._end(index)[0]))
+            for index, (name, tag) in enumerate(zip(self.elements.names, self.tags))
+            if name == _STYLE and tag is not None and self._spaces[index] != MATH
         ]
 
+    @functools.cached_property
     def sources(self) -> List[Content]:
-        """Returns the `style` elements and the links to style sheets that may be written anew, in
-        order."""
+        """The `style` elements and the links to style sheets that may be written anew, in order."""
         links = [
             Content(
                 index,
@@ -346,20 +389,21 @@ class Page:
                 tag,
                 self.elements.attributes[index].get("href", "").strip(BLANKS),
             )
-            for index, tag in enumerate(self.tags)
-            if tag is not None
-            and self.elements.names[index] == "link"
-            and self._is_sheet_link(index)
+            for index, (name, tag) in enumerate(zip(self.elements.names, self.tags))
+            if name == "link" and tag is not None and self._is_sheet_link(index)
         ]
-        found = (
-            each for each in (*self.styles(), *links) if _SELECT not in self._raw[each.element]
-        )
+        found = (each for each in (*self.styles, *links) if _SELECT not in self._raw[each.element])
         return sorted(found, key=lambda each: each.element)
 
     def _is_sheet_link(self, index: int) -> bool:
         attributes = self.elements.attributes[index]
         is_link = self._spaces[index] in (HTML, _XML) and is_sheet_link(attributes)
-        return is_link and not is_alternate(attributes)
+        return is_link and (not is_alternate(attributes) or index in self._in_use)
+
+    @functools.cached_property
+    def _in_use(self) -> FrozenSet[int]:
+        """The elements whose sheets are in use, also alternates of the title that is."""
+        return frozenset(in_use(self.elements))
 
     def sheet_of(self, content: Content) -> str:
         """Returns the sheet of a `style` element."""
@@ -367,7 +411,7 @@ class Page:
         if css is None:
             css = self.text[content.inner[0] : content.inner[1]]
             css = _content(css) if self.is_xml else css
-        return without_marks(css)
+        return css
 
     def set_sheet(self, content: Content, css: str) -> None:
         """Replaces the sheet of a `style` element; without one the element goes, if it is in the
@@ -438,28 +482,28 @@ class Page:
         """Returns where a new `style` element goes: before the other sheets of the head, and before
         what would take it in, as an element that the end of the document closes."""
         names = self.elements.names
-        sheets = {each.element for each in self.sources()}
+        sheets = {each.element for each in self.sources}
         for index in range(_HEAD + 1, len(names)):
             tag, parent = self.tags[index], self.elements.parents[index]
             if parent < _HEAD:
                 break
             if parent != _HEAD or tag is None:
                 continue
-            is_closed = names[index] in VOID or self.ends[index][0] < self.ends[index][1]
+            is_closed = names[index] in VOID or self._has_end(index)
             if index in sheets or names[index] in ("noscript", "template") or not is_closed:
                 return min(tag[0], self._head_end)
         return self._head_end
 
     def _place_in_xml(self) -> Tuple[int, str]:
         """Returns where a new `style` element goes in XML, and its prefix."""
-        for content in self.sources():
+        for content in self.sources:
             if self._is_in_head(content.element):
                 return content.span[0], self._prefix(content.span[0])
         is_drawing = self.elements.names[0] == "svg"
         for index, name in enumerate(() if is_drawing else self.elements.names):
             tag = self.tags[index]
-            if name == "head" and tag is not None and self.ends[index][0] < self.ends[index][1]:
-                return self.ends[index][0], self._prefix(tag[0])
+            if name == "head" and tag is not None and self._has_end(index):
+                return self._inner_ends[index], self._prefix(tag[0])
         root = self.tags[0]
         if root is None or self.text.endswith("/>", 0, root[1]):
             raise ValueError("the document has no content that a style element could be in")
@@ -518,33 +562,56 @@ class Page:
 
     def edited(self) -> str:
         """Returns the text with all edits."""
-        # Many elements have the same tag, and get the same.
-        made: Dict[Tuple[object, ...], str] = {}
-        for index in {*self._declared, *self._changes}:
-            tag = self.tags[index]
-            if tag is None:
-                continue
-            changes = self._changes.get(index, {})
-            text = self.text[tag[0] : tag[1]]
-            declared = self._declared.get(index, ())
-            # That of a second tag of the element, if its own tag has none.
-            own = self.elements.attributes[index].get("style", "")
-            own_or_none = None if index in self._with_own else own
-            # Elements of a kind have the same tuple.
-            key = (text, own_or_none, id(declared), tuple(changes.items()) if changes else ())
-            if key not in made:
-                made[key] = _new_tag(text, declared, changes, own_or_none, self.is_xml)
-            self._edit(tag, made[key])
-        parts = []
+        self._edits += self._edited_tags()
+        parts: List[str] = []
         last = 0
         # Of two that replace the same, the first.
-        for (start, end), text in sorted(self._edits, key=lambda each: each[0]):
+        for (start, end), text in sorted(self._edits, key=operator.itemgetter(0)):
             if start >= last:
-                parts += [self.text[last:start], text]
+                parts += (self.text[last:start], text)
                 last = end
         parts.append(self.text[last:])
         text = "".join(parts)
         return text[: self._front[0]] + text[self._front[1] :]
+
+    def _edited_tags(self) -> Iterator[Tuple[Span, str]]:
+        """Yields where tags are written anew, and their texts."""
+        # Many elements have the same tag, and get the same: elements of a kind have the same tuple.
+        added: Dict[int, str] = {}
+        made: Dict[Tuple[object, ...], str] = {}
+        page, attributes, tags = self.text, self.elements.attributes, self.tags
+        for index in sorted({*self._declared, *self._changes}):
+            tag = tags[index]
+            if tag is None:
+                continue
+            declared, last = self._declared.get(index, ()), tag[1] - 1
+            is_new = index not in self._changes and "style" not in attributes[index]
+            if is_new and page[last - 1] not in _UNENDED:
+                key = id(declared)
+                if key not in added:
+                    added[key] = _new_style(declared)
+                yield (last, last), added[key]
+            else:
+                yield tag, self._edited_tag(index, page[tag[0] : tag[1]], declared, made)
+
+    def _edited_tag(
+        self, index: int, text: str, declared: Tuple[str, ...], made: Dict[Tuple[object, ...], str]
+    ) -> str:
+        """Returns the text of a tag that is written anew, as it was made of an equal one before."""
+        # That of a second tag of the element, if its own tag has none.
+        own = self.elements.attributes[index].get("style", "")
+        changes = self._changes.get(index, {})
+        has_own = index in self._with_own
+        key = (text, None if has_own else own, id(declared), *changes.items())
+        if key not in made:
+            made[key] = _new_tag(text, declared, changes, None if has_own else own, self.is_xml)
+        return made[key]
+
+
+def _new_style(declarations: Iterable[str]) -> str:
+    """Returns a new attribute `style`, with a space before it."""
+    text = _escape("; ".join(declarations), '"')
+    return f' style="{text}"'
 
 
 def _new_tag(
@@ -588,7 +655,7 @@ def _new_tag(
             parts.append(" ")
     if "style" in missing and declarations:
         both = (*declarations, own) if own and own.strip(BLANKS) else declarations
-        parts.append(f' style="{_escape("; ".join(both), chr(34))}"')
+        parts.append(_new_style(both))
     for key, value in missing.items():
         if value is not None:
             parts.append(f' {key}="{_escape(value, chr(34))}"')

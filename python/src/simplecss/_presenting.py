@@ -5,7 +5,7 @@ from __future__ import annotations
 from typing import Dict, FrozenSet
 
 from ._marking import Group
-from ._words import lower
+from ._values import ends_with_number, has_ident
 
 # Those of every element, and of some only.
 _PRESENTATION: FrozenSet[str] = frozenset(
@@ -42,7 +42,8 @@ _OF_USE: FrozenSet[str] = frozenset(("width", "height"))
 _LENGTHS: FrozenSet[str] = frozenset(
     "baseline-shift cx cy font-size height letter-spacing r rx ry width word-spacing x y".split()
 )
-_DIGITS = frozenset("0123456789.")
+# What is another value where no rule says it.
+_BACK = frozenset(("revert", "revert-layer"))
 
 
 def presented_by(name: str) -> FrozenSet[str]:
@@ -62,6 +63,6 @@ def is_presentable(group: Group) -> bool:
     """Whether an attribute says the same as declarations of a name, if it is one."""
     declaration = group.declarations[0]
     value = declaration.value
-    if len(group.declarations) > 1 or declaration.important or lower(value).startswith("revert"):
+    if len(group.declarations) > 1 or declaration.important or has_ident(value, _BACK):
         return False
-    return declaration.name not in _LENGTHS or value == "0" or value[-1:] not in _DIGITS
+    return declaration.name not in _LENGTHS or value == "0" or not ends_with_number(value)

@@ -2,13 +2,13 @@
 
 from __future__ import annotations
 
+import array
 import bisect
 import functools
 import itertools
 import re
 import weakref
 from typing import (
-    Any,
     Dict,
     Iterable,
     Iterator,
@@ -18,11 +18,14 @@ from typing import (
     Sequence,
     Tuple,
     Union,
+    overload,
 )
 
 from . import _library as library
 from ._declaration import Declaration
-from ._selectors import Specificity, lines_of, specificity_of
+from ._found_names import names_in
+from ._selectors import Specificity
+from ._tokens import without_colons
 from ._words import lower
 
 Span = Tuple[int, int]
@@ -30,12 +33,28 @@ Span = Tuple[int, int]
 # The bytes of UTF-8 that begin no character, and how many bytes are counted at once.
 _CONTINUING = bytes(range(0x80, 0xC0))
 _BLOCK = 4096
-# How many lines are read at once.
-_RUN = 100
+# What the library writes: numbers of a statement, and how many of these follow for its group rules, its
+# selectors and its items, each of which has so many.
+_OF_STATEMENT, _OF_LEVEL, _OF_SELECTOR, _OF_ITEM = 13, 6, 8, 10
+# The kinds of statements and items, as it numbers them, and then why others are skipped.
+_DECLARATION, _AT_RULE, _AT_STATEMENT, _RULE = range(4)
+_FAULTS = {
+    4: "broken declaration",
+    5: "bad string",
+    6: "bad url",
+    7: "stray bracket",
+    8: "too deep",
+    9: "no block",
+    10: "nested rule",
+    11: "invalid selector",
+}
 
 
 class Condition(NamedTuple):
-    """A group rule that a rule is in, as `@media print`: its `name` and its `prelude`."""
+    """A group rule around a rule, such as `@media print`.
+
+    It has its `name` and its `prelude`.
+    """
 
     name: str
     prelude: str
@@ -45,8 +64,11 @@ class Condition(NamedTuple):
 
 
 class AtRule(NamedTuple):
-    """An at-rule that has no rules, or none that are read: its `name`, what is before its block,
-    its `block`, if it has one, and the group rules that it is in."""
+    """An at-rule that has no rules, or none that are read.
+
+    It has its `name`, the `prelude` before its block, its `block`, if there is one, and the group
+    rules that it is in.
+    """
 
     name: str
     prelude: str
@@ -152,13 +174,52 @@ class Fault(NamedTuple):
 BlockItem = Union[ReadDeclaration, ReadAtRule, Fault]
 
 
+class Items(Sequence[BlockItem]):
+    """What a block has. It is made when it is asked for: of most rules nobody does."""
+
+    __slots__ = ("_reader", "_numbers", "_levels", "_made", "are_whole")
+
+    def __init__(
+        self, reader: "_Reader", numbers: "array.array[int]", levels: Tuple[Level, ...]
+    ) -> None:
+        """Takes the numbers of the items, what makes these of them, and their group rules."""
+        self._reader = reader
+        self._numbers = numbers
+        self._levels = levels
+        self._made: Optional[Tuple[BlockItem, ...]] = None
+        # Whether all are declarations that the end of the text does not close.
+        self.are_whole = not any(numbers[::_OF_ITEM]) and all(numbers[3::_OF_ITEM])
+
+    def _all(self) -> Tuple[BlockItem, ...]:
+        if self._made is None:
+            self._made = tuple(self._reader.items(self._numbers, self._levels))
+        return self._made
+
+    def __len__(self) -> int:
+        return len(self._numbers) // _OF_ITEM
+
+    @overload
+    def __getitem__(self, at: int) -> BlockItem:
+        ...
+
+    @overload
+    def __getitem__(self, at: slice) -> Sequence[BlockItem]:
+        ...
+
+    def __getitem__(self, at: Union[int, slice]) -> Union[BlockItem, Sequence[BlockItem]]:
+        return self._all()[at]
+
+    def __iter__(self) -> Iterator[BlockItem]:
+        return iter(self._all())
+
+
 class RuleSet(NamedTuple):
     """A rule set: its selectors, what its block has, and the group rules that it is in.
 
     `head` ends where its block begins."""
 
     selectors: Tuple[ReadSelector, ...]
-    items: Tuple[BlockItem, ...]
+    items: Items
     levels: Tuple[Level, ...]
     head: Span
     is_closed: bool
@@ -186,34 +247,77 @@ def declarations_in(items: Iterable[BlockItem]) -> Tuple[Declaration, ...]:
     return tuple(item.declaration for item in items if isinstance(item, ReadDeclaration))
 
 
-class _Reader:
+class _Names(Dict[str, str]):
+    """The names of properties as they are compared, by those that a text has: of a sheet, few."""
+
+    def __missing__(self, name: str) -> str:
+        found = self[name] = name if name.startswith("--") else lower(name)
+        return found
+
+
+class DeclarationReader:
+    """Makes declarations of where the library finds them in a text."""
+
+    def __init__(self, source: Source) -> None:
+        self.source = source
+        self._names = _Names()
+
+    def declared(
+        self, name: Sequence[int], value: Sequence[int], is_important: bool, is_closed: bool
+    ) -> Declaration:
+        """Makes the declaration whose name and value are between these offsets."""
+        at = self.source.at
+        text = at(value) if is_closed else _closed(at(value))
+        return Declaration(self._names[at(name)], text, is_important)
+
+
+class _Reader(DeclarationReader):
     """Makes statements and items of what the library writes of a text."""
 
     def __init__(self, text: str) -> None:
-        self.source = Source(text)
-        self._levels: Dict[Tuple[int, ...], Tuple[Level, ...]] = {}
-
-    def lines(self, name: str, most: Optional[int] = None) -> Iterator[Any]:
-        """Yields what a call writes of the text."""
-        data = self.source.data
-        answer = library.call(name, data, room=1024 + 16 * len(data), most=most)
-        lines = library.output_of(name, answer).splitlines(keepends=True)
-        # Some at once, which takes less time than each alone, and less memory than all.
-        for start in range(0, len(lines), _RUN):
-            yield from lines_of(b"".join(lines[start : start + _RUN]))
+        super().__init__(Source(text))
+        self._levels: Dict[bytes, Tuple[Level, ...]] = {}
 
     def statements(self) -> Iterator[Statement]:
         """Yields the statements of the text, and the group rules that have none, which the library
         does not write."""
         at = 0
-        most = library.most_written(len(self.source.data))
-        for value in self.lines("simplecss_read", most):
-            found = self._statement(value)
+        for found in self._written():
             start, end = found.levels[0].span if found.levels else found.span
-            yield from self._groups_between(at, start)
+            if at < start:
+                yield from self._groups_between(at, start)
             yield found
             at = max(at, end)
         yield from self._groups_between(at, len(self.source.data))
+
+    def _written(self) -> Iterator[Statement]:
+        """Yields the statements that the library writes."""
+        data = self.source.data
+        most = library.most_numbers(len(data))
+        numbers = library.numbers_of("simplecss_read", data, room=1024 + len(data), most=most)
+        at, end = 0, len(numbers)
+        while at < end:
+            row = numbers[at : at + _OF_STATEMENT]
+            at_selectors = at + _OF_STATEMENT + row[10]
+            at_items = at_selectors + row[11]
+            levels = self._levels_of(numbers[at + _OF_STATEMENT : at_selectors])
+            at = at_items + row[12]
+            if row[0] == _RULE:
+                yield self._rule(row, numbers[at_selectors:at_items], numbers[at_items:at], levels)
+            else:
+                yield self._other(row, levels)
+
+    def block_items(self) -> Iterator[BlockItem]:
+        """Yields what the text has as a style attribute."""
+        data = self.source.data
+        numbers = library.numbers_of("simplecss_declarations", data, room=256 + 2 * len(data))
+        return self.items(numbers, ())
+
+    def items(self, numbers: "array.array[int]", levels: Tuple[Level, ...]) -> Iterator[BlockItem]:
+        """Yields the items of these numbers."""
+        for at in range(0, len(numbers), _OF_ITEM):
+            row = numbers[at : at + _OF_ITEM]
+            yield self._other(row, levels) if row[0] else self._declaration(row)
 
     def _groups_between(self, start: int, end: int) -> Iterator[ReadAtRule]:
         """Yields the group rules between two statements."""
@@ -224,87 +328,82 @@ class _Reader:
                         span=_moved(item.span, start), inner=_moved(item.inner, start)
                     )
 
-    def _statement(self, value: Dict[str, Any]) -> Statement:
-        """Makes a statement of a line."""
-        levels = self._levels_of(value["levels"])
-        if value["kind"] == "rule":
-            return self._rule(value, levels)
-        return (
-            self._at_rule(value, levels)
-            if value["kind"] == "at-rule"
-            else self._fault(value, levels)
-        )
-
-    def item(self, value: Dict[str, Any], levels: Tuple[Level, ...] = ()) -> BlockItem:
-        """Makes an item of a line, or of what a rule set has."""
-        if value["kind"] == "declaration":
-            return self._declaration(value)
-        return (
-            self._at_rule(value, levels)
-            if value["kind"] == "at-rule"
-            else self._fault(value, levels)
-        )
-
-    def _levels_of(self, values: List[Dict[str, Any]]) -> Tuple[Level, ...]:
+    def _levels_of(self, numbers: "array.array[int]") -> Tuple[Level, ...]:
         """Makes the group rules of a statement, which most have in common."""
-        key = tuple(value["name"][0] for value in values)
-        if key not in self._levels:
-            at = self.source.at
-            self._levels[key] = tuple(
-                Level(
-                    Condition(lower(at(value["name"])), at(value["prelude"])),
-                    (value["start"], value["end"]),
-                    (value["start"], value["prelude"][1]),
-                )
-                for value in values
-            )
-        return self._levels[key]
+        key = numbers.tobytes()
+        found = self._levels.get(key)
+        if found is None:
+            firsts = range(0, len(numbers), _OF_LEVEL)
+            found = tuple(self._level(numbers[at : at + _OF_LEVEL]) for at in firsts)
+            self._levels[key] = found
+        return found
 
-    def _rule(self, value: Dict[str, Any], levels: Tuple[Level, ...]) -> RuleSet:
-        return RuleSet(
-            tuple(map(self._selector, value["selectors"])),
-            tuple(self.item(each, levels) for each in value["items"]),
-            levels,
-            (value["prelude"][0], value["prelude"][1]),
-            value["closed"],
-            (value["start"], value["end"]),
-        )
-
-    def _selector(self, value: Dict[str, Any]) -> ReadSelector:
-        start, end = value["text"]
-        element = value["pseudo_element"]
-        front, name = end, None
-        if element is not None:
-            name = self.source.at(element).lstrip(":")
-            before = self.source.data[start : element[0]]
-            # Before the name are one colon or two.
-            front = element[0] - (len(before) - len(before.rstrip(b":")))
-        at, numbers = self.source.at, value["specificity"]
-        specificity = None if numbers is None else specificity_of(numbers)
-        return ReadSelector(at((start, end)), at((start, front)), name, specificity, (start, end))
-
-    def _declaration(self, value: Dict[str, Any]) -> ReadDeclaration:
-        name = self.source.at(value["name"])
-        name = name if name.startswith("--") else lower(name)
-        text = self.source.at(value["value"])
-        text = text if value["closed"] else _closed(text)
-        declaration = Declaration(name, text, value["important"])
-        span = (value["start"], value["end"])
-        return ReadDeclaration(declaration, value["closed"], span, value["value"][1])
-
-    def _fault(self, value: Dict[str, Any], levels: Tuple[Level, ...]) -> Fault:
-        start = value["start"]
-        text = self.source.data[start : value["end"]].rstrip(b" \t\n\r\f")
-        return Fault(value["fault"], levels, (start, start + len(text)))
-
-    def _at_rule(self, value: Dict[str, Any], levels: Tuple[Level, ...]) -> ReadAtRule:
+    def _level(self, row: Sequence[int]) -> Level:
+        start, length, name, name_length, prelude, prelude_length = row
         at = self.source.at
-        block = None if value["block"] is None else at(value["block"])
-        rule = AtRule(lower(at(value["name"])), at(value["prelude"]), block, conditions_of(levels))
-        start, end = value["block"] or (value["end"], value["end"])
-        return ReadAtRule(
-            rule, levels, value["closed"], (value["start"], value["end"]), (start, end)
+        condition = Condition(
+            lower(at((name, name + name_length))), at((prelude, prelude + prelude_length))
         )
+        return Level(condition, (start, start + length), (start, prelude + prelude_length))
+
+    def _rule(
+        self,
+        row: Sequence[int],
+        selectors: "array.array[int]",
+        items: "array.array[int]",
+        levels: Tuple[Level, ...],
+    ) -> RuleSet:
+        _, start, length, is_closed, prelude, prelude_length = row[:6]
+        firsts = range(0, len(selectors), _OF_SELECTOR)
+        return RuleSet(
+            tuple([self._selector(selectors[at : at + _OF_SELECTOR]) for at in firsts]),
+            Items(self, items, levels),
+            levels,
+            (prelude, prelude + prelude_length),
+            is_closed == 1,
+            (start, start + length),
+        )
+
+    def _selector(self, row: Sequence[int]) -> ReadSelector:
+        start, length, is_read, ids, classes, types, element, element_length = row
+        span = (start, start + length)
+        text = front = self.source.at(span)
+        name = None
+        if element_length:
+            name = without_colons(self.source.at((element, element + element_length)))
+            front = self.source.at((start, element))
+        return ReadSelector(text, front, name, (ids, classes, types) if is_read else None, span)
+
+    def _declaration(self, row: Sequence[int]) -> ReadDeclaration:
+        _, start, length, is_closed, name, name_length, value, value_length, is_important, _ = row
+        end = value + value_length
+        declaration = self.declared(
+            (name, name + name_length), (value, end), is_important == 1, is_closed == 1
+        )
+        return ReadDeclaration(declaration, is_closed == 1, (start, start + length), end)
+
+    def _other(self, row: Sequence[int], levels: Tuple[Level, ...]) -> Union[ReadAtRule, Fault]:
+        """Makes an at-rule, or something that is skipped."""
+        kind, start, length = row[:3]
+        if kind in _FAULTS:
+            text = self.source.data[start : start + length].rstrip(b" \t\n\r\f")
+            return Fault(_FAULTS[kind], levels, (start, start + len(text)))
+        is_closed, name, name_length, prelude, prelude_length, block, block_length = row[3:10]
+        at, end = self.source.at, start + length
+        has_block = kind == _AT_RULE
+        inner = (block, block + block_length) if has_block else (end, end)
+        rule = AtRule(
+            lower(at((name, name + name_length))),
+            at((prelude, prelude + prelude_length)),
+            at(inner) if has_block else None,
+            conditions_of(levels),
+        )
+        return ReadAtRule(rule, levels, is_closed == 1, (start, end), inner)
+
+
+def before_element(text: str, at: int) -> str:
+    """Returns what of a selector is before the pseudo-element whose name is from an index on."""
+    return text[: max(each.start for each in names_in(text) if each.start <= at)]
 
 
 def _closed(value: str) -> str:
@@ -312,6 +411,12 @@ def _closed(value: str) -> str:
     data = library.encode(value)
     answer = library.call("simplecss_close", data, room=256 + len(data))
     return answer.output.decode("utf-8") if answer.status == library.DONE else value
+
+
+def is_closed(text: str) -> bool:
+    """Whether nothing of a group rule is open where its text ends."""
+    data = library.encode(f"({text})")
+    return library.call("simplecss_close", data, room=256 + len(data)).output == data
 
 
 def _moved(span: Span, by: int) -> Span:
@@ -340,23 +445,20 @@ def read_sheet(text: str) -> Tuple[Source, List[Statement]]:
 def read_block(text: str) -> Tuple[Source, List[BlockItem]]:
     """Returns what a style attribute or the block of a rule has."""
     reader = _Reader(text)
-    return reader.source, list(map(reader.item, reader.lines("simplecss_declarations")))
-
-
-def is_read_as(text: str, other: str, is_block: bool = False) -> bool:
-    """Whether a text has the same statements at the same places as another one, or the same
-    items."""
-    name = "simplecss_declarations" if is_block else "simplecss_read"
-    data, others = library.encode(text), library.encode(other)
-    most = None if is_block else library.most_written(len(data))
-    room = 1024 + 16 * len(data)
-    found = [library.call(name, each, room=room, most=most) for each in (data, others)]
-    return found[0] == found[1]
+    return reader.source, list(reader.block_items())
 
 
 def declarations(text: str) -> List[Declaration]:
     """Returns the declarations of a `style` attribute, in order.
 
-    Names are in lower case, but for those of custom properties. What is no declaration is skipped.
+    Names are in lower case, but for those of custom properties. What is not a declaration is skipped.
     """
     return list(declarations_in(read_block(text)[1]))
+
+
+def is_supported(text: str) -> Optional[bool]:
+    """Whether the library matches elements by a selector, or `None` if a text is none."""
+    found = read_sheet(text + "{}")[1]
+    if len(found) != 1 or not isinstance(found[0], RuleSet) or len(found[0].selectors) != 1:
+        return None
+    return found[0].selectors[0].specificity is not None

@@ -4,10 +4,11 @@ from __future__ import annotations
 
 import enum
 import functools
-import re
+import itertools
 from typing import (
     TYPE_CHECKING,
     Any,
+    Callable,
     Dict,
     FrozenSet,
     Iterable,
@@ -15,12 +16,13 @@ from typing import (
     NamedTuple,
     Optional,
     Sequence,
+    Set,
     Tuple,
 )
 
 from . import _library as library
 from ._deprecated import warn_of_old
-from ._patterns import pattern
+from ._found_names import Name, find_names, names_in, pseudo_names
 from ._words import lower
 
 if TYPE_CHECKING:
@@ -40,26 +42,18 @@ _WITHOUT_CASE = frozenset(
     " link media method multiple nohref noresize noshade nowrap readonly rel rev rules scope"
     " scrolling selected shape target text type valign valuetype vlink".split()
 )
-# A comment, one that is not closed to the end of the text. What patterns read of CSS has one way to
-# match only, so that they take a time that is linear in the text.
-COMMENT = r"/\*[^*]*(?:\*(?!/)[^*]*)*(?:\*/|\Z)"
-# An escape, a comment or a string of a selector, in which nothing else begins.
-OPAQUE = (
-    rf"""\\.|{COMMENT}"""
-    r"""|"[^"\\]*(?:\\.[^"\\]*)*(?:"|\\?\Z)|'[^'\\]*(?:\\.[^'\\]*)*(?:'|\\?\Z)"""
-)
-# A character of a name: any but these of ASCII.
-NAMING = r"[^\0-,./:-@\[-^`{-\x7f]"
-_PSEUDO_NAME = pattern(rf"{OPAQUE}|:({NAMING}*)", re.DOTALL | re.ASCII)
 # The pseudo-classes that depend only on the tree.
 OF_TREE = frozenset(
     "root empty first-child last-child only-child first-of-type last-of-type only-of-type nth-child"
     " nth-last-child nth-of-type nth-last-of-type lang not is where".split()
 )
 
+# The kinds of names of which an element has each in an attribute of its own.
+_ON_ELEMENTS = frozenset(("class", "id"))
+
 
 class SelectorError(ValueError):
-    """A text is no selector.
+    """A text is not a selector.
 
     `reason` says why; `row` and `column` say where, and begin at 1. Columns count characters.
     """
@@ -124,7 +118,7 @@ def grammar_of(grammar: str) -> str:
         warn_of_old(f"grammar={TODAY!r}", f"grammar={MODERN!r}")
         return MODERN
     if grammar not in (MODERN, PORT):
-        raise ValueError(f"no grammar: {grammar!r}")
+        raise ValueError(f"unknown grammar: {grammar!r}")
     return grammar
 
 
@@ -184,6 +178,43 @@ class SelectorTexts(List[str]):
         ends = library.ends_of(len(each if is_ascii else library.encode(each)) for each in self)
         return library.encode(joined), ends
 
+    @functools.cached_property
+    def _needed(self) -> List[FrozenSet[str]]:
+        """The classes and ids, in lower case, that a tree has in which each of them matches."""
+        find_names(self)
+        return [
+            frozenset(
+                lower(name.name)
+                for name in names_in(each)
+                if name.depth == 0 and name.kind in _ON_ELEMENTS
+            )
+            for each in self
+        ]
+
+    @functools.cached_property
+    def _by_need(self) -> Dict[str, List[int]]:
+        """Their indices by one of the classes and ids that each needs, or by no name."""
+        found: Dict[str, List[int]] = {}
+        for at, needed in enumerate(self._needed):
+            found.setdefault(min(needed, default=""), []).append(at)
+        return found
+
+    # Whether it is known which of them may match in a tree.
+    _is_asked = False
+
+    def possible(self, names_in_tree: Callable[[], Set[str]]) -> Sequence[int]:
+        """Returns the indices of those that may match in a tree, by its classes and ids in lower case.
+
+        Of the first tree that is all: to find out what they need takes as long as some trees take.
+        """
+        if not self._is_asked:
+            self._is_asked = True
+            return range(len(self))
+        needed, present = self._needed, names_in_tree()
+        groups = [self._by_need.get(name, ()) for name in {"", *present}]
+        some = itertools.chain.from_iterable(groups)
+        return sorted(at for at in some if needed[at] <= present)
+
 
 def matched(
     tree: library.TreeArrays,
@@ -236,12 +267,10 @@ def selector_error(text: str, grammar: str) -> SelectorError:
 
 
 def states_in(selector: str) -> List[str]:
-    """Returns the names of the pseudo-classes of a selector that depend on more than the tree, in
-    lower case. One with an escape is cut, and so is none of the tree."""
-    if ":" not in selector:
-        return []
-    names = (found[1] for found in _PSEUDO_NAME.finditer(selector))
-    return [lower(name) for name in names if name is not None and lower(name) not in OF_TREE]
+    """Returns the names of the pseudo-classes of a selector that depend on more than the tree, and of
+    its pseudo-elements, in lower case."""
+    names = pseudo_names(selector)
+    return [each.name for each in names if each.is_element or each.name not in OF_TREE]
 
 
 class Selector:
@@ -249,7 +278,7 @@ class Selector:
 
     The grammar "modern" is that of browsers: Selectors Level 3, and of Level 4 `:is()`, `:where()`,
     lists in `:not()` and `[a=b i]`. "simplecss" is that of the Rust crate: CSS 2.1. A text that is
-    no selector, or a list of several, raises `SelectorError`.
+    not a selector, or a list of several, raises `SelectorError`.
     """
 
     def __init__(self, text: str, *, grammar: str = MODERN) -> None:
@@ -262,14 +291,27 @@ class Selector:
 
     @property
     def specificity(self) -> Specificity:
-        """The numbers of ids, of classes, attributes and pseudo-classes, and of types and
-        pseudo-elements."""
+        """How many ids, classes and types the selector has.
+
+        Attributes and pseudo-classes count as classes, and pseudo-elements as types.
+        """
         return self._listed.specificity
 
     @property
     def pseudo_element(self) -> Optional[str]:
-        """The name of the pseudo-element at the end, with which no element is matched."""
+        """The name of the pseudo-element at the end, or `None`.
+
+        A selector with one matches no element.
+        """
         return self._listed.pseudo_element
+
+    @property
+    def names(self) -> Tuple[Name, ...]:
+        """The names in the printed text of the selector.
+
+        They are those of types, classes, ids, attributes and pseudo-classes.
+        """
+        return names_in(str(self))
 
     def matches(self, element: "Element") -> bool:
         """Whether the selector matches an element of a tree."""

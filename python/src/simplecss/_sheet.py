@@ -12,6 +12,8 @@ from typing import (
     List,
     NamedTuple,
     Optional,
+    Sequence,
+    Set,
     Tuple,
     TypeVar,
     Union,
@@ -22,7 +24,10 @@ from . import _library as library
 from ._declaration import Declaration, cascaded
 from ._deprecated import warn_of_old
 from ._device import Device, Media, device_of, holds
+from ._elements import Elements
 from ._linked import Load, Name, Shelf, Unread, sheets_of
+from ._nested import Block, Places, blocks_of
+from ._properties import shorthands as shorthands_of
 from ._reading import (
     AtRule,
     Condition,
@@ -32,9 +37,9 @@ from ._reading import (
     RuleSet,
     Source,
     Statement,
+    before_element,
     read_sheet,
 )
-from ._port import PortReading
 from ._selectors import (
     MODERN,
     PORT,
@@ -45,19 +50,37 @@ from ._selectors import (
     lines_of,
     specificity_of,
 )
-from ._specified import Inherit, inherited, specified_by
+from ._resolving import resolved as with_values
+from ._specified import (
+    NO_OWN,
+    Inherit,
+    Own,
+    Presentation,
+    inherited,
+    presentation_attributes,
+    specified_by,
+)
 from ._tree import Element, Tree, elements_of
 from ._unused import Unused, Usage
+from ._user_agent import user_agent_sheet
+from ._winners import AUTHOR, ORIGINS, PlacedRule, ReadSheet, Winning
 
 T = TypeVar("T")
+# How many times an answer's limit the declarations that are compared may be, as elements times those of
+# all rules, before it is told how many they are.
+_COMPARED = 10
 
 
 class Rule(NamedTuple):
-    """A rule: the text of its `selector`, its `specificity`, and its `declarations`; the group
-    rules that it is in, the outermost first; and the name of its pseudo-element, which makes it a
-    rule of another box than the element that the selector matches.
+    """A rule of a style sheet: a selector with declarations.
 
-    A rule set with three selectors is three rules.
+    It has the text of its `selector`, its `specificity`, and its `declarations`; the group rules
+    that it is in, the outermost first; and the name of its pseudo-element, if it has one: then it
+    applies to that, and not to the element. A rule set with three selectors is three rules.
+
+    A rule in a style rule has `parents`: what is before the blocks of the style rules that it is in, the
+    outermost first. The declarations before a rule in a style rule, in it, and after it are rules of
+    their own.
     """
 
     selector: str
@@ -65,10 +88,11 @@ class Rule(NamedTuple):
     declarations: Tuple[Declaration, ...]
     conditions: Tuple[Condition, ...] = ()
     pseudo_element: Optional[str] = None
+    parents: Tuple[str, ...] = ()
 
 
 class Unsupported(NamedTuple):
-    """A rule whose selector is valid and unsupported: it matches no element."""
+    """A rule whose selector is valid and unsupported. It matches no element."""
 
     selector: str
     declarations: Tuple[Declaration, ...]
@@ -91,6 +115,10 @@ class Skipped(NamedTuple):
     end: int
 
 
+# The number of a text, and an offset in it.
+Place = Tuple[int, int]
+
+
 class ByElement(List[T]):
     """A list with a value for each element of a tree, by the element or its index."""
 
@@ -107,11 +135,13 @@ class ByElement(List[T]):
 
 
 class _Contents(NamedTuple):
-    """What the texts of a sheet have."""
+    """What the texts of a sheet have, and the indices of the rules of style rules with rules in them, by
+    the numbers of their texts and where their declarations begin."""
 
     rules: Tuple[Rule, ...]
     unsupported: Tuple[Unsupported, ...]
     at_rules: Tuple[AtRule, ...]
+    nested: Dict[Place, List[int]]
 
 
 class StyleSheet:
@@ -124,13 +154,19 @@ class StyleSheet:
     does.
 
     A rule set counts its declarations once for each of its selectors. Rules with more declarations
-    than `limit` raise `LimitError`; `None` is no limit. So do answers of `match`, `styles` and
-    `style` with more rules or declarations than `answer_limit`, each counted once for each element.
+    than `limit` raise `LimitError`; `None` sets no limit. So do answers of `match`, `styles` and
+    `style` with more rules or declarations than `answer_limit`, each counted once for each element, and
+    as many elements times selectors of style rules with rules in them.
+
+    `origins` says of each text where it comes from: "author", "user" or "user-agent"; further texts are
+    the author's. Of declarations that are not important the author's win, and of important ones those of
+    the user agent. A layer that texts of several origins name is one.
     """
 
     def __init__(
         self,
         *texts: str,
+        origins: Sequence[str] = (),
         grammar: str = MODERN,
         limit: Optional[int] = library.USUAL_LIMIT,
         answer_limit: Optional[int] = library.USUAL_ANSWER_LIMIT,
@@ -141,11 +177,15 @@ class StyleSheet:
         # What the page names and was not read.
         self.unread: Tuple[Unread, ...] = ()
         self._grammar = grammar_of(grammar)
+        self._origins = _origins_of(origins, len(texts), self._grammar)
         self._limit = library.limit_of(limit)
         self._answer_limit = library.limit_of(answer_limit)
         self._read: Optional[List[Tuple[Source, List[Statement]]]] = None
+        self._read_blocks: Optional[List[List[Block]]] = None
         self._contents: Optional[_Contents] = None
-        self._selectors: Dict[Tuple[Optional[PortReading], Device], _Selectors] = {}
+        self._selectors: Dict[Device, _Selectors] = {}
+        # By the device, and the sheets that are before this one.
+        self._winning_on: Dict[Tuple[Device, Tuple[StyleSheet, ...]], Winning] = {}
 
     @classmethod
     def of_page(
@@ -159,8 +199,10 @@ class StyleSheet:
         limit: Optional[int] = library.USUAL_LIMIT,
         answer_limit: Optional[int] = library.USUAL_ANSWER_LIMIT,
     ) -> "StyleSheet":
-        """Returns the sheet of a page: of its `style` elements, of the sheets that it links to and
-        of those that these import, as far as they are in use (their title, `disabled`).
+        """Returns the style sheet of a page.
+
+        It has the `style` elements, the sheets that the page links to, and those that these import,
+        if they are in use (by their title and `disabled`).
 
         Linked sheets are files in `folder`, whose names end in `.css`, or what `load` returns for
         their urls; `None` is for one that it has not. Without these only urls of data are read, and
@@ -191,7 +233,7 @@ class StyleSheet:
     def __reduce__(self) -> Tuple[Any, ...]:
         texts = tuple(text.decode("utf-8") for text in self._texts)
         limits = (self._limit, self._answer_limit)
-        return (_sheet_of, (texts, self._outer, self.unread, self._grammar, *limits))
+        return (_sheet_of, (texts, self._origins, self._outer, self.unread, self._grammar, *limits))
 
     def _call(self, name: str, room: int) -> bytes:
         """Calls what reads the sheet by the grammar "simplecss"."""
@@ -219,7 +261,13 @@ class StyleSheet:
 
     def _contents_of_port(self) -> _Contents:
         output = self._call("simplecss_port_rules", 1024 + 8 * sum(map(len, self._texts)))
-        return _Contents(tuple(map(_rule_of_port, lines_of(output))), (), ())
+        return _Contents(tuple(map(_rule_of_port, lines_of(output))), (), (), {})
+
+    def _blocks(self) -> List[List[Block]]:
+        """Returns the blocks of the rules in style rules of each text, and of these style rules."""
+        if self._read_blocks is None:
+            self._read_blocks = [blocks_of(*each) for each in self._statements()]
+        return self._read_blocks
 
     def _contents_of_modern(self) -> _Contents:
         statements = [
@@ -227,17 +275,64 @@ class StyleSheet:
             for (_, found), outer in zip(self._statements(), self._outer)
             for each in found
         ]
-        sets = [(each, outer) for each, outer in statements if isinstance(each, RuleSet)]
-        count = sum(len(each.selectors) * len(each.declarations) for each, _ in sets)
-        if count > self._limit:
-            raise library.LimitError("the rules would hold more declarations than the limit")
-        rules, unsupported = _rules_of(sets)
+        self._check_limit()
+        found = list(self._nested_rules()) if any(self._blocks()) else []
+        nested = [(place, rule) for place, _, rule in found]
+        plain, unsupported = _rules_of(self._sets({block for _, block, _ in found}))
+        # Rules of equal specificity stay as they stand.
+        rules = sorted(plain + nested, key=lambda each: each[0])
+        rules.sort(key=lambda each: each[1].specificity)
+        starts = {place for place, _ in nested}
+        indices: Dict[Place, List[int]] = {}
+        for index, (place, _) in enumerate(rules):
+            if place in starts:
+                indices.setdefault(place, []).append(index)
         at_rules = (
             each.rule._replace(conditions=outer + each.rule.conditions) if outer else each.rule
-            for found, outer in statements
-            for each in _at_rules_of(found)
+            for statement, outer in statements
+            for each in _at_rules_of(statement)
         )
-        return _Contents(tuple(rules), tuple(unsupported), tuple(at_rules))
+        return _Contents(
+            tuple(rule for _, rule in rules), tuple(unsupported), tuple(at_rules), indices
+        )
+
+    def _sets(
+        self, own: Set[Place]
+    ) -> Iterator[Tuple[Place, RuleSet, bool, Tuple[Condition, ...]]]:
+        """Yields the rule sets, where each is, whether its rules are not those of its block, which is
+        not one of these, and the conditions of its whole text."""
+        for number, (_, found) in enumerate(self._statements()):
+            for each in found:
+                if isinstance(each, RuleSet):
+                    place = (number, each.head[1])
+                    yield place, each, place not in own, self._outer[number]
+
+    def _nested_rules(self) -> Iterator[Tuple[Place, Place, Rule]]:
+        """Yields the rules of style rules with rules in them, as they stand in the texts: where the
+        declarations of each are, where its block is, and the rule."""
+        every = self._winning_by(lambda text: True, (self,))
+        rules = sorted(zip(every.rules, every.texts()), key=lambda each: each[0][:2])
+        for number, found in itertools.groupby(rules, key=lambda each: each[0].sheet):
+            places = Places(self._blocks()[number])
+            for placed, text in found:
+                block = places.at(placed.start)
+                if block is not None:
+                    rule = _nested_rule(placed, text, block, self._outer[number])
+                    yield (number, placed.start), (number, block.span[0]), rule
+
+    def _read_sheets(self) -> Iterator[ReadSheet]:
+        """Yields what each text has, with the conditions of all of it."""
+        for (source, found), blocks, outer in zip(self._statements(), self._blocks(), self._outer):
+            yield source, found, blocks, outer
+
+    def _check_limit(self) -> None:
+        """Raises `LimitError` for a sheet whose rules would hold more declarations than its limit."""
+        every = (each for _, found in self._statements() for each in found)
+        sets = [each for each in every if isinstance(each, RuleSet)]
+        # How many items there are is known sooner than how many of them are declarations.
+        most = sum(len(each.selectors) * len(each.items) for each in sets)
+        if most > self._limit < sum(len(each.selectors) * len(each.declarations) for each in sets):
+            raise library.LimitError("the rules would hold more declarations than the limit")
 
     @property
     def rules(self) -> Tuple[Rule, ...]:
@@ -257,7 +352,7 @@ class StyleSheet:
 
     @property
     def at_rules(self) -> Tuple[AtRule, ...]:
-        """The at-rules that are no group rules, as `@font-face`, in order."""
+        """The at-rules that are not group rules, such as `@font-face`."""
         return self._all().at_rules
 
     @property
@@ -319,29 +414,52 @@ class StyleSheet:
     def _match(self, tree: Tree, media: Media) -> Tuple["_Selectors", List[bytes]]:
         """Returns the selectors that are asked for, and for each element the numbers of those that
         match it."""
-        if not isinstance(tree, Tree):
-            raise TypeError(f"a Tree is expected, not {type(tree).__name__}")
-        reading = elements_of(tree).port_reading if self._grammar == PORT else None
+        elements = _elements_in(tree)
         if not isinstance(media, Device) and callable(media):
-            found = _Selectors(self.rules, reading, media)
+            found = _Selectors(self._all(), media)
         else:
             device = device_of(media)
-            key = (reading, device)
-            if key not in self._selectors:
-                self._selectors[key] = _Selectors(self.rules, reading, device)
-            found = self._selectors[key]
-        return found, elements_of(tree).matched(found.texts, self._answer_limit, self._grammar)
+            if device not in self._selectors:
+                self._selectors[device] = _Selectors(self._all(), device)
+            found = self._selectors[device]
+        return found, elements.matched(found.texts, self._answer_limit, self._grammar)
 
     def match(self, tree: Tree, *, media: Media = "screen") -> "ByElement[List[int]]":
         """Returns for each element the indices of the rules that match it, in order.
 
         Rules in `@media` and `@supports` apply where these hold on the device `media`, which may be
         a type as "print": the usual device of it. A callable decides instead: it is called with the
-        prelude of each `@media`, and with the text of each other group rule up to its block, as
+        prelude of each `@media`, and with the text of each other group rule up to its block, such as
         `@layer a`. Rules with a pseudo-element match no element.
         """
+        return ByElement(list(each) for each in self._matched(tree, media))
+
+    def _matched(self, tree: Tree, media: Media) -> Iterator[Sequence[int]]:
+        """Yields for each element the indices of the rules that match it, in order."""
         selectors, lines = self._match(tree, media)
-        return ByElement(selectors.rules[line].copy() for line in lines)
+        plain = (selectors.rules[line] for line in lines)
+        if self._grammar == PORT or not self._all().nested:
+            yield from plain
+            return
+        room = library.Room(self._answer_limit)
+        for indices, others in zip(plain, self._nested_on(_elements_in(tree), media)):
+            room.take(len(indices) + len(others))
+            yield sorted(indices + others)
+
+    def _nested_on(self, elements: Elements, media: Media) -> Iterator[List[int]]:
+        """Yields for each element the indices of the rules that match it of style rules with rules in
+        them."""
+        winning = self._winning(media, (self,))
+        left = {place: iter(indices) for place, indices in self._all().nested.items()}
+        # The index of each rule, but for those of others and of pseudo-elements.
+        found = [next(left.get(each[:2], iter(())), None) for each in winning.rules]
+        rules = self.rules
+        kept = [
+            None if each is None or rules[each].pseudo_element is not None else each
+            for each in found
+        ]
+        for numbers in winning.matching(elements, self._answer_limit):
+            yield [each for each in map(kept.__getitem__, numbers) if each is not None]
 
     def styles(
         self,
@@ -349,37 +467,87 @@ class StyleSheet:
         *,
         media: Media = "screen",
         specified: bool = False,
+        presentation: Presentation = presentation_attributes,
         inherit: Inherit = False,
+        resolved: bool = False,
+        ua: bool = False,
     ) -> "ByElement[List[Declaration]]":
-        """Returns for each element the winning declaration of each name (CSS 2.1 section 6.4.1).
+        """Returns for each element the winning declaration of each name (CSS Cascading 5, section 6).
 
         They are in the order in which the cascade applies them: in that of their rules, and in a
-        rule as they appear. With `specified`, the declarations of the attribute `style` and the
-        presentation attributes of SVG take part. `inherit` names the properties that an element
-        without a declaration has from its parent; `True` is those of CSS 2.1 and of SVG. `media` is
-        that of `match`.
+        rule as they appear. With `specified`, the declarations of the attribute `style` take part, and
+        those that `presentation` returns of an element: properties with their values, which are
+        presentational hints; by default the presentation attributes of SVG. `inherit` names the
+        properties that an element without a declaration has from its parent; `True` is those of CSS 2.1
+        and of SVG. With `resolved`, references `var()` are replaced by custom properties, which parents
+        hand down, and a declaration that is then invalid is left out. With `ua`, the rules take part that
+        HTML and SVG suggest to browsers: their origin is "user-agent", and the limits count them, too. The
+        grammar "simplecss" has no `ua`. `media` is that of `match`.
         """
-        return ByElement(self._styles(tree, media, specified, inherit))
+        if self._grammar == PORT:
+            _expect_none(ua=ua)
+            found = self._styles_of_port(tree, media, presentation if specified else None)
+        else:
+            winning = self._compared_winning(tree, media, ua)
+            own = Own(tree, presentation) if specified else NO_OWN
+            found = winning.on(_elements_in(tree), own, self._answer_limit)
+        if resolved:
+            found = with_values(tree, found, self._answer_limit)
+        if inherit:
+            found = inherited(tree, found, inherit, self._answer_limit)
+        return ByElement(found)
 
-    def _styles(
+    def _styles_of_port(
         self,
         tree: Tree,
         media: Media,
-        specified: bool,
-        inherit: Inherit,
+        presentation: Optional[Presentation],
         name: Optional[str] = None,
     ) -> List[List[Declaration]]:
-        """Returns what `styles` does, or of it what has the name."""
-        found = self._winners(*self._match(tree, media), name)
-        if specified:
-            found = [specified_by(element, each) for element, each in zip(tree, found)]
-            if name is not None:
-                found = [[each for each in those if each.name == name] for those in found]
-        if inherit:
-            found = inherited(tree, found, inherit, self._answer_limit)
+        """Returns what wins by the grammar of the Rust crate, or of it what has the name."""
+        found = self._winners_of_port(*self._match(tree, media), name)
+        if presentation is None:
+            return found
+        every = [specified_by(element, each, presentation) for element, each in zip(tree, found)]
+        return every if name is None else _with_name(every, name)
+
+    def _compared_winning(self, tree: Tree, media: Media, ua: bool) -> Winning:
+        """Returns the rules that apply on a device, with those of the user agent if asked for. Raises
+        `LimitError` if too much is to be compared."""
+        elements = _elements_in(tree)
+        sheets = (user_agent_sheet(tree), self) if ua else (self,)
+        winning = self._winning(media, sheets)
+        if len(elements) * winning.count > _COMPARED * self._answer_limit:
+            self._check_compared(tree, media, sheets)
+        return winning
+
+    def _check_compared(self, tree: Tree, media: Media, sheets: Sequence["StyleSheet"]) -> None:
+        """Raises `LimitError` if more rules match elements than the limit, or if the rules that match one
+        together hold more declarations."""
+        compared = library.Room(self._answer_limit)
+        matched = ((tuple(each) for each in sheet._matched(tree, media)) for sheet in sheets)
+        for found in set(zip(*matched)):
+            for sheet, indices in zip(sheets, found):
+                compared.take(sum(len(sheet.rules[each].declarations) for each in indices))
+
+    def _winning(self, media: Media, sheets: Tuple["StyleSheet", ...]) -> Winning:
+        """Returns the rules of this sheet, and of others with it, that apply on a device."""
+        self._check_limit()
+        if not isinstance(media, Device) and callable(media):
+            return self._winning_by(media, sheets)
+        key = (device_of(media), sheets[:-1])
+        found = self._winning_on.get(key)
+        if found is None:
+            found = self._winning_on[key] = self._winning_by(key[0], sheets)
         return found
 
-    def _winners(
+    def _winning_by(self, media: Media, sheets: Sequence["StyleSheet"]) -> Winning:
+        """Returns the rules of these sheets that apply, of which the limit is that of this one."""
+        read = itertools.chain.from_iterable(sheet._read_sheets() for sheet in sheets)
+        origins = [origin for sheet in sheets for origin in sheet._origins]
+        return Winning(read, origins, media, self._limit)
+
+    def _winners_of_port(
         self, selectors: "_Selectors", lines: List[bytes], name: Optional[str]
     ) -> List[List[Declaration]]:
         """Returns for each line what wins of the rules of its numbers, or of it what has the
@@ -404,17 +572,63 @@ class StyleSheet:
         *,
         media: Media = "screen",
         specified: bool = False,
+        presentation: Presentation = presentation_attributes,
         inherit: Inherit = False,
+        shorthands: bool = False,
+        ua: bool = False,
     ) -> "ByElement[Optional[Declaration]]":
         """Returns for each element the winning declaration of the name, or `None`.
 
-        The name compares byte by byte. `media`, `specified` and `inherit` are those of `styles`.
+        With `shorthands`, it is the declaration that sets the property, which may be that of a shorthand:
+        the winning one of all that have its name or that of a shorthand. A name compares in any case of
+        its ASCII letters if it is not that of a custom property; by the grammar "simplecss", which has no
+        `shorthands`, it compares byte by byte. `media`, `specified`, `presentation`, `inherit` and `ua` are
+        those of `styles`.
         """
         library.expect_text(name)
-        every = self._styles(tree, media, specified, inherit, name)
-        return ByElement(
-            next((each for each in found if each.name == name), None) for found in every
-        )
+        if self._grammar == PORT:
+            _expect_none(shorthands=shorthands, ua=ua)
+            hints = presentation if specified else None
+            found = self._styles_of_port(tree, media, hints, name)
+        else:
+            winning = self._compared_winning(tree, media, ua)
+            own = Own(tree, presentation) if specified else NO_OWN
+            names = (name, *shorthands_of(name)) if shorthands else (name,)
+            limit = max(self._answer_limit, library.USUAL_ANSWER_LIMIT)
+            every = winning.named(_elements_in(tree), own, names, limit)
+            found = [[] if each is None else [each] for each in every]
+        if inherit:
+            found = inherited(tree, found, inherit, self._answer_limit)
+        # What an element has itself is after what it has from its parent.
+        return ByElement(each[-1] if each else None for each in found)
+
+
+def _expect_none(**words: bool) -> None:
+    """Raises `ValueError` for an argument that only the modern grammar has."""
+    for word, is_given in words.items():
+        if is_given:
+            raise ValueError(f"{word} is of the modern grammar")
+
+
+def _with_name(styles: Iterable[List[Declaration]], name: str) -> List[List[Declaration]]:
+    return [[each for each in found if each.name == name] for found in styles]
+
+
+def _origins_of(origins: Sequence[str], count: int, grammar: str) -> Tuple[str, ...]:
+    """Returns the origin of each of so many texts."""
+    if isinstance(origins, str) or len(origins) > count:
+        raise ValueError("an origin for each text is expected")
+    for each in origins:
+        if each not in ORIGINS or grammar == PORT and each != AUTHOR:
+            raise ValueError(f"not an origin of a text of this grammar: {each!r}")
+    return (*origins, *(AUTHOR,) * (count - len(origins)))
+
+
+def _elements_in(tree: Tree) -> Elements:
+    """Returns the elements of what is to be a tree."""
+    if not isinstance(tree, Tree):
+        raise TypeError(f"a Tree is expected, not {type(tree).__name__}")
+    return elements_of(tree)
 
 
 def usage_of(sheet: StyleSheet) -> Usage:
@@ -428,22 +642,22 @@ def text_of(sheet: StyleSheet) -> str:
 
 
 class _Selectors:
-    """The selectors of the rules that apply; those of the Rust crate's grammar as they are read for
-    a tree."""
+    """The selectors of the rules that apply, but for those of style rules with rules in them."""
 
-    def __init__(
-        self, rules: Tuple[Rule, ...], reading: Optional[PortReading], media: Media
-    ) -> None:
+    def __init__(self, contents: _Contents, media: Media) -> None:
+        rules = contents.rules
+        nested = set(itertools.chain.from_iterable(contents.nested.values()))
         groups: Dict[Tuple[Condition, ...], bool] = {(): True}
         apply = functools.lru_cache(maxsize=None)(functools.partial(holds, media=media))
         indices = []
         for index, rule in enumerate(rules):
+            if index in nested:
+                continue
             if rule.conditions not in groups:
                 groups[rule.conditions] = all(map(apply, rule.conditions))
             if groups[rule.conditions] and rule.pseudo_element is None:
                 indices.append(index)
-        texts = (rules[index].selector for index in indices)
-        self.texts = SelectorTexts(texts if reading is None else map(reading.rewrite, texts))
+        self.texts = SelectorTexts(rules[index].selector for index in indices)
         self.rules = Numbers(indices)
 
 
@@ -456,30 +670,38 @@ def _rule_of_port(value: Dict[str, Any]) -> Rule:
 
 
 def _rules_of(
-    sets: List[Tuple[RuleSet, Tuple[Condition, ...]]]
-) -> Tuple[List[Rule], List[Unsupported]]:
-    """Returns the rules of rule sets in the order of the cascade, and those that are unsupported.
-    Each rule set is with the conditions of its whole text."""
-    rules: List[Rule] = []
+    sets: Iterable[Tuple[Place, RuleSet, bool, Tuple[Condition, ...]]]
+) -> Tuple[List[Tuple[Place, Rule]], List[Unsupported]]:
+    """Returns the rules of rule sets, of those that have them, and the unsupported ones of all. Each
+    rule set is with the conditions of its whole text."""
+    rules: List[Tuple[Place, Rule]] = []
     unsupported: List[Unsupported] = []
-    for found, outer in sets:
+    for place, found, has_rules, outer in sets:
         declarations, conditions = found.declarations, outer + found.conditions
         for each in found.selectors:
             if each.specificity is None:
                 unsupported.append(Unsupported(each.text, declarations, conditions))
                 continue
-            selector = each.front or "*"
-            rules.append(
-                Rule(
-                    selector,
-                    each.specificity,
-                    declarations,
-                    conditions,
-                    each.pseudo_element,
-                )
-            )
-    rules.sort(key=lambda rule: rule.specificity)
+            if has_rules:
+                front = each.front or "*"
+                rule = Rule(front, each.specificity, declarations, conditions, each.pseudo_element)
+                rules.append((place, rule))
     return rules, unsupported
+
+
+def _nested_rule(
+    placed: PlacedRule, found: Dict[str, Any], block: Block, outer: Tuple[Condition, ...]
+) -> Rule:
+    """Returns a rule in this block, of whose selector this was found."""
+    text, element = found["text"], found["pseudo_element"]
+    return Rule(
+        (text if element is None else before_element(text, len(text) - len(element))) or "*",
+        specificity_of(found["specificity"]),
+        tuple(placed.declarations),
+        outer + block.conditions,
+        element,
+        block.parents,
+    )
 
 
 def _at_rules_of(statement: Statement) -> Iterator[ReadAtRule]:
@@ -554,12 +776,14 @@ def _closed(depth: int, kept: int) -> Iterator[str]:
 
 def _sheet_of(
     texts: Tuple[str, ...],
+    origins: Tuple[str, ...],
     outer: Tuple[Tuple[Condition, ...], ...],
     unread: Tuple[Unread, ...],
     grammar: str,
     limit: int,
     answer_limit: int,
 ) -> StyleSheet:
-    return StyleSheet(*texts, grammar=grammar, limit=limit, answer_limit=answer_limit)._of_page(
-        outer, unread
+    sheet = StyleSheet(
+        *texts, origins=origins, grammar=grammar, limit=limit, answer_limit=answer_limit
     )
+    return sheet._of_page(outer, unread)

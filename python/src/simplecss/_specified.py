@@ -3,8 +3,10 @@ of parents (CSS 2.1 sections 6.2 and 6.4.3)."""
 
 from __future__ import annotations
 
-from typing import Dict, FrozenSet, Iterable, List, Tuple, Union
+import functools
+from typing import Callable, Dict, FrozenSet, Iterable, List, Mapping, Optional, Tuple, Union
 
+from . import _library as library
 from ._declaration import Declaration, cascaded
 from ._library import Room, expect_text
 from ._presenting import presented_by
@@ -30,27 +32,77 @@ INHERITED: FrozenSet[str] = frozenset(
 Inherit = Union[bool, Iterable[str]]
 
 
-def _own(element: Element) -> List[Declaration]:
-    """Returns the declarations of the attribute `style`."""
-    text = element.attributes.get("style", "")
-    return declarations(text) if text else []
+# What says the presentation declarations of an element: its properties with their values.
+Presentation = Callable[[Element], Mapping[str, str]]
 
 
-def _presented(element: Element) -> List[Declaration]:
-    """Returns the declarations of presentation attributes."""
+def presentation_attributes(element: Element) -> Dict[str, str]:
+    """Returns the presentation attributes of an element of SVG: their names and values."""
     if not element.is_drawn:
-        return []
+        return {}
     known = presented_by(element.name)
-    return [
-        Declaration(name, value.strip(BLANKS), False)
-        for name, value in element.attributes.items()
-        if name in known and value.strip(BLANKS)
-    ]
+    pairs = ((name, value.strip(BLANKS)) for name, value in element.attributes.items())
+    return {name: value for name, value in pairs if name in known and value}
 
 
-def specified_by(element: Element, winners: Iterable[Declaration]) -> List[Declaration]:
-    """Returns the declaration of each name that wins among all of these, in order."""
-    return cascaded((*_presented(element), *winners, *_own(element)))
+@functools.lru_cache(maxsize=4096)
+def _presented(name: str, value: str) -> Optional[Declaration]:
+    """Returns the declaration that a presentation attribute is, if it is one: which has nothing but a
+    value."""
+    found = declarations(f"{name}:{value}")
+    return found[0] if len(found) == 1 and not found[0].important else None
+
+
+def _text_of(each: Declaration) -> str:
+    return f"{each.name}:{each.value};"
+
+
+class Own:
+    """The declarations of elements that are in no rule: of their attribute `style`, and presentation
+    declarations."""
+
+    def __init__(self, tree: Iterable[Element], presentation: Presentation) -> None:
+        self._texts: List[bytes] = []
+        self._known: Dict[bytes, List[Declaration]] = {}
+        for element in tree:
+            style = element.attributes.get("style", "")
+            pairs = presentation(element).items()
+            hints = (_presented(name, value) for name, value in pairs)
+            presented = "".join(_text_of(each) for each in hints if each is not None)
+            self._texts += (library.encode(style), library.encode(presented))
+        self.arrays = library.OwnArrays(self._texts if any(self._texts) else [])
+
+    def texts_of(self, index: int) -> Tuple[bytes, ...]:
+        """Returns the texts of an element: of its attribute, and of its presentation declarations."""
+        return tuple(self._texts[2 * index : 2 * index + 2])
+
+    def styled(self, index: int) -> List[Declaration]:
+        """Returns the declarations of the attribute of an element."""
+        return self._declared(self._texts[2 * index])
+
+    def presented(self, index: int) -> List[Declaration]:
+        """Returns the presentation declarations of an element."""
+        return self._declared(self._texts[2 * index + 1])
+
+    def _declared(self, text: bytes) -> List[Declaration]:
+        found = self._known.get(text)
+        if found is None:
+            found = self._known[text] = declarations(text.decode("utf-8"))
+        return found
+
+
+# Elements that have none.
+NO_OWN = Own((), presentation_attributes)
+
+
+def specified_by(
+    element: Element, winners: Iterable[Declaration], presentation: Presentation
+) -> List[Declaration]:
+    """Returns the declaration of each name that wins among all of these, in order, by CSS 2.1."""
+    hints = (_presented(name, value) for name, value in presentation(element).items())
+    style = element.attributes.get("style", "")
+    presented = [each for each in hints if each is not None]
+    return cascaded((*presented, *winners, *(declarations(style) if style else ())))
 
 
 def _names(inherit: Iterable[str]) -> FrozenSet[str]:

@@ -3,26 +3,34 @@
 from __future__ import annotations
 
 import functools
-import re
+import itertools
 from functools import partial
 from typing import (
     Collection,
     Dict,
     FrozenSet,
+    Iterable,
     Iterator,
     List,
+    Mapping,
     NamedTuple,
     Optional,
+    Sequence,
     Set,
     Tuple,
+    Union,
 )
 
 from ._declaration import Declaration
 from ._families import family_of
+from ._found_names import find_names
 from ._imports import ReadSheet
-from ._marking import Group, goes_back
+from ._marking import goes_back
+from ._order import LAYER, LayeredText, Layers, Ordered, Reach, layers_of, reaches_of
 from ._page import Content
 from ._reading import (
+    BlockItem,
+    Fault,
     ReadAtRule,
     ReadDeclaration,
     ReadSelector,
@@ -30,58 +38,24 @@ from ._reading import (
     Source,
     Span,
     Statement,
+    is_closed,
 )
-from ._selectors import NAMING, OPAQUE, Specificity, states_in
+from ._selectors import SelectorTexts, states_in
 from ._staying import (
     Block,
     Marks,
     Place,
     StayingRule,
     ends_of,
+    has_declarations,
     has_rules,
     marked,
     rules_of,
     rules_with,
 )
-from ._words import BLANKS, lower
-
-# The pseudo-classes and pseudo-elements that browsers know. A rule set whose selectors have others,
-# or a namespace, stays whole, since a browser may drop all of it.
-_KNOWN = frozenset(
-    "before after first-line first-letter placeholder selection marker"
-    " hover active focus focus-within focus-visible link visited any-link target root empty"
-    " first-child last-child only-child first-of-type last-of-type only-of-type"
-    " enabled disabled checked required optional valid invalid read-only read-write".split()
-)
-_KNOWN_FUNCTIONS = frozenset(("not", "has", "is", "where"))
-_BLANK = r"[ \t\n\r\f]"
-_NTH = re.compile(
-    rf"{_BLANK}*(?:odd|even|[-+]?[0-9]*n(?:{_BLANK}*[-+]{_BLANK}*[0-9]+)?|[-+]?[0-9]+){_BLANK}*\)",
-    re.IGNORECASE | re.ASCII,
-)
-_LANGUAGE = re.compile(rf"{_BLANK}*[-\w]+{_BLANK}*\)", re.ASCII)
-_ARGUMENTS = {
-    "nth-child": _NTH,
-    "nth-last-child": _NTH,
-    "nth-of-type": _NTH,
-    "nth-last-of-type": _NTH,
-    "lang": _LANGUAGE,
-}
-# A pseudo-class or a pseudo-element up to its arguments, a namespace, and a parenthesis of nothing.
-_PSEUDO = re.compile(
-    rf"{OPAQUE}|(?P<colons>::?)(?P<name>{NAMING}*)(?P<open>\(?)|(?P<other>\|(?!=)|\()",
-    re.DOTALL | re.ASCII,
-)
-# What every pseudo-class, namespace and parenthesis has.
-_SPECIAL = frozenset(":|(")
-# The ids, classes and attributes that mail clients add to a page, whose rules match nothing yet.
-_CLIENTS = re.compile(
-    r"#(?:outlook|MessageViewBody|MessageWebViewDiv|body)\b"
-    r"|\.(?:ExternalClass|ReadMsgBody|yshortcuts|moz-text-html|gmail\w*|Mso\w+|aolmail\w*)\b"
-    r"|\[(?:data-ogsc|data-ogsb|data-outlook-cycle"
-    rf"|x-apple-data-detectors|owa)|\bu{_BLANK}*\+",
-    re.IGNORECASE | re.ASCII,
-)
+from ._tokens import is_escaping, tokens
+from ._traits import traits_of
+from ._words import BLANKS
 
 # Why what is written into attributes stays, too.
 _UNTOUCHED = "it matches an element without a tag of its own, or one that is ignored"
@@ -91,11 +65,15 @@ _LINKS = frozenset(("link", "any-link"))
 
 
 class Rule(NamedTuple):
-    """A rule that is written into attributes: its selector, and what it has by name."""
+    """A rule that is written into attributes: its selector, and the statement that it is of."""
 
     selector: str
-    specificity: Specificity
-    groups: List[Group]
+    statement: "SplitStatement"
+
+    @property
+    def number(self) -> int:
+        """The number of its statement."""
+        return self.statement.number
 
 
 class Leftover:
@@ -111,6 +89,8 @@ class Leftover:
         self.marks: Marks = {}
         # The statements of which rules for mail clients are kept, since they match nothing.
         self.unmatched: Set[int] = set()
+        # Whether something in a layer stays.
+        self.has_layers = False
 
     def changed(self) -> Set[int]:
         """Returns the statements of which not just the usual text stays."""
@@ -118,7 +98,10 @@ class Leftover:
 
 
 class NotWritten(NamedTuple):
-    """What `inline` leaves in a sheet: the selectors or the at-rule, and why."""
+    """What `inline` leaves in a style sheet.
+
+    `text` has the selectors or the at-rule, and `reason` says why.
+    """
 
     text: str
     reason: str
@@ -137,13 +120,22 @@ class SplitStatement:
         self.inner: List[Statement] = []
         self.source = source
         self.span = span
+        # The layers that it is in, if something of them is written.
+        self.layers: Layers = ()
+        self.knows_layers = False
         # The selectors that are written into attributes, and those that stay.
-        self.going: List[Tuple[str, Specificity]] = []
+        self.going: List[str] = []
         self.staying: List[ReadSelector] = []
-        # Where the block of a rule set is, and what closes it.
+        # Where the block of a rule set is, what closes it, and what it has.
         self.block = (0, 0)
         self.end = ""
-        self.declarations: Tuple[Declaration, ...] = ()
+        self.items: Sequence[BlockItem] = ()
+
+    @functools.cached_property
+    def declarations(self) -> Tuple[Declaration, ...]:
+        """The declarations of a rule set that does not stay whole."""
+        found = (each for each in self.items if isinstance(each, ReadDeclaration))
+        return tuple(ended(each, self.source) for each in found)
 
     @functools.cached_property
     def families(self) -> FrozenSet[str]:
@@ -156,7 +148,7 @@ class SplitStatement:
         return frozenset(family_of(each.name) for each in self.declarations if goes_back((each,)))
 
     @functools.cached_property
-    def groups(self) -> List[Group]:
+    def grouped(self) -> List[List[Declaration]]:
         """The declarations by name and importance, each where its last one is."""
         groups: Dict[Tuple[str, bool], List[Declaration]] = {}
         for declaration in self.declarations:
@@ -164,7 +156,12 @@ class SplitStatement:
             group = groups.pop(key, [])
             group.append(declaration)
             groups[key] = group
-        return [Group(tuple(group), (0, 0, 0), self.number) for group in groups.values()]
+        return list(groups.values())
+
+    def count(self) -> int:
+        """Returns how many declarations of a name and importance the rules have."""
+        names = {(name, important) for name, _, important in self.declarations}
+        return len(names) * len(self.going)
 
     @functools.cached_property
     def _places(self) -> Dict[Tuple[str, bool], List[int]]:
@@ -173,37 +170,61 @@ class SplitStatement:
             found.setdefault((each.name, each.important), []).append(at)
         return found
 
-    def places_of(self, group: Group) -> List[int]:
-        """Returns where the declarations of a group are in the block."""
-        return self._places[group.name, group.important]
+    def places_of(self, name: str, important: bool) -> List[int]:
+        """Returns where the declarations of a name and importance are in the block."""
+        return self._places[name, important]
 
-    @functools.cached_property
     def rules(self) -> List[Rule]:
-        """The rules that are written into attributes."""
-        return [
-            Rule(
-                text, specificity, [each._replace(specificity=specificity) for each in self.groups]
-            )
-            for text, specificity in self.going
-            if self.groups
-        ]
+        """Returns the rules that are written into attributes."""
+        going = self.going if has_declarations(self.items) else []
+        return [Rule(text, self) for text in going]
+
+    def has_kept(self) -> bool:
+        """Whether something of it stays on all pages."""
+        return self.is_whole or bool(self.staying)
+
+    @property
+    def is_order(self) -> bool:
+        """Whether it says no more than the order of layers, and only that of layers that are known."""
+        return (
+            self.knows_layers
+            and len(self.inner) == 1
+            and isinstance(self.inner[0], ReadAtRule)
+            and self.inner[0].rule.name == LAYER
+        )
+
+    @property
+    def has_layer(self) -> bool:
+        """Whether it is in a layer, or is one."""
+        inner = self.inner[0].levels if self.inner else ()
+        return bool(self.layers) or bool(inner) and inner[0].condition.name == LAYER
+
+    def has_text(self, leftover: Leftover) -> bool:
+        """Whether something of it stays."""
+        is_left = self.number in leftover.families or self.number in leftover.unmatched
+        return (self.has_kept() or is_left) and not (self.is_order and not leftover.has_layers)
+
+    def orders(self) -> Iterator[Tuple[Layers, str]]:
+        """Yields what says the order of layers: those that it is in and has, and it itself."""
+        each = self.inner[0] if self.is_order else None
+        if isinstance(each, ReadAtRule):
+            end = ";" if each.rule.block is None else "{}"
+            yield self.layers, f"@{LAYER} {each.rule.prelude}{end}"
+            return
+        yield self.layers, ""
+        for inner in self.inner:
+            yield layers_of(self.source, inner.levels), ""
 
     @functools.cached_property
     def kept_rules(self) -> Tuple[List[StayingRule], Set[str]]:
         """The rules that stay, and what they animate."""
-        number = self.number
         animated: Set[str] = set()
+        place = Place(self.number, True, animated, self.knows_layers, self.layers)
         if self.is_whole:
-            place = Place(number, True, animated)
             return list(rules_of(self.source, self.inner, place)), animated
-        sets = (each for each in self.inner if isinstance(each, RuleSet) and self.staying)
-        declared = list(self.declarations)
-        return [
-            rule
-            for each in sets
-            for block in (Block(declared, number, partial(ends_of, each.items, self.source)),)
-            for rule in rules_with(self.staying, declared, number, False, block)
-        ], animated
+        ends = partial(ends_of, self.items, self.source)
+        block = Block(lambda: self.declarations, self.number, ends)
+        return list(rules_with(self.staying, place, block)), animated
 
     @functools.cached_property
     def links(self) -> List[ReadSelector]:
@@ -218,10 +239,10 @@ class SplitStatement:
         """Returns the statement with some of the selectors that stay among those that go."""
         found = SplitStatement(self.number, self.source, self.span, self.title, self.reason)
         found.inner, found.is_whole = self.inner, self.is_whole
-        found.block, found.end, found.declarations = self.block, self.end, self.declarations
+        found.block, found.end, found.items = self.block, self.end, self.items
+        found.layers, found.knows_layers = self.layers, self.knows_layers
         found.staying = [each for each in self.staying if each not in chosen]
-        more = [(each.text, each.specificity) for each in chosen if each.specificity is not None]
-        found.going = self.going + more
+        found.going = self.going + [each.text for each in chosen]
         return found
 
     @functools.cached_property
@@ -268,22 +289,21 @@ class SplitStatement:
             yield NotWritten(self._selectors(), _UNTOUCHED if is_untouched else _OVERRIDDEN)
 
     def _selectors(self) -> str:
-        return ", ".join(text for text, _ in self.going)
+        return ", ".join(self.going)
 
-    @functools.cached_property
     def clients(self) -> List[ReadSelector]:
-        """The selectors for mail clients among those that go."""
+        """Returns the selectors for mail clients among those that go."""
         return [
-            ReadSelector(text, text, None, specificity, (0, 0))
-            for text, specificity in self.going
-            if not self.is_whole and _CLIENTS.search(text)
+            ReadSelector(text, text, None, None, (0, 0))
+            for text in self.going
+            if not self.is_whole and traits_of(text).is_of_client
         ]
 
     @functools.cached_property
     def _with_clients(self) -> "SplitStatement":
         """The statement with the selectors for mail clients among those that stay, too."""
         found = self.with_going([])
-        found.staying = self.clients + self.staying
+        found.staying = self.clients() + self.staying
         return found
 
 
@@ -295,14 +315,96 @@ class SplitSheet:
         self.statements = statements
         self.content = content
 
+    # What pages have in common is found once.
+
+    @functools.cached_property
+    def rules(self) -> List[Rule]:
+        """The rules that are written into attributes."""
+        return [rule for each in self.statements for rule in each.rules()]
+
+    @functools.cached_property
+    def selectors(self) -> SelectorTexts:
+        """The selectors of the rules that are written, and then of those that stay."""
+        return selectors_of(self.rules, self.kept_rules[0])
+
+    @functools.cached_property
+    def most(self) -> int:
+        """How many declarations these have at most, which is known sooner than how many they have."""
+        return sum(len(each.items) * len(each.going) for each in self.statements)
+
+    @functools.cached_property
+    def count(self) -> int:
+        """How many declarations of a name and importance these have."""
+        return sum(each.count() for each in self.statements)
+
+    @functools.cached_property
+    def kept_rules(self) -> Tuple[List[StayingRule], Set[str]]:
+        """The rules that stay, and what they animate."""
+        kept: List[StayingRule] = []
+        animated: Set[str] = set()
+        for each in self.statements:
+            if each.has_kept():
+                rules, names = each.kept_rules
+                kept += rules
+                animated |= names
+        return kept, animated
+
+    @functools.cached_property
+    def has_links(self) -> bool:
+        """Whether a selector that stays matches links in any state."""
+        return any(each.staying and each.links for each in self.statements)
+
+    @functools.cached_property
+    def for_clients(self) -> List[SplitStatement]:
+        """The statements with selectors for mail clients among those that go."""
+        return [each for each in self.statements if each.clients()]
+
     def kept(self, newline: str, leftover: Leftover) -> str:
-        """Returns the text that stays."""
+        """Returns the text that stays. If something of a layer does, so do the places of others."""
         changed = leftover.changed()
-        return newline.join(
-            text
-            for each in self.statements
-            for text in (each.kept(leftover) if each.number in changed else each.unmarked)
-        )
+        text = LayeredText(newline)
+        for each in self.statements if leftover.has_layers else self._some(changed):
+            if leftover.has_layers and each.layers:
+                text.enter(each.layers)
+            if each.number in changed or each.has_kept():
+                kept = each.kept(leftover) if each.number in changed else each.unmarked
+                for one in kept:
+                    text.add(each.layers, one)
+        return text.closed()
+
+    def _some(self, changed: Set[int]) -> List[SplitStatement]:
+        """Returns the statements of which something stays on all pages, and those of these numbers,
+        but for those that say no more than the order of layers."""
+        first = self.statements[0].number if self.statements else 0
+        places = (number - first for number in changed)
+        found = {at for at in places if 0 <= at < len(self.statements)}
+        return [
+            self.statements[at] for at in sorted(found.union(self._usual)) if at not in self._orders
+        ]
+
+    @functools.cached_property
+    def _usual(self) -> List[int]:
+        """The indices of the statements of which something stays on all pages."""
+        return [at for at, each in enumerate(self.statements) if each.has_kept()]
+
+    @functools.cached_property
+    def _orders(self) -> Set[int]:
+        """The indices of those that say no more than the order of layers."""
+        return {at for at, each in enumerate(self.statements) if each.is_order}
+
+    @functools.cached_property
+    def ordering(self) -> List[SplitStatement]:
+        """The statements that say something of the order of layers."""
+        return [each for each in self.statements if each.has_layer or each.is_order]
+
+    @functools.cached_property
+    def _layered(self) -> List[SplitStatement]:
+        """The statements in layers, and the layers that stay as they are."""
+        return [each for each in self.statements if each.has_layer and not each.is_order]
+
+    def has_layers(self, leftover: Leftover) -> bool:
+        """Whether something in a layer stays."""
+        return any(each.has_text(leftover) for each in self._layered)
 
     def has_written(self) -> bool:
         """Whether a statement is written into attributes."""
@@ -313,47 +415,132 @@ class SplitSheet:
         return any(each.number in leftover.marks for each in self.statements)
 
 
-def statements_of(read: ReadSheet, start: int) -> List[SplitStatement]:
-    """Returns the statements of a sheet, of which the first has a number."""
-    found: List[SplitStatement] = []
-    group: Tuple[Optional[Source], Span] = (None, (0, 0))
-    for source, each in read.placed:
-        number = start + len(found)
-        if not each.levels:
-            reason = read.reasons.get((source, each.span), "an at-rule")
-            found += _taken(number, source, each, reason)
-        elif (source, each.levels[0].span) != group:
-            group = (source, each.levels[0].span)
-            title = str(each.levels[0].condition)
-            found.append(SplitStatement(number, source, group[1], title, "an at-rule"))
-            found[-1].inner = [each]
-        else:
-            found[-1].inner.append(each)
+def selectors_of(rules: List[Rule], kept: List[StayingRule]) -> SelectorTexts:
+    """Returns the selectors of rules that are written, and of rules that stay."""
+    texts = SelectorTexts(each.selector for each in rules)
+    texts += (each.selector for each in kept)
+    return texts
+
+
+class Order:
+    """Where rules that are written into attributes, and rules that stay, are in the cascade, by their
+    numbers."""
+
+    def __init__(
+        self,
+        statements: Iterable[SplitStatement],
+        rules: Mapping[int, Rule],
+        kept: Mapping[int, StayingRule],
+    ) -> None:
+        """Takes the rules that match something, and the statements that say something of layers."""
+        parts: List[Tuple[int, Union[Ordered, Tuple[Layers, str]]]] = [
+            (each.number, order) for each in statements for order in each.orders()
+        ]
+        first = len(parts)
+        parts += (
+            (each.number, Ordered(each.statement.layers, each.selector)) for each in rules.values()
+        )
+        # Those that stay come after those that are written of their statement.
+        parts += ((each.number, each.ordered) for each in kept.values())
+        places = sorted(range(len(parts)), key=lambda at: parts[at][0])
+        reaches = reaches_of([parts[at][1] for at in places])
+        found = dict(zip((at - first for at in places if at >= first), reaches))
+        self.strengths = {rule: found[at].most for at, rule in enumerate(rules)}
+        self.reaches = {rule: found[at] for at, rule in enumerate(kept, len(rules))}
+
+
+def statements_of(read: ReadSheet, start: int, knows_layers: bool) -> List[SplitStatement]:
+    """Returns the statements of a sheet, of which the first has a number. Where the places of layers
+    are not known, these stay as they are."""
+    rules = (each for _, each in read.placed if isinstance(each, RuleSet))
+    find_names(one.text for each in rules for one in each.selectors)
+    found = list(_statements_at(read, read.placed, 0, knows_layers))
+    for number, each in enumerate(found, start):
+        each.number = number
     return found
 
 
-def _taken(number: int, source: Source, found: Statement, reason: str) -> Iterator[SplitStatement]:
-    """Yields a statement that is in no group rule, if it is kept; one of an at-rule stays for the
-    reason."""
+_Placed = Tuple[Source, Statement]
+
+
+def _group_of(placed: _Placed, depth: int) -> Optional[Tuple[Source, Span]]:
+    """Returns the group rule of a depth that a statement is in."""
+    source, statement = placed
+    return (source, statement.levels[depth].span) if len(statement.levels) > depth else None
+
+
+def _statements_at(
+    read: ReadSheet, placed: Iterable[_Placed], depth: int, knows_layers: bool
+) -> Iterator[SplitStatement]:
+    """Yields the statements in group rules of a depth."""
+    for group, run in itertools.groupby(placed, lambda each: _group_of(each, depth)):
+        if group is None:
+            for source, each in run:
+                reason = read.reasons.get((source, each.span), "an at-rule")
+                for taken in _taken(source, each, reason):
+                    taken.layers = layers_of(source, each.levels)
+                    taken.knows_layers = knows_layers
+                    yield taken
+            continue
+        members = list(run)
+        inner = _in_layer(read, members, depth, group) if knows_layers else []
+        yield from inner or [_whole(members, depth, group, knows_layers)]
+
+
+def _in_layer(
+    read: ReadSheet, members: List[_Placed], depth: int, group: Tuple[Source, Span]
+) -> List[SplitStatement]:
+    """Returns the statements in a group rule if it is a layer, of which something is written."""
+    is_layer = members[0][1].levels[depth].condition.name == LAYER
+    if not is_layer or not is_closed(group[0].at(group[1])):
+        return []
+    inner = list(_statements_at(read, members, depth + 1, True))
+    return inner if any(each.going for each in inner) else []
+
+
+def _whole(
+    members: List[_Placed], depth: int, group: Tuple[Source, Span], knows_layers: bool
+) -> SplitStatement:
+    """Returns a group rule that stays as it is."""
+    source, span = group
+    levels = members[0][1].levels
+    found = SplitStatement(0, source, span, str(levels[depth].condition), "an at-rule")
+    found.inner = [each for _, each in members]
+    found.layers = layers_of(source, levels[:depth])
+    found.knows_layers = knows_layers
+    return found
+
+
+def _taken(source: Source, found: Statement, reason: str) -> Iterator[SplitStatement]:
+    """Yields a statement, if it is kept; one of an at-rule stays for the reason."""
     if isinstance(found, ReadAtRule):
         title = f"@{found.rule.name} {found.rule.prelude}".rstrip(BLANKS)
-        statement = SplitStatement(number, source, found.span, title, reason)
+        statement = SplitStatement(0, source, found.span, title, reason)
         statement.inner = [found]
         yield statement
     elif isinstance(found, RuleSet):
         title, reason = source.at(found.head), "a browser may drop the list"
-        statement = SplitStatement(number, source, found.span, title, reason)
+        statement = SplitStatement(0, source, found.span, title, reason)
         statement.inner = [found]
         _sort(statement, found, source)
         yield statement
-    elif source.at(found.span).endswith("}"):
-        title = source.at(found.span).partition("{")[0].strip(BLANKS)
-        yield SplitStatement(number, source, found.span, title, found.reason)
+    else:
+        yield from _skipped(source, found)
+
+
+def _skipped(source: Source, found: Fault) -> Iterator[SplitStatement]:
+    """Yields what is skipped, if it has a block."""
+    text = source.at(found.span)
+    braces = [each for each in tokens(text) if each.text in ("{", "}")]
+    if braces and braces[-1].text == "}" and braces[-1].end == len(text):
+        opened = next((each.start for each in braces if each.text == "{"), len(text))
+        title = text[:opened].strip(BLANKS)
+        yield SplitStatement(0, source, found.span, title, found.reason)
 
 
 def _reason_of(selector: ReadSelector) -> str:
     """Returns why a selector stays."""
-    if _CLIENTS.search(selector.text):
+    if traits_of(selector.text).is_of_client:
         return "it is for a mail client"
     if selector.pseudo_element is not None:
         return "it has a pseudo-element"
@@ -362,57 +549,35 @@ def _reason_of(selector: ReadSelector) -> str:
     return "it depends on a state of the page"
 
 
-def _is_known_selector(selector: str) -> bool:
-    """Whether every browser knows the pseudo-classes of a selector, and it has no namespace."""
-    if _SPECIAL.isdisjoint(selector):
-        return True
-    for found in _PSEUDO.finditer(selector):
-        if found["other"]:
-            return False
-        name = lower(found["name"] or "")
-        if not found["colons"] or not found["open"] and name in _KNOWN:
-            continue
-        arguments = _ARGUMENTS.get(name)
-        is_known = arguments is not None and arguments.match(selector, found.end()) is not None
-        if not found["open"] or not is_known and name not in _KNOWN_FUNCTIONS:
-            return False
-    return True
-
-
 def _sort(statement: SplitStatement, found: RuleSet, source: Source) -> None:
     """Sorts the selectors of a rule set, unless it stays whole."""
-    if not all(_is_known_selector(each.text) for each in found.selectors):
+    if not all(traits_of(each.text).is_known for each in found.selectors):
         return
     if has_rules(found.items):
         statement.reason = "it has rules in it"
         return
     for each in found.selectors:
-        if each.specificity is None or states_in(each.text):
+        if each.specificity is None or traits_of(each.text).has_state:
             statement.staying.append(each)
         else:
-            statement.going.append((each.text, each.specificity))
+            statement.going.append(each.text)
     statement.block = (found.head[1], found.span[1])
     block = source.at(statement.block).strip(BLANKS)
-    if statement.staying and (_is_open(found) or not found.is_closed and _is_escaping(block)):
+    if statement.staying and (_is_open(found) or not found.is_closed and is_escaping(block)):
         # No brace would close what stays.
         statement.going, statement.staying = [], []
         statement.reason = "the end of the text closes it"
         return
     statement.is_whole = False
     statement.end = "}" * (not found.is_closed)
-    statement.declarations = tuple(
-        ended(each, source) for each in found.items if isinstance(each, ReadDeclaration)
-    )
+    statement.items = found.items
 
 
 def _is_open(found: RuleSet) -> bool:
     """Whether the end of the text closes a declaration of a rule set."""
-    return any(isinstance(each, ReadDeclaration) and not each.is_closed for each in found.items)
-
-
-def _is_escaping(text: str) -> bool:
-    """Whether a text ends with a backslash that escapes what follows it."""
-    return (len(text) - len(text.rstrip("\\"))) % 2 == 1
+    return not found.items.are_whole and any(
+        isinstance(each, ReadDeclaration) and not each.is_closed for each in found.items
+    )
 
 
 def ended(found: ReadDeclaration, source: Source) -> Declaration:
@@ -420,7 +585,7 @@ def ended(found: ReadDeclaration, source: Source) -> Declaration:
     takes them in."""
     declaration = found.declaration
     value = declaration.value
-    if not _is_escaping(value):
+    if not is_escaping(value):
         return declaration
     # The end of the text makes it an escape of U+FFFD; a newline, which is all else that ends a
     # value after it, none.

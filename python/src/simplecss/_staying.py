@@ -3,25 +3,28 @@
 from __future__ import annotations
 
 import functools
-import re
 from typing import (
     Callable,
     Dict,
     Iterable,
     Iterator,
     List,
-    Match,
     NamedTuple,
     Optional,
+    Sequence,
     Set,
     Tuple,
 )
 
 from ._declaration import Declaration
-from ._families import EVERYTHING, PREFIX, family_of
+from ._families import EVERYTHING, family_of, without_prefix
+from ._found_names import pseudo_names
+from ._order import EVERY, LAYER, Layers, Ordered, layers_of
 from ._reading import (
     BlockItem,
     Fault,
+    Items,
+    Level,
     ReadAtRule,
     ReadDeclaration,
     ReadSelector,
@@ -33,22 +36,16 @@ from ._reading import (
     read_block,
     read_sheet,
 )
-from ._selectors import NAMING, OPAQUE, SelectorError, Specificity, listed, states_in
-from ._words import lower
+from ._selectors import SelectorError, listed
+from ._traits import traits_of
+from ._values import has_ident
 
-# A pseudo-class with what is in its parentheses, in which may be one more pair of them.
-_INNER = rf"""[^()"'\\/]|/(?!\*)|{OPAQUE}"""
-_PSEUDO_CLASS = re.compile(
-    rf"{OPAQUE}|:{NAMING}*(?:\((?:{_INNER}|\((?:{_INNER})*\))*\))?",
-    re.DOTALL | re.ASCII,
-)
-# What matches any element, as a selector and as a pseudo-class.
-_EVERY = "*"
+# What matches any element, as a pseudo-class.
 _ANY = ":is(*)"
-# A specificity above all.
-GREATEST: Specificity = (2**32, 0, 0)
 # How long a text is of which nothing is kept.
 _LONG = 200
+# What goes back to other declarations.
+_BACK = frozenset(("revert", "revert-layer"))
 # How deep at-rules are looked into.
 _DEEPEST = 16
 # What a rule may say that is not looked into.
@@ -69,21 +66,26 @@ class Block:
 
     def __init__(
         self,
-        declared: Iterable[Declaration],
+        declared: Callable[[], Sequence[Declaration]],
         owner: Optional[int] = None,
         ends: Callable[[], Dict[str, List[int]]] = dict,
     ) -> None:
-        """Takes declarations, the number of the statement that may be marked, and what finds the
-        ends in it by family."""
-        self._declared = tuple(declared)
+        """Takes what finds the declarations, the number of the statement that may be marked, and what
+        finds the ends in it by family."""
+        self._find_declared = declared
         self._owner = owner
         self._find_ends = ends
+
+    @functools.cached_property
+    def declared(self) -> Sequence[Declaration]:
+        """The declarations."""
+        return self._find_declared()
 
     @functools.cached_property
     def families(self) -> Dict[str, List[Declaration]]:
         """The declarations by family."""
         found: Dict[str, List[Declaration]] = {}
-        for each in self._declared:
+        for each in self.declared:
             found.setdefault(family_of(each.name), []).append(each)
         return found
 
@@ -102,7 +104,7 @@ class Block:
         if EVERYTHING in self.families or any(each.important for each in declared):
             return False
         # What goes back to other declarations goes back to others if it is important.
-        is_back = any(lower(each.value).startswith("revert") for each in declared)
+        is_back = any(has_ident(each.value, _BACK) for each in declared)
         return not is_back and self._has_ends(family)
 
     def _has_ends(self, family: str) -> bool:
@@ -117,9 +119,9 @@ class Block:
 class LeftBlock(Block):
     """What is left of a rule set that is written else."""
 
-    def __init__(self, declared: Iterable[Declaration], marked: Set[str]) -> None:
+    def __init__(self, declared: Sequence[Declaration], marked: Set[str]) -> None:
         """Takes the declarations that are left, and the families of these that are important."""
-        super().__init__(declared)
+        super().__init__(lambda: declared)
         self._marked = marked
 
     def _has_ends(self, family: str) -> bool:
@@ -131,32 +133,45 @@ class LeftBlock(Block):
 
 
 class StayingRule(NamedTuple):
-    """A rule that stays: a selector that matches all that its own does, or `*`; its specificity, as
-    far as it is known; and its declarations, also as the block that all rules of a rule set have.
+    """A rule that stays: a selector that matches all that its own does, or `*`; what says its place
+    in the cascade; and the block that all rules of a rule set have.
     """
 
     selector: str
-    specificity: Specificity
+    ordered: Ordered
     number: int
-    declarations: List[Declaration]
+    # Whether it is in a layer of which the place is not known.
     is_layered: bool
-    # Whether it matches in every state of the page, and whether the specificity is known.
+    # Whether it matches in every state of the page.
     is_definite: bool
-    is_ranked: bool
     block: Block
 
 
 class Place(NamedTuple):
     """Where statements that stay are: the number of the one that they are in, whether `!important`
-    may be put there, what is animated, and how deep in at-rules they are, whose text begins at an
-    offset."""
+    may be put there, what is animated, whether the places of layers are known, which layers they
+    are in, and how deep in at-rules they are, whose text begins at an offset."""
 
     number: int
     may_mark: bool
     animated: Set[str]
+    knows_layers: bool = False
+    layers: Layers = ()
     is_layered: bool = False
     level: int = 0
     offset: int = 0
+
+    def within(self, source: Source, levels: Tuple[Level, ...]) -> "Place":
+        """Returns the place of a statement that is in group rules."""
+        if self.knows_layers:
+            return self._replace(layers=layers_of(source, levels) or self.layers)
+        has_layer = any(each.condition.name == LAYER for each in levels)
+        return self._replace(is_layered=self.is_layered or has_layer)
+
+    def of_any(self, declared: List[Declaration]) -> "StayingRule":
+        """Returns a rule that may say these declarations of any element."""
+        ordered, block = Ordered(self.layers, EVERY, False), Block(lambda: declared)
+        return StayingRule(EVERY, ordered, self.number, self.is_layered, False, block)
 
 
 def marked(source: Source, span: Span, marks: Iterable[int]) -> str:
@@ -182,8 +197,17 @@ def ends_of(items: Iterable[BlockItem], source: Source, offset: int = 0) -> Dict
     return {family: ends for family, ends in found.items() if family not in is_open}
 
 
+def has_declarations(items: Sequence[BlockItem]) -> bool:
+    """Whether a block has declarations."""
+    if isinstance(items, Items) and items.are_whole:
+        return len(items) > 0
+    return any(isinstance(each, ReadDeclaration) for each in items)
+
+
 def has_rules(items: Iterable[BlockItem]) -> bool:
     """Whether a block has rules in it."""
+    if isinstance(items, Items) and items.are_whole:
+        return False
     return any(
         each.rule.block is not None if isinstance(each, ReadAtRule) else each.reason in _NESTED
         for each in items
@@ -198,9 +222,9 @@ def _block_of(text: str) -> Optional[str]:
     return items[0].rule.block if is_alone and isinstance(items[0], ReadAtRule) else None
 
 
-def _within(text: str) -> Tuple[Source, Tuple[BlockItem, ...]]:
+def _within(text: str) -> Tuple[Source, Sequence[BlockItem]]:
     """Returns what the block of a rule has."""
-    source, statements = read_sheet(_EVERY + "{" + text)
+    source, statements = read_sheet(EVERY + "{" + text)
     sets = [each for each in statements if isinstance(each, RuleSet)]
     return source, sets[0].items if sets else ()
 
@@ -228,17 +252,28 @@ def _wider(selector: ReadSelector) -> str:
     """Returns a selector that matches all that a selector does in some state of the page, and that
     the library reads."""
     is_supported = selector.specificity is not None
-    if is_supported and not states_in(selector.text):
+    if is_supported and not traits_of(selector.text).has_state:
         return selector.text
+    if len(selector.text) < _LONG:
+        return _wider_of_short(selector.text, is_supported)
+    return _wider_of(selector.text, is_supported)
 
-    def kept(found: Match[str]) -> str:
-        text = found.group()
-        is_kept = is_supported and not states_in(text) or not text.startswith(":")
-        return text if is_kept else _ANY
 
-    text = _PSEUDO_CLASS.sub(kept, selector.text)
-    is_read = _is_short_selector(text) if len(text) < _LONG else _is_selector(text)
-    return text if is_read else _EVERY
+def _wider_of(text: str, is_supported: bool) -> str:
+    pieces, at = [], 0
+    for name in pseudo_names(text):
+        if name.depth == 0:
+            whole = text[name.start : name.after]
+            is_kept = is_supported and not traits_of(whole).has_state
+            pieces += [text[at : name.start], whole if is_kept else _ANY]
+            at = name.after
+    found = "".join([*pieces, text[at:]])
+    is_read = _is_short_selector(found) if len(found) < _LONG else _is_selector(found)
+    return found if is_read else EVERY
+
+
+# Many rules have the same selectors.
+_wider_of_short = functools.lru_cache(maxsize=4096)(_wider_of)
 
 
 def _is_selector(text: str) -> bool:
@@ -253,19 +288,12 @@ def _is_selector(text: str) -> bool:
 _is_short_selector = functools.lru_cache(maxsize=1024)(_is_selector)
 
 
-def _of_any(declared: List[Declaration], number: int, is_layered: bool) -> StayingRule:
-    """Returns a rule that may say these declarations of any element."""
-    block = Block(declared)
-    return StayingRule(_EVERY, GREATEST, number, declared, is_layered, False, False, block)
-
-
 def rules_of(
     source: Source, statements: Iterable[Statement], place: Place
 ) -> Iterator[StayingRule]:
     """Yields the rules of statements that stay, also those within at-rules."""
     for found in statements:
-        has_layer = any(each.condition.name == "layer" for each in found.levels)
-        inner = place._replace(is_layered=place.is_layered or has_layer)
+        inner = place.within(source, found.levels)
         if isinstance(found, RuleSet):
             yield from _rules_of_set(source, found, inner)
         elif isinstance(found, ReadAtRule) and found.rule.block is not None:
@@ -274,29 +302,28 @@ def rules_of(
 
 def _rules_of_set(source: Source, found: RuleSet, place: Place) -> Iterator[StayingRule]:
     """Yields the rules of a rule set."""
-    declared = list(found.declarations)
-    within = _declared_within(found.items, source)
+    within = [] if found.items.are_whole else _declared_within(found.items, source)
     if within is None:
-        yield _of_any(declared + _ANYTHING, place.number, place.is_layered)
+        yield place.of_any([*found.declarations, *_ANYTHING])
         return
     owner = place.number if place.may_mark and not has_rules(found.items) else None
     ends = functools.partial(ends_of, found.items, source, place.offset)
-    block = Block(declared, owner, ends)
-    yield from rules_with(found.selectors, declared, place.number, place.is_layered, block)
+    block = Block(functools.partial(declarations_in, found.items), owner, ends)
+    yield from rules_with(found.selectors, place, block)
     if within:
         # Which elements the rules within it match is not looked at.
-        yield _of_any(within, place.number, place.is_layered)
+        yield place.of_any(within)
 
 
 def _rules_in(found: ReadAtRule, text: str, place: Place) -> Iterator[StayingRule]:
     """Yields the rules in the block of an at-rule."""
     source, statements = read_sheet(text)
-    if PREFIX.sub("", found.rule.name, count=1) == "keyframes":
+    if without_prefix(found.rule.name) == "keyframes":
         # What is animated is above all that is not important, and below all that is.
         for each in statements:
             place.animated.update(_framed(source, each))
     elif place.level > _DEEPEST:
-        yield _of_any(_ANYTHING, place.number, place.is_layered)
+        yield place.of_any(_ANYTHING)
     else:
         level, offset = place.level + 1, place.offset + found.inner[0]
         yield from rules_of(source, statements, place._replace(level=level, offset=offset))
@@ -319,24 +346,13 @@ def _framed(source: Source, found: Statement) -> Iterator[str]:
 
 
 def rules_with(
-    selectors: Iterable[ReadSelector],
-    declared: List[Declaration],
-    number: int,
-    is_layered: bool,
-    block: Block,
+    selectors: Iterable[ReadSelector], place: Place, block: Block
 ) -> Iterator[StayingRule]:
     """Yields a rule for each of these selectors of a rule set that stay."""
     for each in selectors:
         # What a pseudo-element has is of another box.
         if each.pseudo_element is None:
             wider = _wider(each)
-            yield StayingRule(
-                wider,
-                GREATEST if is_layered or each.specificity is None else each.specificity,
-                number,
-                declared,
-                is_layered,
-                wider == each.text,
-                each.specificity is not None,
-                block,
-            )
+            ordered = Ordered(place.layers, each.text, each.specificity is not None)
+            is_definite = wider == each.text
+            yield StayingRule(wider, ordered, place.number, place.is_layered, is_definite, block)

@@ -48,9 +48,11 @@ _NO_TEXTS = frozenset(
 
 
 class Item(NamedTuple):
-    """An element for `Tree`: its name and attributes, the index of its parent if it has one, where
-    its start tag begins if that is known, its states, such as `link`, and the text before its first
-    child."""
+    """An element for `Tree`.
+
+    It has its name and attributes, the index of its parent if it has one, where its start tag
+    begins if that is known, its states, such as `link`, and the text before its first child.
+    """
 
     name: str
     attributes: Dict[str, str] = {}
@@ -83,7 +85,7 @@ class Element:
 
     @property
     def states(self) -> FrozenSet[str]:
-        """The states, as `link`."""
+        """The states, such as `link`."""
         return self.tree._elements.states.get(self.index, NO_STATES)
 
     @property
@@ -114,22 +116,22 @@ class Element:
 
     @property
     def source(self) -> Optional[str]:
-        """The text of the document from the start tag to the end, if the tree was read from one."""
+        """The source of the element, or `None` if the tree was not read from a text."""
         return self.tree._elements.source_of(self.index)
 
     @property
     def row(self) -> Optional[int]:
-        """The row where the start tag begins, from 1, if the document has the tag."""
+        """The row of the start tag, from 1, if there is one."""
         return self.tree._elements.position(self.index)[0]
 
     @property
     def column(self) -> Optional[int]:
-        """The column where the start tag begins, from 1, if the document has the tag."""
+        """The column of the start tag, from 1, if there is one."""
         return self.tree._elements.position(self.index)[1]
 
     @property
     def node(self) -> Any:
-        """The element of the tree that this one was made from, or `None`."""
+        """The node that the element was made from, or `None`."""
         nodes = self.tree._elements.nodes
         return None if nodes is None else nodes[self.index]
 
@@ -138,7 +140,7 @@ class Element:
         return self.index in self.tree._elements.found_set(selectors, grammar)
 
     def closest(self, selectors: str, *, grammar: str = MODERN) -> Optional["Element"]:
-        """Returns the element itself or its nearest ancestor that one of the selectors matches."""
+        """Returns the closest of the element and its ancestors that matches, or `None`."""
         found = self.tree._elements.found_set(selectors, grammar)
         index = self.index
         while index >= 0:
@@ -148,7 +150,7 @@ class Element:
         return None
 
     def select(self, selectors: str, *, grammar: str = MODERN) -> List["Element"]:
-        """Returns the elements within this one that one of the selectors matches, in order."""
+        """Returns the elements within the element that match, in order."""
         found = self.tree._elements.found(selectors, grammar)
         first = bisect.bisect_right(found, self.index)
         last = bisect.bisect_left(found, self.tree._elements.end_of(self.index))
@@ -294,8 +296,10 @@ class Tree:
 
     @classmethod
     def from_soup(cls, root: Any, states: Optional[States] = None) -> "Tree":
-        """Takes a document or an element of BeautifulSoup, which is HTML unless it was read as
-        XML."""
+        """Takes a document or an element of BeautifulSoup.
+
+        It is HTML unless it was read as XML.
+        """
         if not hasattr(root, "contents") or not hasattr(root, "attrs"):
             raise TypeError(f"an element of BeautifulSoup is expected, not {type(root).__name__}")
         tree = cls()
@@ -347,7 +351,7 @@ class Tree:
     def select(self, selectors: str, *, grammar: str = MODERN) -> List[Element]:
         """Returns the elements that one of the selectors matches, in order.
 
-        The selectors are separated by commas. A text that is no such list raises `SelectorError`.
+        The selectors are separated by commas. A text that is not such a list raises `SelectorError`.
         `grammar` is that of `Selector`.
         """
         found = self._elements.found(selectors, grammar)

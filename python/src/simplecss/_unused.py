@@ -7,26 +7,23 @@ import functools
 from typing import Dict, FrozenSet, Iterator, List, NamedTuple, Optional, Sequence, Set, Tuple
 
 from ._elements import LINK, NO_STATES, Elements
-from ._pseudo import Name, is_name, is_supported, names_in
-from ._reading import ReadSelector, RuleSet, Source, Statement
+from ._found_names import Name, find_names, pseudo_names
+from ._reading import ReadSelector, RuleSet, Source, Statement, is_supported
 from ._selectors import OF_TREE
-from ._words import lower
 
 # A state that each element is in, one that none is in, and that of links.
 _MET, _UNMET, _OF_LINKS = ":hover", ":active", ":link"
 _STATES = frozenset(("hover",))
 # The pseudo-classes that are asked as they are.
 _ASKED = OF_TREE | {"link", "any-link"}
-_NOT = ":not("
 # How many states a selector has at most that is asked for.
 _MOST_STATES = 8
 
 
 class Unused(NamedTuple):
-    """A selector that matches no element: its text, where it begins, and whether its rule has no
-    other one that does.
+    """A selector that matches no element.
 
-    `row` and `column` begin at 1. `source` is the index of the text among those of the sheet, and
+    It has its text, where it begins, and whether no selector of its rule matches. `row` and `column` begin at 1. `source` is the index of the text among those of the sheet, and
     `start` and `end` are where the selector begins and ends in it.
     """
 
@@ -46,7 +43,8 @@ class Usage:
     def __init__(self, texts: Sequence[Tuple[Source, List[Statement]]], limit: int) -> None:
         self._texts = texts
         self._limit = limit
-        every = (each for _, rule in self._rules() for each in rule.selectors)
+        every = [each for _, rule in self._rules() for each in rule.selectors]
+        find_names(each.front for each in every)
         self._asked: Dict[ReadSelector, Optional[str]] = {each: _asked(each) for each in every}
         # What matches nothing so far.
         self._left: Set[str] = {each for each in self._asked.values() if each is not None}
@@ -112,26 +110,22 @@ def _asked(selector: ReadSelector) -> Optional[str]:
 @functools.lru_cache(maxsize=4096)
 def _asked_of(selector: str) -> Optional[str]:
     """Returns a selector with states that are met in place of its own."""
-    names = [each for each in names_in(selector) if each.name not in _ASKED]
+    names = [each for each in pseudo_names(selector) if each.name not in _ASKED]
     if len(names) > _MOST_STATES:
         return None
     text = selector
     for name in reversed(names):
-        if is_name(selector, name, True):
-            state = _state(selector, name)
-            if state is None:
-                return None
-            text = text[: name.start] + state + text[name.end :]
+        state = _state(selector, name)
+        if state is None:
+            return None
+        text = text[: name.start] + state + text[name.end :]
     return text if not names or is_supported(text) else None
 
 
 def _state(selector: str, name: Name) -> Optional[str]:
     """Returns what stands for a state: one that is met, or within `:not()` one that is not. Deeper
     in it that is not known."""
-    before = lower(selector[: name.start])
-    if before.endswith(_NOT):
-        return _UNMET
-    is_within = _NOT in before and not is_supported(selector[: name.start] + _MET)
-    if is_within:
-        return None
-    return _OF_LINKS if name.name == "visited" else _MET
+    if not name.is_negated:
+        return _OF_LINKS if name.name == "visited" else _MET
+    around = [each.name for each in pseudo_names(selector) if each.end + 1 == name.start]
+    return _UNMET if around == ["not"] else None

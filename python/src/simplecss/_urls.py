@@ -3,34 +3,17 @@
 from __future__ import annotations
 
 import re
-from typing import Match, NamedTuple, Optional
+from typing import Iterator, NamedTuple, Optional
 
 from . import _library as library
 from ._patterns import pattern
-from ._selectors import COMMENT, NAMING
-from ._words import BLANKS
+from ._tokens import GAPS, Token, tokens, without_gaps
+from ._words import BLANKS, lower
 
-_BLANK = r"[ \t\n\r\f]"
-# A url in `url()` or after `@import`, in quotes or without; or what has none: an escape, a comment
-# or a string, which ends with its line.
-_URL = pattern(
-    rf"""(?<!{NAMING})(?P<before>url\({_BLANK}*)(?P<quote>["'])"""
-    r"""(?P<url>(?:(?!(?P=quote))[^\\\n\r\f])*)(?P=quote)"""
-    rf"""|(?<!{NAMING})(?P<bare_before>url\({_BLANK}*)"""
-    rf"""(?P<bare>[^"'()\\ \t\n\r\f]+)(?={_BLANK}*\))"""
-    rf"""|(?P<import>@import{_BLANK}*)(?P<import_quote>["'])"""
-    r"""(?P<imported>(?:(?!(?P=import_quote))[^\\\n\r\f])*)(?P=import_quote)"""
-    rf"""|\\.|{COMMENT}"""
-    r"""|"[^"\\\n\r\f]*(?:\\.[^"\\\n\r\f]*)*"?|'[^'\\\n\r\f]*(?:\\.[^'\\\n\r\f]*)*'?""",
-    re.IGNORECASE | re.ASCII | re.DOTALL,
-)
+# What is before a string that is a url, by the kind of token.
+_BEFORE_STRINGS = {"function": "url", "at-keyword": "import"}
 # A folder above the one that urls are taken from.
 _ABOVE = "-above-/"
-_URL_GROUPS = (
-    ("before", "quote", "url"),
-    ("bare_before", "", "bare"),
-    ("import", "import_quote", "imported"),
-)
 SCHEME = pattern(r"[a-z][-+.a-z0-9]*:", re.IGNORECASE | re.ASCII)
 # The characters that would end a url in a sheet.
 _ENDING = str.maketrans({each: f"%{ord(each):02X}" for each in "\"'()\\<> \t\n\r\f"})
@@ -38,19 +21,27 @@ _ENDING = str.maketrans({each: f"%{ord(each):02X}" for each in "\"'()\\<> \t\n\r
 
 def rebased(css: str, base: str, room: Optional[library.Room] = None) -> str:
     """Returns a sheet with relative urls taken from a base. There is so much room for them."""
+    pieces, at = [], 0
+    for token in urls_in(css):
+        url = token.value
+        moved = joined(base, url)
+        if room is not None:
+            room.take(len(moved))
+        if moved != url:
+            pieces += [css[at : token.inside_start], moved.translate(_ENDING)]
+            at = token.inside_start + len(token.inside)
+    return "".join([*pieces, css[at:]])
 
-    def one(found: Match[str]) -> str:
-        for before, quote, url in _URL_GROUPS:
-            if found[url] is not None:
-                mark = found[quote] if quote else ""
-                moved = joined(base, found[url])
-                if room is not None:
-                    room.take(len(moved))
-                text = found[url] if moved == found[url] else moved.translate(_ENDING)
-                return f"{found[before]}{mark}{text}{mark}"
-        return found.group()
 
-    return _URL.sub(one, css)
+def urls_in(css: str) -> Iterator[Token]:
+    """Yields the urls without quotes of a text, and the strings in `url()` and after `@import`."""
+    is_next = False
+    for token in tokens(css):
+        if token.kind in GAPS:
+            continue
+        if token.kind == "url" or is_next and token.kind == "string":
+            yield token
+        is_next = _BEFORE_STRINGS.get(token.kind) == lower(token.value)
 
 
 def joined(base: str, url: str) -> str:
@@ -91,13 +82,13 @@ class Import(NamedTuple):
 
 
 def import_of(prelude: str) -> Optional[Import]:
-    """Returns what the prelude of an `@import` has, or `None` if its url has an escape."""
-    text = f"@import {prelude}" if prelude[:1] in ("'", '"') else prelude
-    found = _URL.match(text)
-    url = found and (found["url"] or found["bare"] or found["imported"])
-    if not found or not url:
+    """Returns what the prelude of an `@import` has, or `None` if it has no url."""
+    found = without_gaps(prelude)[:3]
+    is_function = [each.kind for each in found] == ["function", "string", "delim"]
+    if is_function and lower(found[0].value) == "url" and found[2].text == ")":
+        url, end = found[1].value, found[2].end
+    elif found and found[0].kind in ("string", "url"):
+        url, end = found[0].value, found[0].end
+    else:
         return None
-    rest = text[found.end() :].strip(BLANKS)
-    if found["import"] is not None:
-        return Import(url, rest)
-    return Import(url, rest[1:].strip(BLANKS)) if rest.startswith(")") else None
+    return Import(url, prelude[end:].strip(BLANKS)) if url else None

@@ -17,7 +17,7 @@ _LINK_SPACES = ("", "http://www.w3.org/1999/xhtml", "http://www.w3.org/2000/svg"
 
 
 class XmlError(ValueError):
-    """A text is no XML document."""
+    """A text is not an XML document."""
 
     def __init__(self, reason: str, row: int, column: int) -> None:
         super().__init__(reason, row, column)

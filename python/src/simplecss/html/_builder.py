@@ -691,16 +691,18 @@ class Builder:
 
     def _drop_alike(self, node: Node) -> None:
         """Forgets the first of three elements, since the last marker, that equal another."""
-        key, count, index = self._key_of(node), 0, len(self.formatting)
-        while index > 0 and count < 3:
-            index -= 1
-            other = self.formatting[index]
+        key, formatting = self._key_of(node), self.formatting
+        count, passed = 0, 0
+        for passed, other in enumerate(reversed(formatting), 1):
             if other is None:
                 break
-            count += self._key_of(other) is key
-        self._spend(len(self.formatting) - index)
-        if count == 3:
-            del self.formatting[index]
+            # Most have a key: no call finds it.
+            if other.key is key or other.key is None and self._key_of(other) is key:
+                count += 1
+                if count == 3:
+                    del formatting[-passed]
+                    break
+        self._spend(passed)
 
     def _clear_formatting(self) -> None:
         """Forgets the formatting elements up to the last marker."""

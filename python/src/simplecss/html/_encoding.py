@@ -162,7 +162,7 @@ class Encoding:
                 data,
                 at,
                 at + 1,
-                "the page has to name its encoding, and one only",
+                "the page must name one encoding",
             )
         if self._name == "iso2022_jp" and self(text) != data:
             raise UnicodeDecodeError(

@@ -1,0 +1,79 @@
+"""Properties by their names: shorthands, what is inherited, and which values can be declared."""
+
+from __future__ import annotations
+
+import functools
+from typing import FrozenSet, Tuple
+
+from . import _library as library
+from ._tokens import decoded
+from ._words import lower
+
+
+def denoted(name: str) -> str:
+    """Returns a name without escapes."""
+    return decoded(name) if "\\" in name else name
+
+
+def is_custom(name: str) -> bool:
+    """Whether a name as written is that of a custom property."""
+    return denoted(name).startswith("--")
+
+
+@functools.lru_cache(maxsize=4096)
+def longhands(name: str) -> Tuple[str, ...]:
+    """Returns the longhands that a shorthand sets. A longhand has none.
+
+    Of a property with two names, one sets the other: `word-wrap` sets `overflow-wrap`. `all` sets every
+    longhand but `direction` and `unicode-bidi`.
+    """
+    found = library.call("simplecss_longhands", library.encode(lower(name)), room=16384)
+    return tuple(found.output.decode("utf-8").split())
+
+
+@functools.lru_cache(maxsize=4096)
+def shorthands(name: str) -> Tuple[str, ...]:
+    """Returns the shorthands that set a longhand."""
+    answer = library.call("simplecss_shorthands", library.encode(lower(name)), room=1024)
+    found = library.output_of("simplecss_shorthands", answer)
+    return tuple(found.decode("utf-8").split())
+
+
+@functools.lru_cache(maxsize=4096)
+def is_inherited(name: str) -> bool:
+    """Whether a property is inherited: each custom property is, and a shorthand if all its longhands
+    are."""
+    word = library.encode(name if is_custom(name) else lower(name))
+    answer = library.call("simplecss_inherited", word, room=8)
+    return library.output_of("simplecss_inherited", answer) == b"true"
+
+
+@functools.lru_cache(maxsize=4096)
+def is_valid_value(value: str) -> bool:
+    """Whether each reference `var()` of a value is one: it has the name of a custom property, and
+    nothing else but a fallback. A browser drops a declaration with another."""
+    answer = library.call("simplecss_valid_value", library.encode(value), room=8)
+    return library.output_of("simplecss_valid_value", answer) == b"true"
+
+
+@functools.lru_cache(maxsize=4096)
+def parts_of(name: str) -> FrozenSet[str]:
+    """Returns the properties that a shorthand sets, and the shorthands of some of these. A name with
+    one longhand has none: it is another name of that one."""
+    those = frozenset(longhands(name))
+    if len(those) < 2:
+        return frozenset()
+    others = {each for part in those for each in shorthands(part) if each[0] != "-"}
+    return those.union(other for other in others if those > frozenset(longhands(other)))
+
+
+@functools.lru_cache(maxsize=4096)
+def first_set_with(name: str) -> str:
+    """Returns the first longhand by the alphabet of those that one shorthand after another sets with
+    this property, or its name if it is in no shorthand but `all`, and is none."""
+    found, new = set(), {name}
+    while new:
+        found |= new
+        others = {each for part in new for each in (*longhands(part), *shorthands(part))}
+        new = others - found - {"all"}
+    return min((each for each in found if not longhands(each)), default=name)

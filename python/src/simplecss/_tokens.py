@@ -1,0 +1,157 @@
+"""The tokens of a text, and names and strings as they are written, as the library reads them."""
+
+from __future__ import annotations
+
+import array
+import functools
+import itertools
+from typing import Iterable, Iterator, List, NamedTuple, Tuple
+
+from . import _library as library
+from ._words import lower
+
+# The kinds of tokens, as the library numbers them.
+_KINDS = (
+    "whitespace comment ident function at-keyword hash id string bad-string url bad-url number"
+    " percentage dimension cdo cdc delim".split()
+)
+_AT_KEYWORD = _KINDS.index("at-keyword")
+# What may be between two tokens.
+GAPS = frozenset(("whitespace", "comment"))
+_MEASURED = frozenset(("percentage", "dimension"))
+_STRINGS = frozenset(("string", "bad-string"))
+_HAS_VALUE = frozenset(("ident", "function", "at-keyword", "hash", "id", "url", "dimension"))
+
+
+class Token(NamedTuple):
+    """A token of CSS Syntax.
+
+    It has its kind, its text, and the index at which it begins. `inside` is its text without what it is marked by, such as quotes, and `inside_start` where that begins.
+
+    The kinds are "whitespace", "comment", "ident", "function" (a name and a parenthesis),
+    "at-keyword", "hash", "id" (a hash with a name), "string", "bad-string", "url" (without quotes),
+    "bad-url", "number", "percentage", "dimension", "cdo" (`<!--`), "cdc" (`-->`), and "delim": a
+    colon, a semicolon, a comma, a bracket or any other character.
+    """
+
+    kind: str
+    text: str
+    start: int
+    inside: str
+    inside_start: int
+
+    @property
+    def end(self) -> int:
+        """The index after it."""
+        return self.start + len(self.text)
+
+    @property
+    def value(self) -> str:
+        """What the token denotes, without escapes.
+
+        This is a name, the text of a string, a url, or the unit of a dimension; of another token,
+        its text.
+        """
+        if "\\" not in self.text or self.kind not in _HAS_VALUE and self.kind not in _STRINGS:
+            return self.inside
+        return decoded(self.inside, self.kind in _STRINGS)
+
+    @property
+    def number(self) -> str:
+        """The number of a dimension or a percentage, as written. Of another token, its text."""
+        return self.text[: -len(self.inside)] if self.kind in _MEASURED else self.text
+
+    @property
+    def unit(self) -> str:
+        """The unit of a dimension, or `%`; of another token nothing."""
+        return self.value if self.kind in _MEASURED else ""
+
+
+def tokens(text: str) -> Iterator[Token]:
+    """Yields the tokens of any text.
+
+    It may be a sheet, a value or a selector. Their texts, one after another, are the text. A lone surrogate raises `ValueError`.
+    """
+    data = library.encode(text)
+    return _tokens_at(text, data, library.numbers_of("simplecss_tokens", data, room=64 + len(data)))
+
+
+def _tokens_at(text: str, data: bytes, numbers: "array.array[int]") -> Iterator[Token]:
+    """Yields the tokens of these numbers."""
+    each = iter(numbers)
+    if len(text) == len(data):
+        for kind, start, end, inside, inside_end in zip(each, each, each, each, each):
+            yield Token(_KINDS[kind], text[start:end], start, text[inside:inside_end], inside)
+        return
+    at = 0
+    for kind, start, end, inside, inside_end in zip(each, each, each, each, each):
+        whole, within = data[start:end].decode(), data[inside:inside_end].decode()
+        yield Token(_KINDS[kind], whole, at, within, at + len(data[start:inside].decode()))
+        at += len(whole)
+
+
+def keywords_in(text: str) -> List[str]:
+    """Returns the names of at-keywords in a text, in lower case."""
+    data = library.encode(text)
+    if b"@" not in data:
+        return []
+    numbers = library.numbers_of("simplecss_tokens", data, room=64 + len(data))
+    rows = zip(numbers[0::5], numbers[3::5], numbers[4::5])
+    names = (data[start:end].decode() for kind, start, end in rows if kind == _AT_KEYWORD)
+    return [lower(decoded(name) if "\\" in name else name) for name in names]
+
+
+def without_gaps(text: str) -> List[Token]:
+    """Returns the tokens of a text but for white space and comments."""
+    return [each for each in tokens(text) if each.kind not in GAPS]
+
+
+@functools.lru_cache(maxsize=64)
+def without_colons(text: str) -> str:
+    """Returns the text of a pseudo-element after its colons."""
+    colons = itertools.takewhile(lambda token: token.text == ":", tokens(text))
+    return text[max((token.end for token in colons), default=0) :]
+
+
+def decoded(text: str, in_string: bool = False) -> str:
+    """Returns what a name denotes, or what is between the quotes of a string: its escapes are
+    decoded."""
+    data = library.encode(text)
+    return _written("simplecss_decode", data, int(in_string), room=16 + 3 * len(data))
+
+
+def is_escaping(text: str) -> bool:
+    """Whether a text ends with a backslash that escapes what follows it."""
+    return text.endswith("\\") and not decoded(text + "x").endswith("\\x")
+
+
+def replaced(text: str, places: Iterable[Tuple[int, int, str]]) -> str:
+    """Returns a text with escapes in place of some characters, also with a backslash before them."""
+    parts: List[str] = []
+    last = 0
+    for start, end, escaped in places:
+        before = text[last:start]
+        parts += before[:-1] if is_escaping(before) else before, escaped
+        last = end
+    return "".join([*parts, text[last:]])
+
+
+def escape(name: str) -> str:
+    """Returns an identifier that denotes the name in a selector.
+
+    `CSS.escape` of browsers returns the same. NUL is U+FFFD. A lone surrogate raises `ValueError`.
+    """
+    data = library.encode(name)
+    return _written("simplecss_escape", data, room=16 + 4 * len(data))
+
+
+def quote(text: str) -> str:
+    """Returns a string in double quotes that denotes the text. NUL is U+FFFD. A lone surrogate raises
+    `ValueError`."""
+    data = library.encode(text)
+    return _written("simplecss_quote", data, room=16 + 4 * len(data))
+
+
+def _written(name: str, *words: object, room: int) -> str:
+    """Returns the text that a call writes."""
+    return library.output_of(name, library.call(name, *words, room=room)).decode()

@@ -1,0 +1,204 @@
+"""The declarations that win on the elements of a tree, as the library finds them."""
+
+from __future__ import annotations
+
+import array
+import functools
+import itertools
+from typing import (
+    Any,
+    Callable,
+    Dict,
+    Iterable,
+    Iterator,
+    List,
+    NamedTuple,
+    Optional,
+    Sequence,
+    Tuple,
+)
+
+from . import _library as library
+from ._declaration import Declaration
+from ._device import LAYER, Media, holds
+from ._elements import Elements
+from ._nested import Block
+from ._reading import Condition, DeclarationReader, Source, Statement, conditions_of
+from ._selectors import lines_of
+from ._specified import Own
+
+# How many numbers the library writes of a rule before those of its declarations, of each of these,
+# and of a declaration that wins.
+_OF_RULE, _OF_DECLARATION, _OF_WINNER = 4, 6, 2
+# What a sheet has: its text, its statements, the blocks of rules in style rules, and the conditions of
+# all of it.
+ReadSheet = Tuple[Source, List[Statement], List[Block], Tuple[Condition, ...]]
+Applies = Callable[[Condition], bool]
+# The origins of sheets, and how the library numbers them.
+ORIGINS: Dict[str, int] = {"author": 0, "user": 1, "user-agent": 2}
+AUTHOR = "author"
+
+
+class Declarations:
+    """The declarations of a block, each made when it is asked for."""
+
+    def __init__(self, reader: DeclarationReader, numbers: "array.array[int]") -> None:
+        self._reader = reader
+        self._numbers = numbers
+        self._made: Dict[int, Declaration] = {}
+
+    def __len__(self) -> int:
+        return len(self._numbers) // _OF_DECLARATION
+
+    def __iter__(self) -> Iterator[Declaration]:
+        return map(self.at, range(len(self)))
+
+    def at(self, place: int) -> Declaration:
+        """Returns a declaration by its place among these."""
+        found = self._made.get(place)
+        if found is None:
+            found = self._made[place] = self._make(_OF_DECLARATION * place)
+        return found
+
+    def _make(self, at: int) -> Declaration:
+        name, name_length, value, value_length, is_important, is_closed = self._numbers[
+            at : at + _OF_DECLARATION
+        ]
+        return self._reader.declared(
+            (name, name + name_length),
+            (value, value + value_length),
+            bool(is_important),
+            bool(is_closed),
+        )
+
+
+class PlacedRule(NamedTuple):
+    """A rule: the number of its sheet, where its declarations begin there, and these."""
+
+    sheet: int
+    start: int
+    declarations: Declarations
+
+
+def _held(
+    statements: Iterable[Statement], blocks: Iterable[Block], applies: Applies
+) -> Iterator[Condition]:
+    """Yields the group rules of a sheet that hold."""
+    each_conditions = itertools.chain(
+        (conditions_of(each.levels) for each in statements), (each.conditions for each in blocks)
+    )
+    for conditions in each_conditions:
+        yield from itertools.takewhile(applies, conditions)
+
+
+class Winning:
+    """The rules of sheets that apply, in the order of the cascade, and what wins of these."""
+
+    def __init__(
+        self, sheets: Iterable[ReadSheet], origins: Sequence[str], media: Media, limit: int
+    ) -> None:
+        """Reads the sheets, of these origins. Rules with more declarations than `limit` raise
+        `LimitError`."""
+        applies = functools.lru_cache(maxsize=None)(functools.partial(holds, media=media))
+        used = [(n, each) for n, each in enumerate(sheets) if all(map(applies, each[3]))]
+        groups: Dict[Condition, None] = {}
+        for _, (_, statements, blocks, _) in used:
+            groups.update(dict.fromkeys(_held(statements, blocks, applies)))
+        texts = [source.data for _, (source, _, _, _) in used]
+        words = [library.encode(word) for each in groups if each.name != LAYER for word in each]
+        # The numbers of the sheets that apply, among all.
+        self._numbers = [number for number, _ in used]
+        self._sheets = library.SheetArrays(
+            texts, words, [ORIGINS[origins[number]] for number in self._numbers]
+        )
+        self._size = sum(map(len, texts))
+        self._limit = limit
+        self.rules = list(self._read([source for _, (source, _, _, _) in used], limit))
+        # How many declarations the rules have.
+        self.count = sum(len(each.declarations) for each in self.rules)
+        # How many rules are before those of the author, which are the last.
+        self._before = sum(origins[each.sheet] != AUTHOR for each in self.rules)
+
+    def _read(self, sources: Sequence[Source], limit: int) -> Iterator[PlacedRule]:
+        """Yields the rules."""
+        readers = list(map(DeclarationReader, sources))
+        # The declarations of each block, which the rules of a rule set share.
+        blocks: Dict[Tuple[int, int], Declarations] = {}
+        room = 1024 + self._size
+        numbers = library.numbers_of("simplecss_rules", self._sheets, limit, room=room)
+        at = 0
+        while at < len(numbers):
+            sheet, start, _, count = numbers[at : at + _OF_RULE]
+            at += _OF_RULE
+            end = at + _OF_DECLARATION * count
+            if (sheet, start) not in blocks:
+                blocks[sheet, start] = Declarations(readers[sheet], numbers[at:end])
+            yield PlacedRule(self._numbers[sheet], start, blocks[sheet, start])
+            at = end
+
+    def texts(self) -> List[Any]:
+        """Returns the text of each rule's selector, its pseudo-element and its specificity."""
+        name = "simplecss_rule_texts"
+        room, most = 1024 + 8 * self._size, library.most_written(self._size)
+        answer = library.call(name, self._sheets, self._limit, room=room, most=most)
+        return lines_of(library.output_of(name, answer))
+
+    def matching(self, elements: Elements, limit: int) -> Iterator["array.array[int]"]:
+        """Yields for each element the numbers of the rules that match it, or whose pseudo-elements it
+        has, in the order of the cascade. More rules than `limit` raise `LimitError`."""
+        numbers = elements.numbers("simplecss_matches", self._sheets, (), 1, limit)
+        at = 0
+        while at < len(numbers):
+            end = at + 1 + numbers[at]
+            yield numbers[at + 1 : end]
+            at = end
+
+    def on(self, elements: Elements, own: Own, limit: int) -> List[List[Declaration]]:
+        """Returns what wins on each element, which have these of their own, in the order of the cascade.
+        More declarations than `limit` raise `LimitError`."""
+        words = (own.arrays,)
+        numbers = elements.numbers("simplecss_winners", self._sheets, words, _OF_WINNER, limit)
+        return list(self._winners(numbers, own))
+
+    def named(
+        self, elements: Elements, own: Own, names: Iterable[str], limit: int
+    ) -> List[Optional[Declaration]]:
+        """Returns for each element the declaration that wins of those that have one of these names."""
+        asked = library.AskedArrays([list(map(library.encode, names))])
+        words = (own.arrays, asked)
+        numbers = elements.numbers(
+            "simplecss_winners_named", self._sheets, words, _OF_WINNER, limit
+        )
+        pairs = zip(numbers[::_OF_WINNER], numbers[1::_OF_WINNER])
+        return [self._at(own, index, *pair) for index, pair in enumerate(pairs)]
+
+    def _at(self, own: Own, index: int, source: int, place: int) -> Optional[Declaration]:
+        """Returns the declaration that the library says wins on an element."""
+        if source < len(self.rules):
+            return self.rules[source].declarations.at(place)
+        if source == len(self.rules):
+            return own.styled(index)[place]
+        return own.presented(index)[place] if source == len(self.rules) + 1 else None
+
+    def _winners(self, numbers: "array.array[int]", own: Own) -> Iterator[List[Declaration]]:
+        """Yields the declarations that win on each element. Many have the same."""
+        at = 0
+        known: Dict[Tuple[bytes, ...], List[Declaration]] = {}
+        for index in itertools.count():
+            if at >= len(numbers):
+                return
+            end = at + 1 + _OF_WINNER * numbers[at]
+            key = (numbers[at:end].tobytes(), *own.texts_of(index))
+            found = known.get(key)
+            if found is None:
+                pairs = zip(numbers[at + 1 : end : 2], numbers[at + 2 : end : 2])
+                each = (self._at(own, index, *pair) for pair in sorted(pairs, key=self._turn))
+                found = known[key] = [one for one in each if one is not None]
+            yield found.copy()
+            at = end
+
+    def _turn(self, pair: Tuple[int, int]) -> float:
+        """Returns when the cascade takes a declaration that wins: those of presentation attributes before
+        the author's."""
+        is_presented = pair[0] == len(self.rules) + 1
+        return self._before - 0.5 if is_presented else pair[0]

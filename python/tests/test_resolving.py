@@ -1,0 +1,202 @@
+"""Values whose references are replaced, shorthands, and what is inherited.
+
+The expected values are those of CSS Custom Properties for Cascading Variables 1, sections 2 and 3.
+"""
+
+from __future__ import annotations
+
+import os
+import sys
+import unittest
+from typing import Dict, List
+
+sys.path.insert(0, os.path.join(os.path.dirname(os.path.abspath(__file__)), "..", "src"))
+
+from simplecss import (  # noqa: E402
+    LimitError,
+    StyleSheet,
+    Tree,
+    is_inherited,
+    is_valid_value,
+    longhands,
+    shorthands,
+)
+from simplecss._families import family_of  # noqa: E402
+from simplecss._resolving import computed  # noqa: E402
+
+PAGE = '<div style="--x: blue"><p><b style="--x: inherit">a</b></p></div><p>c</p>'
+
+
+def by_name(sheet: str, page: str = PAGE) -> List[Dict[str, str]]:
+    """Returns the values on each element of a page's body, by their names."""
+    tree = Tree.from_html(page)
+    styles = StyleSheet(sheet).styles(tree, specified=True, resolved=True)
+    found = [{each.name: each.value for each in those} for those in styles]
+    names = [element.name for element in tree]
+    return found[names.index("body") + 1 :]
+
+
+class UserAgent(unittest.TestCase):
+    """The rules that HTML and SVG suggest (HTML Standard, 15.3; SVG 2, 6.8)."""
+
+    def test_layers(self) -> None:
+        """All others are above them, also attributes of SVG and rules in layers."""
+        tree = Tree.from_html("<ul><li hidden>a</ul><svg><title display=block>b</title></svg>")
+        sheet = StyleSheet("@layer a { li { display: flex } } ul { list-style-type: square }")
+        for specified, title in ((False, "none"), (True, "block")):
+            found = sheet.style(tree, "display", specified=specified, ua=True)
+            values = {each.name: found[each] and found[each].value for each in tree}
+            self.assertEqual((values["li"], values["title"]), ("flex", title))
+            self.assertEqual((values["body"], values["svg"]), ("block", None))
+        inherited = sheet.style(tree, "list-style-type", inherit=True, ua=True)
+        self.assertEqual(inherited[tree.select("li")[0]].value, "square")
+
+    def test_origin(self) -> None:
+        """Their origin is the user agent's (CSS Cascading 5, section 6.1), however specific they are: only
+        the sheets of that origin are compared with them."""
+        tree = Tree.from_html("<p align=center>")
+        texts = ("* { text-align: a }", "* { text-align: b }", "@layer { * { text-align: c } }")
+        for origins, value in (
+            (("author",) * 3, "b"),
+            (("user-agent", "user"), "c"),
+            (("user-agent", "user", "user"), "b"),
+            (("user-agent",) * 3, "center"),
+        ):
+            sheet = StyleSheet(*texts, origins=origins)
+            self.assertEqual(sheet.style(tree, "text-align", ua=True)[-1].value, value)
+            self.assertEqual(sheet.styles(tree, ua=True)[-1][-1].value, value)
+
+    def test_important(self) -> None:
+        """What is important of theirs wins over all others."""
+        tree = Tree.from_html("<input type=hidden style='display: block !important'>")
+        sheet = StyleSheet("input { display: flex !important }", origins=["user"])
+        found = sheet.style(tree, "display", specified=True, ua=True)[-1]
+        self.assertEqual(str(found), "display: none !important")
+
+    def test_shorthands(self) -> None:
+        """A shorthand of the author's wins over a longhand of theirs."""
+        tree = Tree.from_html("<ul style='list-style: square'>")
+        sheet = StyleSheet("ul { margin: 0 }")
+        found = sheet.style(tree, "list-style-type", specified=True, shorthands=True, ua=True)
+        self.assertEqual(str(found[-1]), "list-style: square")
+        self.assertEqual(
+            str(sheet.style(tree, "list-style-type", shorthands=True, ua=True)[-1]),
+            "list-style-type: disc",
+        )
+
+    def test_devices(self) -> None:
+        """They are those of each tree, also where one sheet is asked again."""
+        sheet = StyleSheet("b { top: 1px }")
+        for _ in range(2):
+            for text, value in (("<b>", "bolder"), ("<b/>", None)):
+                tree = Tree.from_html(text) if value else Tree.from_xml(text)
+                for ua in (False, True):
+                    weight = sheet.style(tree, "font-weight", ua=ua)[-1]
+                    self.assertEqual(weight and weight.value, value if ua else None)
+                    self.assertEqual(str(sheet.style(tree, "top", ua=ua)[-1]), "top: 1px")
+
+    def test_limits(self) -> None:
+        """The limits of a sheet count what is theirs, too."""
+        tree = Tree.from_html("<h1>a</h1>" * 5)
+        for limits in ({"limit": 9}, {"answer_limit": 9}):
+            sheet = StyleSheet("h1 { top: 1px }", **limits)
+            self.assertEqual(str(sheet.styles(tree)[-1][0]), "top: 1px")
+            with self.assertRaises(LimitError):
+                sheet.styles(tree, ua=True)
+
+    def test_grammar(self) -> None:
+        """The crate's grammar has no user agent."""
+        tree = Tree.from_html("<p>")
+        sheet = StyleSheet("p { top: 1px }", grammar="simplecss")
+        with self.assertRaises(ValueError):
+            sheet.styles(tree, ua=True)
+        with self.assertRaises(ValueError):
+            sheet.style(tree, "top", ua=True)
+
+
+class Families(unittest.TestCase):
+    def test_shorthands(self) -> None:
+        """A shorthand is of the family of what it sets, and so are two names of one property."""
+        for name in {each for part in longhands("all") for each in shorthands(part)} - {"all"}:
+            self.assertEqual({family_of(each) for each in longhands(name)}, {family_of(name)})
+        for one, other in (("word-wrap", "overflow-wrap"), ("grid-gap", "row-gap")):
+            self.assertEqual(family_of(one), family_of(other))
+
+
+class Resolved(unittest.TestCase):
+    def test_inheritance(self) -> None:
+        div, first, bold, second = by_name(":root{--x:red} p,b{color:var(--x)}")
+        self.assertEqual(div, {"--x": "blue"})
+        self.assertEqual(first, {"color": "blue"})
+        self.assertEqual(bold, {"color": "blue"})
+        self.assertEqual(second, {"color": "red"})
+
+    def test_invalid(self) -> None:
+        """A declaration that is invalid at computed-value time is left out, with those of circles."""
+        found = by_name("div{--a:var(--b);--b:var(--a);--c:initial;color:var(--c,var(--a,1px))}")
+        self.assertEqual(found[0], {"--x": "blue", "color": "1px"})
+        self.assertNotIn("margin", by_name("div{margin:var(--nothing)}")[0])
+
+    def test_circles(self) -> None:
+        """Those of a circle are invalid, and those that only lead to one take their fallbacks."""
+        circle = [("--a", "var(--b) var(--c)"), ("--b", "var(--a, 1)"), ("--c", "var(--b, 1)")]
+        self.assertEqual(computed([*circle, ("--d", "var(--a, 1)")]), [None, None, None, "1"])
+        alone = [("--a", "var(--a) var(--b)"), ("--b", "var(--a, 1)")]
+        self.assertEqual(computed(alone), [None, None])
+        # A fallback that is not needed is not read.
+        self.assertEqual(computed([("--a", "var(--x, var(--a))"), ("--x", "1")]), ["1", "1"])
+
+    def test_names(self) -> None:
+        """Names compare as they are, but for escapes."""
+        values = computed([("--\\61", "1"), ("x", "var(--a) var(--A,2) VAR(--a)")])
+        self.assertEqual(values, ["1", "1 2 1"])
+
+    def test_seams(self) -> None:
+        """A comment keeps tokens apart."""
+        pairs = [("--a", "1"), ("x", "var(--a)var(--a)"), ("y", "var(--a)%"), ("z", "var(--a) 2")]
+        self.assertEqual(computed(pairs)[1:], ["1/**/1", "1/**/%", "1 2"])
+
+    def test_limits(self) -> None:
+        """What doubles is cut off."""
+        count = 64
+        pairs = [(f"--a{n}", f"var(--a{n + 1}) var(--a{n + 1})") for n in range(count)]
+        values = computed([*pairs, (f"--a{count}", "x")], longest=100)
+        self.assertIsNone(values[0])
+        self.assertEqual([len(each or "") for each in values[-4:]], [15, 7, 3, 1])
+        with self.assertRaises(LimitError):
+            computed([("--a", "long")], most=2)
+
+
+class Names(unittest.TestCase):
+    def test_shorthands(self) -> None:
+        sides = ("margin-top", "margin-right", "margin-bottom", "margin-left")
+        self.assertEqual(longhands("Margin"), sides)
+        self.assertEqual(longhands("margin-left"), ())
+        self.assertEqual(shorthands("margin-left"), ("all", "margin"))
+        self.assertEqual(
+            set(shorthands("border-top-color")) & {"border", "border-top"}, {"border", "border-top"}
+        )
+        self.assertNotIn("direction", longhands("all"))
+
+    def test_style(self) -> None:
+        tree = Tree.from_html("<p>")
+        sheet = StyleSheet("p{margin-left:1px;margin:2px}p{margin-top:3px}")
+        for name, text in (("margin-left", "margin: 2px"), ("margin-top", "margin-top: 3px")):
+            found = sheet.style(tree, name, shorthands=True)
+            self.assertEqual(str(found[len(tree) - 1]), text)
+
+    def test_inherited(self) -> None:
+        for name in ("color", "--x", "font", "LINE-HEIGHT", "fill", "white-space"):
+            self.assertTrue(is_inherited(name), name)
+        for name in ("margin", "width", "border", "x-color"):
+            self.assertFalse(is_inherited(name), name)
+
+    def test_valid(self) -> None:
+        for value in ("red", "var(--a)", "f(var( --a , ))", "var(--a,var(--b))"):
+            self.assertTrue(is_valid_value(value), value)
+        for value in ("var(a)", "var(--a b)", "var()", "var(--)", "var(--a,var(b))", "var(--a,!)"):
+            self.assertFalse(is_valid_value(value), value)
+
+
+if __name__ == "__main__":
+    unittest.main()
