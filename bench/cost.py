@@ -376,8 +376,31 @@ spent = 1000 * (time.process_time() - start)
 print(spent, resource.getrusage(resource.RUSAGE_SELF).ru_maxrss // 1024)
 """
 PAGE = os.path.join(folder, "page.html")
+# What finds what wins of a sheet on elements, and what writes it.
+STYLES = "simplecss.StyleSheet(text).styles(simplecss.Tree.from_html('<ul><li><b>' * 9))"
+INLINE = "simplecss.inline('<ul><li><b class=x>' * 9, text)"
 # A text of size n, and the call.
 PYTHON: Sequence[Tuple[str, int, str, str]] = [
+    ("rules in rules, styles", 5_000, "n * 'b{c:d;'", STYLES),
+    ("rules in rules, inline", 5_000, "n * 'b{c:d;'", INLINE),
+    ("lists with combinators in rules", 1_000, "n * 'ul b,li b{&>c,&+d{e:f}'", STYLES),
+    ("rules of a rule", 2_000, "'b{' + n * '&>c,&+d{e:f}' + '}'", STYLES),
+    ("layers, styles", 256, "''.join(f'@layer l{i}{{b{{c:d}}}}' for i in range(n))", STYLES),
+    (
+        "layers of which something stays, inline",
+        256,
+        "''.join(f'@layer l{i}{{b{{c:d}}b:hover{{c:e}}}}' for i in range(n))",
+        INLINE,
+    ),
+    ("a layer many times, inline", 1_000, "n * '@layer x{b{c:d}b:hover{c:e}}'", INLINE),
+    ("layers in layers, styles", 200, "(16 * '@layer a{b{c:d}' + 16 * '}') * n", STYLES),
+    (
+        "group rules that hold",
+        1_250,
+        "''.join(f'@media (width>{i}px){{b{{c:d}}}}' for i in range(n))",
+        STYLES,
+    ),
+    ("rules that stay of one name, inline", 1_000, "n * '.x{c:d}.x:hover{c:e}'", INLINE),
     (
         "a selector with comments, inline",
         2_000,

@@ -1,4 +1,4 @@
-/* The C library as a program, for bench/speed.py: `json SHEET` writes what simplecss_read does, and `match SELECTORS TREE`, with
+/* The C library as a program, for bench/speed.py: `read SHEET` writes what simplecss_read does, and `match SELECTORS TREE`, with
  * a selector a line and a tree as `cssq` takes it, what simplecss_match_selectors does. */
 #include <stdio.h>
 #include <stdlib.h>
@@ -29,9 +29,15 @@ static text read_file(const char *path) {
     return found;
 }
 
+/* Returns where a byte is first from an offset up to another, or the other offset. */
+static size_t find(text where, size_t at, size_t end, char byte) {
+    const uint8_t *found = memchr(where.data + at, byte, end - at);
+    return found ? (size_t)(found - where.data) : end;
+}
+
 static size_t count_of(text where, char byte) {
     size_t count = 0;
-    for (size_t at = 0; at < where.len; at++) count += where.data[at] == byte;
+    for (size_t at = 0; (at = find(where, at, where.len, byte)) < where.len; at++) count++;
     return count;
 }
 
@@ -39,31 +45,38 @@ static strings strings_for(text source, size_t most) {
     return (strings){{room(source.len, 1), 0}, room(most, sizeof(size_t)), 0};
 }
 
-/* Adds the text up to one of two bytes or a newline, and returns where it ends. */
-static size_t add(strings *to, text from, size_t at, char end, char other) {
-    size_t start = at;
-    while (from.data[at] != end && from.data[at] != other && from.data[at] != '\n') at++;
-    memcpy(to->all.data + to->all.len, from.data + start, at - start);
-    to->all.len += at - start;
+/* Adds the text between two offsets. */
+static void add(strings *to, text from, size_t start, size_t end) {
+    memcpy(to->all.data + to->all.len, from.data + start, end - start);
+    to->all.len += end - start;
     to->ends[to->count++] = to->all.len;
-    return at;
 }
 
 static strings lines_of(text source) {
     strings found = strings_for(source, count_of(source, '\n'));
-    for (size_t at = 0; at < source.len; at++) at = add(&found, source, at, '\n', '\n');
+    for (size_t at = 0, end; at < source.len; at = end + 1) {
+        end = find(source, at, source.len, '\n');
+        add(&found, source, at, end);
+    }
     return found;
+}
+
+/* Adds the text from an offset up to a byte or the end of the line, and returns where it ends. */
+static size_t add_field(strings *to, text from, size_t at, size_t line, char byte) {
+    size_t end = find(from, at, line, byte);
+    add(to, from, at, end);
+    return end;
 }
 
 static size_t read_tree(text source, simplecss_element *elements, strings *found) {
     size_t count = 0;
-    for (size_t at = 0; at < source.len; at++, count++) {
+    for (size_t at = 0, line; at < source.len; at = line + 1, count++) {
         simplecss_element element = {0, 0, 0};
+        line = find(source, at, source.len, '\n');
         for (; source.data[at] != '\t'; at++) element.depth = 10 * element.depth + source.data[at] - '0';
-        at = add(found, source, at + 1, '\t', '\t');
-        for (; source.data[at] == '\t'; element.attributes++) {
-            at = add(found, source, at + 1, '=', '=');
-            at = add(found, source, at + 1, '\t', '\t');
+        for (at = add_field(found, source, at + 1, line, '\t'); at < line; element.attributes++) {
+            at = add_field(found, source, at + 1, line, '=');
+            at = add_field(found, source, at + 1, line, '\t');
         }
         elements[count] = element;
     }
@@ -89,11 +102,11 @@ static int match(text selectors, text tree, uint8_t *out) {
 }
 
 int main(int argc, char **words) {
-    uint8_t *out = room(ROOM, 1);
+    void *out = room(ROOM, 1);
     size_t len = 0;
     if (argc == 4 && !strcmp(words[1], "match")) return match(read_file(words[2]), read_file(words[3]), out);
-    if (argc != 3 || strcmp(words[1], "json")) return 2;
+    if (argc != 3 || strcmp(words[1], "read")) return 2;
     text sheet = read_file(words[2]);
-    uint32_t status = simplecss_read(sheet.data, sheet.len, SIMPLECSS_NO_LIMIT, out, ROOM, &len);
-    return write_answer(status, out, len);
+    uint32_t status = simplecss_read(sheet.data, sheet.len, SIMPLECSS_NO_LIMIT, out, ROOM / sizeof len, &len);
+    return write_answer(status, out, len * sizeof len);
 }

@@ -21,7 +21,7 @@ starts the system reports no less than Python's own.
 
 --libraries measures the C library in out/ and the module `modern` of the Rust crate, as the programs
 bench/library.c and bench/library.rs, which gcc and cargo make in FOLDER. MODERN, if given, is the
-same over Servo's crates: its `match` must print the same.
+same over Servo's crates: its `match` must print the same, and its `json` what sheets have.
 
 --python measures the Python package beside other packages on the same sheet and page, and prints a
 table. What is not installed is left out. Each call is made five times in a process of its own, one
@@ -41,7 +41,7 @@ import tempfile
 import time
 from dataclasses import dataclass, field
 from math import ceil, floor, log10
-from typing import Callable, Dict, Iterable, Iterator, List, Optional, Sequence, Tuple
+from typing import Callable, Dict, Iterable, Iterator, List, Mapping, Optional, Sequence, Tuple
 
 # fmt: off
 VOID = {
@@ -79,13 +79,19 @@ codegen-units = 1
 
 @dataclass(frozen=True)
 class Program:
-    """A program, and of which commands its output must be that of the first."""
+    """A program, of which commands its output must be that of the first, and commands that it names
+    otherwise."""
 
     name: str
     colour: str
     path: str
     commands: Tuple[str, ...]
     compared: Tuple[str, ...]
+    named: Mapping[str, str] = field(default_factory=dict)
+
+    def words_for(self, words: Sequence[str]) -> List[str]:
+        """Returns the words of a command as it takes them."""
+        return [self.named.get(words[0], words[0]), *words[1:]]
 
 
 @dataclass(frozen=True)
@@ -324,7 +330,7 @@ def least(
         for place, program in enumerate(programs):
             if not program:
                 continue
-            spent, output = measured(program.path, words)
+            spent, output = measured(program.path, program.words_for(words))
             times[place] = min(times[place], spent)
             if first is not None and words[0] in program.compared and output != first:
                 sys.exit(f"{program.path} answers otherwise to {words}")
@@ -332,7 +338,8 @@ def least(
         if number >= 2 and time.monotonic() - begun > PATIENCE:
             break
     return [
-        Cost(spent, memory_of(it.path, words)) if it else None for it, spent in zip(programs, times)
+        Cost(spent, memory_of(it.path, it.words_for(words))) if it else None
+        for it, spent in zip(programs, times)
     ]
 
 
@@ -429,14 +436,15 @@ def program_in_rust(folder: str) -> Optional[str]:
 
 def libraries(folder: str, modern: Optional[str]) -> List[Program]:
     """Returns the programs over the libraries, and the one over Servo's crates."""
-    every, match = ("json", "match"), ("match",)
+    every, match = ("read", "match"), ("match",)
+    modern = modern and os.path.abspath(modern)
     named = [
         ("C", "#1764c0", program_in_c(folder), every),
         ("Rust", "#c04a17", program_in_rust(folder), match),
-        ("Servo's crates", "#2c8a3a", modern and os.path.abspath(modern), every),
+        ("Servo's crates", "#2c8a3a", modern, every),
     ]
     return [
-        Program(name, colour, path, commands, match)
+        Program(name, colour, path, commands, match, {"read": "json"} if path == modern else {})
         for name, colour, path, commands in named
         if path
     ]
@@ -466,7 +474,7 @@ def show_libraries(bench: Bench, css: str, tree: List[str], is_quick: bool) -> N
     show_names(bench)
     for times in (1, 4) if is_quick else (1, 4, 16):
         path = bench.put(f"sheet{times}.css", css * times)
-        bench.run(f"json: {len(css) * times / 1e6:.1f} MB", 0, ["json", path])
+        bench.run(f"read: {len(css) * times / 1e6:.1f} MB", 0, ["read", path])
     selectors = bench.put("selectors", selectors_of(css))
     for lines in (tree[: len(tree) // 4], tree) if is_quick else (tree, tree * 4, tree * 40):
         path = bench.put("part.tree", tree_of(lines))
@@ -501,12 +509,14 @@ class Panel:
         )
 
     def frame(self) -> Iterator[str]:
-        """Returns the title, the frame and the lines of the scales."""
+        """Returns the title, the names of the axes, the frame and the lines of the scales."""
         x_of, y_of, powers = self.scales()
         left = self.left
+        yield f'<text x="{left}" y="24" font-size="14">{self.title}</text>'
+        yield f'<text x="{left + 170}" y="340" text-anchor="middle">{self.label}</text>'
         yield (
-            f'<text x="{left}" y="24" font-size="14">{self.title}: milliseconds against'
-            f" {self.label}</text>"
+            f'<text transform="translate({left - 42} 170) rotate(-90)"'
+            ' text-anchor="middle">milliseconds</text>'
         )
         yield f'<rect x="{left}" y="40" width="340" height="260" fill="none" stroke="#888"/>'
         for power in powers:
@@ -540,7 +550,7 @@ class Panel:
             )
             x, y = line[-1]
             place_of_name = (
-                f'x="{x - 14:.1f}" y="{max(y - 8, 50):.1f}" text-anchor="end"'
+                f'x="{x - 14:.1f}" y="{max(y - 8, 55):.1f}" text-anchor="end"'
                 if place
                 else f'x="{x:.1f}" y="{y + 20:.1f}" text-anchor="middle"'
             )
@@ -722,7 +732,32 @@ CALLS: Dict[str, Dict[str, Tuple[str, str]]] = {
         ),
         "cssselect2": (CSSSELECT2, "styles()"),
     },
-    "`inline`": {"simplecss": ("import simplecss", "simplecss.inline(page, css)")},
+    "`inline`": {
+        "simplecss": ("import simplecss", "simplecss.inline(page, css)"),
+        "premailer": ("import premailer", "premailer.transform(page, css_text=css)"),
+        "css-inline": ("import css_inline", "css_inline.inline(page, extra_css=css)"),
+    },
+    "`lint`": {
+        "simplecss": ("import simplecss", "simplecss.lint(css)"),
+        "cssutils": (
+            "import cssutils, logging; cssutils.log.setLevel(logging.CRITICAL)",
+            "cssutils.parseString(css)",
+        ),
+    },
+    "`unused`": {
+        "simplecss": (
+            "import simplecss; tree = simplecss.Tree.from_html(page)",
+            "simplecss.StyleSheet(css).unused(tree)",
+        ),
+    },
+    "`minify`": {
+        "simplecss": ("import simplecss", "simplecss.minify(css)"),
+        "rcssmin": ("import rcssmin", "rcssmin.cssmin(css)"),
+    },
+    "`tokens`": {
+        "simplecss": ("import simplecss", "list(simplecss.tokens(css))"),
+        "tinycss2": ("import tinycss2", "tinycss2.parse_component_value_list(css)"),
+    },
     "`inline` of 20 short pages": {
         "simplecss": (
             "import simplecss; inliner = simplecss.Inliner(css)",

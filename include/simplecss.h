@@ -11,8 +11,8 @@
  * count as often, so the rules of a short text may take memory quadratic in its length. Pass
  * SIMPLECSS_NO_LIMIT for texts that you trust.
  *
- * A call whose answer may be much longer than what is passed has a parameter `most`: the most bytes that
- * its answer may have. `most` does not depend on the buffer: if the answer is longer than the buffer and not
+ * A call whose answer may be much longer than what is passed has a parameter `most`: the most bytes, or numbers,
+ * that its answer may have. `most` does not depend on the buffer: if the answer is longer than the buffer and not
  * than `most`, `*len` is still the length that it needs. Lines are as many as elements and each as long as
  * rules match, so 10,000 rules and 10,000 elements may have an answer of 500 MB; those of simplecss_read have
  * the group rules that each item is in, up to 64. Pass SIMPLECSS_NO_LIMIT for no limit. The call stops at the
@@ -24,7 +24,7 @@
  * empty, with TABs, newlines, `=`, control characters or zero bytes. So may a key, but no two keys of
  * an element are equal. A name is not empty.
  *
- * A call that reads selectors has a `grammar`, as SIMPLECSS_MODERN. The calls whose names begin with
+ * A call that reads selectors has a `grammar`, such as SIMPLECSS_MODERN. The calls whose names begin with
  * `simplecss_port` read the grammar of the Rust crate simplecss, CSS 2.1, alone. All others read modern CSS.
  *
  * Each call writes its answer to `out`, a buffer of `out_size` bytes, and returns a status:
@@ -62,7 +62,7 @@ extern "C" {
 /* The version of this header. That of the library is what simplecss_version writes. */
 #define SIMPLECSS_VERSION "0.2.0"
 
-/* The statuses of calls. */
+/* The status of a call. */
 #define SIMPLECSS_DONE 0u          /* the answer was written */
 #define SIMPLECSS_REFUSED 1u       /* a selector is refused, a grammar is another number, or ends are not
                                       those of texts: of two faults of texts the first in order is
@@ -73,6 +73,7 @@ extern "C" {
 #define SIMPLECSS_TOO_LONG 4u      /* the same status: the answer would have more bytes than `most` */
 #define SIMPLECSS_NOT_UTF8 5u      /* a text is not UTF-8, or the strings of a tree are not */
 #define SIMPLECSS_TOO_SMALL 6u     /* the answer is longer than the buffer */
+#define SIMPLECSS_TOO_MANY_LAYERS 7u /* style sheets name more than 1,024 layers where their group rules hold */
 
 /* A limit that allows any number of declarations, or of bytes. */
 #define SIMPLECSS_NO_LIMIT SIZE_MAX
@@ -83,7 +84,7 @@ extern "C" {
 typedef struct simplecss_element {
     size_t depth;      /* how many ancestors the element has */
     size_t attributes; /* how many attributes it has */
-    size_t states;     /* the sum of its states, as SIMPLECSS_LINK | SIMPLECSS_HOVER */
+    size_t states;     /* the sum of its states, such as SIMPLECSS_LINK | SIMPLECSS_HOVER */
 } simplecss_element;
 
 /* The states of elements, each of which a pseudo-class tests. Other numbers mean nothing. */
@@ -92,7 +93,7 @@ typedef struct simplecss_element {
 #define SIMPLECSS_HOVER 4u
 #define SIMPLECSS_ACTIVE 8u
 #define SIMPLECSS_FOCUS 16u
-/* No state: the element has a text of its own that is not empty. White space is a text, a comment is none.
+/* No state: the element has a text of its own that is not empty. White space is a text, but a comment is not.
  * `:empty` of modern selectors tests it. */
 #define SIMPLECSS_HAS_TEXT 32u
 
@@ -113,7 +114,9 @@ typedef struct simplecss_tree {
  * "Case-sensitivity of selectors"). The tree of an HTML document has in lower case what is compared without
  * case: names of elements and keys of attributes, the values of the attributes that the standard lists (accept to
  * vlink), and in quirks mode the values of `id` and `class`. At these values the flag `s` of an attribute selector
- * changes nothing. */
+ * changes nothing. Attributes decide which elements of an HTML document match `:checked`, `:disabled`, `:enabled`,
+ * `:required`, `:optional`, `:read-write`, `:read-only`, `:placeholder-shown`, `:default`, `:indeterminate`, `:open`
+ * and `:defined`. */
 #define SIMPLECSS_MODERN 0u      /* names, keys and values are compared byte by byte */
 #define SIMPLECSS_HTML 1u        /* as an HTML document compares them */
 #define SIMPLECSS_HTML_QUIRKS 2u /* as an HTML document in quirks mode does */
@@ -133,8 +136,8 @@ typedef struct simplecss_device {
     uint32_t width;          /* in pixels */
     uint32_t height;         /* in pixels */
     uint32_t resolution;     /* in thousandths of a dot for each pixel: 1000 is 96 dpi */
-    uint32_t medium;         /* its type, as SIMPLECSS_SCREEN */
-    uint32_t pointer;        /* as SIMPLECSS_FINE */
+    uint32_t medium;         /* its type, such as SIMPLECSS_SCREEN */
+    uint32_t pointer;        /* such as SIMPLECSS_FINE */
     uint32_t hover;          /* not 0: its pointer can hover */
     uint32_t dark;           /* not 0: its user prefers dark colours */
     uint32_t reduced_motion; /* not 0: its user prefers less motion */
@@ -158,7 +161,7 @@ typedef struct simplecss_tree_fault {
     size_t element;
 } simplecss_tree_fault;
 
-/* Writes the version of the library, as "0.2.0". */
+/* Writes the version of the library, such as "0.2.0". */
 uint32_t simplecss_version(uint8_t *out, size_t out_size, size_t *len);
 
 /* Writes a line of JSON for each selector of a list with commas between them. Of a modern one it is
@@ -199,29 +202,46 @@ uint32_t simplecss_select(const uint8_t *selectors, size_t selectors_len, size_t
                           const simplecss_tree *tree, size_t most,
                           uint8_t *out, size_t out_size, size_t *len, simplecss_tree_fault *fault);
 
-/* Writes a line of JSON for each item of a style sheet by the modern grammar (CSS Syntax Module Level
- * 3). Ranges are offsets into the text, in bytes: of the first byte, and of the byte after the last.
- * Of "a, p::before { b: c }" the line is, here on several lines,
- * {"kind":"rule","start":0,"end":21,"levels":[],"prelude":[0,12],"block":[15,19],"closed":true,
- *  "selectors":[{"text":[0,1],"is_read":true,"specificity":[0,0,1],"pseudo_element":null},
- *               {"text":[3,12],"is_read":true,"specificity":[0,0,2],"pseudo_element":[4,12]}],
- *  "items":[{"kind":"declaration","start":15,"end":19,"name":[15,16],"value":[18,19],
- *            "important":false,"closed":true}]}
- * "levels" are the group rules that the item is in, such as @media, from the outermost:
- * {"name":[1,6],"prelude":[7,12],"start":0,"end":30}. "is_read" says whether what is before the
- * pseudo-element is a modern selector, by which the library matches elements; if not, "specificity" is null.
- * "closed" is false if the end of the text closes it.
- * {"kind":"at-rule","start":0,"end":9,"levels":[],"name":[1,7],"prelude":[8,8],"block":null,"closed":true}
- * {"kind":"skipped","start":0,"end":9,"levels":[],"fault":"invalid selector"}
- * Other faults are "broken declaration", "bad string", "bad url", "stray bracket", "too deep",
- * "nested rule" and "no block". A rule with one invalid selector is skipped as a whole. */
+/* Writes numbers of each statement of a style sheet by the modern grammar (CSS Syntax Module Level 3). Offsets and
+ * lengths are in bytes, and the former into the text. Each statement has ten numbers, which are by its kind
+ *   SIMPLECSS_RULE         start len closed  prelude prelude_len block block_len  0 0
+ *   SIMPLECSS_AT_RULE      start len closed  name name_len prelude prelude_len  block block_len
+ *   SIMPLECSS_AT_STATEMENT start len 1       name name_len prelude prelude_len  0 0
+ *   any other kind         start len 0       0 0 0 0  0 0
+ * then three: how many numbers follow for its group rules, for its selectors and for its items; and then these.
+ * `closed` is 0 if the end of the text closes it, and else 1; a kind from SIMPLECSS_SKIPPED on says why it is skipped.
+ * A rule with one invalid selector is skipped as a whole. Only rules have selectors and items. Each group rule that
+ * the statement is in, such as @media, has six numbers, from the outermost; each selector of a rule has eight:
+ *   start len  name name_len prelude prelude_len
+ *   start len  is_read ids classes types  element element_len
+ * `is_read` says whether what is before the pseudo-element is a modern selector, by which the library matches
+ * elements: then `ids`, `classes` and `types` are the specificity of the whole. `element` is where the pseudo-element
+ * begins, with its colons; 0 and 0 if there is none. Each item of the block has ten numbers, as a statement has, or
+ *   SIMPLECSS_DECLARATION  start len closed  name name_len value value_len  important 0
+ * Of "a{b:c}" the numbers are 3 0 6 1 0 1 2 3 0 0, 0 8 10, 0 1 1 0 0 1 0 0, and 0 2 3 1 2 1 4 1 0 0. `most`, `out_size`
+ * and `*len` count numbers. */
 uint32_t simplecss_read(const uint8_t *text, size_t text_len, size_t most,
-                        uint8_t *out, size_t out_size, size_t *len);
+                        size_t *out, size_t out_size, size_t *len);
 
-/* Writes a line of JSON for each item of a style attribute, as "items" of simplecss_read has them. A rule
- * in it is a broken declaration. */
+/* Writes the numbers of each item of a style attribute, as simplecss_read does of those of a block. A rule in it is a
+ * broken declaration. `out_size` and `*len` count numbers. */
 uint32_t simplecss_declarations(const uint8_t *text, size_t text_len,
-                                uint8_t *out, size_t out_size, size_t *len);
+                                size_t *out, size_t out_size, size_t *len);
+
+/* The kinds of statements and items. Those from SIMPLECSS_SKIPPED on are skipped. */
+#define SIMPLECSS_DECLARATION 0u
+#define SIMPLECSS_AT_RULE 1u      /* with a block */
+#define SIMPLECSS_AT_STATEMENT 2u /* an at-rule without one */
+#define SIMPLECSS_RULE 3u
+#define SIMPLECSS_SKIPPED 4u
+#define SIMPLECSS_BROKEN_DECLARATION 4u
+#define SIMPLECSS_HAS_BAD_STRING 5u
+#define SIMPLECSS_HAS_BAD_URL 6u
+#define SIMPLECSS_STRAY_BRACKET 7u
+#define SIMPLECSS_TOO_DEEP 8u
+#define SIMPLECSS_NO_BLOCK 9u
+#define SIMPLECSS_NESTED_RULE 10u
+#define SIMPLECSS_INVALID_SELECTOR 11u
 
 /* Writes the value of a declaration with what closes it: the end of a string, a url or a comment that the end
  * of the text left open, and then the brackets that are open. Pass a "value" of simplecss_declarations or
@@ -246,6 +266,192 @@ uint32_t simplecss_supports(const uint8_t *text, size_t text_len,
                             const uint8_t *properties, size_t properties_len,
                             const size_t *ends, size_t ends_count,
                             uint8_t *out, size_t out_size, size_t *len);
+
+/* Writes the computed values of the first `wanted` of an element's properties (CSS Custom Properties for Cascading
+ * Variables 1), whose names and values are the texts of a buffer in turn: of each the length of its value in digits,
+ * a newline and the value, or only a newline where it has none. Each `var()` is replaced by the value of the first
+ * property of its name, or by its fallback. To hand values down, pass those that the parent has after the element's
+ * own. Custom properties that lead to one another in a circle have no value, nor has a value with a `var()` that
+ * is none, one longer than `limit`, or that of a custom property that comes to `initial`. Refused if the texts are
+ * not pairs. The time grows as the texts that are read and the values. */
+uint32_t simplecss_values(const uint8_t *texts, size_t texts_len, const size_t *ends, size_t ends_count,
+                          size_t wanted, size_t limit, size_t most,
+                          uint8_t *out, size_t out_size, size_t *len);
+
+/* Writes whether each `var()` of a value has the name of a custom property, and nothing else but a fallback in which
+ * this holds too, as `true` or `false`. A declaration with another value is to be dropped. */
+uint32_t simplecss_valid_value(const uint8_t *value, size_t value_len,
+                               uint8_t *out, size_t out_size, size_t *len);
+
+/* Writes the longhands that a shorthand sets, or what another name of a longhand denotes, with spaces between them.
+ * The name is in lower case. Any other name is refused, so that of a longhand. */
+uint32_t simplecss_longhands(const uint8_t *name, size_t name_len,
+                             uint8_t *out, size_t out_size, size_t *len);
+
+/* Writes the shorthands that set a longhand, whose name is in lower case, each with a newline after it. */
+uint32_t simplecss_shorthands(const uint8_t *name, size_t name_len,
+                              uint8_t *out, size_t out_size, size_t *len);
+
+/* Writes whether a property is inherited, as `true` or `false`: one of CSS 2.1, of SVG or of a browser, whose name is
+ * in lower case, or a custom property. */
+uint32_t simplecss_inherited(const uint8_t *name, size_t name_len,
+                             uint8_t *out, size_t out_size, size_t *len);
+
+/* Style sheets that are read together, one after another, with their origins, and the group rules that hold: two
+ * texts for each, its keyword in lower case, as `media`, and its prelude as it is written. An `@layer` holds without
+ * being named. The origin of a sheet is SIMPLECSS_AUTHOR if it is another number, or if there are fewer. A layer that
+ * sheets of several origins name is one. */
+typedef struct simplecss_sheets {
+    const uint8_t *texts;
+    size_t texts_len;
+    const size_t *ends;
+    size_t ends_count;
+    const size_t *origins;
+    size_t origins_count;
+    const uint8_t *groups;
+    size_t groups_len;
+    const size_t *group_ends;
+    size_t group_ends_count;
+} simplecss_sheets;
+
+/* The origins of sheets. */
+#define SIMPLECSS_AUTHOR 0u
+#define SIMPLECSS_USER 1u
+#define SIMPLECSS_USER_AGENT 2u
+
+/* The declarations of elements that are in no rule: two texts for each element of a tree, in order, of its `style`
+ * attribute and of its presentation declarations, such as `fill: red`, which are presentational hints. The texts of
+ * further elements are empty, so there may be none at all. */
+typedef struct simplecss_own {
+    const uint8_t *texts;
+    size_t texts_len;
+    const size_t *ends;
+    size_t ends_count;
+} simplecss_own;
+
+/* Properties, each with one name or several, such as a longhand and the shorthands that set it: the names of all, and
+ * how many each has. Names after these are of no property. */
+typedef struct simplecss_asked {
+    const uint8_t *names;
+    size_t names_len;
+    const size_t *ends;
+    size_t ends_count;
+    const size_t *counts;
+    size_t counts_count;
+} simplecss_asked;
+
+/* Writes numbers of the style rules of sheets that apply, in the order of the cascade (CSS Cascading 5): by origins,
+ * the user agent's first, then by layers, then by specificity, then as they stand. A rule set has a rule for each of its selectors that is supported. The
+ * numbers of a rule are
+ *   sheet start layer count
+ * and then, for each of its `count` declarations,
+ *   name name_len value value_len important closed
+ * `sheet` is the number of the text, from 0; `start`, where the rule's declarations begin there, and `name` and
+ * `value` are offsets into this text; `layer` is how many layers are before that of the rule; `important` and
+ * `closed` are 0 or 1. A style rule may be in another (CSS Nesting 1). Declarations between two rules in a rule are a
+ * rule of their own. `out_size` and `*len` count numbers. The time grows as n log n of the texts and of the group
+ * rules that are passed, if each is passed once. */
+uint32_t simplecss_rules(const simplecss_sheets *sheets, size_t limit,
+                         size_t *out, size_t out_size, size_t *len);
+
+/* Writes a line of JSON for each rule of simplecss_rules: the text of its selector, the name of the pseudo-element at
+ * the end of that, or null, and the specificity, with what `&` counts:
+ * {"text":"> b::before","pseudo_element":"before","specificity":[0,0,3]} */
+uint32_t simplecss_rule_texts(const simplecss_sheets *sheets, size_t limit, size_t most,
+                              uint8_t *out, size_t out_size, size_t *len);
+
+/* Writes for each element of a tree how many declarations win on it, of the sheets and of its own, and then two numbers
+ * for each: where it is, and how many declarations are before it there. It is in the rule of this index among those of
+ * simplecss_rules, from 0; in the `style` attribute if the number is that of all rules; and one more says that it is a
+ * presentation declaration. They are in the order of the rules, then presentation declarations, then those of the
+ * attribute. One wins for each property: names are compared in any case, but for those of custom properties;
+ * shorthands are not expanded. Important declarations win, of an earlier origin over those of a later one, and in an
+ * earlier layer over those in a later one; of others those of a later origin and in a later layer; then the greater
+ * specificity decides, and then the order. Presentation declarations are of an origin between the user's and the
+ * author's; the author's declarations in the attribute win over those in rules that are as important. A rule with a
+ * pseudo-element applies to no element. `grammar` is one of modern selectors; the port is refused. `most`, `out_size`
+ * and `*len` count numbers. For each element the time grows as the declarations of all rules that match it, of which
+ * `limit` is the most, and of its own.
+ *
+ * Each list of selectors of a style rule with rules in it is tested once on each element. These tests are at most
+ * `most`, too: elements times lists, with one for each list and one for each of its selectors. */
+uint32_t simplecss_winners(const simplecss_sheets *sheets, size_t grammar, size_t limit,
+                           const simplecss_tree *tree, const simplecss_own *own, size_t most,
+                           size_t *out, size_t out_size, size_t *len, simplecss_tree_fault *fault);
+
+/* Writes for each element of a tree, and for each property that is asked for, the two numbers of the declaration that
+ * wins of all that have one of its names: for a longhand and its shorthands the one that sets it. If there is none they
+ * are two more than the number of all rules, and 0. All else is as in simplecss_winners, but that for each element
+ * and property the time grows as the declarations times its names. */
+uint32_t simplecss_winners_named(const simplecss_sheets *sheets, size_t grammar, size_t limit,
+                                 const simplecss_tree *tree, const simplecss_own *own,
+                                 const simplecss_asked *asked, size_t most,
+                                 size_t *out, size_t out_size, size_t *len, simplecss_tree_fault *fault);
+
+/* Writes for each element of a tree how many rules match it, and then the index of each among those of simplecss_rules.
+ * A rule with a pseudo-element matches the elements that may have it. All else is as in simplecss_winners. */
+uint32_t simplecss_matches(const simplecss_sheets *sheets, size_t grammar, size_t limit,
+                           const simplecss_tree *tree, size_t most,
+                           size_t *out, size_t out_size, size_t *len, simplecss_tree_fault *fault);
+
+/* Writes five numbers for each token of a text (CSS Syntax Module Level 3, section 4): its kind, where it begins
+ * and ends, and where what is in it begins and ends. That is the text of a string between its quotes, a url without
+ * quotes, the name of a function, an at-keyword or a hash, the unit of a dimension, or the percent sign; of any other
+ * token it is all of it. Offsets count bytes. `out_size` and `*len` count numbers. The tokens are the text, one after
+ * another. */
+uint32_t simplecss_tokens(const uint8_t *text, size_t text_len,
+                          size_t *out, size_t out_size, size_t *len);
+
+/* The kinds of tokens. */
+#define SIMPLECSS_WHITESPACE 0u
+#define SIMPLECSS_COMMENT 1u
+#define SIMPLECSS_IDENT 2u
+#define SIMPLECSS_FUNCTION 3u /* a name and a parenthesis */
+#define SIMPLECSS_AT_KEYWORD 4u
+#define SIMPLECSS_HASH 5u
+#define SIMPLECSS_ID_HASH 6u  /* a hash with a name */
+#define SIMPLECSS_STRING 7u
+#define SIMPLECSS_BAD_STRING 8u
+#define SIMPLECSS_URL 9u      /* without quotes */
+#define SIMPLECSS_BAD_URL 10u
+#define SIMPLECSS_NUMBER 11u
+#define SIMPLECSS_PERCENTAGE 12u
+#define SIMPLECSS_DIMENSION 13u
+#define SIMPLECSS_CDO 14u     /* <!-- */
+#define SIMPLECSS_CDC 15u     /* --> */
+#define SIMPLECSS_DELIM 16u   /* any other byte: a colon, a semicolon, a comma, a bracket or a sign */
+
+/* Writes six numbers for each name in lists of selectors: its kind; where its sign (`.` or `::`) begins, where the
+ * name itself does, and where it ends; how many parentheses are open around it; and how many of them up to the first
+ * one of the outermost `:not()`, or 0. Names are found by the tokens of each text, so any text has some. Offsets are
+ * into the buffer. A closing parenthesis is reported, too, as SIMPLECSS_CLOSE with an empty name after it. */
+uint32_t simplecss_names(const uint8_t *texts, size_t texts_len,
+                         const size_t *ends, size_t ends_count,
+                         size_t *out, size_t out_size, size_t *len);
+
+/* The kinds of names. */
+#define SIMPLECSS_TYPE 0u
+#define SIMPLECSS_CLASS 1u
+#define SIMPLECSS_ID 2u
+#define SIMPLECSS_ATTRIBUTE 3u
+#define SIMPLECSS_PSEUDO_CLASS 4u
+#define SIMPLECSS_PSEUDO_CLASS_FUNCTION 5u /* with parentheses */
+#define SIMPLECSS_PSEUDO_ELEMENT 6u
+#define SIMPLECSS_PSEUDO_ELEMENT_FUNCTION 7u
+#define SIMPLECSS_NAMESPACE 8u             /* before `|` */
+#define SIMPLECSS_CLOSE 9u
+
+/* Writes what a name denotes, or what is between the quotes of a string if `in_string` is not 0: its escapes are
+ * decoded. */
+uint32_t simplecss_decode(const uint8_t *text, size_t text_len, size_t in_string,
+                          uint8_t *out, size_t out_size, size_t *len);
+
+/* Writes an identifier that denotes the name, as CSS.escape of browsers does, or a string in double quotes that
+ * denotes the text. NUL is written as U+FFFD. An empty name is written as nothing. */
+uint32_t simplecss_escape(const uint8_t *name, size_t name_len,
+                          uint8_t *out, size_t out_size, size_t *len);
+uint32_t simplecss_quote(const uint8_t *text, size_t text_len,
+                         uint8_t *out, size_t out_size, size_t *len);
 
 /* The calls that read the grammar of the port alone. */
 

@@ -14,10 +14,12 @@
     browser.py unused [FILE..]    the selectors that match nothing on pages, beside what the browser finds
     browser.py reports [FILE..]   whether the browser takes what `lint` reports: at most one in 100
     browser.py printed [FILE..]   the rules of sheets, and of these as the package prints them
+    browser.py minified [FILE..]  the rules of sheets, and of these as `minify` writes them
 
 Without files, `mails` and `bare` take those of `tests/mails`, and `trees`, `winners` and `soup` take these
 and pages of Debian packages below /usr/share/doc. `reports` takes sheets of Bootstrap, jQuery UI,
-Font Awesome and Sphinx below /usr/share, and `printed` 200 of all there. Each test is a document.
+Font Awesome and Sphinx below /usr/share, and `printed` and `minified` 200 of all there. Each test is
+a document.
 What differs is listed, and the last line is `N passed, M failed`. Run by hand, but for `soup`,
 which tests/library.py runs. The library is built by `./build library`.
 """
@@ -189,10 +191,6 @@ function takes(text, isRule) {
     found.replaceSync("x{" + text + "}");
     return found.cssRules[0].style.length > 0;
 }
-function holds(text) {
-    if (text.startsWith("@supports ")) return CSS.supports(text.slice(10));
-    return !text.startsWith("@") && matchMedia(text).matches;
-}
 window.onload = () => {
     const frames = [...document.querySelectorAll("iframe")];
     if (input.kind == "mails")
@@ -203,7 +201,6 @@ window.onload = () => {
             answer.push([bare(frames[i], true), bare(frames[i + 1], false)]);
     if (input.kind == "trees") for (const text of input.texts) answer.push(tree(text));
     if (input.kind == "selectors") for (const each of input.texts) answer.push(found(each));
-    if (input.kind == "conditions") for (const text of input.texts) answer.push(holds(text));
     if (input.kind == "reports")
         for (const [text, isRule] of input.texts) answer.push(takes(text, isRule));
     if (input.kind == "printed")
@@ -222,7 +219,7 @@ window.onerror = text => { document.documentElement.textContent = "failed: " + t
 """
 
 
-FRAME = '<iframe width=800 height=600 sandbox="allow-same-origin" src="file://{}"></iframe>'
+FRAME = '<iframe width=1280 height=800 sandbox="allow-same-origin" src="file://{}"></iframe>'
 PAGE = '<!DOCTYPE html><meta charset=utf-8><script id=input type="application/json">{}</script>'
 
 
@@ -561,25 +558,6 @@ def is_beyond(cause: str) -> bool:
     return False
 
 
-def held_conditions(
-    sheets: Sequence[simplecss.StyleSheet], trees: Sequence[simplecss.Tree]
-) -> Set[str]:
-    """Returns the conditions of group rules that hold in the browser, as `media=` is asked for
-    them."""
-    asked: Set[str] = set()
-
-    def ask(text: str) -> bool:
-        asked.add(text)
-        return False
-
-    for sheet, tree in zip(sheets, trees):
-        sheet.match(tree, media=ask)
-    texts = sorted(asked)
-    with tempfile.TemporaryDirectory() as folder:
-        answers = run_browser({"kind": "conditions", "texts": texts}, [], folder)
-    return {text for text, holds in zip(texts, answers) if holds}
-
-
 def last_of(found: Sequence[simplecss.Declaration]) -> Dict[str, simplecss.Declaration]:
     """Returns the last declaration of each property, of which `all` sets those that are
     compared."""
@@ -590,16 +568,16 @@ def last_of(found: Sequence[simplecss.Declaration]) -> Dict[str, simplecss.Decla
 
 
 def compare_winners(names: Sequence[str]) -> int:
-    """Compares which declarations win, by their values as the browser prints them."""
+    """Compares which declarations win on a screen of the usual size, by their values as the browser
+    prints them."""
     report = Report()
     ours, values = [], []
     trees = [simplecss.Tree.from_html(read(name)) for name in names]
     sheets = [
         simplecss.StyleSheet.of_page(tree, at=name, folder="/") for name, tree in zip(names, trees)
     ]
-    held = held_conditions(sheets, trees)
     for tree, sheet in zip(trees, sheets):
-        styles = [last_of(found) for found in sheet.styles(tree, media=held.__contains__)]
+        styles = [last_of(found) for found in sheet.styles(tree)]
         ours.append([[found.get(each) for found in styles] for each in PROPERTIES])
         values.append(
             sorted(
@@ -655,6 +633,8 @@ def sheets_in(folder: str, words: Sequence[str] = ("",)) -> List[str]:
     return list(found.values())
 
 
+# A rule that has nothing, as the browser writes it. A layer has a place among the others.
+EMPTY = re.compile(r"(?<![^\s}{])(?!@layer|@keyframes|@font-face)[^\s{};][^{};]*\{\s*\}\s*")
 # The kinds of what is no CSS, which no browser takes.
 NO_CSS = ("bad", "broken", "invalid", "no-block", "stray")
 
@@ -732,20 +712,44 @@ def tree_of(name: str) -> simplecss.Tree:
 
 def compare_printed(names: Sequence[str]) -> int:
     """Compares the rules that the browser has of sheets and of what the package prints of them."""
+    return compare_rules(names, lambda text: str(simplecss.StyleSheet(text, limit=None)))
+
+
+def compare_minified(names: Sequence[str]) -> int:
+    """Compares the rules that the browser has of sheets and of their short texts, but for the rules
+    that have nothing."""
+    return compare_rules(names, simplecss.minify, without_empty)
+
+
+def compare_rules(
+    names: Sequence[str],
+    other: Callable[[str], str],
+    compared: Callable[[str], str] = str,
+) -> int:
+    """Compares the rules that the browser has of sheets and of other texts of them."""
     report = Report()
     every = sheets_in("/usr/share")
     names = names or random.Random(1).sample(every, min(200, len(every)))
-    texts = [(read(name), str(simplecss.StyleSheet(read(name), limit=None))) for name in names]
+    texts = [(read(name), other(read(name))) for name in names]
     with tempfile.TemporaryDirectory() as folder:
-        for name, (before, after) in zip(
-            names, run_browser({"kind": "printed", "texts": texts}, [], folder)
-        ):
-            found = [f"{a[:120]}, printed {b[:120]}" for a, b in zip(before, after) if a != b]
-            counts = (
-                [f"{len(before)} rules, printed {len(after)}"] if len(before) != len(after) else []
-            )
-            report.add(name, counts + found)
+        for name, found in zip(names, run_browser({"kind": "printed", "texts": texts}, [], folder)):
+            before, after = (list(filter(None, map(compared, rules))) for rules in found)
+            report.add(name, differing_rules(before, after))
     return report.end()
+
+
+def without_empty(rule: str) -> str:
+    """Returns a rule as the browser writes it without the rules in it that have nothing, and
+    without blanks after colons and commas, some of which it writes as they are."""
+    found = EMPTY.sub("", rule.replace(": ", ":").replace(", ", ","))
+    return found if found == rule else without_empty(found)
+
+
+def differing_rules(before: Sequence[str], after: Sequence[str]) -> List[str]:
+    """Returns how rules differ."""
+    found = [f"{a[:120]}, then {b[:120]}" for a, b in zip(before, after) if a != b]
+    counts = f"{len(before)} rules, then {len(after)}"
+    return [counts, *found] if len(before) != len(after) else found
 
 
 def compare_soup(names: Sequence[str]) -> int:
@@ -788,6 +792,7 @@ def main() -> int:
         "reports": compare_reports,
         "unused": compare_unused,
         "printed": compare_printed,
+        "minified": compare_minified,
     }
     usual = {
         "mails": mails,
@@ -797,6 +802,7 @@ def main() -> int:
         "reports": list,
         "unused": list,
         "printed": list,
+        "minified": list,
     }
     words = sys.argv[1:] or ["mails"]
     if words[0] not in kinds:

@@ -20,7 +20,7 @@ import tempfile
 import unittest
 from typing import Any, Dict, List, Optional, Sequence, Set, Tuple
 
-from tests import judges_tests, modern_selectors, release, syntax
+from tests import judges_tests, modern_selectors, nested_rules, release, syntax
 from tests.common import DEBIAN, TOP, browser_answers, count, has_modules, library_path, read, write
 from tests.release import (
     DRAWING,
@@ -269,8 +269,12 @@ class Rust(Checkout):
         kinds = ("declarations", "names", "printing", "sheets", "matches", "index", "winners")
         shown = [it.encode() for it in texts]
         for number, kind in enumerate(kinds):
-            wanted, found = ([it[number] for it in some] for some in (due, got))
-            self.compare(f"modern {kind} and the proved crates", shown, wanted, found)
+            rows = [it for it in zip(shown, due, got) if it[1][number] is not None]
+            self.assertLess(len(shown) - len(rows), 2 + len(shown) / 1000)
+            wanted, found = ([it[side][number] for it in rows] for side in (1, 2))
+            self.compare(
+                f"modern {kind} and the proved crates", [it[0] for it in rows], wanted, found
+            )
 
     def test_speed(self) -> None:
         """Shows how long the index takes, and a test of each rule."""
@@ -369,39 +373,66 @@ def best(items: Sequence[Tuple[str, ...]], name: str) -> Optional[Tuple[str, boo
     return found
 
 
-def proved_answers(tree: modern_selectors.Element, texts: Sequence[str]) -> List[List[str]]:
-    """The answers of compare_modern.rs, of what the proved program replies."""
+def proved_answers(
+    tree: modern_selectors.Element, texts: Sequence[str]
+) -> List[List[Optional[str]]]:
+    """The answers of compare_modern.rs, of what the proved program replies. Those about rules are
+    missing where nested rules stand for selectors that are nested too deep."""
     declarations = syntax.replies_of("declarations", texts)
     names = ["".join(f"{it[1]}\1" for it in items) for items in syntax.fields_of("names", texts)]
     printed = syntax.printed_of(texts)
     matches = modern_selectors.answers_of("match", tree, texts)
     order = list(syntax.fields_of(f"order {2**64 - 1}", texts))
     blocks = by_texts("block", [[rule[2] for rule in rules] for rules in order])
-    plain = sorted({rule[0] for rules in order for rule in rules if not rule[1]})
+    selected = list(map(selectors_of, order, syntax.fields_of("nesting", texts)))
+    plain = sorted({one for row in selected for one in row if one})
     replies = modern_selectors.answers_of("match", tree, plain) if plain else []
     found = dict(zip(plain, map(modern_selectors.found_of, replies)))
     size = len(modern_selectors.lines_of(tree))
-    answers = []
-    for row in zip(declarations, names, printed, order, blocks, matches):
+    answers: List[List[Optional[str]]] = []
+    for row in zip(declarations, names, printed, order, blocks, matches, selected):
         sheet = "".join(f"{rule[0]}\1{rule[1]}\1{items}" for rule, items in zip(row[3], row[4]))
-        index, winners = found_on(size, row[3], row[4], found)
-        answers.append([*row[:3], sheet, row[5], index, winners])
+        elements = elements_of(row[6], found)
+        on_page = (None, None) if elements is None else found_on(size, elements, row[4])
+        answers.append([*row[:3], sheet, row[5], *on_page])
     return answers
 
 
+def elements_of(
+    selectors: Sequence[Optional[str]], found: Dict[str, modern_selectors.Found]
+) -> Optional[List[List[int]]]:
+    """The elements of each rule, of which one with a pseudo-element has none. Returns None if a
+    selector is refused."""
+    rows = [[] if it is None else found[it] for it in selectors]
+    known = [it for it in rows if isinstance(it, list)]
+    return known if len(known) == len(rows) else None
+
+
+def selectors_of(
+    order: Sequence[Sequence[str]], nesting: Sequence[Sequence[str]]
+) -> List[Optional[str]]:
+    """For each rule without a pseudo-element a selector that matches the same elements and is in no
+    rule."""
+    lists = ["&"]
+    for selectors, number in nested_rules.rules_of(nesting).lists:
+        lists.append(f":is({', '.join(selectors)})".replace("&", lists[number]))
+    found: List[Optional[str]] = []
+    for rule, (_, selector, place, _) in zip(order, nesting):
+        whole = selector.replace("&", lists[int(place.split()[0])])
+        found.append(None if rule[1] else whole)
+    return found
+
+
 def found_on(
-    size: int, rules: Sequence[Tuple[str, ...]], blocks: Sequence[str], found: Dict[str, Any]
+    size: int, elements: Sequence[Sequence[int]], blocks: Sequence[str]
 ) -> Tuple[str, str]:
-    """Which rules match each element, and what wins on it of two properties."""
+    """Which rules match each element, given the elements of each rule, and what wins on it of two
+    properties."""
     fields = [block.split("\1")[:-1] for block in blocks]
     items = [[tuple(it[at : at + 4]) for at in range(0, len(it), 4)] for it in fields]
     index, winners = "", ""
     for element in range(size):
-        matching = [
-            number
-            for number, rule in enumerate(rules)
-            if not rule[1] and element in (found[rule[0]] or [])
-        ]
+        matching = [number for number, it in enumerate(elements) if element in it]
         index += "".join(f" {number}" for number in matching) + "\n"
         for name in ("color", "--x"):
             winner = best([it for number in matching for it in items[number]], name)
@@ -587,3 +618,7 @@ class JavaScript(Checkout, release.Npm):
             words = [sys.executable, tool, "--npm", made]
             self.works(words, "release.py --npm", self.top, env=self.environment)
         shutil.copytree(made, folder)
+
+    def test_page(self) -> None:
+        """The page beside the package works from a file."""
+        self.opens_page(os.path.join(self.unpacked(), "playground.html"))

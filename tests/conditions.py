@@ -103,13 +103,7 @@ const answer = {
     media: media.map(is),
     supports: supports.map(text => CSS.supports(text)),
     names: names.filter(name => CSS.supports(name, "inherit")),
-    shorthands: {},
 };
-for (const name of answer.names.filter(name => name[0] != "-")) {
-    const style = document.createElement("p").style;
-    style.setProperty(name, "inherit");
-    if (style.length > 1) answer.shorthands[name] = [...style].sort();
-}
 const text = JSON.stringify(answer).replace(/[\\u007f-\\uffff]/g, c => "\\\\u" + c.charCodeAt(0).toString(16).padStart(4, "0"));
 document.body.textContent = "ANSWER" + text + "END";
 </script>"""
@@ -337,11 +331,3 @@ class Conditions(Case):
         if version_found() != version:
             self.skipTest(f"names of properties are those of Chromium {version}")
         self.assertEqual(sorted(property_names()), sorted(set(found["names"])))
-        due: Dict[str, List[str]] = {}
-        for word in names_of("shorthands"):
-            if word.endswith(":"):
-                those = due[word[:-1]] = []
-            else:
-                those.append(word)
-        parts = {name: sorted(words) for name, words in due.items()}
-        self.assertEqual(parts, found["shorthands"])

@@ -10,14 +10,18 @@ docs/RATTLE.md below `<!-- run -->` are run in an empty folder. There are no oth
 docs/CONTRACTS.md and docs/crates.svg are what tools write. The claims of tests/claims.txt are in
 their documents, and carried by clauses of functions that the program or the C library reaches
 (claims.py). A count of tests is raised in two places only, where an element is tested. Sentences
-have at most 20 words on average in each document, and the README and docs at most 12,500 words in
-all. A file that begins with `#!` may be run, and no other. The version is the same everywhere.
+have at most 20 words on average in each document, half of the first sentences of what documents
+public names at most ten, and the README, docs/, SECURITY.md and CONTRIBUTING.md at most 12,500 words
+in all. Some phrases are in none of these. The README's figures are those of the sources. A file that
+begins with `#!` may be run, and no other. The version is the same everywhere.
 """
 from __future__ import annotations
 
+import ast
 import os
 import re
 import shlex
+import statistics
 import subprocess
 import sys
 import tempfile
@@ -28,8 +32,10 @@ from typing import Dict, Iterator, List, Sequence, Tuple
 from tests import claims
 from tests.common import TOP, Case, answer, kit, program, read, version, write
 
-# How many words a sentence has at most, on average, and how many the README and docs have in all.
-LONGEST, MOST = 20, 12_500
+# How many words a sentence has at most, on average, and how many the documents have in all: what has a
+# letter or a digit is a word, and the strokes of a table are none. How many words the first sentence of
+# what documents a name has at most, in the middle.
+LONGEST, MOST, FIRST = 20, 12_500, 10
 # Where the version stands, besides include/simplecss.h.
 VERSIONS = (
     ("include/simplecss.h", r'as "(\d.*)"\.'),
@@ -43,6 +49,16 @@ VERSIONS = (
     ("examples/pre-commit/pyproject.toml", r'"simplecss==(.*)"'),
     ("docs/INSTALL.md", r"PWD/cssq-(\d[^/\s]*)/"),
 )
+
+# Phrases that the documents, the header, the types of JavaScript and what Python documents do not
+# have, and what they have instead.
+PHRASES = {
+    r"(?<![Tt]here )\b(?:is|are) no (?!longer|more)": "is not a",
+    r", as `x`(?! (?:does|do|is|has)\b)": "such as",
+    r"\b(?:of which|asked (?:by|of)|for everyone)\b": "a sentence with a subject that does something",
+    r"\b(?:today's|level 3|3rd level)\b": "modern, Level 3",
+    r"\b(?:want of memory|what is wanting|let go of|gives on|whoever|in turn|lawful)\b": "Rust's words",
+}
 
 # What carries what the README's table says that users of each language get, and of which CSS: a test
 # of this folder or of the Python package, or a crate whose tests or output `rt ci` checks.
@@ -135,6 +151,7 @@ def names_of_files() -> List[str]:
 
 
 NAMES = names_of_files()
+EXPORTED = re.findall(r'^    "(\w+)",$', read("python/src/simplecss/__init__.py"), re.MULTILINE)
 PAGES = [(name, read(name)) for name in NAMES if re.fullmatch(r"(docs/|examples/)?\w+\.md", name)]
 
 
@@ -240,7 +257,7 @@ class Sources(Case):
         self.assertGreater(len(found), 15)
 
     def test_ticks(self) -> None:
-        """Counts of tests are raised in two places only, where an element is tested: anybody may
+        """Counts of tests are raised in three places only, where an element is tested: anybody may
         call `Tests::tick`, whose clause says no more than that it adds one. A search of
         `css_matching` counts its own tests, and all."""
         sources = [name for name in NAMES if re.fullmatch(r"crates/\w+/src/.*\.rt", name)]
@@ -248,6 +265,7 @@ class Sources(Case):
         places = [
             "crates/css_matching/src/matching.rt",
             "crates/css_matching/src/matching.rt",
+            "crates/css_selectors/src/after_key.rt",
             "crates/simplecss_selector/src/matching.rt",
         ]
         self.assertEqual(sorted(ticks), places)
@@ -298,6 +316,82 @@ class Interfaces(Case):
                     self.assertTrue(is_in_gate(test))
 
 
+def plain(text: str) -> str:
+    """The text in one line, without the content of code."""
+    text = re.sub(r"^```.*?^```$|^    .*$", "", text, flags=re.MULTILINE | re.DOTALL)
+    return " ".join(re.sub(r"`[^`]*`", "`x`", text).split())
+
+
+def documented() -> Iterator[Tuple[str, str]]:
+    """What people read: pages, and what the header, the types and the package say of each name."""
+    yield from ((name, text) for name, text in PAGES if name != "docs/CONTRACTS.md")
+    for name in NAMES:
+        if re.fullmatch(r"(python|release/\w+)/README\.md|.*/index\.d\.ts|include/.*\.h", name):
+            yield name, re.sub(r"^ *\*(?!/)", "", read(name), flags=re.MULTILINE)
+        elif re.fullmatch(r"python/src/simplecss/\w+\.py", name):
+            public = [
+                it for it in ast.parse(read(name)).body if getattr(it, "name", "") in EXPORTED
+            ]
+            within = [it for each in public for it in getattr(each, "body", ())]
+            for it in (*public, *within):
+                if isinstance(it, (ast.ClassDef, ast.FunctionDef)) and it.name[0] != "_":
+                    yield f"{name}: {it.name}", ast.get_docstring(it) or ""
+
+
+def first_words(text: str) -> int:
+    """How many words the first sentence of a documentation has."""
+    return len(re.split(r"(?<=[.?!])\s", " ".join(text.split()))[0].split())
+
+
+def documentation_of(name: str) -> List[str]:
+    """What documents each public name of sources in Rattle, Rust or TypeScript."""
+    if name.endswith(".ts"):
+        found = re.findall(r"/\*\*(.*?)\*/", read(name), re.DOTALL)
+        return [re.sub(r"^ *\* ", "", each, flags=re.MULTILINE) for each in found]
+    found = re.findall(r"((?:^ *///.*\n)+)(?: *#\[.*\n)*(?= *pub )", read(name), re.MULTILINE)
+    return [re.sub(r"^ *///", "", each, flags=re.MULTILINE) for each in found]
+
+
+def numbers_of_sources() -> Dict[str, int]:
+    """How many crates, functions, clauses, lines of each kind and mutations the sources have."""
+    code = [read(name) for name in NAMES if re.fullmatch(r"crates/\w+/src/.*\.rt", name)]
+    logic = {
+        kind: sum(
+            read(name).count("\n")
+            for name in NAMES
+            if re.fullmatch(rf"crates/\w+/{kind}/.*\.antt", name)
+        )
+        for kind in ("specs", "proofs")
+    }
+    return {
+        "crates": len(re.findall(r"^\w+(?: \w+)?:", read("crates.txt"), re.MULTILINE)),
+        "functions": sum(
+            len(re.findall(r"^ *(?:pub\S* |extern \S+ )*fn \w", it, re.M)) for it in code
+        ),
+        "clauses": sum(len(re.findall(r"^ *(?:ensures|requires) ", it, re.M)) for it in code),
+        "code": sum(it.count("\n") for it in code),
+        "definitions": logic["specs"],
+        "proofs": logic["proofs"],
+        "mutations": sum(bool(re.search(r"/must-fail/.*\.edit$", name)) for name in NAMES),
+    }
+
+
+class Figures(Case):
+    def test_figures(self) -> None:
+        """The README's figures of the proofs are within a tenth of those of the sources."""
+        number = r"(\d[\d,]*)"
+        said = re.search(
+            rf"In {number} crates, about {number} functions have {number} clauses: {number} lines of"
+            rf" code with contracts, {number} of definitions and {number} of proofs\. {number} mut",
+            " ".join(read("README.md").split()),
+        )
+        self.assertTrue(said, "README.md has no figures")
+        numbers = [int(it.replace(",", "")) for it in said.groups()] if said else []
+        for (what, counted), told in zip(numbers_of_sources().items(), numbers):
+            with self.subTest(what=what):
+                self.assertLessEqual(abs(counted - told) * 10, told, f"{counted}, not {told}")
+
+
 class Lengths(Case):
     def test_sentences(self) -> None:
         for name, text in PAGES:
@@ -306,11 +400,35 @@ class Lengths(Case):
                     lengths = [len(words) for words in sentences(text)]
                     self.assertLessEqual(sum(lengths) / max(1, len(lengths)), LONGEST)
 
+    def test_phrases(self) -> None:
+        for name, text in documented():
+            for phrase, instead in PHRASES.items():
+                with self.subTest(document=name, instead=instead):
+                    found = re.search(rf".{{0,40}}(?:{phrase}).{{0,20}}", plain(text))
+                    self.assertIsNone(found and found[0])
+
+    def test_first_sentences(self) -> None:
+        """Half of the first sentences of what documents public names have at most ten words."""
+        python = [text for name, text in documented() if ".py: " in name and text]
+        for what, names in (
+            ("the crates", r"crates/(?!tests_|example_)\w+/src/.*\.rt"),
+            ("the Rust crate", r"release/rust/src/\w+\.rs"),
+            ("the npm package", r"release/npm/index\.d\.ts"),
+        ):
+            texts = [
+                it for name in NAMES if re.fullmatch(names, name) for it in documentation_of(name)
+            ]
+            with self.subTest(what=what):
+                self.assertLessEqual(statistics.median(map(first_words, texts)), FIRST)
+        with self.subTest(what="the Python package"):
+            self.assertLessEqual(statistics.median(map(first_words, python)), FIRST)
+
     def test_words(self) -> None:
         counted = sum(
-            len(text.split())
+            bool(re.search(r"\w", word))
             for name, text in PAGES
-            if re.fullmatch(r"README\.md|docs/\w+\.md", name)
+            if re.fullmatch(r"(README|SECURITY|CONTRIBUTING|docs/\w+)\.md", name)
+            for word in text.split()
         )
         self.assertLessEqual(counted, MOST)
 

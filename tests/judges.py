@@ -19,9 +19,14 @@ from tests.common import TOP, Case, package
 
 package()
 from simplecss import Element, SelectorError, Tree  # noqa: E402
-from simplecss._selectors import OPAQUE, Listed, listed  # noqa: E402
+from simplecss._selectors import Listed, listed  # noqa: E402
 from tests import judges_tests  # noqa: E402
 
+# An escape, a comment or a string.
+OPAQUE = (
+    r"""\\.|/\*[^*]*(?:\*(?!/)[^*]*)*(?:\*/|\Z)"""
+    r"""|"[^"\\]*(?:\\.[^"\\]*)*(?:"|\\?\Z)|'[^'\\]*(?:\\.[^'\\]*)*(?:'|\\?\Z)"""
+)
 # What a test expects of a text: that it finds these elements, that it is read, or that it is
 # refused.
 FIND, READ, REFUSE = "find", "read", "refuse"

@@ -21,7 +21,7 @@ Tree = Tuple["Elements", bytes, Sizes]
 # the element.
 Outcome = Tuple[int, bytes, int, Tuple[int, int]]
 
-DONE, REFUSED, TREE_FAULT, LIMIT, NOT_UTF8, TOO_SMALL = 0, 1, 2, 4, 5, 6
+DONE, REFUSED, TREE_FAULT, LIMIT, NOT_UTF8, TOO_SMALL, TOO_MANY_LAYERS = 0, 1, 2, 4, 5, 6, 7
 NO_LIMIT = 2**64 - 1
 SIZE = ctypes.c_size_t
 MARK = 0xA5
@@ -51,6 +51,48 @@ class Device(ctypes.Structure):
     has less motion."""
 
     _fields_ = [(f"number_{each}", ctypes.c_uint32) for each in range(8)]
+
+
+class SheetArrays(ctypes.Structure):
+    """Sheets, and the keyword and the prelude of each group rule that holds: each as texts with their
+    length, and where each ends with how many there are; and the numbers of the sheets' origins."""
+
+    _fields_ = [
+        ("texts", ctypes.c_char_p),
+        ("texts_len", SIZE),
+        ("ends", ctypes.POINTER(SIZE)),
+        ("ends_count", SIZE),
+        ("origins", ctypes.POINTER(SIZE)),
+        ("origins_count", SIZE),
+        ("groups", ctypes.c_char_p),
+        ("groups_len", SIZE),
+        ("group_ends", ctypes.POINTER(SIZE)),
+        ("group_ends_count", SIZE),
+    ]
+
+
+class OwnArrays(ctypes.Structure):
+    """Two texts for each element, of its style attribute and of its presentation declarations."""
+
+    _fields_ = [
+        ("texts", ctypes.c_char_p),
+        ("texts_len", SIZE),
+        ("ends", ctypes.POINTER(SIZE)),
+        ("ends_count", SIZE),
+    ]
+
+
+class AskedArrays(ctypes.Structure):
+    """The names of properties, and how many each has."""
+
+    _fields_ = [
+        ("names", ctypes.c_char_p),
+        ("names_len", SIZE),
+        ("ends", ctypes.POINTER(SIZE)),
+        ("ends_count", SIZE),
+        ("counts", ctypes.POINTER(SIZE)),
+        ("counts_count", SIZE),
+    ]
 
 
 def sizes(numbers: Sequence[int]) -> Sizes:
@@ -91,15 +133,41 @@ def arrays_of(tree: Tree) -> TreeArrays:
     return TreeArrays(first, len(elements), strings, len(strings), last, len(ends))
 
 
+def counted(numbers: Sizes) -> Tuple[Any, int]:
+    """A pointer to numbers, and how many they are."""
+    return ctypes.cast(numbers, ctypes.POINTER(SIZE)), len(numbers)
+
+
+def fields_of(texts: Buffer) -> Tuple[Any, ...]:
+    """Texts with their length, and where each ends with how many there are."""
+    return (texts[0], len(texts[0]), *counted(texts[1]))
+
+
+def sheets_of(texts: Buffer, groups: Buffer, origins: Sequence[int] = ()) -> SheetArrays:
+    """The structure of sheets and of the group rules that hold."""
+    return SheetArrays(*fields_of(texts), *counted(sizes(origins)), *fields_of(groups))
+
+
+def own_of(*texts: bytes) -> OwnArrays:
+    """The structure of two texts for each element."""
+    return OwnArrays(*fields_of(buffer_of(texts)))
+
+
+def asked_of(*properties: Sequence[bytes]) -> AskedArrays:
+    """The structure of the names of each property."""
+    names = buffer_of(list(itertools.chain.from_iterable(properties)))
+    return AskedArrays(*fields_of(names), *counted(sizes(list(map(len, properties)))))
+
+
 def words_of(arguments: Sequence[Any]) -> List[Any]:
-    """Each argument as a pointer and a length, a device and a tree as a pointer, and a number as a
+    """Each argument as a pointer and a length, a structure and a tree as a pointer, and a number as a
     size."""
     words: List[Any] = []
     for argument in arguments:
         if isinstance(argument, int):
             words.append(SIZE(argument))
             continue
-        if isinstance(argument, Device):
+        if isinstance(argument, (Device, SheetArrays, OwnArrays, AskedArrays)):
             words.append(ctypes.byref(argument))
             continue
         if isinstance(argument, tuple):
@@ -178,6 +246,12 @@ MEDIA = (
 )
 # Conditions of `@supports`, and the names of properties.
 NAMES = buffer_of((b"color", b"display"))
+# The names and the values of properties.
+_PAIRS = (
+    *(b"--a", b"var(--b)", b"--b", b"1", b"x", b"var(--a) var(--b) var(--\\61)"),
+    *(b"y", b"var(--q)", b"--b", b"2"),
+)
+PAIRS = buffer_of(_PAIRS)
 SUPPORTS = (
     (b"(DISPLAY: grid)", b"true"),
     (b"(width: 1px)", b"false"),
@@ -193,50 +267,57 @@ WITH_TREE = (
     "simplecss_select",
     "simplecss_port_style",
     "simplecss_port_styles",
+    "simplecss_winners",
+    "simplecss_winners_named",
+    "simplecss_matches",
 )
-LIMITED = (*WITH_TREE, "simplecss_read")
+LIMITED = (*WITH_TREE, "simplecss_read", "simplecss_rule_texts", "simplecss_values")
 RED = b'{"name":"color","value":"red","important":false}'
 BLUE = b'{"name":"color","value":"blue","important":true}'
 MODERN_SHEET = b"@media x { a, b:not(c), d::before { e: f; g } } h , { } @i;"
-MODERN_LINES = (
-    b'{"kind":"rule","start":11,"end":45,'
-    b'"levels":[{"name":[1,6],"prelude":[7,8],"start":0,"end":47}],'
-    b'"prelude":[11,33],"block":[36,43],"closed":true,'
-    b'"selectors":[{"text":[11,12],"is_read":true,"specificity":[0,0,1],"pseudo_element":null},'
-    b'{"text":[14,22],"is_read":true,"specificity":[0,0,2],"pseudo_element":null},'
-    b'{"text":[24,33],"is_read":true,"specificity":[0,0,2],"pseudo_element":[25,33]}],'
-    b'"items":[{"kind":"declaration","start":36,"end":40,"name":[36,37],"value":[39,40],'
-    b'"important":false,"closed":true},'
-    b'{"kind":"skipped","start":42,"end":43,"fault":"broken declaration"}]}\n'
-    b'{"kind":"skipped","start":48,"end":55,"levels":[],"fault":"invalid selector"}\n'
-    b'{"kind":"at-rule","start":56,"end":59,"levels":[],'
-    b'"name":[57,58],"prelude":[58,58],"block":null,"closed":true}\n'
+# The numbers of its three statements: a rule in a group rule, with three selectors and two items; a rule
+# that is skipped; and an at-rule.
+MODERN_NUMBERS = (
+    (3, 11, 34, 1, 11, 22, 36, 7, 0, 0, 6, 24, 20),
+    (0, 47, 1, 5, 7, 1),
+    (11, 1, 1, 0, 0, 1, 0, 0),
+    (14, 8, 1, 0, 0, 2, 0, 0),
+    (24, 9, 1, 0, 0, 2, 25, 8),
+    (0, 36, 4, 1, 36, 1, 39, 1, 0, 0),
+    (4, 42, 1, 0, 0, 0, 0, 0, 0, 0),
+    (11, 48, 7, 0, 0, 0, 0, 0, 0, 0, 0, 0, 0),
+    (2, 56, 3, 1, 57, 1, 58, 0, 0, 0, 0, 0, 0),
 )
 # Offsets are in bytes, and the end of the text closes the rule.
-BYTES_LINE = (
-    b'{"kind":"rule","start":0,"end":8,"levels":[],"prelude":[0,2],"block":[3,8],"closed":false,'
-    b'"selectors":[{"text":[0,2],"is_read":true,"specificity":[0,0,1],"pseudo_element":null}],'
-    b'"items":[{"kind":"declaration","start":3,"end":8,'
-    b'"name":[3,5],"value":[6,8],"important":false,"closed":true}]}\n'
+BYTES_NUMBERS = (
+    (3, 0, 8, 0, 0, 2, 3, 5, 0, 0, 0, 8, 10),
+    (0, 2, 1, 0, 0, 1, 0, 0),
+    (0, 3, 5, 1, 3, 2, 6, 2, 0, 0),
 )
 # A selector that is valid and unsupported; and a pseudo-element alone, with one colon.
-UNREAD_LINE = (
-    b'{"kind":"rule","start":0,"end":21,"levels":[],"prelude":[0,18],"block":[20,20],"closed":true,'
-    b'"selectors":[{"text":[0,9],"is_read":false,"specificity":null,"pseudo_element":null},'
-    b'{"text":[11,18],"is_read":true,"specificity":[0,0,1],"pseudo_element":[11,18]}],"items":[]}\n'
+UNREAD_NUMBERS = (
+    (3, 0, 21, 1, 0, 18, 20, 0, 0, 0, 0, 16, 0),
+    (0, 9, 0, 0, 0, 0, 0, 0),
+    (11, 7, 1, 0, 0, 1, 11, 7),
 )
 DECLARATIONS = b"a: b !important; c; --x:; @a b { c };d:url(x"
-DECLARATION_LINES = (
-    b'{"kind":"declaration","start":0,"end":15,'
-    b'"name":[0,1],"value":[3,4],"important":true,"closed":true}\n'
-    b'{"kind":"skipped","start":17,"end":18,"fault":"broken declaration"}\n'
-    b'{"kind":"declaration","start":20,"end":24,'
-    b'"name":[20,23],"value":[24,24],"important":false,"closed":true}\n'
-    b'{"kind":"at-rule","start":26,"end":36,'
-    b'"name":[27,28],"prelude":[29,30],"block":[33,34],"closed":true}\n'
-    b'{"kind":"declaration","start":37,"end":44,'
-    b'"name":[37,38],"value":[39,44],"important":false,"closed":false}\n'
+DECLARATION_NUMBERS = (
+    (0, 0, 15, 1, 0, 1, 3, 1, 1, 0),
+    (4, 17, 1, 0, 0, 0, 0, 0, 0, 0),
+    (0, 20, 4, 1, 20, 3, 24, 0, 0, 0),
+    (1, 26, 10, 1, 27, 1, 29, 1, 33, 1),
+    (0, 37, 7, 0, 37, 1, 39, 5, 0, 0),
 )
+# A text for each reason why an item is skipped, and the number of the reason.
+SKIPPED = (
+    (b"a", 4),
+    (b"a:'\n", 5),
+    (b"a:url(x y)", 6),
+    (b"a:)", 7),
+    (b"a:" + b"(" * 65, 8),
+    (b"a{}", 4),
+)
+SKIPPED_STATEMENTS = ((b"a", 9), (b"a,{}", 11), (b"a'\n{}", 5))
 
 # A value, and its text with what closes it.
 CLOSED = (
@@ -319,16 +400,25 @@ ANSWERS: Sequence[Tuple[str, Tuple[Any, ...], bytes]] = (
         (b"a { b: c }\n @media print { }",),
         b'{"row":2,"column":2,"reason":"at-rule not supported","text":"@media print"}\n',
     ),
-    ("simplecss_read", (MODERN_SHEET,), MODERN_LINES),
-    ("simplecss_read", ("é{é:é".encode(),), BYTES_LINE),
-    ("simplecss_read", (b"a:foo(b,), :before {}",), UNREAD_LINE),
-    ("simplecss_read", (b" /* */ <!-- ",), b""),
-    ("simplecss_declarations", (DECLARATIONS,), DECLARATION_LINES),
     *(("simplecss_close", (value,), closed) for value, closed in CLOSED),
+    ("simplecss_escape", (b"-1\0 a",), b"-\\31 \xef\xbf\xbd\\ a"),
+    ("simplecss_escape", (b"",), b""),
+    ("simplecss_quote", (b'a"\n\\\0',), b'"a\\"\\a \\\\\xef\xbf\xbd"'),
+    ("simplecss_decode", (b"\\61\\\n", 0), b"a\\\n"),
+    ("simplecss_decode", (b"\\61\\\n", 1), b"a"),
     (
         "simplecss_match_selectors",
         (*buffer_of((b"li", b".new", b"ul")), PORT, PAGE),
         b"1: 3\n2: 1 2\n3: 1\n",
+    ),
+    (
+        "simplecss_rule_texts",
+        (
+            sheets_of(buffer_of((b'a{>b,c "d"{e:f}> b::before , &.c{g:h}}',)), buffer_of(())),
+            NO_LIMIT,
+        ),
+        b'{"text":"> b::before","pseudo_element":"before","specificity":[0,0,3]}\n'
+        b'{"text":"&.c","pseudo_element":null,"specificity":[0,1,1]}\n',
     ),
     ("simplecss_port_match", (*SHEET, PAGE), b"1:\n2: 1 2\n3: 1\n"),
     ("simplecss_select", (b"li", PORT, PAGE), b"2\n3\n"),
@@ -387,6 +477,18 @@ ANSWERS: Sequence[Tuple[str, Tuple[Any, ...], bytes]] = (
         for device, answer in zip((SCREEN, PAPER), answers)
     ),
     *(("simplecss_supports", (text, *NAMES), answer) for text, answer in SUPPORTS),
+    ("simplecss_values", (*PAIRS, 4, NO_LIMIT), b"1\n11\n15\n1 1 1\n"),
+    ("simplecss_values", (*PAIRS, 9, NO_LIMIT), b"1\n11\n15\n1 1 1\n1\n2"),
+    ("simplecss_values", (*PAIRS, 9, 4), b"1\n11\n1\n\n1\n2"),
+    ("simplecss_values", (b"", sizes([]), 1, 1), b""),
+    ("simplecss_valid_value", (b"var(--a, var(--b))",), b"true"),
+    ("simplecss_valid_value", (b"var(--a, var(b))",), b"false"),
+    ("simplecss_longhands", (b"margin",), b"margin-top margin-right margin-bottom margin-left"),
+    ("simplecss_shorthands", (b"margin-top",), b"all\nmargin\n"),
+    ("simplecss_shorthands", (b"margin",), b""),
+    ("simplecss_inherited", (b"color",), b"true"),
+    ("simplecss_inherited", (b"--color",), b"true"),
+    ("simplecss_inherited", (b"margin",), b"false"),
     ("simplecss_port_style", (*SHEET, PAGE, b"color"), b"1:\n2: blue !important\n3: red\n"),
     ("simplecss_port_styles", (*SHEET, PAGE), b"[]\n[" + BLUE + b"]\n[" + RED + b"]\n"),
 )
@@ -418,8 +520,12 @@ for _text, _status in ((b"", REFUSED), (b"a:none(b)", REFUSED), (BROKEN, NOT_UTF
 FAILURES += [("simplecss_refusal", (BROKEN, each), NOT_UTF8) for each in _GRAMMARS]
 FAILURES += [
     (f"simplecss_{name}", (BROKEN,), NOT_UTF8)
-    for name in ("port_skipped", "read", "declarations", "close")
+    for name in (
+        *("port_skipped", "read", "declarations", "close", "tokens", "escape", "quote"),
+        *("valid_value", "longhands", "shorthands", "inherited"),
+    )
 ]
+FAILURES += [("simplecss_decode", (BROKEN, each), NOT_UTF8) for each in (0, 1)]
 # What is no grammar is refused before anything else.
 FAILURES += [(f"simplecss_{name}", (BROKEN, 4), REFUSED) for name in ("list", "refusal")]
 FAILURES += [("simplecss_close", (value,), REFUSED) for value in UNCLOSED]
@@ -430,6 +536,10 @@ FAILURES += [
     ("simplecss_supports", (BROKEN, *NAMES), NOT_UTF8),
     ("simplecss_supports", (b"(a:b)", b"ab", sizes([1])), REFUSED),
     ("simplecss_supports", (b"(a:b)", BROKEN, sizes([1])), NOT_UTF8),
+    ("simplecss_values", (b"--a", sizes([3]), 1, 1), REFUSED),
+    ("simplecss_values", (b"--a", sizes([3, 1]), 1, 1), REFUSED),
+    ("simplecss_values", (BROKEN, sizes([1]), 1, 1), NOT_UTF8),
+    ("simplecss_longhands", (b"color",), REFUSED),
 ]
 # Of two faults of texts the first is reported.
 for _sheet, _status in (
@@ -463,6 +573,158 @@ for _texts, _status in (
         ("simplecss_match_selectors", (*_texts, HTML, PAGE), _status),
     ]
 FAILURES += [
+    ("simplecss_names", (b"ab", sizes([1])), REFUSED),
+    ("simplecss_names", buffer_of((b"a", BROKEN)), NOT_UTF8),
+]
+
+# The lists that `&` stands for count a test for each element, and one for each of their selectors.
+_NESTED = sheets_of(
+    buffer_of((b"ul{>li{a:b}li&{c:d}li{e:f}}", b"ul{>li{--a:b}.new{A:e}li{g:h}}")), buffer_of(())
+)
+_MANY_NESTED = sheets_of(buffer_of((b"b{&{c:d}}" * 10_000,)), buffer_of(()))
+_RULES = sheets_of(
+    buffer_of((b"a,.new{b:c;d:e}@media x{li{f:g!important}}", b"@layer y{li{F:h;--i:'j}}")),
+    buffer_of((b"media", b"x")),
+)
+_NO_GROUPS = buffer_of(())
+NO_OWN = own_of()
+# Of the second element: its attribute, and its presentation declarations.
+_OWN = own_of(b"", b"", b"B:x;y:z", b"b:v;f:w;u:v!important")
+_ORIGINS = sheets_of(
+    buffer_of((b"*{a:b;c:d!important}", b"*{a:e;c:f!important}", b"*{a:g;c:h!important}")),
+    _NO_GROUPS,
+    (0, 2, 1),
+)
+for _texts, _status in (
+    ((b"ab", sizes([1])), REFUSED),
+    (buffer_of((b"a", BROKEN)), NOT_UTF8),
+    (buffer_of((b"a,b{c:d}e{f:g}",)), LIMIT),
+    (buffer_of(tuple(b"@layer l%d{}@layer m%d;" % (n, n) for n in range(513))), TOO_MANY_LAYERS),
+):
+    _sheets = sheets_of(_texts, _NO_GROUPS)
+    FAILURES += [
+        ("simplecss_rules", (_sheets, 2), _status),
+        ("simplecss_rule_texts", (_sheets, 2), _status),
+        ("simplecss_winners", (_sheets, HTML, 2, PAGE, NO_OWN), _status),
+        ("simplecss_winners_named", (_sheets, HTML, 2, PAGE, NO_OWN, asked_of()), _status),
+        ("simplecss_matches", (_sheets, HTML, 2, PAGE), _status),
+    ]
+    if _status in (REFUSED, NOT_UTF8):
+        _sheets = sheets_of(_NO_GROUPS, _texts)
+        FAILURES += [
+            ("simplecss_rules", (_sheets, 2), _status),
+            ("simplecss_winners", (_sheets, HTML, 2, PAGE, NO_OWN), _status),
+        ]
+        _own, _asked = OwnArrays(*fields_of(_texts)), AskedArrays(*fields_of(_texts))
+        FAILURES += [
+            ("simplecss_winners", (_RULES, HTML, NO_LIMIT, PAGE, _own), _status),
+            ("simplecss_winners_named", (_RULES, HTML, NO_LIMIT, PAGE, _own, asked_of()), _status),
+            ("simplecss_winners_named", (_RULES, HTML, NO_LIMIT, PAGE, NO_OWN, _asked), _status),
+        ]
+FAILURES += [
+    ("simplecss_winners", (_RULES, PORT, NO_LIMIT, PAGE, NO_OWN), REFUSED),
+    ("simplecss_winners", (_RULES, 4, NO_LIMIT, _BROKEN_PAGE, NO_OWN), REFUSED),
+    ("simplecss_winners", (_RULES, MODERN, NO_LIMIT, _BROKEN_PAGE, NO_OWN), NOT_UTF8),
+]
+# A call that writes numbers, its arguments, and what they are.
+NUMBERS: Sequence[Tuple[str, Tuple[Any, ...], Sequence[Sequence[int]]]] = (
+    ("simplecss_tokens", (b"",), ()),
+    (
+        "simplecss_tokens",
+        ("\xe9:1.5e3em 'x' url( y )#1".encode(),),
+        (
+            (2, 0, 2, 0, 2),
+            (16, 2, 3, 2, 3),
+            (13, 3, 10, 8, 10),
+            (0, 10, 11, 10, 11),
+            (7, 11, 14, 12, 13),
+            (0, 14, 15, 14, 15),
+            (9, 15, 23, 20, 21),
+            (5, 23, 25, 24, 25),
+        ),
+    ),
+    ("simplecss_tokens", (b"'a\n",), ((8, 0, 2, 1, 2), (0, 2, 3, 2, 3))),
+    (
+        "simplecss_rules",
+        (_RULES, NO_LIMIT),
+        (
+            (1, 12, 0, 2, 12, 1, 14, 1, 0, 1, 16, 3, 20, 4, 0, 0),
+            (0, 7, 1, 2, 7, 1, 9, 1, 0, 1, 11, 1, 13, 1, 0, 1),
+            (0, 27, 1, 1, 27, 1, 29, 1, 1, 1),
+            (0, 7, 1, 2, 7, 1, 9, 1, 0, 1, 11, 1, 13, 1, 0, 1),
+        ),
+    ),
+    (
+        "simplecss_winners",
+        (_RULES, HTML, NO_LIMIT, PAGE, NO_OWN),
+        ((0,), (4, 0, 1, 2, 0, 3, 0, 3, 1), (2, 0, 1, 2, 0)),
+    ),
+    (
+        "simplecss_winners",
+        (_RULES, HTML, NO_LIMIT, PAGE, _OWN),
+        ((0,), (6, 0, 1, 2, 0, 3, 1, 5, 2, 4, 0, 4, 1), (2, 0, 1, 2, 0)),
+    ),
+    (
+        "simplecss_winners_named",
+        (_RULES, HTML, NO_LIMIT, PAGE, _OWN, asked_of((b"d", b"y"), (), (b"F", b"b"))),
+        ((6, 0, 6, 0, 6, 0), (4, 1, 6, 0, 2, 0), (6, 0, 6, 0, 2, 0)),
+    ),
+    (
+        "simplecss_winners",
+        (_ORIGINS, MODERN, NO_LIMIT, PAGE, NO_OWN),
+        ((2, 0, 1, 2, 0),) * 3,
+    ),
+    ("simplecss_matches", (_RULES, HTML, NO_LIMIT, PAGE), ((0,), (3, 0, 2, 3), (2, 0, 2))),
+    (
+        "simplecss_winners",
+        (_NESTED, MODERN, NO_LIMIT, PAGE, NO_OWN),
+        ((0,), (4, 2, 0, 3, 0, 4, 0, 5, 0), (4, 0, 0, 2, 0, 3, 0, 4, 0)),
+    ),
+    (
+        "simplecss_matches",
+        (_NESTED, HTML, NO_LIMIT, PAGE),
+        ((0,), (5, 0, 2, 3, 4, 5), (4, 0, 2, 3, 4)),
+    ),
+    ("simplecss_read", (MODERN_SHEET,), MODERN_NUMBERS),
+    ("simplecss_read", ("é{é:é".encode(),), BYTES_NUMBERS),
+    ("simplecss_read", (b"a:foo(b,), :before {}",), UNREAD_NUMBERS),
+    ("simplecss_read", (b" /* */ <!-- ",), ()),
+    ("simplecss_declarations", (DECLARATIONS,), DECLARATION_NUMBERS),
+    *(
+        ("simplecss_declarations", (text,), ((kind, 0, len(text), *[0] * 7),))
+        for text, kind in SKIPPED
+    ),
+    *(
+        ("simplecss_read", (text,), ((kind, 0, len(text), *[0] * 10),))
+        for text, kind in SKIPPED_STATEMENTS
+    ),
+    (
+        "simplecss_read",
+        (b"a{b{}}",),
+        (
+            (3, 0, 6, 1, 0, 1, 2, 3, 0, 0, 0, 8, 10),
+            (0, 1, 1, 0, 0, 1, 0, 0),
+            (10, 2, 3, 0, 0, 0, 0, 0, 0, 0),
+        ),
+    ),
+    ("simplecss_names", (b"", sizes([])), ()),
+    (
+        "simplecss_names",
+        buffer_of((b".a#b", b"", b"c|d:not(e::f)[g]")),
+        (
+            (1, 0, 1, 2, 0, 0),
+            (2, 2, 3, 4, 0, 0),
+            (8, 4, 4, 5, 0, 0),
+            (0, 6, 6, 7, 0, 0),
+            (5, 7, 8, 11, 0, 0),
+            (0, 12, 12, 13, 1, 1),
+            (6, 13, 15, 16, 1, 1),
+            (9, 16, 17, 17, 0, 0),
+            (3, 18, 18, 19, 0, 0),
+        ),
+    ),
+)
+FAILURES += [
     ("simplecss_match_selectors", (*buffer_of((b"a,b",)), MODERN, PAGE), REFUSED),
     ("simplecss_match_selectors", (*buffer_of((b"a",)), 4, PAGE), REFUSED),
     ("simplecss_match_selectors", (*buffer_of((b"a",)), MODERN, _BROKEN_PAGE), NOT_UTF8),
@@ -480,6 +742,20 @@ FAILURES += [
     ("simplecss_port_style", (*SHEET, _BROKEN_PAGE, b"color"), NOT_UTF8),
     ("simplecss_port_style", (*SHEET, PAGE, BROKEN), NOT_UTF8),
 ]
+
+
+def numbers_call(
+    library: ctypes.CDLL, name: str, arguments: Sequence[Any], room: int, most: int
+) -> Tuple[int, int, List[int]]:
+    """Calls a function that writes numbers, at most so many. Returns its status, how many numbers the
+    answer has, and a buffer with room for so many and four more."""
+    out, length, fault = sizes([MARK] * (room + 4)), SIZE(77), TreeFault(88, 99)
+    limit = (SIZE(most),) if name in LIMITED else ()
+    tail = (ctypes.byref(fault),) if name in WITH_TREE else ()
+    status = getattr(library, name)(
+        *words_of(arguments), *limit, out, SIZE(room), ctypes.byref(length), *tail
+    )
+    return status, length.value, list(out)
 
 
 class Calls(Case):
@@ -506,6 +782,18 @@ class Calls(Case):
                     failures.append(f"{name} with {arguments} and room {room}: {found}, not {due}")
             self.sweep(need + 2, failures)
 
+    def test_numbers(self) -> None:
+        """The same of each call that writes numbers."""
+        for name, arguments, rows in NUMBERS:
+            expected = [number for row in rows for number in row]
+            need = len(expected)
+            for room in range(need + 2):
+                fits = room >= need
+                front = expected if fits else []
+                due = (DONE if fits else TOO_SMALL, need, front + [MARK] * (room + 4 - len(front)))
+                with self.subTest(call=name, room=room):
+                    self.assertEqual(numbers_call(self.library, name, arguments, room, need), due)
+
     def test_failures(self) -> None:
         """Each status that is no answer: nothing is written, and the length is 0."""
         for name, arguments, status in FAILURES:
@@ -522,6 +810,7 @@ class Calls(Case):
                 ("simplecss_match_selectors", (b"a", sizes([1]), PORT, page)),
                 ("simplecss_match_selectors", (b"a", sizes([1]), HTML, page)),
                 ("simplecss_select", (b"a", HTML, page)),
+                ("simplecss_winners", (_RULES, HTML, NO_LIMIT, page, NO_OWN)),
             ):
                 self.fails(name, arguments, TREE_FAULT, (fault, element))
 
@@ -585,6 +874,20 @@ class Limits(Case):
                         failures.append(f"{name}, most {most}, room {room}: {found}")
                 self.sweep(len(rows), failures)
 
+    def test_counts(self) -> None:
+        """The same of how many numbers an answer has."""
+        for name, arguments, rows in NUMBERS:
+            expected = [number for row in rows for number in row]
+            need = len(expected)
+            for most in range(need + 2 if name in LIMITED else 0):
+                fits = most >= need
+                with self.subTest(call=name, most=most):
+                    found = numbers_call(self.library, name, arguments, need, most)
+                    front = expected if fits else []
+                    whole = front + [MARK] * (need + 4 - len(front))
+                    due = (DONE if fits else LIMIT, need if fits else 0, whole)
+                    self.assertEqual(found, due)
+
     def test_products(self) -> None:
         """What would be answered with hundreds of megabytes is refused with little memory: rules
         times elements, and group rules times items."""
@@ -603,6 +906,11 @@ class Limits(Case):
             ("simplecss_read", (nested,)),
             ("simplecss_port_style", (*long_sheet, page, b"a")),
             ("simplecss_port_styles", (*long_sheet, page)),
+            (
+                "simplecss_matches",
+                (sheets_of((rules, sheet[1]), buffer_of(())), HTML, NO_LIMIT, page),
+            ),
+            ("simplecss_winners", (_MANY_NESTED, HTML, NO_LIMIT, page, NO_OWN)),
         )
         for name, arguments in calls:
             with self.subTest(call=name):
@@ -610,6 +918,14 @@ class Limits(Case):
                 used = memory_of(lambda: found.extend(call(self.library, name, arguments, 0, most)))
                 self.assertEqual((found[0], found[2]), (LIMIT, 0))
                 self.assertLess(used, 50_000_000)
+
+    def test_nested(self) -> None:
+        """So many tests of the lists that `&` stands for are within the limit, and no fewer."""
+        for most, status in ((11, LIMIT), (12, TOO_SMALL)):
+            with self.subTest(most=most):
+                arguments = (_NESTED, MODERN, NO_LIMIT, PAGE)
+                found = call(self.library, "simplecss_matches", arguments, 0, most)
+                self.assertEqual(found[0], status)
 
 
 class Large(Case):

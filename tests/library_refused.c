@@ -12,24 +12,47 @@
 #define TREE &tree
 #define MOST SIMPLECSS_NO_LIMIT
 #define OUT out, sizeof(out) - 1, &len
+#define NUMBERS numbers, sizeof numbers / sizeof *numbers, &len
 
 static const char sheet[] = "ul > li { color: red }.new { color: blue !important } @media x { } a:b { c: d }";
 static const size_t sheet_ends[] = {22, sizeof(sheet) - 1};
 static const size_t selector_ends[] = {2, 6};
 static const simplecss_element elements[] = {{0, 0, 0}, {1, 1, 0}, {1, 1, 0}};
 static const size_t name_ends[] = {5};
+static const size_t pair_ends[] = {3, 11, 14, 17};
 static const simplecss_device device = {1280, 800, 2000, SIMPLECSS_SCREEN, SIMPLECSS_FINE, 1, 0, 0};
 static const char strings[] = "ullicl\tssnewlititlea\nb";
 static const size_t string_ends[] = {2, 4, 9, 12, 14, 19, 22};
 static const simplecss_tree tree = {elements, 3, TEXT(strings), string_ends, 7};
+static const size_t group_ends[] = {5, 6};
+static const size_t origins[] = {SIMPLECSS_USER, SIMPLECSS_AUTHOR};
+static const size_t own_ends[] = {3, 6};
+static const simplecss_own own = {TEXT("a:bc:d"), own_ends, 2};
+static const size_t asked_ends[] = {1, 2};
+static const size_t name_counts[] = {2};
+static const simplecss_asked asked = {TEXT("ac"), asked_ends, 2, name_counts, 1};
+static const simplecss_sheets sheets = {TEXT(sheet), sheet_ends, 2, origins, 2, TEXT("mediax"), group_ends, 2};
+static const char rules[] = "ul { > li { a: b } @layer x { &, li::before { c: d } } }";
+static const size_t rules_ends[] = {sizeof(rules) - 1};
+static const simplecss_sheets nested = {TEXT(rules), rules_ends, 1, origins, 1, TEXT("mediax"), group_ends, 2};
 static uint8_t out[4096];
+static size_t numbers[128];
+
+/* Whether these bytes are as they were. */
+static int is_unwritten(const void *bytes, size_t count) {
+    const uint8_t *at = bytes;
+    while (count > 0 && *at == 0xA5)
+        at++, count--;
+    return count == 0;
+}
 
 int main(int count, char **words) {
     size_t len = 77;
     simplecss_tree_fault fault = {0, 0};
     int call = count == 2 ? atoi(words[1]) : -1;
     uint32_t status = 99;
-    memset(out, 0xA5, sizeof(out));
+    memset(out, 0xA5, sizeof out);
+    memset(numbers, 0xA5, sizeof numbers);
     (void)!write(2, "begin", 5);
     switch (call) {
     case 0: status = simplecss_port_selector(TEXT("a b > c.d[e='f']:hover"), OUT); break;
@@ -43,8 +66,8 @@ int main(int count, char **words) {
     case 8: status = simplecss_port_style(SHEET, TREE, TEXT("color"), MOST, OUT, &fault); break;
     case 9: status = simplecss_port_styles(SHEET, TREE, MOST, OUT, &fault); break;
     case 10: status = simplecss_version(OUT); break;
-    case 11: status = simplecss_read(TEXT("@media x { a, b:not(c), d::before { e: f; g } } h { } @i;"), MOST, OUT); break;
-    case 12: status = simplecss_declarations(TEXT("a: b !important; c"), OUT); break;
+    case 11: status = simplecss_read(TEXT("@media x { a, b:not(c), d::before { e: f; g } } h { } @i;"), MOST, NUMBERS); break;
+    case 12: status = simplecss_declarations(TEXT("a: b !important; c"), NUMBERS); break;
     case 13: status = simplecss_match_selectors(TEXT("li.new"), selector_ends, 2, SIMPLECSS_PORT, TREE, MOST, OUT, &fault); break;
     case 14: status = simplecss_list(TEXT("a\\62 > c, d:not(e, f)::before"), SIMPLECSS_MODERN, OUT); break;
     case 15: status = simplecss_refusal(TEXT("a, b:nth-child(2"), SIMPLECSS_MODERN, OUT); break;
@@ -53,15 +76,39 @@ int main(int count, char **words) {
     case 18: status = simplecss_close(TEXT("f(g['h"), OUT); break;
     case 19: status = simplecss_media(TEXT("print, (2x <= resolution) and (hover)"), &device, OUT); break;
     case 20: status = simplecss_supports(TEXT("(color: a) and selector(a > b)"), TEXT("color"), name_ends, 1, OUT); break;
+    case 21: status = simplecss_tokens(TEXT("a{b:1em}"), NUMBERS); break;
+    case 22: status = simplecss_names(TEXT("li.new"), selector_ends, 2, NUMBERS); break;
+    case 23: status = simplecss_escape(TEXT("1 a"), OUT); break;
+    case 24: status = simplecss_quote(TEXT("a\n"), OUT); break;
+    case 25: status = simplecss_decode(TEXT("\\61 b"), 0, OUT); break;
+    case 26: status = simplecss_rules(&sheets, 9, NUMBERS); break;
+    case 27: status = simplecss_winners(&sheets, SIMPLECSS_MODERN, 9, TREE, &own, MOST, NUMBERS, &fault); break;
+    case 28: status = simplecss_winners(&sheets, SIMPLECSS_HTML, 9, TREE, &own, MOST, NUMBERS, &fault); break;
+    case 29: status = simplecss_winners(&nested, SIMPLECSS_HTML, 9, TREE, &own, MOST, NUMBERS, &fault); break;
+    case 30: status = simplecss_matches(&nested, SIMPLECSS_MODERN, 9, TREE, MOST, NUMBERS, &fault); break;
+    case 31: status = simplecss_matches(&nested, SIMPLECSS_HTML, 9, TREE, MOST, NUMBERS, &fault); break;
+    case 32: status = simplecss_rule_texts(&nested, 9, MOST, OUT); break;
+    case 33: status = simplecss_values(TEXT("--avar(--b)--b\\61"), pair_ends, 4, 2, 99, MOST, OUT); break;
+    case 34: status = simplecss_valid_value(TEXT("var(--\\61 , b)"), OUT); break;
+    case 35: status = simplecss_longhands(TEXT("margin"), OUT); break;
+    case 36: status = simplecss_shorthands(TEXT("margin-left"), OUT); break;
+    case 37: status = simplecss_inherited(TEXT("color"), OUT); break;
+    case 38: status = simplecss_winners_named(&nested, SIMPLECSS_MODERN, 9, TREE, &own, &asked, MOST, NUMBERS, &fault); break;
     default: break;
     }
     (void)!write(2, "end", 3);
     if (status != SIMPLECSS_DONE && len != 0)
         return 1;
-    for (size_t i = status == SIMPLECSS_DONE ? len : 0; i < sizeof(out); i++)
-        if (out[i] != 0xA5)
-            return 1;
+    const size_t written = status == SIMPLECSS_DONE ? len : 0;
+    const int counts = call == 11 || call == 12 || call == 21 || call == 22 || (call >= 26 && call <= 31) || call == 38;
+    if (!is_unwritten(out + (counts ? 0 : written), sizeof out - (counts ? 0 : written)))
+        return 1;
+    if (!is_unwritten(numbers + (counts ? written : 0), sizeof numbers - (counts ? written : 0) * sizeof *numbers))
+        return 1;
     printf("%u\n", (unsigned)status);
-    fwrite(out, 1, status == SIMPLECSS_DONE ? len : 0, stdout);
+    if (!counts)
+        fwrite(out, 1, written, stdout);
+    for (size_t i = 0; counts && i < written; i++)
+        printf("%zu ", numbers[i]);
     return 0;
 }

@@ -129,14 +129,15 @@ def their_pairs(text: str, known: Dict[str, Optional[str]]) -> Tuple[Counter[Pai
 
 
 def our_pairs(text: str, known: Dict[str, Optional[str]]) -> Counter[Pair]:
-    """Returns the pairs of the package."""
+    """Returns the pairs of the package, but for rules in style rules, which tinycss2 does not read."""
     import tinycss2
 
     found: Counter[Pair] = Counter()
     values: Dict[str, str] = {}
     for rule in simplecss.StyleSheet(text, limit=None).rules:
         selector = printed(plain(tinycss2.parse_component_value_list(rule.selector)), known)
-        for name, value, important in rule.declarations if rule.pseudo_element is None else ():
+        is_left_out = rule.pseudo_element is not None or rule.parents
+        for name, value, important in () if is_left_out else rule.declarations:
             if value not in values:
                 values[value] = plain(tinycss2.parse_component_value_list(value))
             found[(selector or "", name, values[value], important)] += 1

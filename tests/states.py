@@ -4,23 +4,35 @@ browser: the values of some properties are the same.
 Sheets have states, media, importance, layers, conditions, animations, nested rules, selectors that
 the library does not read, `all` and `revert`, and elements have styles of their own. A state is an
 attribute in both pages, so that each element can be in any. What `inline` writes with
-`important=False`, and into the attributes of drawings, is compared, too. The pages are the same in each run of a seed, which `SEED` in the
-environment sets; `COUNT` says how many there are. The browser is Debian's `chromium`. The library is
-built by `./build library`.
+`important=False`, and into the attributes of drawings, is compared, too, and the mails of tests/mails
+are, also without their `style` elements. The pages are the same in each run of a seed, which `SEED` in
+the environment sets; `COUNT` says how many there are. The browser is Debian's `chromium`. The library
+is built by `./build library`.
 """
 from __future__ import annotations
 
+import io
 import os
 import random
 import re
 import shutil
-from typing import Any, Dict, List, Sequence, Tuple
+from contextlib import redirect_stdout
+from typing import Any, Callable, Dict, List, Sequence, Set, Tuple
 
+from tests import browser
 from tests.common import Case, browser_answers, count, package
 
 package()
 import simplecss  # noqa: E402
 
+# The mails of which something for every screen stays: nested rules, layers, lists that a browser may
+# refuse, and a link whose colour would be that of visited ones.
+STAYING = {
+    "24-nested-rules.html",
+    "25-layers.html",
+    "31-lists-with-invalid-selectors.html",
+    "36-links.html",
+}
 # How many pages one run of the browser compares.
 RUN = 250
 # fmt: off
@@ -153,6 +165,22 @@ class Source(random.Random):
         )
         return f"{self.selector(False)} {{ {self.block()}; {inner} }}"
 
+    def layer(self) -> str:
+        """A layer with rules, or what says the order of layers."""
+        inner = " ".join(self.rule(self.random() < 0.3) for _ in range(self.randint(1, 2)))
+        name = self.choice(("x", "y", "x.z", ""))
+        return self.choice(
+            (
+                f"@layer {name} {{ {inner} }}",
+                f"@layer {name} {{ {inner} }}",
+                f"@layer y, {name or 'x'};",
+                f"@layer {name} {{ {self.rule(False)} @layer z {{ {inner} }} }}",
+                f"@layer {name} {{ {self.rule(False)} @media {self.choice(MEDIA)} {{ {inner} }} }}",
+                f"@layer {name} {{ @layer z; @layer z.w {{}} {inner} }}",
+                f"@media {self.choice(MEDIA)} {{ @layer {name} {{ {inner} }} }}",
+            )
+        )
+
     def statement(self) -> str:
         """A statement of a sheet."""
         kind = self.random()
@@ -164,7 +192,7 @@ class Source(random.Random):
         if kind < 0.9:
             return f"@supports (display: grid) {{ {self.rule(False)} }}"
         if kind < 0.95:
-            return f"@layer x {{ {self.rule(False)} }}"
+            return self.layer()
         if self.is_odd and kind < 0.98:
             return self.nested()
         return f"@keyframes k {{ from {{ {self.block(0)} }} 50% {{ {self.block(0)} }} }}"
@@ -172,7 +200,8 @@ class Source(random.Random):
     def sheet(self) -> str:
         """A `style` element."""
         media = ' media="screen"' * (self.random() < 0.15)
-        statements = " ".join(self.statement() for _ in range(self.randint(2, 6)))
+        each = self.layer if self.random() < 0.2 else self.statement
+        statements = " ".join(each() for _ in range(self.randint(2, 6)))
         return f"<style{media}>{statements}</style>"
 
     def element(self, inner: str, name: str) -> str:
@@ -234,11 +263,32 @@ def has_left(page: str) -> bool:
     return any("could override" in each.reason for each in report)
 
 
-class States(Case):
+class Browser(Case):
     def setUp(self) -> None:
         if not (shutil.which("chromium") or shutil.which("chromium-browser")):
             self.skipTest("states of inlined pages: there is no chromium")
 
+
+class Mails(Browser):
+    """The mails of tests/mails, in the two kinds of clients."""
+
+    def differing(self, compare: Callable[[Sequence[str]], int]) -> Set[str]:
+        """The names of the mails that look otherwise."""
+        lines = io.StringIO()
+        with redirect_stdout(lines):
+            compare(browser.mails())
+        return {line.partition(":")[0] for line in lines.getvalue().splitlines() if ": " in line}
+
+    def test_mails(self) -> None:
+        """They look the same where `style` elements are kept."""
+        self.assertEqual(self.differing(browser.compare_mails), set())
+
+    def test_bare_mails(self) -> None:
+        """They look the same where these are dropped, but for what stays in them."""
+        self.assertLessEqual(self.differing(browser.compare_bare), STAYING)
+
+
+class States(Browser):
     def test_pages(self) -> None:
         """Nothing of them changes, in any state."""
         source = Source(int(os.environ.get("SEED", 1)))

@@ -271,11 +271,11 @@ IN_RULES = (
     (
         "a,b{c:d;@media x{e:f;p{g:h}i:j}k:l}",
         [("a", "c:d"), ("b", "c:d"), ("a", "e:f"), ("b", "e:f"), ("a", "i:j"), ("b", "i:j")]
-        + [("a", "k:l"), ("b", "k:l")],
+        + [("a", "k:l"), ("b", "k:l"), ("p", "g:h")],
     ),
     ("a{@m\\65 dia PRINT{b:c}@media x{@media print{d:e}f:g}h:i}", [("a", "f:g"), ("a", "h:i")]),
     ("a{@font-face{b:c}d:e}", [("a", "@font-face{b:c}d:e")]),
-    ("p{q{@media x{a:b}}c:d}", [("p", "c:d")]),
+    ("p{q{@media x{a:b}}c:d}", [("p", "c:d"), ("q", "a:b")]),
     ("@media{" * 99 + "a{b:c}", [("a", "b:c")]),
     (
         "a{" + "@media{" * 99 + "b:" + "(" * 64 + ")" * 64 + "}" * 100 + "d{e:f}",
@@ -785,7 +785,7 @@ class Tables(Case):
                 self.assertEqual([item[0] for item in items], wanted)
 
     def test_group_rules(self) -> None:
-        """The rules of sheets with group rules in style rules."""
+        """The rules of sheets with rules in style rules."""
         read = fields_of("order 99", [text for text, _ in IN_RULES])
         self.check(IN_RULES, ([(item[0], item[2]) for item in items] for items in read))
 

@@ -1,6 +1,6 @@
 #!/usr/bin/env python3
 """Draws docs/crates.svg: the crates of crates.txt, each above those that it uses, and the ways of
-the commands `sheet` and `match`.
+the command `style` and of the Python package's `inline` and `styles`.
 
     draw_crates.py > docs/crates.svg
 
@@ -26,32 +26,44 @@ MAKES = {
     "css_index": "an index of these",
     "css_cascade": "the order of layers",
     "css_sheet": "modern rules in order",
+    "css_styles": "modern winners",
+    "css_values": "var(), shorthands",
     "css_tree": "trees as documents",
+    "css_laws": "both grammars agree",
     "simplecss": "rules in order, index",
     "simplecss_tree": "trees of programs",
     "cssq_tree": "the tree of a text",
     "cssq": "winners, output",
-    "cssq_cli": "files, words, statuses",
+    "cssq_cli": "files, arguments",
     "simplecss_c": "the C library",
 }
-# Each command's color, and the edges that its texts take, from below to above.
+# The color of each way, and the edges that its texts take, from below to above.
 WAYS = {
-    "sheet": (
+    "cssq style": (
         "#1f6fb4",
         (
             "css_text simplecss_grammar simplecss_selector simplecss cssq cssq_cli;"
-            " simplecss_grammar simplecss_declaration simplecss"
+            " simplecss_grammar simplecss_declaration simplecss; simplecss_selector cssq_tree cssq"
         ),
     ),
-    "match": (
+    "inline in Python": (
         "#d9690a",
         (
-            "css_text simplecss_grammar simplecss_selector cssq_tree cssq cssq_cli;"
-            " simplecss_selector simplecss cssq"
+            "css_text css_syntax css_selectors css_index css_sheet simplecss_c;"
+            " css_index css_tree simplecss_c"
+        ),
+    ),
+    "styles in Python": (
+        "#2a8a3e",
+        (
+            "css_text css_syntax css_selectors css_index css_sheet css_styles simplecss_c;"
+            " css_index css_tree simplecss_c; css_syntax css_conditions simplecss_c"
         ),
     ),
 }
-WIDE, HIGH, GAP_X, GAP_Y, LEFT, TOP_SPACE = 176, 46, 22, 54, 20, 46
+WIDE, HIGH, GAP_X, GAP_Y, LEFT, TOP_SPACE = 176, 46, 28, 54, 20, 46
+# How far from the middle of a gap the lines through it are.
+SHIFTS = (0, -5, 5, -9, 9)
 
 Edge = Tuple[str, str]
 
@@ -115,21 +127,49 @@ def places_of(layers: List[List[str]]) -> Dict[str, Tuple[float, float]]:
     return places
 
 
-def way_edges(words: str) -> List[Edge]:
-    """The pairs of a crate and the one above it of a way."""
-    return [pair for part in words.split(";") for pair in zip(part.split(), part.split()[1:])]
+def way_edges(words: str, uses: Dict[str, Set[str]]) -> List[Edge]:
+    """The pairs of a crate and the one above it of a way, without crates that the one above does not
+    use."""
+    edges: List[Edge] = []
+    for part in words.split(";"):
+        names = part.split()
+        kept = [name for name, above in zip(names, names[1:]) if name in uses[above]]
+        edges += zip(kept, [*kept[1:], names[-1]])
+    return edges
 
 
-def line(
-    place: Tuple[float, float], other: Tuple[float, float], color: str, width: float, shift: float
-) -> str:
-    """A line from the upper edge of the lower box to the lower edge of the upper one."""
-    (x, y), (u, v) = place, other
-    middle = WIDE / 2 + shift
-    return (
-        f'<line x1="{x + middle:g}" y1="{y + HIGH:g}" x2="{u + middle:g}" y2="{v:g}"'
-        f' stroke="{color}" stroke-width="{width:g}"/>'
-    )
+class Lines:
+    """Lines between boxes, which go through the gaps of the layers on their way."""
+
+    def __init__(self, layers: List[List[str]], places: Dict[str, Tuple[float, float]]) -> None:
+        self.places = places
+        self.rows = [[places[name] for name in layer] for layer in reversed(layers)]
+        # How many lines go through each gap so far.
+        self.taken: Dict[Tuple[float, float], int] = {}
+
+    def gap(self, row: List[Tuple[float, float]], x: float) -> float:
+        """Where a line that is to cross a row at `x` crosses it, beside the boxes."""
+        gaps = [each - GAP_X / 2 for each, _ in row] + [row[-1][0] + WIDE + GAP_X / 2]
+        if x < gaps[0] or x > gaps[-1]:
+            return x
+        found = min(gaps, key=lambda each: abs(each - x))
+        number = self.taken[found, row[0][1]] = self.taken.get((found, row[0][1]), -1) + 1
+        return found + SHIFTS[number % len(SHIFTS)]
+
+    def line(self, upper: str, lower: str, color: str, width: float, shift: float) -> str:
+        """A line from the lower edge of the upper box to the upper edge of the lower one."""
+        (x, y), (u, v) = self.places[upper], self.places[lower]
+        x, u, y = x + WIDE / 2 + shift, u + WIDE / 2 + shift, y + HIGH
+        points = [(x, y)]
+        for row in self.rows:
+            top = row[0][1]
+            if y < top < v:
+                last, start = points[-1]
+                place = self.gap(row, last + (u - last) * (top - start) / (v - start))
+                points += [(place, top - 4), (place, top + HIGH + 4)]
+        points.append((u, v))
+        words = " ".join(f"{left:g},{below:g}" for left, below in points)
+        return f'<polyline points="{words}" fill="none" stroke="{color}" stroke-width="{width:g}"/>'
 
 
 def box(name: str, place: Tuple[float, float]) -> List[str]:
@@ -163,13 +203,14 @@ def picture() -> str:
         ' font-family="sans-serif" font-size="12">'
     ]
     parts.append(f'<rect width="{wide}" height="{high}" fill="white"/>')
-    parts += [line(places[upper], places[lower], "#bbb", 1.5, 0) for upper, lower in direct(uses)]
-    for index, (command, (color, words)) in enumerate(WAYS.items()):
-        for lower, upper in way_edges(words):
-            parts.append(line(places[upper], places[lower], color, 3, 4 - 8 * index))
+    lines = Lines(layers, places)
+    parts += [lines.line(upper, lower, "#bbb", 1.5, 0) for upper, lower in direct(uses)]
+    for index, (name, (color, words)) in enumerate(WAYS.items()):
+        for lower, upper in way_edges(words, uses):
+            parts.append(lines.line(upper, lower, color, 3, 5 - 5 * index))
         parts.append(
-            f'<text x="{LEFT + 110 * index}" y="26" fill="{color}" font-weight="bold">cssq'
-            f" {command}</text>"
+            f'<text x="{LEFT}" y="{26 + 18 * index}" fill="{color}" font-weight="bold">'
+            f"{name}</text>"
         )
     parts += [part for layer in layers for name in layer for part in box(name, places[name])]
     return "\n".join([*parts, "</svg>"]) + "\n"

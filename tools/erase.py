@@ -40,7 +40,7 @@ class Package(NamedTuple):
 
 # fmt: off
 RUST = Package(TOP / "release/rust", ("simplecss", "simplecss_tree"), ("cssq/src/cascade.rt",),
-               ("css_sheet", "css_index", "css_tree"))
+               ("css_styles", "css_values"))
 # fmt: on
 LIBRARY = Package(TOP / "release/c/crate", ("simplecss_c",), texts=(TOP / "include/simplecss.h",))
 # The libraries of Rattle besides `std` whose names are there over Rust's, or that only proofs use.
@@ -270,8 +270,9 @@ def with_pointers(text: str) -> str:
                     f" {name}_len) }};"
                 )
             elif kind.endswith("<'_>"):
-                place = re.search(rf"use (.*::{kind[1:-4]});", text)
-                parameters.append(f"{name}: &{place and place[1]}InC")
+                word = kind[1:-4]
+                place = re.search(rf"use ([\w:]*::)(?:{word}|{{[^}}]*\b{word}\b[^}}]*}});", text)
+                parameters.append(f"{name}: &{place and place[1]}{word}InC")
                 lines.append(f"let {name} = &unsafe {{ {name}.read() }};")
             else:
                 parameters.append(f"{name}: {kind}")
@@ -291,7 +292,8 @@ def placed(text: str, crate: str, crates: List[str]) -> str:
     text = re.sub(r"(?<![\w:$])crate::(?!rattle_std::)", f"crate::erased::{crate}::", text)
     text = re.sub(rf"(?<![\w:$])({'|'.join(crates)})::", r"crate::erased::\1::", text)
     text = re.sub(r"(?<![\w:$])log::", "crate::rattle_log::", text)
-    text = text.replace(".to_ascii_lowercase(alloc)", ".to_ascii_lowercase_in(alloc)")
+    for name in ("to_ascii_lowercase", "to_string"):
+        text = text.replace(f".{name}(alloc)", f".{name}_in(alloc)")
     text = re.sub(r"\bformat!\(in ", "crate::rattle_std::string::format_in!(", text)
     lines = text.split("\n")
     head = 0

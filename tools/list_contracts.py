@@ -17,8 +17,8 @@ TOP = os.path.dirname(os.path.dirname(os.path.abspath(__file__)))
 LEFT_OUT = ("tests_", "example_")
 HEAD = """# Contracts
 
-This page is written by `tools/list_contracts.py`. A contract is at its function, in `crates/*/src`. What it names
-is defined in the crate's `specs/`, and reached through `simplecss`, as `Rattle.simplecss.specs.Trees`.
+`tools/list_contracts.py` writes this page. A contract is at its function, in `crates/*/src`, and names definitions of
+`specs/`, such as `Rattle.simplecss.specs.Trees`.
 
 ## How to read a clause
 
@@ -27,8 +27,7 @@ is defined in the crate's `specs/`, and reached through `simplecss`, as `Rattle.
 the same for an option. `OnOk r P` is `P` if `r` is an `Ok`, and `OnErr r P` if it is an `Err`. `this_edition` is
 the edition of the rules that is implemented.
 
-No contract can say that memory is left, nor that a call with memory returns an `Ok`: tests do. Clauses on the tests
-of elements are on the calls that count them; that the calls over these make no others is tested.
+No contract says that memory is left, or that a call with memory returns an `Ok`: tests do.
 
 ## The headline
 
@@ -49,6 +48,15 @@ QUOTES = (
 )
 # Laws that are said in one sentence, by words of their names.
 GATHERED = {
+    "Modern selectors and the modern cascade mean what those of CSS 2.1 do.": (
+        "converted_law",
+        "page_law",
+        "rule_order_law",
+    ),
+    "A list with a number has exactly the elements that it matches, and `&` is `:is()` of it.": (
+        "marking_law",
+        "ampersand_law",
+    ),
     "Values are equal exactly if what contracts see of them is.": ("equality",),
     "Blanks and comments are what their definitions say, which do not mention reading.": (
         "blank",
@@ -81,6 +89,9 @@ CALLS = (
     ("modern selectors' grammar", "css_syntax/src/selectors"),
     ("which of them are read", "css_sheet/src/selectors.rt"),
     ("rules of a sheet in order", "css_sheet/src/sheet_order.rt"),
+    ("what wins by them", "css_styles/src/styles.rt"),
+    ("values with `var()`", "css_values/src/resolution.rt"),
+    ("tables of names", "css_values/src/names.rt"),
     ("media queries", "css_conditions/src/media.rt"),
     ("`@supports`", "css_conditions/src/supports.rt"),
     ("reading modern selectors", "css_selectors/src/reading.rt"),

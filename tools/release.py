@@ -3,8 +3,8 @@
 crate, wheels, tarball, Debian package, npm package, one page, and their sums.
 
     release.py KIT [DIR]    KIT is the toolchain's folder; without DIR it writes to out/release
-    release.py --npm DIR    the npm package alone, without the toolchain and not proved: cargo
-                            compiles its module from the erased sources
+    release.py --npm DIR    the npm package and the page, without the toolchain and not proved:
+                            cargo compiles the module from the erased sources
 
 The bytes are the same from two checkouts of one commit: names are sorted, and times are the
 commit's. What cannot be made, since a tool is missing, is named, and the status is 1.
@@ -70,8 +70,11 @@ MODULES = (
     "properties",
     "names",
     "reading",
+    "resolving",
+    "tokens",
     "device",
     "tree",
+    "winners",
     "sheet",
     "mistakes",
     "lint",
@@ -297,7 +300,13 @@ class Release:
         package = TOP / "python/src/simplecss"
         files = {
             it.relative_to(package.parent).as_posix(): it.read_bytes()
-            for it in (*package.rglob("*.py"), package / "py.typed", PROPERTIES, NAMES)
+            for it in (
+                *package.rglob("*.py"),
+                *package.glob("*.css"),
+                package / "py.typed",
+                PROPERTIES,
+                NAMES,
+            )
         }
         files["simplecss/libsimplecss.so"] = library
         files.update({f"{info}licenses/{it.name}": it.read_bytes() for it in LICENCES})
@@ -527,13 +536,7 @@ class Release:
         """Writes the npm package, and the page with all in it."""
         files = npm_files(self.webassembly())
         self.write(f"simplecss-{self.version}.tgz", self.tarred(files, "package/"))
-        by_name = {it.name: it.data for it in files}
-        modules = (by_name[f"{it}.mjs"].decode() for it in MODULES)
-        unbound = (re.sub(r"(?m)^import .*\n|^export (default .*\n)?", "", it) for it in modules)
-        code = "".join(unbound)
-        code += "start(new WebAssembly.Module(bytes));\n"
-        page = (PARTS / "npm/playground.html").read_text().replace("// THE LIBRARY\n", code)
-        self.write("playground.html", page.encode())
+        self.write("playground.html", playground(files))
 
     def webassembly(self) -> bytes:
         """Returns the library as WebAssembly with a memory of 32 bits, which every engine runs."""
@@ -614,6 +617,25 @@ def npm_files(module: bytes) -> List[File]:
     ]
 
 
+def scoped(module: str) -> str:
+    """Returns a module as a function that is called at once, so that names of its own may be in other
+    modules, too. What it exports is declared for those after it."""
+    exported = r"(?m)^export (?:default |(?:async )?(?:function\*? |class |const ))"
+    names = re.findall(exported + r"(\w+)", module)
+    body = re.sub(r"(?m)^import .*\n|^export (default .*\n)?", "", module)
+    listed = ", ".join(names)
+    return f"const {{ {listed} }} = (() => {{\n{body}return {{ {listed} }};\n}})();\n"
+
+
+def playground(files: List[File]) -> bytes:
+    """Returns the page with the modules of the npm package in it."""
+    by_name = {it.name: it.data for it in files}
+    code = "".join(scoped(by_name[f"{it}.mjs"].decode()) for it in MODULES)
+    code += "start(new WebAssembly.Module(bytes));\n"
+    page = (PARTS / "npm/playground.html").read_text().replace("// THE LIBRARY\n", code)
+    return page.encode()
+
+
 def erased_module(room: Path) -> bytes:
     """Returns the library that cargo makes of the erased sources for WebAssembly."""
     crate, target = room / "crate", "wasm32-unknown-unknown"
@@ -625,13 +647,14 @@ def erased_module(room: Path) -> bytes:
 
 
 def make_erased_npm(to: Path) -> None:
-    """Writes the npm package with a module that is not proved into a folder."""
+    """Writes the npm package with a module that is not proved into a folder, and the page."""
     with tempfile.TemporaryDirectory() as room:
         files = npm_files(erased_module(Path(room)))
     to.mkdir(parents=True, exist_ok=True)
     for file in files:
         (to / file.name).write_bytes(file.data)
         (to / file.name).chmod(file.mode)
+    (to / "playground.html").write_bytes(playground(files))
 
 
 def module_of(lines: str) -> str:

@@ -36,8 +36,9 @@ export function deviceOf(media) {
   ) };
 }
 
-/** Whether the rules of a group rule apply on a device, or where a function decides so. */
+/** Whether the rules of a group rule apply on a device, or where a function decides so. Those of layers always do. */
 export function holds(condition, media) {
+  if (condition.name === 'layer') return true;
   const isMedia = condition.name === 'media';
   if (typeof media === 'function') return Boolean(media(isMedia ? condition.prelude : headOf(condition)));
   if (isMedia) return call('media', [encode(condition.prelude), deviceOf(media)]) === 'true';

@@ -5,8 +5,8 @@ const FAULTS = ['', 'its depth', 'its name is empty', 'its strings', 'a key occu
 // The limit that allows any number, and the greatest number of 32 bits.
 export const NO_LIMIT = 2n ** 64n - 1n;
 const MOST_NARROW = 2n ** 32n - 1n;
-// What may be written of a text: so many bytes, or so many for each byte of a longer text.
-const MOST_WRITTEN = 2 ** 26, MOST_FOR_BYTE = 32;
+// What may be written of a text: so many bytes or numbers, or so many for each byte of a longer text.
+const MOST_WRITTEN = 2 ** 26, MOST_FOR_BYTE = 32, MOST_NUMBERS = 2 ** 23, MOST_NUMBERS_FOR_BYTE = 8;
 
 const encoder = new TextEncoder();
 // U+FEFF at the front is a character.
@@ -64,6 +64,17 @@ function sizeAt(view, at) {
   return isErased ? view.getUint32(at, true) : Number(view.getBigUint64(at, true));
 }
 
+/** Returns how many bytes a number of the module has. */
+function sizeLength() {
+  return isErased ? 4 : 8;
+}
+
+/** Returns the numbers of bytes of the module's memory. */
+function numbersOf(bytes) {
+  const view = new DataView(bytes.buffer, bytes.byteOffset, bytes.length), size = sizeLength();
+  return Array.from({ length: bytes.length / size }, (_, index) => sizeAt(view, index * size));
+}
+
 /** Compiles a module, and starts it: from a Response, or what will be one, from bytes, or a compiled module. */
 export async function load(source) {
   const given = await source;
@@ -98,7 +109,11 @@ export function joined(texts) {
   const bytes = encode(whole);
   if (bytes.length === whole.length) return [bytes, endsOf(texts)];
   // Each text by itself: the halves of a pair in two texts are no character.
-  const parts = texts.map(encode);
+  return joinedBytes(texts.map(encode));
+}
+
+/** The bytes of texts, which are encoded, one after another, and where each ends. */
+export function joinedBytes(parts) {
   const all = new Uint8Array(parts.reduce((sum, part) => sum + part.length, 0));
   let end = 0;
   for (const part of parts) {
@@ -130,6 +145,11 @@ export function mostWritten(length) {
   return BigInt(Math.max(MOST_WRITTEN, MOST_FOR_BYTE * length));
 }
 
+/** Returns how many numbers may be written of a text of this length. */
+export function mostNumbers(length) {
+  return BigInt(Math.max(MOST_NUMBERS, MOST_NUMBERS_FOR_BYTE * length));
+}
+
 /** Takes room of the module's memory. */
 function take(length) {
   const at = BigInt.asUintN(isErased ? 32 : 64, BigInt(invoke('simplecss_take', [BigInt(length)])));
@@ -155,21 +175,25 @@ function placed(word) {
  * Calls a function of the library. Returns what it writes, or null where it refuses a selector.
  *
  * `room` is the length of the first buffer; a call that needs a longer one is made again. `most` is the most bytes that the
- * answer may have. A call that takes a tree reports its fault.
+ * answer may have. A call that takes a tree reports its fault. Of some the answer is in numbers.
  */
-export function call(name, words, { room = 65536, most, hasTree = false } = {}) {
+export function call(name, words, { room = 65536, most, hasTree = false, isNumbers = false } = {}) {
   if (!library) throw new Error('simplecss: call load first');
   for (;;) {
     library.simplecss_reset();
     const given = words.flatMap(placed);
     if (most !== undefined) given.push(most);
-    const out = take(room), length = take(24);
+    const size = isNumbers ? sizeLength() : 1;
+    const out = take(room * size), length = take(24);
     given.push(out, BigInt(room), length);
     if (hasTree) given.push(length + 8n);
     const status = invoke(`simplecss_${name}`, given);
     const view = new DataView(library.memory.buffer, Number(length), 24);
     const written = sizeAt(view, 0);
-    if (status === DONE) return decode(new Uint8Array(library.memory.buffer, Number(out), written));
+    if (status === DONE) {
+      const answer = new Uint8Array(library.memory.buffer, Number(out), written * size);
+      return isNumbers ? numbersOf(answer) : decode(answer);
+    }
     if (status === REFUSED) return null;
     if (status !== TOO_SMALL) throw failure(name, status, view);
     room = written;

@@ -1,8 +1,8 @@
 // Mistakes in style sheets.
-import { call, encode, mostWritten } from './library.mjs';
 import { problemsOfSheet } from './mistakes.mjs';
 import { Source, readSheet } from './reading.mjs';
 import { skippedByPort, wordsOf } from './sheet.mjs';
+import { tokens } from './tokens.mjs';
 import { PORT, grammarOf } from './tree.mjs';
 
 // What a comment has that turns kinds off for its line: those whose names, or the beginnings of whose names, are after it, or
@@ -27,29 +27,26 @@ function reportedByPort(text) {
   return { source, problems: faults.map(({ reason, span }) => ({ reason, span, hint: null })) };
 }
 
-/** Returns what the library writes of a sheet. */
-function writtenOf(text) {
-  const data = encode(text);
-  return call('read', [data], { room: 1024 + 16 * data.length, most: mostWritten(data.length) });
-}
-
-/**
- * Returns the beginnings of the kinds that comments turn off, by the rows of the comments in a sheet. The words are in comments
- * if the sheet with line breaks for them is read as the same.
- */
+/** Returns the beginnings of the kinds that comments turn off, by the rows of the comments in a sheet. */
 function ignoredIn(text) {
   const rows = new Map();
-  if (!text.includes(IGNORE)) return rows;
-  if (writtenOf(text) !== writtenOf(text.replaceAll(IGNORE, '\n'.repeat(IGNORE.length)))) return rows;
-  text.split('\n').forEach((line, index) => {
-    for (const part of line.split(IGNORE).slice(1)) {
-      const words = wordsOf(part.split('*/', 1)[0].replaceAll(',', ' '));
-      const kinds = rows.get(index + 1) ?? new Set();
-      rows.set(index + 1, kinds);
-      for (const word of words.length > 0 ? words : ['']) kinds.add(word);
-    }
-  });
+  let row = 1;
+  for (const token of text.includes(IGNORE) ? tokens(text) : []) {
+    const lines = token.text.split('\n');
+    if (token.kind === 'comment') lines.forEach((line, index) => ignore(rows, row + index, line));
+    row += lines.length - 1;
+  }
   return rows;
+}
+
+/** Adds what a line of a comment turns off. */
+function ignore(rows, row, line) {
+  for (const part of line.split(IGNORE).slice(1)) {
+    const words = wordsOf((part.endsWith('*/') ? part.slice(0, -2) : part).replaceAll(',', ' '));
+    const kinds = rows.get(row) ?? new Set();
+    rows.set(row, kinds);
+    for (const word of words.length > 0 ? words : ['']) kinds.add(word);
+  }
 }
 
 /** Whether one of these is a kind, or its beginning. */

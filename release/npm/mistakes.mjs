@@ -1,10 +1,12 @@
 // What a person calls a mistake, in what the library reads of style sheets.
-import { call, encode } from './library.mjs';
+import { call, decode, encode } from './library.mjs';
 import { properties } from './properties.mjs';
 import { knownNames } from './names.mjs';
 import { deviceOf } from './device.mjs';
 import { lower, readBlock, readSheet } from './reading.mjs';
+import { partsOf as longhandsOf } from './resolving.mjs';
 import { wordsOf } from './sheet.mjs';
+import { openedIn, pseudoNames, tokens } from './tokens.mjs';
 
 // The at-rules whose blocks have declarations; within a rule of elements, further ones; and those whose blocks have rules,
 // which the library does not read.
@@ -18,15 +20,14 @@ const RULE = 'x{';
 const NOTHING_WITHOUT_RULES = new Set(['container', 'font-face', 'media', 'supports']);
 // What an item is directly in.
 const IN_SHEET = 0, IN_RULE = 1, IN_AT_RULE = 2;
-// How many characters of a text are read again to find where something begins, and at how many places; and how many names of
-// a selector are.
-const MOST_READ = 2_000, MOST_PLACES = 16, MOST_NAMES = 8;
+// How many characters of a declaration are read again as two, and how many names of a selector are reported.
+const MOST_READ = 2_000, MOST_NAMES = 8;
 // The fewest and the most characters of a name that others are near to.
 const FEWEST_NEAR = 3, MOST_NEAR = 64;
-// What begins a string and a url.
-const MARKS = { 'bad string': ["'", '"'], 'bad url': ['url('] };
-const BLANKS = '\t\n\f\r ';
-const SLASH = 47, STAR = 42, CLOSING = 125;
+// The tokens that are strings, urls and comments.
+const BAD_STRINGS = new Set(['bad-string']), STRINGS = new Set(['string', 'bad-string']), COMMENTS = new Set(['comment']);
+const MARKS = { 'bad string': STRINGS, 'bad url': new Set(['url', 'bad-url']) };
+const CLOSING = 125;
 
 /** Names of a kind. */
 class Names {
@@ -90,7 +91,6 @@ function isSlip(name, other) {
 
 const PROPERTIES = new Names(properties, knownNames.properties);
 const DESCRIPTORS = new Names(properties, knownNames.properties, knownNames.descriptors);
-const SHORTHANDS = shorthandsOf(knownNames.shorthands);
 const FEATURES = new Names(knownNames['media features']);
 const AT_RULES = new Names(knownNames['at-rules']);
 // Those that CSS 2 writes with one colon, too.
@@ -98,18 +98,6 @@ const OLD_ELEMENTS = ['after', 'before', 'first-letter', 'first-line'];
 const CLASSES = new Names(knownNames['pseudo-classes'], knownNames['other pseudo-classes'], OLD_ELEMENTS);
 const ELEMENTS = new Names(knownNames['pseudo-elements'], knownNames['other pseudo-elements']);
 const IMPORTANT = new Names(['important']);
-
-/** Returns the properties that each shorthand sets, and the shorthands of some of these. */
-function shorthandsOf(words) {
-  const parts = new Map();
-  for (const word of words) {
-    if (word.endsWith(':')) parts.set(word.slice(0, -1), new Set());
-    else [...parts.values()].at(-1).add(word);
-  }
-  const isWithin = (inner, outer) => inner.size < outer.size && [...inner].every(each => outer.has(each));
-  const withShorthands = those => [...those, ...[...parts.keys()].filter(name => isWithin(parts.get(name), those))];
-  return new Map([...parts].map(([name, those]) => [name, withShorthands(those)]));
-}
 
 /** How many bytes a text has. */
 const sizeOf = text => encode(text).length;
@@ -159,17 +147,24 @@ const saidOf = prelude => call('media', [encode(prelude), deviceOf({})]);
  */
 function ofGroup({ condition: { name: kind, prelude }, head }) {
   if (kind !== 'media' || saidOf(prelude) !== 'unknown') return [];
-  const pieces = prelude.split('(');
-  for (const [index, piece] of pieces.slice(1, MOST_NAMES + 1).entries()) {
-    const name = nameOf(piece), hint = FEATURES.knows(name) ? null : FEATURES.nearest(name);
-    if (hint === null) continue;
-    const before = [...pieces.slice(0, index + 1), ''].join('(');
-    const right = [before + hint + piece.slice(name.length), ...pieces.slice(index + 2)].join('(');
-    if (saidOf(right) === 'unknown') continue;
-    const start = head[1] - sizeOf(prelude) + sizeOf(before);
-    return [problem('unknown media feature', [start, start + sizeOf(name)], hint)];
+  for (const token of featuresIn(prelude).slice(0, MOST_NAMES)) {
+    const name = lower(token.value), hint = FEATURES.knows(name) ? null : FEATURES.nearest(name);
+    if (hint === null || saidOf(prelude.slice(0, token.start) + hint + prelude.slice(token.end)) === 'unknown') continue;
+    const start = head[1] - sizeOf(prelude.slice(token.start));
+    return [problem('unknown media feature', [start, start + sizeOf(token.text)], hint)];
   }
   return [];
+}
+
+/** Returns the names that are first in parentheses. */
+function featuresIn(prelude) {
+  const found = withoutGaps(prelude);
+  return found.filter((token, index) => token.kind === 'ident' && found[index - 1]?.text === '(');
+}
+
+/** Returns the tokens of a text but for white space and comments. */
+function withoutGaps(text) {
+  return [...tokens(text)].filter(({ kind }) => kind !== 'whitespace' && kind !== 'comment');
 }
 
 function ofRule(source, rule) {
@@ -186,7 +181,8 @@ function ofRule(source, rule) {
 
 /** Whether a text ends with a block that has no more than blanks, no comment either. */
 function endsEmpty(source, span) {
-  return wordsOf(source.at(span)).join('').endsWith('{}');
+  const found = [...tokens(source.at(span))].filter(each => each.kind !== 'whitespace');
+  return found.slice(-2).map(each => each.text).join('') === '{}';
 }
 
 /** Returns the mistakes of an at-rule. */
@@ -238,60 +234,19 @@ function endOf(statements) {
   return statements.map(each => (each.levels[0] ?? each).span[1]).reduce((most, end) => Math.max(most, end), 0);
 }
 
-/** Returns where two bytes are one after another, from an offset on, or -1. */
-function find(data, first, second, from) {
-  let at = data.indexOf(first, from);
-  while (at >= 0 && data[at + 1] !== second) at = data.indexOf(first, at + 1);
-  return at;
-}
-
 /** Returns the comment that is not closed after the last of what is read, if there is one. */
-function openComment({ data }, from) {
-  let start = find(data, SLASH, STAR, from);
-  while (start >= 0) {
-    const end = find(data, STAR, SLASH, start + 2);
-    if (end < 0) return [problem('comment not closed', [start, data.length])];
-    start = find(data, SLASH, STAR, end + 2);
-  }
-  return [];
+function openComment(source, from) {
+  const found = openedIn(source.at([from, source.data.length]), COMMENTS);
+  return found === null ? [] : [problem('comment not closed', [from + found[0], source.data.length])];
 }
 
 // ---- selectors
 
-/**
- * Returns the names in a selector that no pseudo-class and no pseudo-element has. What is after a colon is a name of one if the
- * selector is another one with a blank there.
- */
-function ofSelector(selector) {
-  const pieces = selector.text.split(':'), found = [];
-  let at = pieces[0].length, asked = 0;
-  pieces.slice(1).forEach((piece, number) => {
-    const isElement = number > 0 && pieces[number] === '';
-    const known = isElement ? ELEMENTS : CLASSES;
-    const name = asked < MOST_NAMES ? nameOf(piece) : '';
-    if (name && !known.knows(name)) {
-      asked += 1;
-      if (isParted(selector, at + 1)) {
-        const start = selector.span[0] + sizeOf(selector.text.slice(0, at - isElement));
-        found.push(unknown(name, [start, start + 1 + isElement + sizeOf(name)], isElement));
-      }
-    }
-    at += 1 + piece.length;
-  });
-  return found;
-}
-
-/** Returns the name that a text begins with, as that of an at-rule, in lower case. */
-function nameOf(text) {
-  const [item] = readBlock(`@${text}`).items;
-  return item?.kind === 'at-rule' ? item.rule.name : '';
-}
-
-/** Whether a blank at an index makes another selector of one, or none. */
-function isParted({ text, specificity }, at) {
-  const { statements } = readSheet(`${text.slice(0, at)} ${text.slice(at)}{}`);
-  if (statements.length !== 1 || statements[0].kind !== 'rule' || statements[0].selectors.length !== 1) return true;
-  return (statements[0].selectors[0].specificity === null) !== (specificity === null);
+/** Returns the names in a selector that no pseudo-class and no pseudo-element has. */
+function ofSelector({ text, span: [from] }) {
+  const unknowns = pseudoNames(text).filter(({ name, isElement }) => !(isElement ? ELEMENTS : CLASSES).knows(name));
+  return unknowns.slice(0, MOST_NAMES).map(({ name, isElement, start, end }) =>
+    unknown(name, [from + start, from + end], isElement));
 }
 
 /** Returns that a pseudo-class or a pseudo-element is unknown. */
@@ -325,23 +280,24 @@ function ofFault(source, { reason, span }) {
   if (reason === 'nested rule') return ofNested(text, span);
   if (reason === 'broken declaration') return ofBroken(text, span);
   if (!(reason in MARKS)) return [problem(reason, span)];
-  return [problem(reason, [span[0] + sizeOf(text.slice(0, opened(text, MARKS[reason]))), span[1]])];
+  return [problem(reason, [span[0] + (openedIn(text, MARKS[reason])?.[0] ?? 0), span[1]])];
 }
 
 /** Returns the string without an end for which what is after its line is read as a rule in this one. */
 function ofNested(text, [start]) {
-  const line = text.split('\n', 1)[0], at = opened(line, MARKS['bad string']);
-  if (at === 0 || isWhole(line) || !isWhole(line + line[at])) return [];
-  return [problem('bad string', [start + sizeOf(line.slice(0, at)), start + sizeOf(line)])];
+  const found = openedIn(text, BAD_STRINGS);
+  if (found === null || found[0] === 0) return [];
+  const data = encode(text), quote = decode(data.subarray(found[0], found[0] + 1));
+  if (!isWhole(decode(data.subarray(0, found[1])) + quote)) return [];
+  return [problem('bad string', [start + found[0], start + found[1]])];
 }
 
 /** Returns why a declaration is broken, as far as that is known. */
 function ofBroken(text, span) {
-  const at = text.lastIndexOf('!'), before = text.slice(0, Math.max(at, 0));
-  const word = lower(wordsOf(text.slice(at + 1)).join(''));
-  const isNear = at >= 0 && (IMPORTANT.has(word) || IMPORTANT.nearest(word) !== null);
-  if (isNear && isWhole(withoutEnd(before, `!${BLANKS}`))) {
-    return [problem('misspelt important', [span[0] + sizeOf(before), span[1]], '!important')];
+  const mark = markIn(text);
+  const isNear = mark !== null && (IMPORTANT.has(mark.word) || IMPORTANT.nearest(mark.word) !== null);
+  if (isNear && isWhole(text.slice(0, mark.first))) {
+    return [problem('misspelt important', [span[0] + sizeOf(text.slice(0, mark.last)), span[1]], '!important')];
   }
   if (text[0] === '*' && isWhole(text.slice(1))) return [];
   const found = merged(text, span[0]);
@@ -349,24 +305,30 @@ function ofBroken(text, span) {
 }
 
 /**
+ * Returns the last exclamation mark of a text, if it has one: where it is, where it or those directly before it begin, and the
+ * word after it, in lower case.
+ */
+function markIn(text) {
+  const found = withoutGaps(text), last = found.map(each => each.text).lastIndexOf('!');
+  if (last < 0) return null;
+  let first = last;
+  while (first > 0 && found[first - 1].text === '!') first -= 1;
+  const word = lower(found.slice(last + 1).map(each => each.value).join(''));
+  return { last: found[last].start, first: first > 0 ? found[first - 1].end : 0, word };
+}
+
+/**
  * Returns the first of two declarations without a semicolon between them: the word before the second colon is a property, and
  * what is before it and from it on are declarations.
  */
 function merged(text, start) {
-  const [name, value] = text.split(':', 2), isParted = text.indexOf(':', text.indexOf(':') + 1) >= 0;
-  const words = isParted && text.length <= MOST_READ ? wordsOf(value) : [];
-  if (words.length < 2 || !PROPERTIES.has(lower(words.at(-1)))) return [];
-  const at = name.length + 1 + value.lastIndexOf(words.at(-1));
-  const before = withoutEnd(text.slice(0, at), BLANKS);
-  if (!isWhole(before) || !isWhole(text.slice(at))) return [];
-  return [problem('semicolon missing', [start, start + sizeOf(before)])];
-}
-
-/** Returns a text without these characters at its end. */
-function withoutEnd(text, characters) {
-  let end = text.length;
-  while (end > 0 && characters.includes(text[end - 1])) end -= 1;
-  return text.slice(0, end);
+  const found = text.length <= MOST_READ ? withoutGaps(text) : [];
+  const [one, other] = found.flatMap((each, index) => each.text === ':' ? [index] : []);
+  if (other === undefined || other - one < 3) return [];
+  const [before, name] = found.slice(other - 2, other);
+  if (name.kind !== 'ident' || !PROPERTIES.has(lower(name.value))) return [];
+  if (!isWhole(text.slice(0, before.end)) || !isWhole(text.slice(name.start))) return [];
+  return [problem('semicolon missing', [start, start + sizeOf(text.slice(0, before.end))])];
 }
 
 /** Whether a text is one declaration, of which nothing is open at its end. */
@@ -375,32 +337,13 @@ function isWhole(text) {
   return items.length === 1 && items[0].kind === 'declaration' && items[0].isClosed;
 }
 
-/**
- * Returns where something that is not closed begins: at the last mark before which all is closed. If that is not found, it is
- * where the text begins.
- */
-function opened(text, marks) {
-  if (text.length > MOST_READ) return 0;
-  const places = marks.flatMap(mark => placesOf(lower(text), mark)).sort((a, b) => a - b);
-  return places.slice(0, MOST_PLACES).filter(place => isWhole(`${text.slice(0, place)}x`)).at(-1) ?? 0;
-}
-
-/** Returns where a mark is in a text. */
-function placesOf(text, mark) {
-  const found = [];
-  for (let at = text.indexOf(mark); at >= 0; at = text.indexOf(mark, at + 1)) found.push(at);
-  return found;
-}
-
 /** Returns what the end of the text closes of a declaration: a comment, a string or a bracket. */
 function notClosed(text, [start, end]) {
-  const comment = opened(text, ['/*']);
-  if (comment > 0 && isWhole(`${text}*/`)) {
-    return problem('comment not closed', [start + sizeOf(text.slice(0, comment)), end]);
-  }
-  const string = opened(text, MARKS['bad string']);
-  const before = isWhole(text + text[string]) ? text.slice(0, string) : '';
-  return problem('value not closed', [start + sizeOf(before), end]);
+  const comment = openedIn(text, COMMENTS);
+  if (comment !== null && isWhole(`${text}*/`)) return problem('comment not closed', [start + comment[0], end]);
+  const string = openedIn(text, STRINGS), data = encode(text);
+  const isString = string !== null && isWhole(text + decode(data.subarray(string[0], string[0] + 1)));
+  return problem('value not closed', [start + (isString ? string[0] : 0), end]);
 }
 
 /** Returns the declarations that are lost, since the block sets their property again. */
@@ -449,5 +392,5 @@ function mayFail(value) {
 
 /** Returns the properties that a shorthand sets, if browsers support its value. */
 function partsOf({ name, value }) {
-  return mayFail(value) ? [] : SHORTHANDS.get(name) ?? [];
+  return mayFail(value) ? [] : longhandsOf(name);
 }

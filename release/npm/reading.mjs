@@ -1,8 +1,15 @@
 // What the library reads of style sheets and style attributes, by the modern grammar.
-import { call, decode, encode, linesOf, mostWritten } from './library.mjs';
+import { call, decode, encode, mostNumbers } from './library.mjs';
+import { withoutColons } from './tokens.mjs';
 
 // How many bytes are counted at once.
 const BLOCK = 256;
+// How many numbers the library writes of a statement, and then of each of its group rules, its selectors and its items.
+const OF_STATEMENT = 13, OF_LEVEL = 6, OF_SELECTOR = 8, OF_ITEM = 10;
+// The kinds of statements and items, as the library numbers them, and why others are skipped.
+const DECLARATION = 0, AT_RULE = 1, RULE = 3, FAULTS = 4;
+const REASONS = ['broken declaration', 'bad string', 'bad url', 'stray bracket', 'too deep', 'no block', 'nested rule',
+  'invalid selector'];
 
 /** Returns a name with the letters A to Z in lower case. */
 export function lower(name) {
@@ -110,18 +117,22 @@ class Reader {
     this.source = new Source(text);
   }
 
-  /** Returns what a call writes of the text. */
-  lines(name, most) {
+  /** Returns the numbers that a call writes of the text. */
+  numbers(name, most) {
     const data = this.source.data;
-    return linesOf(call(name, [data], { room: 1024 + 16 * data.length, most }));
+    return call(name, [data], { room: 1024 + data.length, most, isNumbers: true });
+  }
+
+  /** Returns what the text has as a style attribute. */
+  blockItems() {
+    return this.#items(this.numbers('declarations'), []);
   }
 
   /** Returns the statements of the text, and the group rules that have none, which the library does not write. */
   statements() {
     const found = [];
     let at = 0;
-    for (const value of this.lines('read', mostWritten(this.source.data.length))) {
-      const statement = this.#statement(value);
+    for (const statement of this.#written()) {
       const [start, end] = (statement.levels[0] ?? statement).span;
       this.#addGroups(found, at, start);
       found.push(statement);
@@ -139,91 +150,108 @@ class Reader {
     }
   }
 
-  #statement(value) {
-    const levels = this.#levelsOf(value.levels);
-    return value.kind === 'rule' ? this.#rule(value, levels) : this.item(value, levels);
+  /** Yields the statements that the library writes. */
+  * #written() {
+    const numbers = this.numbers('read', mostNumbers(this.source.data.length));
+    for (let at = 0; at < numbers.length;) {
+      const row = numbers.slice(at, at + OF_STATEMENT);
+      const atSelectors = at + OF_STATEMENT + row[10], atItems = atSelectors + row[11];
+      const levels = this.#levelsOf(numbers.slice(at + OF_STATEMENT, atSelectors));
+      at = atItems + row[12];
+      if (row[0] === RULE) yield this.#rule(row, numbers.slice(atSelectors, atItems), numbers.slice(atItems, at), levels);
+      else yield this.#other(row, levels);
+    }
   }
 
-  /** Makes an item of a line, or of what a rule set has. */
-  item(value, levels = []) {
-    if (value.kind === 'declaration') return this.#declaration(value);
-    return value.kind === 'at-rule' ? this.#atRule(value, levels) : this.#fault(value, levels);
+  /** Makes the items of these numbers. */
+  #items(numbers, levels) {
+    return rowsOf(numbers, OF_ITEM).map(row => row[0] === DECLARATION ? this.#declaration(row) : this.#other(row, levels));
   }
 
   /** Makes the group rules of a statement, which most have in common. */
-  #levelsOf(values) {
-    const key = values.map(value => value.name[0]).join(' ');
-    if (!this.#levels.has(key)) {
-      this.#levels.set(key, values.map(({ name, prelude, start, end }) => ({
-        condition: { name: lower(this.source.at(name)), prelude: this.source.at(prelude) },
-        span: [start, end],
-        head: [start, prelude[1]],
-      })));
-    }
+  #levelsOf(numbers) {
+    const key = numbers.join(' ');
+    if (!this.#levels.has(key)) this.#levels.set(key, rowsOf(numbers, OF_LEVEL).map(row => this.#level(row)));
     return this.#levels.get(key);
   }
 
-  #rule(value, levels) {
-    const items = value.items.map(each => this.item(each, levels));
+  #level([start, length, name, nameLength, prelude, preludeLength]) {
+    const end = prelude + preludeLength;
+    return {
+      condition: { name: lower(this.source.at([name, name + nameLength])), prelude: this.source.at([prelude, end]) },
+      span: [start, start + length],
+      head: [start, end],
+    };
+  }
+
+  #rule([, start, length, isClosed, prelude, preludeLength], selectors, numbers, levels) {
+    const items = this.#items(numbers, levels);
     return {
       kind: 'rule',
-      selectors: value.selectors.map(each => this.#selector(each)),
+      selectors: rowsOf(selectors, OF_SELECTOR).map(row => this.#selector(row)),
       items,
       declarations: declarationsIn(items),
       levels,
-      head: value.prelude,
-      isClosed: value.closed,
-      span: [value.start, value.end],
+      head: [prelude, prelude + preludeLength],
+      isClosed: isClosed === 1,
+      span: [start, start + length],
     };
   }
 
-  #selector({ text, specificity, pseudo_element: element }) {
-    let front = text[1], name = null;
-    if (element) {
-      name = this.source.at(element).replace(/^:+/, '');
-      front = element[0];
-      // Before the name are one colon or two.
-      while (front > text[0] && this.source.data[front - 1] === 58) front -= 1;
-    }
-    const at = range => this.source.at(range);
-    return { text: at(text), front: at([text[0], front]), pseudoElement: name, specificity, span: text };
+  #selector([start, length, isRead, ids, classes, types, element, elementLength]) {
+    const at = (from, to) => this.source.at([from, to]), end = start + length;
+    return {
+      text: at(start, end),
+      front: at(start, elementLength ? element : end),
+      pseudoElement: elementLength ? withoutColons(at(element, element + elementLength)) : null,
+      specificity: isRead ? [ids, classes, types] : null,
+      span: [start, end],
+    };
   }
 
-  #declaration(value) {
-    const name = this.source.at(value.name), text = this.source.at(value.value);
+  #declaration([, start, length, isClosed, name, nameLength, value, valueLength, isImportant]) {
+    const closed = isClosed === 1, nameSpan = [name, name + nameLength], valueSpan = [value, value + valueLength];
     return {
       kind: 'declaration',
-      declaration: {
-        name: name.startsWith('--') ? name : lower(name),
-        value: value.closed ? text : closed(text),
-        important: value.important,
-      },
-      isClosed: value.closed,
-      span: [value.start, value.end],
+      declaration: declared(this.source, nameSpan, valueSpan, isImportant === 1, closed),
+      isClosed: closed,
+      span: [start, start + length],
     };
   }
 
-  #fault(value, levels) {
-    let end = value.end;
-    while (end > value.start && isBlank(this.source.data[end - 1])) end -= 1;
-    return { kind: 'skipped', reason: value.fault, levels, span: [value.start, end] };
+  /** Makes an at-rule, or something that is skipped. */
+  #other(row, levels) {
+    const [kind, start, length] = row;
+    return kind < FAULTS ? this.#atRule(row, levels) : this.#fault(REASONS[kind - FAULTS], start, start + length, levels);
   }
 
-  #atRule(value, levels) {
+  #fault(reason, start, past, levels) {
+    let end = past;
+    while (end > start && isBlank(this.source.data[end - 1])) end -= 1;
+    return { kind: 'skipped', reason, levels, span: [start, end] };
+  }
+
+  #atRule([kind, start, length, isClosed, name, nameLength, prelude, preludeLength, block, blockLength], levels) {
+    const end = start + length, inner = kind === AT_RULE ? [block, block + blockLength] : [end, end];
     return {
       kind: 'at-rule',
       rule: {
-        name: lower(this.source.at(value.name)),
-        prelude: this.source.at(value.prelude),
-        block: value.block && this.source.at(value.block),
+        name: lower(this.source.at([name, name + nameLength])),
+        prelude: this.source.at([prelude, prelude + preludeLength]),
+        block: kind === AT_RULE ? this.source.at(inner) : null,
         conditions: conditionsOf(levels),
       },
       levels,
-      isClosed: value.closed,
-      span: [value.start, value.end],
-      inner: value.block ?? [value.end, value.end],
+      isClosed: isClosed === 1,
+      span: [start, end],
+      inner,
     };
   }
+}
+
+/** Returns numbers in rows of this length. */
+function rowsOf(numbers, width) {
+  return Array.from({ length: numbers.length / width }, (_, index) => numbers.slice(index * width, (index + 1) * width));
 }
 
 /** Whether a byte is white space: TAB, LF, FF, CR or a space. */
@@ -232,6 +260,12 @@ function isBlank(byte) {
 }
 
 const moved = ([start, end], by) => [start + by, end + by];
+
+/** Returns the declaration whose name and value are between these offsets. */
+export function declared(source, nameSpan, valueSpan, important, isClosed) {
+  const name = source.at(nameSpan), text = source.at(valueSpan);
+  return { name: name.startsWith('--') ? name : lower(name), value: isClosed ? text : closed(text), important };
+}
 
 /** Returns a value with what the end of the text closes: a string or a comment, and brackets. */
 function closed(value) {
@@ -260,7 +294,7 @@ export function readSheet(text) {
 /** Returns what a style attribute or the block of a rule has. */
 export function readBlock(text) {
   const reader = new Reader(text);
-  return { source: reader.source, items: reader.lines('declarations').map(each => reader.item(each)) };
+  return { source: reader.source, items: reader.blockItems() };
 }
 
 /** Returns the declarations of a `style` attribute, in order. What is no declaration is skipped. */

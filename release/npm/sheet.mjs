@@ -3,9 +3,13 @@ import { holds } from './device.mjs';
 import { LimitError, call, encode, expectText, joined, limited, linesOf } from './library.mjs';
 import { conditionsOf, readSheet, Source } from './reading.mjs';
 import { NUMBERS, PORT, SelectorError, Tree, grammarOf, matches, selected } from './tree.mjs';
+import { Winning } from './winners.mjs';
 
 // The limits where none is named: of the declarations of rules, and of the rules and declarations of an answer.
 const USUAL_LIMIT = 1_000_000, USUAL_ANSWER_LIMIT = 10_000_000;
+// How many times an answer's limit the declarations that are compared may be, as elements times those of all rules, before it is
+// told how many they are.
+const COMPARED = 10;
 // How many bytes of an answer of the Rust crate's grammar a rule or a declaration may have on average.
 const MOST_BYTES = 64;
 
@@ -47,18 +51,6 @@ export function wordsOf(text) {
   return text.split(/[\t\n\f\r ]+/).filter(word => word !== '');
 }
 
-/** Returns of several declarations of one name the last one of the greatest importance (CSS 2.1 section 6.4.1). */
-function cascaded(declarations) {
-  const found = new Map();
-  for (const each of declarations) {
-    if (!each.important && found.get(each.name)?.important) continue;
-    // A name that is set again goes to the end.
-    found.delete(each.name);
-    found.set(each.name, each);
-  }
-  return [...found.values()];
-}
-
 /** The style sheet of texts, read one after another. Its rules are in the order of their specificity. */
 export class StyleSheet {
   #texts;
@@ -67,6 +59,7 @@ export class StyleSheet {
   #answerLimit;
   #read;
   #contents;
+  #winningOn = new Map();
 
   constructor(texts, options = {}) {
     this.#texts = typeof texts === 'string' ? [texts] : [...texts];
@@ -117,9 +110,13 @@ export class StyleSheet {
   #contentsOfModern() {
     const statements = this.#statements().flatMap(each => each.statements);
     const sets = statements.filter(each => each.kind === 'rule');
+    this.#checkLimit(sets);
+    return { ...rulesOf(sets), atRules: statements.flatMap(atRulesOf).map(each => each.rule) };
+  }
+
+  #checkLimit(sets) {
     const count = sets.reduce((sum, each) => sum + each.selectors.length * each.declarations.length, 0);
     if (count > this.#limit) throw new LimitError('the rules would hold more declarations than the limit');
-    return { ...rulesOf(sets), atRules: statements.flatMap(atRulesOf).map(each => each.rule) };
   }
 
   /** The texts as a call takes them, and the limit. */
@@ -193,17 +190,27 @@ export class StyleSheet {
   }
 
   #winners(elements, media) {
-    const { indices, lines } = this.#matched(elements, media);
-    const compared = new Room(this.#answerLimit), answered = new Room(this.#answerLimit), winners = new Map();
-    return lines.map(line => {
-      if (!winners.has(line)) {
-        const blocks = numbersIn(line).map(number => this.rules[indices[number - 1]].declarations);
-        compared.take(blocks.reduce((sum, block) => sum + block.length, 0));
-        winners.set(line, cascaded(blocks.flat()));
-      }
-      answered.take(winners.get(line).length);
-      return [...winners.get(line)];
-    });
+    const winning = this.#winning(media);
+    if (elements.names.length * winning.count > COMPARED * this.#answerLimit) this.#checkCompared(elements, media);
+    return winning.on(elements, this.#answerLimit);
+  }
+
+  /** Refuses more rules that match elements than the limit, and more declarations of rules that match one together. */
+  #checkCompared(elements, media) {
+    const { indices, lines } = this.#matched(elements, media), compared = new Room(this.#answerLimit);
+    for (const line of new Set(lines)) {
+      compared.take(numbersIn(line).reduce((sum, number) => sum + this.rules[indices[number - 1]].declarations.length, 0));
+    }
+  }
+
+  /** Returns the rules that apply on a device. */
+  #winning(media) {
+    const read = this.#statements();
+    this.#checkLimit(read.flatMap(each => each.statements).filter(each => each.kind === 'rule'));
+    if (typeof media === 'function') return new Winning(read, media, this.#limit);
+    const key = JSON.stringify(media);
+    if (!this.#winningOn.has(key)) this.#winningOn.set(key, new Winning(read, media, this.#limit));
+    return this.#winningOn.get(key);
   }
 }
 

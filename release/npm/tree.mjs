@@ -3,7 +3,8 @@ import { NO_LIMIT, TreeError, call, encode, expectText, joined, limited, linesOf
 import { lower } from './reading.mjs';
 
 // The grammars: that of browsers, and that of the Rust crate.
-export const MODERN = 'modern', PORT = 'simplecss';
+export const MODERN = 'modern';
+export const PORT = 'simplecss';
 // The states of an element that selectors test, as numbers of the library, and that of one with a text of its own.
 const STATES = { link: 1, visited: 2, hover: 4, active: 8, focus: 16 };
 const HAS_TEXT = 32;
@@ -20,6 +21,8 @@ const CASELESS = new Map([[HTML, WITHOUT_CASE], [QUIRKS, new Set([...WITHOUT_CAS
 const SPACE_OF_HTML = 'http://www.w3.org/1999/xhtml', SPACE_OF_SVG = 'http://www.w3.org/2000/svg';
 // Kinds of nodes of a DOM.
 const IS_ELEMENT = 1, IS_TEXT = 3, IS_CDATA = 4, IS_DOCUMENT = 9, IS_FRAGMENT = 11;
+// How many numbers of what wins on an element there is room for at first.
+const ROOM_FOR_ELEMENT = 64;
 // How many lists of selectors have their answers kept.
 const MOST_ANSWERS = 32;
 
@@ -35,7 +38,7 @@ export class SelectorError extends Error {
 
 /** Returns the name of a grammar, if it is one. */
 export function grammarOf({ grammar = MODERN } = {}) {
-  if (grammar !== MODERN && grammar !== PORT) throw new TypeError(`no grammar: ${grammar}`);
+  if (grammar !== MODERN && grammar !== PORT) throw new TypeError(`unknown grammar: ${grammar}`);
   return grammar;
 }
 
@@ -170,6 +173,12 @@ class Elements {
       room: 1024 + 32 * count, most: most < NO_LIMIT ? most : NO_LIMIT, hasTree: true,
     });
     return written.split('\n').slice(0, -1).map(line => line.slice(line.indexOf(':') + 1));
+  }
+
+  /** Returns how many declarations of sheets win on each element, and the numbers of each: `most` numbers at most. */
+  won(sheets, most) {
+    const [grammar, tree] = this.words(MODERN), room = 1024 + ROOM_FOR_ELEMENT * this.names.length;
+    return call('winners', [sheets, grammar, NO_LIMIT, tree], { room, most, hasTree: true, isNumbers: true });
   }
 
   /** Returns the number of a grammar, of the modern one as the document reads it, and the tree, as calls of the library take them. */
@@ -335,7 +344,7 @@ function attributesOf(attributes) {
 
 function statesOf(names) {
   const found = [...new Set(names)];
-  for (const name of found) if (!Object.hasOwn(STATES, name)) throw new TypeError(`no state of an element: ${name}`);
+  for (const name of found) if (!Object.hasOwn(STATES, name)) throw new TypeError(`unknown state: ${name}`);
   return found;
 }
 

@@ -10,10 +10,11 @@
 #define ROOM (1 << 20)
 #define MOST SIMPLECSS_NO_LIMIT
 #define OUT out, sizeof out, &len
+#define NUMBERS numbers, sizeof numbers / sizeof *numbers, &len
 #define SHEET text, end, &end, 1
 
 static uint8_t text[ROOM], out[ROOM];
-static size_t len;
+static size_t numbers[ROOM / sizeof(size_t)], len;
 static simplecss_tree_fault fault;
 
 /* Writes the answer of a call, or nothing where it refuses a text. */
@@ -21,6 +22,13 @@ static void put(uint32_t status) {
     uint64_t length = status == SIMPLECSS_DONE ? len : 0;
     fwrite(&length, 8, 1, stdout);
     fwrite(out, 1, length, stdout);
+}
+
+/* The same of one that writes numbers. */
+static void put_numbers(uint32_t status) {
+    uint64_t length = status == SIMPLECSS_DONE ? len * sizeof *numbers : 0;
+    fwrite(&length, 8, 1, stdout);
+    fwrite(numbers, 1, length, stdout);
 }
 
 int main(void) {
@@ -33,9 +41,12 @@ int main(void) {
         put(simplecss_port_rules(SHEET, MOST, OUT));
         put(simplecss_port_match(SHEET, MOST, &TREE, MOST, OUT, &fault));
         put(simplecss_port_styles(SHEET, MOST, &TREE, MOST, OUT, &fault));
-        put(simplecss_read(text, end, MOST, OUT));
-        put(simplecss_declarations(text, end, OUT));
+        put_numbers(simplecss_read(text, end, MOST, NUMBERS));
+        put_numbers(simplecss_declarations(text, end, NUMBERS));
         put(simplecss_close(text, end, OUT));
+        put(simplecss_escape(text, end, OUT));
+        put(simplecss_quote(text, end, OUT));
+        put(simplecss_decode(text, end, 1, OUT));
         put(simplecss_list(text, end, SIMPLECSS_MODERN, OUT));
         put(simplecss_refusal(text, end, SIMPLECSS_MODERN, OUT));
         put(simplecss_select(text, end, SIMPLECSS_MODERN, &TREE, MOST, OUT, &fault));

@@ -18,7 +18,8 @@ for (let at = 0; at < input.length; ) {
     call('port_sheet', sheet), call('port_selector', [text]), call('port_skipped', [text]), call('list', [text, portNumber]),
     call('port_rules', sheet), call('port_match', [...sheet, port], { most, hasTree }),
     call('port_styles', [...sheet, port], { most, hasTree }),
-    call('read', [text], { most }), call('declarations', [text]), call('close', [text]), call('list', [text, modern[0]]),
+    call('read', [text], { most }), call('declarations', [text]), call('close', [text]),
+    call('escape', [text]), call('quote', [text]), call('decode', [text, 1n]), call('list', [text, modern[0]]),
     call('refusal', [text, modern[0]]), call('select', [text, ...modern], { most, hasTree }),
     call('match_selectors', [text, ends, ...modern], { most, hasTree }),
   ];

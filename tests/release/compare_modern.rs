@@ -104,10 +104,15 @@ fn found(page: &Document, count: usize, sheet: &Sheet) -> String {
 }
 
 fn winners(page: &Document, count: usize, sheet: &Sheet) -> String {
-    let mut out = String::new();
+    let (mut out, mut styles) = (String::new(), page.styles(sheet));
     for number in 0..count {
+        let all: Vec<Declaration> = styles.winners(number, "").iter().map(|it| it.declaration).collect();
         for name in PROPERTIES {
-            if let Some(it) = sheet.winning(&page.node(number).unwrap(), name) {
+            let won = sheet.winning(&page.node(number).unwrap(), name);
+            assert_eq!(styles.style(number, "", name).map(|it| it.declaration), won);
+            let is_it = |it: &&Declaration| it.name == name || name == "color" && it.name.eq_ignore_ascii_case(name);
+            assert_eq!(all.iter().find(is_it), won.as_ref());
+            if let Some(it) = won {
                 write!(out, "{name}={}={};", it.value, it.important).unwrap();
             }
         }
@@ -116,9 +121,10 @@ fn winners(page: &Document, count: usize, sheet: &Sheet) -> String {
     out
 }
 
-fn answers(page: &Document, count: usize, text: &str) -> [String; 7] {
+fn answers(page: &mut Document, count: usize, text: &str) -> [String; 7] {
     let (mut list, sheet) = (String::new(), Sheet::read(text, holds).unwrap());
     items(&mut list, declarations(text));
+    page.mark(&sheet, usize::MAX).unwrap();
     let on_page = [matched(page, count, text), found(page, count, &sheet), winners(page, count, &sheet)];
     let [matches, index, winners] = on_page;
     [list, names(text), printed(text), rules(&sheet), matches, index, winners]
@@ -159,7 +165,7 @@ fn main() {
     texts.into_iter().for_each(|it| page.set_text(it));
     let mut out = std::io::BufWriter::new(std::io::stdout().lock());
     while let Some(text) = next(&mut rest) {
-        for answer in answers(&page, tree.len(), text) {
+        for answer in answers(&mut page, tree.len(), text) {
             out.write_all(&(answer.len() as u64).to_le_bytes()).unwrap();
             out.write_all(answer.as_bytes()).unwrap();
         }

@@ -57,7 +57,7 @@
 //! Beyond 0.2.2: [`index`] finds the rules that match without testing each, [`skipped`] lists what a sheet
 //! skips and where, [`limit`] refuses sheets that would store too much, [`tree`] is a tree for programs
 //! that have none, [`cascade`] says which declarations win, and with the feature `modern` the module of
-//! this name reads sheets and selectors as browsers do.
+//! this name reads sheets and selectors as browsers do, and `properties` has shorthands and `var()`.
 //!
 //! At-rules are skipped, and values are not parsed. A call that needs memory where there is none panics.
 //! With the feature `log`, refused selectors and at-rules are warned of. Targets of 32 bits need the feature
@@ -78,6 +78,8 @@ pub mod index;
 pub mod limit;
 #[cfg(feature = "modern")]
 pub mod modern;
+#[cfg(feature = "modern")]
+pub mod properties;
 pub mod skipped;
 pub mod tree;
 

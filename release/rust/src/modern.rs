@@ -21,16 +21,19 @@
 //! What is read is `Send` and `Sync`:
 //!
 //! ```
-//! use simplecss::modern::{Declaration, Document, Index, Rule, Selector, Sheet, Walk};
+//! use simplecss::modern::{Declaration, Document, Index, Rule, Selector, Sheet, Styles, Walk, Winner};
 //!
 //! fn is_shared<T: Send + Sync>() {}
-//! is_shared::<(Sheet, Rule, Index, Walk, Selector, Declaration, Document)>();
+//! is_shared::<(Sheet, Rule, Index, Walk, Selector, Declaration, Document, Styles, Winner)>();
 //! is_shared::<(simplecss::StyleSheet, simplecss::tree::Tree)>();
 //! ```
 //!
 //! Elements are of a type of your own, which implements [`Element`], or those of a [`Document`]. A selector
-//! that is valid and not supported, such as `a:has(b)`, matches nothing. Nested rules are not read.
-use crate::erased::{css_index, css_matching, css_selectors, css_sheet, css_syntax, css_tree};
+//! that is valid and not supported, such as `a:has(b)`, matches nothing. Nested rules match the elements of a
+//! [`Document`] that is marked ([`Document::mark`]).
+use crate::erased::{
+    css_index, css_matching, css_selectors, css_sheet, css_styles, css_syntax, css_tree,
+};
 use crate::rattle_std::alloc::Global;
 use crate::{done, tree::Tree, within, TextPos};
 use alloc::string::{String, ToString};
@@ -39,6 +42,7 @@ use core::fmt;
 
 pub use crate::erased::css_index::Keyed;
 pub use crate::erased::css_selectors::{Element, Key, Nesting, Specificity};
+pub use crate::erased::css_styles::Winner;
 pub use crate::erased::css_syntax::{
     AtRule, Block, Declaration, Declarations, Fault, Item, ListPart, Prelude, Quality,
 };
@@ -162,7 +166,7 @@ impl fmt::Display for SheetError {
 impl crate::rattle_std::error::Error for SheetError {}
 
 /// The style rules of a sheet, in the order of the cascade.
-pub struct Sheet<'a>(crate::rattle_std::vec::Vec<css_sheet::SheetRule<'a>>);
+pub struct Sheet<'a>(css_styles::StyleRules<'a>);
 
 impl<'a> Sheet<'a> {
     /// Reads a sheet. `holds` says whether the condition of a group rule that is no `@layer` holds, by the
@@ -181,7 +185,7 @@ impl<'a> Sheet<'a> {
         most: usize,
         holds: impl Fn(&str, &str) -> bool,
     ) -> Result<Self, SheetError> {
-        match css_sheet::read_sheet(Global, within(text), most, holds) {
+        match css_styles::StyleRules::read(Global, &[within(text)], most, holds) {
             Err(css_sheet::SheetError::TooManyDeclarations) => Err(SheetError::TooManyDeclarations),
             Err(css_sheet::SheetError::TooManyLayers) => Err(SheetError::TooManyLayers),
             outcome => Ok(Sheet(done(outcome))),
@@ -190,19 +194,19 @@ impl<'a> Sheet<'a> {
 
     /// Returns the rules, each with one selector.
     pub fn rules(&self) -> impl ExactSizeIterator<Item = Rule<'_, 'a>> {
-        self.0 .0.iter().map(Rule)
+        self.0.as_slice().iter().map(Rule)
     }
 
     /// Returns the declaration of a property that wins on the element: by importance, by layers, by
     /// specificity, and by where it stands. Shorthands are not expanded.
     pub fn winning<E: Element>(&self, element: &E, property: &str) -> Option<Declaration<'a>> {
-        css_sheet::winning(&self.0, element, property)
+        css_styles::winning(self.0.as_slice(), element, "", property).map(|it| it.declaration)
     }
 
     /// Makes an index of the rules, for single elements.
     pub fn index(&self) -> Index<'_, 'a> {
         Index {
-            index: done(css_index::SelectorIndex::new(Global, &self.0)),
+            index: done(css_index::SelectorIndex::new(Global, self.0.as_slice())),
             indices: crate::rattle_std::vec::Vec::new(Global),
         }
     }
@@ -210,7 +214,7 @@ impl<'a> Sheet<'a> {
     /// Makes an index of the rules for a walk along a tree.
     pub fn walk(&self) -> Walk<'_, 'a> {
         Walk {
-            walk: done(css_index::SelectorWalk::new(Global, &self.0)),
+            walk: done(css_index::SelectorWalk::new(Global, self.0.as_slice())),
             tried: crate::rattle_std::vec::Vec::new(Global),
             indices: crate::rattle_std::vec::Vec::new(Global),
         }
@@ -340,6 +344,18 @@ pub fn closed_value(value: &str) -> Option<String> {
     done(css_syntax::closed_value(Global, within(value))).map(|it| it.as_str().to_string())
 }
 
+/// There are more answers of lists of selectors than the limit.
+#[derive(Clone, Copy, Debug, PartialEq)]
+pub struct TooManyAnswers;
+
+impl fmt::Display for TooManyAnswers {
+    fn fmt(&self, f: &mut fmt::Formatter<'_>) -> fmt::Result {
+        f.write_str("there are more answers of lists of selectors than the limit")
+    }
+}
+
+impl crate::rattle_std::error::Error for TooManyAnswers {}
+
 /// A tree whose siblings are counted: elements that selectors match.
 pub struct Document<'p, 't>(css_tree::NumberedTree<'p, 't>);
 
@@ -376,8 +392,118 @@ impl<'p, 't> Document<'p, 't> {
         self.0.set_scope(scope);
     }
 
+    /// Makes the tree that of an HTML document: `:checked`, `:disabled`, `:enabled`, `:required`, `:optional`,
+    /// `:read-write`, `:read-only`, `:placeholder-shown`, `:default`, `:indeterminate`, `:open` and `:defined` match
+    /// as attributes say. Names of elements and attributes are in lower case.
+    ///
+    /// ```
+    /// use simplecss::modern::{Document, Selector};
+    /// use simplecss::tree::Tree;
+    ///
+    /// let mut tree = Tree::new();
+    /// let set = tree.push(None, "fieldset").unwrap();
+    /// tree.set_attribute("disabled", "").unwrap();
+    /// let input = tree.push(Some(set), "input").unwrap();
+    /// let mut document = Document::new(&tree);
+    /// document.set_html();
+    /// let selector = Selector::parse("input:disabled").unwrap();
+    /// assert!(selector.matches(&document.node(input).unwrap()));
+    /// ```
+    pub fn set_html(&mut self) {
+        done(self.0.set_html(Global));
+    }
+
+    /// Answers the lists of selectors that `&` stands for in the nested rules of a sheet, each once for each
+    /// element. Until then no nested rule matches. The lists of another sheet lose their answers. Mark again after
+    /// [`Document::set_text`], [`Document::set_scope`] and [`Document::set_html`].
+    ///
+    /// Fails if there are more than `most` answers, one for each list and each element; then no list has any.
+    ///
+    /// ```
+    /// use simplecss::modern::{Document, Sheet};
+    /// use simplecss::tree::Tree;
+    ///
+    /// let mut tree = Tree::new();
+    /// let list = tree.push(None, "ul").unwrap();
+    /// let item = tree.push(Some(list), "li").unwrap();
+    /// let link = tree.push(Some(item), "a").unwrap();
+    /// let sheet = Sheet::read("ul { > li { color: red; & a { color: blue } } }", |_, _| false).unwrap();
+    ///
+    /// let mut document = Document::new(&tree);
+    /// document.mark(&sheet, 1_000_000).unwrap();
+    /// let mut styles = document.styles(&sheet);
+    /// assert!(styles.style(list, "", "color").is_none());
+    /// assert_eq!(styles.style(item, "", "color").unwrap().declaration.value, "red");
+    /// assert_eq!(styles.style(link, "", "color").unwrap().declaration.value, "blue");
+    /// ```
+    pub fn mark(&mut self, sheet: &Sheet<'_>, most: usize) -> Result<(), TooManyAnswers> {
+        match self.0.mark(Global, sheet.0.lists(), most) {
+            Err(css_tree::MarkingError::TooManyAnswers) => Err(TooManyAnswers),
+            outcome => {
+                done(outcome);
+                Ok(())
+            }
+        }
+    }
+
     /// Returns the element at an index, if there is one.
     pub fn node(&self, index: usize) -> Option<Node<'_, 'p, 't>> {
         self.0.node(index)
+    }
+
+    /// Returns a walk along the document that finds which declarations of a sheet win.
+    ///
+    /// ```
+    /// use simplecss::modern::{Document, Sheet};
+    /// use simplecss::tree::Tree;
+    ///
+    /// let mut tree = Tree::new();
+    /// let list = tree.push(None, "ul").unwrap();
+    /// let item = tree.push(Some(list), "li").unwrap();
+    /// let document = Document::new(&tree);
+    /// let sheet = Sheet::read("li { color: red; margin: 0 } ul > li { color: blue }", |_, _| false).unwrap();
+    ///
+    /// let mut styles = document.styles(&sheet);
+    /// let found = styles.winners(item, "margin: 1px").iter().map(|it| (it.declaration.value, it.rule));
+    /// assert_eq!(found.collect::<Vec<_>>(), [("blue", Some(1)), ("1px", None)]);
+    /// assert_eq!(styles.style(item, "", "margin").unwrap().declaration.value, "0");
+    /// ```
+    pub fn styles<'d, 's, 'a>(&'d self, sheet: &'s Sheet<'a>) -> Styles<'d, 'p, 't, 's, 'a> {
+        Styles {
+            page: &self.0,
+            styles: done(css_styles::Styles::new(Global, &sheet.0)),
+            found: crate::rattle_std::vec::Vec::new(Global),
+        }
+    }
+}
+
+/// A walk along a document that finds which declarations win. Elements may be asked in any order, and those in the
+/// order of the document take the least time.
+pub struct Styles<'d, 'p, 't, 's, 'a> {
+    page: &'d css_tree::NumberedTree<'p, 't>,
+    styles: css_styles::Styles<'s, 'a, 'a>,
+    found: crate::rattle_std::vec::Vec<Winner<'a>>,
+}
+
+impl<'a> Styles<'_, '_, '_, '_, 'a> {
+    /// Returns the declarations that win on the element at an index with this `style` attribute: for each property
+    /// the one that no other beats. Shorthands are not expanded. Panics if there is no such element.
+    pub fn winners(&mut self, index: usize, own: &'a str) -> &[Winner<'a>] {
+        let mut tests = css_matching::Tests::new();
+        self.expect(index);
+        done(self.styles.winners(self.page, index, within(own), &mut self.found, &mut tests));
+        &self.found
+    }
+
+    /// Returns the declaration of a property that wins on it, if there is one.
+    pub fn style(&mut self, index: usize, own: &'a str, property: &str) -> Option<Winner<'a>> {
+        let mut tests = css_matching::Tests::new();
+        self.expect(index);
+        done(self.styles.style(self.page, index, within(own), property, &mut tests))
+    }
+
+    /// Panics if there is no element at an index.
+    fn expect(&self, index: usize) {
+        assert!(index < self.page.len(), "there is no element {index}");
     }
 }

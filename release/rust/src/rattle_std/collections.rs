@@ -22,12 +22,24 @@ impl<K: Ord, V> BTreeMap<K, V> {
         self.0.get(key)
     }
 
+    pub fn entry(&mut self, key: K) -> Result<Entry<'_, K, V>, AllocError> {
+        Ok(Entry(self.0.entry(key)))
+    }
+
     pub fn is_empty(&self) -> bool {
         self.0.is_empty()
     }
 
     pub fn len(&self) -> usize {
         self.0.len()
+    }
+}
+
+pub struct Entry<'m, K, V>(btree_map::Entry<'m, K, V>);
+
+impl<'m, K: Ord, V: Default> Entry<'m, K, V> {
+    pub fn or_default(self) -> &'m mut V {
+        self.0.or_default()
     }
 }
 

@@ -1,10 +1,11 @@
 //! A string whose calls report an allocation that fails.
 use super::alloc::{AllocError, Global};
 use alloc::string;
+use core::borrow::Borrow;
 use core::fmt;
 use core::ops::Deref;
 
-#[derive(Debug, Default, PartialEq)]
+#[derive(Debug, Default, PartialEq, Eq, PartialOrd, Ord)]
 pub struct String(pub string::String);
 
 impl Deref for String {
@@ -81,12 +82,24 @@ impl<T: fmt::Display + ?Sized> ToString for T {
     }
 }
 
-/// Lower case in a string of its own.
+impl Borrow<str> for String {
+    fn borrow(&self) -> &str {
+        &self.0
+    }
+}
+
+/// A text in a string of its own, as it is or in lower case.
 pub trait Lowercase {
+    fn to_string_in(&self, _: Global) -> Result<String, AllocError>;
+
     fn to_ascii_lowercase_in(&self, _: Global) -> Result<String, AllocError>;
 }
 
 impl Lowercase for str {
+    fn to_string_in(&self, alloc: Global) -> Result<String, AllocError> {
+        String::from_str(alloc, self)
+    }
+
     fn to_ascii_lowercase_in(&self, alloc: Global) -> Result<String, AllocError> {
         let mut text = String::from_str(alloc, self)?;
         text.0.make_ascii_lowercase();

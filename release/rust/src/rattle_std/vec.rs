@@ -91,6 +91,15 @@ impl<T> Vec<T> {
         self.0.pop()
     }
 
+    pub fn resize(&mut self, n: usize, item: T) -> Result<(), AllocError>
+    where
+        T: Clone,
+    {
+        self.reserve(n.saturating_sub(self.0.len()))?;
+        self.0.resize(n, item);
+        Ok(())
+    }
+
     pub fn retain<F: FnMut(&T) -> bool>(&mut self, keeps: F) {
         self.0.retain(keeps);
     }

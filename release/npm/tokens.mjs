@@ -1,0 +1,99 @@
+// The tokens of a text, and names and strings as they are written, as the library reads them.
+import { call, decode, encode, joined } from './library.mjs';
+import { lower } from './reading.mjs';
+
+// The kinds of tokens, as the library numbers them.
+const KINDS = ['whitespace', 'comment', 'ident', 'function', 'at-keyword', 'hash', 'id', 'string', 'bad-string', 'url', 'bad-url',
+  'number', 'percentage', 'dimension', 'cdo', 'cdc', 'delim'];
+const MEASURED = new Set(['percentage', 'dimension']), STRINGS = new Set(['string', 'bad-string']);
+const NAMED = new Set(['ident', 'function', 'at-keyword', 'hash', 'id', 'url', 'dimension']);
+// The kinds of names that are of pseudo-classes and of pseudo-elements: each without parentheses and with them.
+const PSEUDO_CLASSES = [4, 5], PSEUDO_ELEMENTS = [6, 7];
+// How many numbers the library writes of a token, and of a name.
+const WIDTH = 5, NAME_WIDTH = 6;
+
+/** Yields the tokens of a text, whatever it is. Their texts, one after another, are the text. */
+export function* tokens(text) {
+  const data = encode(text);
+  const numbers = call('tokens', [data], { room: 64 + data.length, isNumbers: true });
+  const at = (start, end) => decode(data.subarray(start, end));
+  let index = 0;
+  for (let first = 0; first < numbers.length; first += WIDTH) {
+    const [kind, start, end, inside, insideEnd] = numbers.slice(first, first + WIDTH);
+    const token = tokenOf(KINDS[kind], at(start, end), at(inside, insideEnd), index);
+    index = token.end;
+    yield token;
+  }
+}
+
+/** Returns a token that begins at an index: `inside` is its text without what it is marked by. */
+function tokenOf(kind, text, inside, start) {
+  const isString = STRINGS.has(kind), isMeasured = MEASURED.has(kind);
+  const value = text.includes('\\') && (isString || NAMED.has(kind)) ? decoded(inside, isString) : inside;
+  return {
+    kind, text, start, end: start + text.length, value,
+    number: isMeasured ? text.slice(0, text.length - inside.length) : text,
+    unit: isMeasured ? value : '',
+  };
+}
+
+/**
+ * Returns the bytes at which the first token of these kinds begins and ends that has no end of its own, or null: a bad one, or
+ * one that the end of the text closes.
+ */
+export function openedIn(text, kinds) {
+  const data = encode(text), numbers = call('tokens', [data], { room: 64 + data.length, isNumbers: true });
+  for (let first = 0; first < numbers.length; first += WIDTH) {
+    const [kind, start, end, , insideEnd] = numbers.slice(first, first + WIDTH);
+    if (kinds.has(KINDS[kind]) && isOpen(KINDS[kind], decode(data.subarray(start, end)), insideEnd === end)) return [start, end];
+  }
+  return null;
+}
+
+/** Whether a token has no end of its own; in a string, whether what is in it ends where it does. */
+function isOpen(kind, text, endsWithin) {
+  if (kind === 'comment') return text.length < 4 || !text.endsWith('*/');
+  return kind === 'string' ? endsWithin : kind !== 'url' || !text.endsWith(')');
+}
+
+/** Returns what a name denotes, or what is between the quotes of a string. */
+function decoded(text, isString) {
+  return call('decode', [encode(text), BigInt(isString)]);
+}
+
+/**
+ * Returns the names of pseudo-classes and pseudo-elements in a selector, in order: each without escapes and in lower case, and
+ * the bytes at which its colons begin and it ends.
+ */
+export function pseudoNames(text) {
+  if (!text.includes(':')) return [];
+  const [data, ends] = joined([text]), found = [];
+  const numbers = call('names', [data, ends], { room: 64 + 2 * data.length, isNumbers: true });
+  for (let first = 0; first < numbers.length; first += NAME_WIDTH) {
+    const [kind, start, inside, end] = numbers.slice(first, first + NAME_WIDTH), isElement = PSEUDO_ELEMENTS.includes(kind);
+    if (!isElement && !PSEUDO_CLASSES.includes(kind)) continue;
+    const written = decode(data.subarray(inside, end));
+    found.push({ name: lower(written.includes('\\') ? decoded(written, false) : written), isElement, start, end });
+  }
+  return found;
+}
+
+/** Returns the text of a pseudo-element after its colons. */
+export function withoutColons(text) {
+  let end = 0;
+  for (const token of tokens(text)) {
+    if (token.text !== ':') break;
+    end = token.end;
+  }
+  return text.slice(end);
+}
+
+/** Returns an identifier that denotes the name, as `CSS.escape` does. */
+export function escape(name) {
+  return call('escape', [encode(name)]);
+}
+
+/** Returns a string in double quotes that denotes the text. */
+export function quote(text) {
+  return call('quote', [encode(text)]);
+}

@@ -1,0 +1,237 @@
+"""Nested style rules beside a browser: of random sheets, each declaration with the selectors of its rule and
+of all rules around it; and which declarations win on the elements of random trees.
+
+The browser is Debian's `chromium`, the program `tests_driver`. Each declaration is of a custom property of
+its own, so that its name says where it is. Selectors are such as both print alike.
+"""
+from __future__ import annotations
+
+import os
+import random
+from typing import Any, Dict, Iterator, List, NamedTuple, Optional, Sequence, Tuple
+
+from tests.common import Case, browser_answers, count, library_path, package
+from tests.syntax import fields_of
+
+SIMPLE = ("a", "b", ".c", "#d", "*", "a.c", "b:hover", "[e]", "a:first-child", ".c.f")
+WITHIN = ("&", "&", "& b", ".c &", "& &", "&.c", "&:hover", "a&", "& > &", ".c & .f", "& > b ~ a")
+RELATIVE = ("> a", "+ .c", "~ b", "> &", "a", ".c", "b > a", ":hover", "#d + a", ">a.c", "+ & > b")
+WRONG = ("a..b", "1", "a >", "> > a", "&&&%", "a ! b", ", a")
+GROUPS = ("@media all", "@supports (color: red)", "@layer x", "@layer", "@MEDIA screen")
+SKIPPED = ("foo;", "@foo;", "color:;", ";", "/* x */", "foo: ;", "{}")
+
+PAGE = """
+<!DOCTYPE html><meta charset=utf-8><script id=input type="application/json">%s</script>
+<script>
+function declared(style, chain, found) {
+    for (const name of style) found.push([name, chain]);
+}
+function walk(rules, chain, found) {
+    for (const rule of rules) {
+        const inner = rule.selectorText ? [rule.selectorText, ...chain] : chain;
+        if (rule.style) declared(rule.style, inner, found);
+        if (rule.cssRules) walk(rule.cssRules, inner, found);
+    }
+    return found;
+}
+const answers = JSON.parse(document.getElementById("input").textContent).map(text => {
+    const sheet = new CSSStyleSheet();
+    sheet.replaceSync(text);
+    return walk(sheet.cssRules, [], []);
+});
+document.documentElement.textContent = "ANSWER" + JSON.stringify(answers) + "END";
+</script>
+"""
+
+# The properties do not inherit, so that each has a value where a declaration of it applies.
+WON = """
+<!DOCTYPE html><meta charset=utf-8><script id=input type="application/json">%s</script>
+<style id=sheet></style><div id=room></div>
+<script>
+const input = JSON.parse(document.getElementById("input").textContent);
+for (const name of input.names) CSS.registerProperty({name, syntax: "*", inherits: false});
+const room = document.getElementById("room"), sheet = document.getElementById("sheet");
+function built([name, attributes, children]) {
+    const made = document.createElement(name);
+    for (const [key, value] of attributes) made.setAttribute(key, value);
+    made.append(...children.map(built));
+    return made;
+}
+function values(element, names) {
+    const style = getComputedStyle(element);
+    return names.map(name => [name, style.getPropertyValue(name)]).filter(each => each[1] !== "");
+}
+const answers = input.cases.map(({text, tree, names}) => {
+    sheet.textContent = text;
+    room.replaceChildren(built(tree));
+    return [...room.querySelectorAll("*")].map(element => values(element, names));
+});
+document.documentElement.textContent = "ANSWER" + JSON.stringify(answers) + "END";
+</script>
+"""
+
+# The elements around such a tree, as far as selectors see them.
+AROUND = '<html><head/><body><div id="room">%s</div></body></html>'
+
+# An element: its name, its attributes and its children.
+Built = Tuple[str, List[Tuple[str, str]], List["Built"]]
+# A declaration: its property and the lists of selectors around it, from the innermost, each in order.
+Placed = Tuple[str, List[List[str]]]
+
+
+class Source:
+    """Random sheets, the same in each run."""
+
+    def __init__(self, seed: int, shared: int = 0) -> None:
+        """With a number of properties that declarations share, and not one of its own for each."""
+        self._random = random.Random(seed)
+        self._properties = 0
+        self._shared = shared
+
+    def _declaration(self) -> str:
+        self._properties += 1
+        if not self._shared:
+            return f"--p{self._properties}x:1;"
+        name = self._random.randrange(self._shared)
+        important = "!important" if self._random.random() < 0.1 else ""
+        return f"--p{name}x:{self._properties}{important};"
+
+    def _list(self, depth: int) -> str:
+        one = self._random.choice
+        kinds = (SIMPLE,) if depth == 0 else (SIMPLE, WITHIN, RELATIVE)
+        parts = [one(one(kinds)) for _ in range(one((1, 1, 1, 2, 3)))]
+        # In rules that are dropped layers still count.
+        if not self._shared and self._random.random() < 0.05:
+            parts.append(one(WRONG))
+        return one((", ", ",", " , ")).join(parts)
+
+    def _item(self, depth: int) -> str:
+        kind = self._random.random()
+        if depth > 0 and kind < 0.4:
+            return self._declaration()
+        if kind < 0.48:
+            return self._random.choice(SKIPPED) if depth > 0 else ""
+        if depth > 5:
+            return ""
+        if kind < 0.62:
+            # Outside of style rules a group rule has no declarations.
+            inner = depth + 1 if depth > 0 else 0
+            return f"{self._random.choice(GROUPS)} {{{self._items(inner)}}}"
+        return f"{self._list(depth)} {{{self._items(depth + 1)}}}"
+
+    def _items(self, depth: int) -> str:
+        blank = self._random.choice(("", " ", "\n"))
+        return blank.join(self._item(depth) for _ in range(self._random.randrange(6)))
+
+    def sheet(self, cut: float = 0.1) -> str:
+        """A sheet, of which some are cut."""
+        self._properties = 0
+        text = self._items(0) + self._items(0)
+        is_cut = self._random.random() < cut
+        return text[: self._random.randrange(len(text) + 1)] if is_cut else text
+
+    def tree(self, depth: int = 0) -> Built:
+        """A tree of elements."""
+        one = self._random.choice
+        attributes = [("class", one(("c", "f", "c f", "g"))), ("id", one("de")), ("e", "x")]
+        kept = [each for each in attributes if self._random.random() < 0.4]
+        count = self._random.randrange(1, 4) if depth < 4 else 0
+        return one("ab"), kept, [self.tree(depth + 1) for _ in range(count)]
+
+
+def xml_of(built: Built) -> str:
+    """The tree as XML."""
+    name, attributes, children = built
+    words = "".join(f' {key}="{value}"' for key, value in attributes)
+    return f"<{name}{words}>{''.join(map(xml_of, children))}</{name}>"
+
+
+class Rules(NamedTuple):
+    """The rules of a sheet by the offset of their blocks, and the lists, each with what it is under."""
+
+    blocks: Dict[int, Tuple[str, List[str], int]]
+    lists: List[Tuple[List[str], int]]
+
+
+def rules_of(fields: Sequence[Sequence[str]]) -> Rules:
+    """What the program prints of a sheet."""
+    rules = Rules({}, [])
+    selectors: List[str] = []
+    under = 0
+    for kind, first, second, block in fields:
+        if kind == "rule":
+            number, start = second.split()
+            rules.blocks.setdefault(int(start), (block, [], int(number)))[1].append(first)
+        elif kind == "list":
+            selectors.append(first)
+            under = int(second)
+        else:
+            rules.lists.append((selectors, under))
+            selectors = []
+    return rules
+
+
+def chain_of(rules: Rules, selectors: List[str], number: int) -> Iterator[List[str]]:
+    """These selectors and the lists that they are under."""
+    yield sorted(selectors)
+    while number:
+        outer, number = rules.lists[number - 1]
+        yield sorted(outer)
+
+
+def ours(fields: Sequence[Sequence[str]]) -> List[Placed]:
+    """The declarations of the rules that the program reads, as they stand in the sheet."""
+    rules = rules_of(fields)
+    placed = []
+    for _, (block, selectors, number) in sorted(rules.blocks.items()):
+        chain = list(chain_of(rules, selectors, number))
+        names = [text for text in block.split(":")[:-1] if "--p" in text]
+        placed += [(name[name.index("--p") :], chain) for name in names]
+    return placed
+
+
+def theirs(found: Sequence[Tuple[str, Sequence[str]]]) -> List[Placed]:
+    """The declarations that the browser reads."""
+    return [(name, [sorted(selectors.split(", ")) for selectors in chain]) for name, chain in found]
+
+
+class NestedRules(Case):
+    def test_sheets(self) -> None:
+        source = Source(66)
+        texts = [source.sheet() for _ in range(count(3_000))]
+        found: Optional[List[List[Tuple[str, List[str]]]]] = browser_answers(PAGE, texts)
+        if found is None:
+            self.skipTest("no browser answers")
+        failures = []
+        for text, answer, fields in zip(texts, found, fields_of("nesting", texts)):
+            if ours(fields) != theirs(answer):
+                failures.append(f"{text!r}: {ours(fields)}, in the browser {theirs(answer)}")
+        self.sweep(len(texts), failures)
+
+    def test_winners(self) -> None:
+        """The package finds the values that the browser computes, and the rules of `match` have them."""
+        os.environ.setdefault("SIMPLECSS_LIBRARY", library_path())
+        package()
+        from simplecss import StyleSheet, Tree
+
+        source = Source(67, shared=6)
+        names = [f"--p{number}x" for number in range(6)]
+        cases: List[Dict[str, Any]] = [
+            {"text": source.sheet(cut=0), "tree": source.tree(), "names": names}
+            for _ in range(count(1_000))
+        ]
+        found = browser_answers(WON, {"names": names, "cases": cases})
+        if found is None:
+            self.skipTest("no browser answers")
+        failures, total = [], 0
+        for case, answer in zip(cases, found):
+            sheet, tree = StyleSheet(case["text"]), Tree.from_xml(AROUND % xml_of(case["tree"]))
+            styles = list(sheet.styles(tree))[-len(answer) :]
+            matched = list(sheet.match(tree))[-len(answer) :]
+            for each, rules, due in zip(styles, matched, answer):
+                total += 1
+                won = sorted([it.name, it.value] for it in each)
+                stated = {it.name for rule in rules for it in sheet.rules[rule].declarations}
+                if won != sorted(due) or stated != {name for name, _ in due}:
+                    failures.append(f"{case['text']!r}: {won}, {stated}, in the browser {due}")
+        self.sweep(total, failures)

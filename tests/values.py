@@ -1,0 +1,286 @@
+"""References `var()`, shorthands and what is inherited beside a browser: the computed values of random sets
+of custom properties, and the longhands that each shorthand sets.
+
+The browser is Debian's `chromium`; the library is that of the Python package, and tokens are compared by
+`tinycss2`. Comments and blanks are not compared. What differs on purpose
+(`docs/DIFFERENCES.md`) is not tried: functions whose names begin with two hyphens. Of properties in circles
+a browser may answer otherwise than the standard: then the library's answer is one of the two.
+"""
+from __future__ import annotations
+
+import importlib.util
+import random
+from typing import Any, Dict, Iterator, List, Optional, Sequence, Set, Tuple, Union
+
+from tests.common import Case, browser_answers, by_debian, count, package
+
+NAMES = ("--a", "--b", "--c", "--d", "--e", "--A", "--x1", "--é")
+RESULT = "--result"
+TOKENS = (
+    'x|y-1|-|1|2px|.5|+3|-4|1e3|5%|#h|#|@k|@|+|.|/|<|||=|*|~|>|$|"s"|\'t u\'|url(q)|url( "z" )'
+    '|:|"\\""|é|50|e5|calc|foo|initial'
+).split("|")
+BROKEN = (
+    *("var(--a", "var()", "var(a)", "var(--)", "var(--a,!)", "var(--a b)", "var(--a,var(x))", "x)"),
+    *("url(a b)", "[var(--b]", "var(--a,(!))", "{!}", "var(-a)", "var(--1)", "x!y"),
+)
+PAGE = """
+<!DOCTYPE html><meta charset=utf-8><body><script id=input type="application/json">%s</script>
+<script>
+const input = JSON.parse(document.getElementById("input").textContent);
+function computed(set) {
+    const element = document.createElement("div");
+    element.setAttribute("style", set.map(([name, value]) => name + ":" + value).join(";"));
+    document.body.append(element);
+    const style = getComputedStyle(element);
+    const found = input.names.map(name => style.getPropertyValue(name));
+    element.remove();
+    return found;
+}
+function longhands(name) {
+    const style = document.createElement("div").style;
+    style.cssText = name + ": inherit";
+    return [...style];
+}
+const answers = {sets: input.sets.map(computed), longhands: input.shorthands.map(longhands)};
+document.documentElement.textContent = "ANSWER" + JSON.stringify(answers) + "END";
+</script>
+"""
+
+Pair = Tuple[str, str]
+# A value: tokens, and references by name with a fallback or none.
+Part = Union[str, Tuple[str, Optional["Value"]]]
+Value = List[Part]
+
+
+class Source:
+    """Random sets of custom properties, the same in each run."""
+
+    def __init__(self, seed: int) -> None:
+        self._random = random.Random(seed)
+        self._read: Sequence[str] = ()
+
+    def _spelled(self, name: str) -> str:
+        """Returns a name, now and then with an escape."""
+        if self._random.random() < 0.06:
+            return "\\-" + name[1:]
+        if self._random.random() < 0.06:
+            return f"{name[:2]}\\{ord(name[2]):x} {name[3:]}"
+        return name
+
+    def _gap(self) -> str:
+        return self._random.choice([*[""] * 6, " ", "/**/", "  ", "/*x*/ "])
+
+    def _reference(self, depth: int) -> str:
+        function = self._random.choice([*["var"] * 12, "VAR", "v\\61 r", "\\76 ar", "vaR"])
+        name = self._spelled(self._random.choice([*self._read, "--u", "--v", "--w"]))
+        inside = self._gap() + name + self._gap()
+        if self._random.random() < 0.5:
+            inside += "," + self._gap()
+            inside += self._text(depth - 1) if self._random.random() < 0.9 else ""
+        return f"{function}({inside})"
+
+    def _part(self, depth: int) -> str:
+        chance = self._random.random()
+        if chance < 0.45 and depth > 0:
+            return self._reference(depth)
+        if chance < 0.57 and depth > 0:
+            ends = self._random.choice(["()", "[]", "{}", ("f(", ")"), ("calc(", ")")])
+            return ends[0] + self._text(depth - 1) + ends[1]
+        return "/*c*/" if chance < 0.62 else self._random.choice(TOKENS)
+
+    def _text(self, depth: int) -> str:
+        parts = self._random.choice([0, 1, 1, 1, 2, 2, 3, 4])
+        gaps = ("", "", " ", " ", "  ", "/**/")
+        return "".join(self._part(depth) + self._random.choice(gaps) for _ in range(parts))
+
+    def set(self) -> List[Pair]:
+        """Returns some properties, of which each reads later ones, and one that reads some or all."""
+        names = self._random.sample(NAMES, self._random.choice([1, 2, 3, 3, 4, 5, 6]))
+        found = []
+        for number, name in enumerate(names):
+            self._read = names[number + 1 :]
+            found.append((name, self._value(0.06)))
+        self._read = names
+        every = " ".join(f"[var({name},NO)]" for name in names)
+        found.append((RESULT, every if self._random.random() < 0.3 else self._value(0.03)))
+        self._random.shuffle(found)
+        return found
+
+    def circles(self) -> Dict[str, Value]:
+        """Returns properties that read one another, many of them in circles, with fallbacks or not."""
+        names = self._random.sample(NAMES[:5], self._random.choice([1, 2, 2, 3, 3, 4, 5]))
+        return {name: self._parts(names, 2) for name in names}
+
+    def _parts(self, names: Sequence[str], depth: int) -> Value:
+        found: Value = []
+        for _ in range(self._random.choice([1, 1, 2, 2, 3])):
+            fallback: Optional[Value] = None
+            if self._random.random() < 0.5:
+                is_deep = depth > 0 and self._random.random() < 0.5
+                fallback = (
+                    self._parts(names, depth - 1) if is_deep else [self._random.choice("pqr")]
+                )
+            reference = (self._random.choice([*names, "--u"]), fallback)
+            found.append(reference if self._random.random() < 0.75 else self._random.choice("xyz"))
+        return found
+
+    def _value(self, chance: float) -> str:
+        if self._random.random() < chance:
+            return self._random.choice(BROKEN)
+        return self._text(self._random.choice([0, 1, 1, 2, 3]))
+
+
+def written(value: Value) -> str:
+    """Returns a value as a text."""
+    return " ".join(
+        each if isinstance(each, str) else f"var({each[0]}{with_comma(each[1])})" for each in value
+    )
+
+
+def with_comma(fallback: Optional[Value]) -> str:
+    return "" if fallback is None else f",{written(fallback)}"
+
+
+def read_by(value: Value) -> Iterator[str]:
+    """Yields the names that a value refers to, also in fallbacks."""
+    for each in value:
+        if not isinstance(each, str):
+            yield each[0]
+            yield from read_by(each[1] or [])
+
+
+def led_to(values: Dict[str, Value], name: str) -> Set[str]:
+    """Returns the properties that one leads to by references, also in fallbacks that are not needed."""
+    found: Set[str] = set()
+    left = [name]
+    while left:
+        new = set(read_by(values[left.pop()])) & values.keys() - found
+        found |= new
+        left += new
+    return found
+
+
+def substituted(value: Value, known: Dict[str, Optional[str]]) -> Optional[str]:
+    """Returns what a value comes to, by the values of those that it refers to, or `None`."""
+    texts: List[Optional[str]] = []
+    for each in value:
+        if isinstance(each, str):
+            texts.append(each)
+        elif known.get(each[0]) is not None:
+            texts.append(known[each[0]])
+        else:
+            texts.append(None if each[1] is None else substituted(each[1], known))
+    return None if None in texts else " ".join(filter(None, texts))
+
+
+def by_the_standard(values: Dict[str, Value]) -> Dict[str, Optional[str]]:
+    """Returns the computed values by the standard's graph, in which each property of a circle is
+    invalid (CSS Custom Properties for Cascading Variables 1, section 2.3)."""
+    reach = {name: led_to(values, name) for name in values}
+    known: Dict[str, Optional[str]] = {}
+    # One that leads to fewer comes first.
+    for name in sorted(values, key=lambda each: len(reach[each])):
+        known[name] = None if name in reach[name] else substituted(values[name], known)
+    return known
+
+
+def flat(tokens: Sequence[Any]) -> List[Any]:
+    """Returns tokens, and those in them, as what compares."""
+    found: List[Any] = []
+    for token in tokens:
+        if token.type in ("comment", "whitespace"):
+            continue
+        inner = getattr(token, "content", getattr(token, "arguments", None))
+        name = getattr(token, "name", None)
+        if inner is None:
+            value = getattr(token, "representation", getattr(token, "value", None))
+            found.append((token.type, value))
+        else:
+            found.append((token.type, name, flat(inner)))
+    return found
+
+
+class Values(Case):
+    """Values beside a browser."""
+
+    def setUp(self) -> None:
+        package()
+        self.resolving = importlib.import_module("simplecss._resolving")
+        self.simplecss = importlib.import_module("simplecss")
+        self.tokens_of = importlib.import_module("simplecss._tokens")
+
+    def answers(self, sets: Sequence[List[Pair]], shorthands: Sequence[str]) -> Any:
+        names = [*NAMES, RESULT]
+        found = browser_answers(PAGE, {"sets": sets, "names": names, "shorthands": shorthands})
+        if found is None:
+            self.skipTest("no browser answers")
+        return found
+
+    def computed(self, pairs: Sequence[Pair]) -> Dict[str, Optional[str]]:
+        """Returns the computed values of a set, by the names without escapes."""
+        text = ";".join(f"{name}:{value}" for name, value in pairs)
+        declared = {
+            each.name: each.value
+            for each in self.simplecss.declarations(text)
+            if self.simplecss.is_valid_value(each.value)
+        }
+        values = self.resolving.computed(list(declared.items()))
+        return dict(zip(map(self.tokens_of.decoded, declared), values))
+
+    def tokens(self, value: Optional[str]) -> List[Any]:
+        parse = importlib.import_module("tinycss2").parse_component_value_list
+        return flat(parse(value or ""))
+
+    def compare(self, sets: Sequence[List[Pair]]) -> None:
+        """Compares the computed values of sets with a browser's, as tinycss2 reads their tokens."""
+        if not importlib.util.find_spec("tinycss2"):
+            return by_debian(self, "tinycss2", "values beside a browser")
+        failures = []
+        for pairs, values in zip(sets, self.answers(sets, [])["sets"]):
+            found = self.computed(pairs)
+            for name, value in zip([*NAMES, RESULT], values):
+                if self.tokens(found.get(name)) != self.tokens(value):
+                    failures.append(f"{pairs}: {name} is {found.get(name)!r}, not {value!r}")
+        self.sweep(len(sets), failures)
+
+    def test_sets(self) -> None:
+        source = Source(7)
+        self.compare([source.set() for _ in range(count(1000))])
+
+    def test_circles(self) -> None:
+        """Where a browser and the standard agree, the library says the same, and else one of the two."""
+        if not importlib.util.find_spec("tinycss2"):
+            return by_debian(self, "tinycss2", "circles beside a browser")
+        source = Source(8)
+        sets = [source.circles() for _ in range(count(1000))]
+        asked = [[(name, written(value)) for name, value in each.items()] for each in sets]
+        failures = []
+        differing = 0
+        for values, pairs, shown in zip(sets, asked, self.answers(asked, [])["sets"]):
+            browser = dict(zip([*NAMES, RESULT], shown))
+            found, due = self.computed(pairs), by_the_standard(values)
+            for name in values:
+                told = [self.tokens(browser[name]), self.tokens(due[name])]
+                differing += told[0] != told[1]
+                if self.tokens(found[name]) not in told:
+                    failures.append(f"{pairs}: {name} is {found[name]!r}, not {browser[name]!r}")
+        # They differ on one in a hundred.
+        self.assertLess(differing, 1 + len(sets) / 10)
+        self.sweep(len(sets), failures)
+
+    def test_shorthands(self) -> None:
+        """Each shorthand sets what it does in a browser, and each longhand is in its shorthands."""
+        names = sorted(
+            {
+                name
+                for each in self.simplecss.longhands("all")
+                for name in self.simplecss.shorthands(each)
+            }
+        )
+        names.remove("all")
+        for name, found in zip(names, self.answers([], names)["longhands"]):
+            with self.subTest(name=name):
+                self.assertEqual(sorted(self.simplecss.longhands(name)), sorted(found))
+                for each in found:
+                    self.assertIn(name, self.simplecss.shorthands(each))
