@@ -178,7 +178,8 @@ class Elements {
   /** Returns how many declarations of sheets win on each element, and the numbers of each: `most` numbers at most. */
   won(sheets, most) {
     const [grammar, tree] = this.words(MODERN), room = 1024 + ROOM_FOR_ELEMENT * this.names.length;
-    return call('winners', [sheets, grammar, NO_LIMIT, tree], { room, most, hasTree: true, isNumbers: true });
+    const words = [sheets, grammar, NO_LIMIT, tree, { arrays: joined([]) }];
+    return call('winners', words, { room, most, hasTree: true, isNumbers: true });
   }
 
   /** Returns the number of a grammar, of the modern one as the document reads it, and the tree, as calls of the library take them. */

@@ -1,6 +1,6 @@
 // The declarations that win on the elements of a tree, as the library finds them.
 import { holds } from './device.mjs';
-import { LimitError, NO_LIMIT, call, encode, joinedBytes, limited } from './library.mjs';
+import { LimitError, NO_LIMIT, call, encode, joinedBytes, limited, sizes } from './library.mjs';
 import { conditionsOf, declared, readBlock } from './reading.mjs';
 
 // How many numbers the library writes of a rule before those of its declarations, of each of these, and of one that wins.
@@ -54,7 +54,8 @@ export class Winning {
     if (pairs.length * texts.reduce((sum, text) => sum + text.length, 0) > MOST_COMPARED) {
       throw new LimitError('the sheets have too many group rules that hold');
     }
-    this.#sheets = { arrays: [...joinedBytes(texts), ...joinedBytes(pairs.flat().map(encode))] };
+    // A sheet without an origin is the author's.
+    this.#sheets = { arrays: [...joinedBytes(texts), sizes([]), ...joinedBytes(pairs.flat().map(encode))] };
     this.#rules = [...this.#read(sheets.map(each => each.source), limit)];
     /** How many declarations the rules have. */
     this.count = this.#rules.reduce((sum, rule) => sum + rule.length, 0);

@@ -32,7 +32,7 @@
 //! that is valid and not supported, such as `a:has(b)`, matches nothing. Nested rules match the elements of a
 //! [`Document`] that is marked ([`Document::mark`]).
 use crate::erased::{
-    css_index, css_matching, css_selectors, css_sheet, css_styles, css_syntax, css_tree,
+    css_cascade, css_index, css_matching, css_selectors, css_sheet, css_styles, css_syntax, css_tree,
 };
 use crate::rattle_std::alloc::Global;
 use crate::{done, tree::Tree, within, TextPos};
@@ -42,7 +42,7 @@ use core::fmt;
 
 pub use crate::erased::css_index::Keyed;
 pub use crate::erased::css_selectors::{Element, Key, Nesting, Specificity};
-pub use crate::erased::css_styles::Winner;
+pub use crate::erased::css_styles::{Own, Source, Winner};
 pub use crate::erased::css_syntax::{
     AtRule, Block, Declaration, Declarations, Fault, Item, ListPart, Prelude, Quality,
 };
@@ -185,7 +185,8 @@ impl<'a> Sheet<'a> {
         most: usize,
         holds: impl Fn(&str, &str) -> bool,
     ) -> Result<Self, SheetError> {
-        match css_styles::StyleRules::read(Global, &[within(text)], most, holds) {
+        let sheet = css_sheet::Sheet { text: within(text), origin: css_cascade::Origin::Author };
+        match css_styles::StyleRules::read(Global, &[sheet], most, holds) {
             Err(css_sheet::SheetError::TooManyDeclarations) => Err(SheetError::TooManyDeclarations),
             Err(css_sheet::SheetError::TooManyLayers) => Err(SheetError::TooManyLayers),
             outcome => Ok(Sheet(done(outcome))),
@@ -200,7 +201,7 @@ impl<'a> Sheet<'a> {
     /// Returns the declaration of a property that wins on the element: by importance, by layers, by
     /// specificity, and by where it stands. Shorthands are not expanded.
     pub fn winning<E: Element>(&self, element: &E, property: &str) -> Option<Declaration<'a>> {
-        css_styles::winning(self.0.as_slice(), element, "", property).map(|it| it.declaration)
+        css_styles::winning(self.0.as_slice(), element, "".into(), property).map(|it| it.declaration)
     }
 
     /// Makes an index of the rules, for single elements.
@@ -454,7 +455,7 @@ impl<'p, 't> Document<'p, 't> {
     /// Returns a walk along the document that finds which declarations of a sheet win.
     ///
     /// ```
-    /// use simplecss::modern::{Document, Sheet};
+    /// use simplecss::modern::{Document, Own, Sheet, Source};
     /// use simplecss::tree::Tree;
     ///
     /// let mut tree = Tree::new();
@@ -464,9 +465,15 @@ impl<'p, 't> Document<'p, 't> {
     /// let sheet = Sheet::read("li { color: red; margin: 0 } ul > li { color: blue }", |_, _| false).unwrap();
     ///
     /// let mut styles = document.styles(&sheet);
-    /// let found = styles.winners(item, "margin: 1px").iter().map(|it| (it.declaration.value, it.rule));
-    /// assert_eq!(found.collect::<Vec<_>>(), [("blue", Some(1)), ("1px", None)]);
-    /// assert_eq!(styles.style(item, "", "margin").unwrap().declaration.value, "0");
+    /// let found = styles.winners(item, "margin: 1px").iter().map(|it| (it.declaration.value, it.source));
+    /// assert_eq!(found.collect::<Vec<_>>(), [("blue", Source::Rule(1)), ("1px", Source::Style)]);
+    ///
+    /// let own = Own { style: "", presentation: "color: red; margin: 2px; padding: 3px" };
+    /// assert_eq!(styles.style(item, own, "margin").unwrap().declaration.value, "0");
+    /// assert_eq!(styles.style(item, own, "padding").unwrap().source, Source::Presentation);
+    ///
+    /// let named = ["margin-left", "margin"];
+    /// assert_eq!(styles.style_named(item, "margin: 1px", &named).unwrap().declaration.value, "1px");
     /// ```
     pub fn styles<'d, 's, 'a>(&'d self, sheet: &'s Sheet<'a>) -> Styles<'d, 'p, 't, 's, 'a> {
         Styles {
@@ -486,24 +493,52 @@ pub struct Styles<'d, 'p, 't, 's, 'a> {
 }
 
 impl<'a> Styles<'_, '_, '_, '_, 'a> {
-    /// Returns the declarations that win on the element at an index with this `style` attribute: for each property
-    /// the one that no other beats. Shorthands are not expanded. Panics if there is no such element.
-    pub fn winners(&mut self, index: usize, own: &'a str) -> &[Winner<'a>] {
+    /// Returns the declarations that win on the element at an index that has these of its own: for each property the
+    /// one that no other beats. A text is that of its `style` attribute. Shorthands are not expanded. Panics if there
+    /// is no such element.
+    pub fn winners(&mut self, index: usize, own: impl Into<Own<'a>>) -> &[Winner<'a>] {
         let mut tests = css_matching::Tests::new();
         self.expect(index);
-        done(self.styles.winners(self.page, index, within(own), &mut self.found, &mut tests));
+        let own = short(own.into());
+        done(self.styles.winners(self.page, index, own, &mut self.found, &mut tests));
         &self.found
     }
 
     /// Returns the declaration of a property that wins on it, if there is one.
-    pub fn style(&mut self, index: usize, own: &'a str, property: &str) -> Option<Winner<'a>> {
+    pub fn style(&mut self, index: usize, own: impl Into<Own<'a>>, property: &str) -> Option<Winner<'a>> {
+        self.style_named(index, own, &[property])
+    }
+
+    /// Returns the declaration that wins of all that have one of these names, if there is one, such as of a longhand
+    /// and the shorthands that set it.
+    pub fn style_named(
+        &mut self,
+        index: usize,
+        own: impl Into<Own<'a>>,
+        names: &[&str],
+    ) -> Option<Winner<'a>> {
         let mut tests = css_matching::Tests::new();
+        let mut found = crate::rattle_std::vec::Vec::new(Global);
         self.expect(index);
-        done(self.styles.style(self.page, index, within(own), property, &mut tests))
+        let own = short(own.into());
+        done(self.styles.winners_named(self.page, index, own, &[names], &mut found, &mut tests));
+        found.iter().next().copied().flatten()
     }
 
     /// Panics if there is no element at an index.
     fn expect(&self, index: usize) {
         assert!(index < self.page.len(), "there is no element {index}");
     }
+}
+
+/// The declarations of a `style` attribute, with no presentation declarations.
+impl<'a> From<&'a str> for Own<'a> {
+    fn from(style: &'a str) -> Self {
+        Own { style, presentation: "" }
+    }
+}
+
+/// Returns the declarations, whose texts are read.
+fn short(own: Own<'_>) -> Own<'_> {
+    Own { style: within(own.style), presentation: within(own.presentation) }
 }
