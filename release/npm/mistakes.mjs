@@ -4,7 +4,7 @@ import { properties } from './properties.mjs';
 import { knownNames } from './names.mjs';
 import { deviceOf } from './device.mjs';
 import { lower, readBlock, readSheet } from './reading.mjs';
-import { partsOf as longhandsOf } from './resolving.mjs';
+import { partsOf } from './resolving.mjs';
 import { wordsOf } from './sheet.mjs';
 import { openedIn, pseudoNames, tokens } from './tokens.mjs';
 
@@ -364,7 +364,7 @@ function repeated(items) {
     if (before && isLost(before.item.declaration, item.declaration, before.place === count)) {
       found.push(problem('repeated declaration', before.item.span));
     }
-    for (const part of partsOf(item.declaration).filter(each => last.has(each))) {
+    for (const part of surelySet(item.declaration).filter(each => last.has(each))) {
       const other = last.get(part).item;
       if (!important && other.declaration.important) continue;
       found.push(problem('overridden declaration', other.span));
@@ -391,6 +391,6 @@ function mayFail(value) {
 }
 
 /** Returns the properties that a shorthand sets, if browsers support its value. */
-function partsOf({ name, value }) {
-  return mayFail(value) ? [] : longhandsOf(name);
+function surelySet({ name, value }) {
+  return mayFail(value) ? [] : partsOf(name);
 }
