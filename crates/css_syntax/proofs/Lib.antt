@@ -26,6 +26,3 @@ pub mod PartingNames
 pub mod PrintedAgain
 pub mod PartsAgain
 pub mod PrintedLists
-pub mod GrammarLemmas
-pub mod ListLemmas
-pub mod PlacedParts

@@ -3,7 +3,6 @@
 use Rattle.std.proofs.Common.{◌≡◌, ◌≤◌, ◌+◌, ◌-◌, ℕ, suc, Bool, true, false, ◌&&◌, not, List, [], ◌∷◌, ◌++◌, length, Option, Some, None, append_assoc, refl, sym, ap, ◌∙◌, arith, if◌then◌else◌}
 use Rattle.css_text.specs.AsciiBytes.{full_stop, colon, open_parenthesis, close_parenthesis, open_bracket, close_bracket}
 use Rattle.css_text.specs.Bytes.{starts}
-use Rattle.css_syntax.specs.SelectorGrammar.{is_bar}
 use Rattle.css_syntax.specs.TokenLists.{PlacedToken, next_token, tokens}
 use Rattle.css_syntax.specs.declared.names.Bracket.{Bracket}
 use Rattle.css_syntax.specs.declared.names.Bracket.TheVariants as brackets
@@ -11,7 +10,7 @@ use Rattle.css_syntax.specs.declared.names.Mark.{Mark}
 use Rattle.css_syntax.specs.declared.names.Mark.TheVariants as marks
 use Rattle.css_syntax.specs.declared.names.Role.{Role}
 use Rattle.css_syntax.specs.declared.names.Role.TheVariants as roles
-use Rattle.css_syntax.specs.NameLists.{Scan, PlacedName, name_in, after_token, after_by, after_role, after_sign, after_opened, after_inner, after_word, after_function, colon_after, marked_by, bracketed, unmarked, opened, closed, is_ident, role_of, names_from, with_name}
+use Rattle.css_syntax.specs.NameLists.{Scan, PlacedName, name_in, after_token, after_by, after_role, after_sign, after_opened, after_inner, after_word, after_function, colon_after, marked_by, bracketed, unmarked, opened, closed, is_ident, role_of, names_from, with_name, is_bar}
 use Rattle.css_syntax.proofs.TokenSteps.{tokens-some, tokens-none}
 
 -- of two that are known

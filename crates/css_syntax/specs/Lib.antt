@@ -16,9 +16,5 @@ pub mod ListReaders
 pub mod internal
 pub mod NothingLost
 pub mod Printing
-pub mod SelectorGrammar
-pub mod SelectorViews
-pub mod SelectorLists
 pub mod NameLists
 pub mod NameViews
-pub mod PlacedSelectors

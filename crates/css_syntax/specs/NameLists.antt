@@ -1,11 +1,10 @@
 -- The names in a list of selectors, with their places. They are defined over the tokens of a text, so
 -- any text has them, be it a list of selectors or not.
 use Rattle.std.specs.Prelude.{ℕ, suc, ◌-◌, Bool, true, false, not, ◌||◌, ◌&&◌, ◌==◌, nat_le, if◌then◌else◌, List, [], ◌∷◌, Option, Some, None, codes}
-use Rattle.css_text.specs.AsciiBytes.{full_stop, colon, open_parenthesis, close_parenthesis, open_bracket, close_bracket}
+use Rattle.css_text.specs.AsciiBytes.{full_stop, colon, equals_sign, vertical_bar, open_parenthesis, close_parenthesis, open_bracket, close_bracket}
 use Rattle.css_text.specs.Reading.{before}
-use Rattle.css_text.specs.Bytes.{starts}
+use Rattle.css_text.specs.Bytes.{past_byte, starts}
 use Rattle.css_syntax.specs.Tokens.{spells}
-use Rattle.css_syntax.specs.SelectorGrammar.{is_bar}
 use Rattle.css_syntax.specs.TokenLists.{PlacedToken, tokens}
 use Rattle.css_syntax.specs.declared.tokenizer.TokenKind.{TokenKind}
 use Rattle.css_syntax.specs.declared.tokenizer.TokenKind.TheVariants as kinds
@@ -79,6 +78,12 @@ named kind s from name rest = record {
   depth = s.depth;
   negated = s.negated;
 }
+
+-- a bar after a namespace: not one of `|=` or `||`
+abbrev pub is_bar : List ℕ → Bool
+is_bar text =
+    starts vertical_bar text && not (starts equals_sign (past_byte vertical_bar text))
+    && not (starts vertical_bar (past_byte vertical_bar text))
 
 -- a namespace, if a bar follows the name, or else a name of this kind
 abbrev pub kind_before : NameKind → (rest : List ℕ) → NameKind

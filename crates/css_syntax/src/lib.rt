@@ -19,7 +19,6 @@ pub mod places;
 mod plain;
 pub mod printing;
 pub mod quality;
-pub mod selectors;
 pub mod statements;
 pub mod texts;
 pub mod tokenizer;

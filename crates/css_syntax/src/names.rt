@@ -1,7 +1,7 @@
 //! The names in a list of selectors, each with its kind and its place, from the tokens of any text.
 ghost use Rattle.std.specs.Prelude.{◌≡◌, ◌<◌, ◌≤◌, ◌^◌, ◌+◌, ◌++◌, [], IfOk, OnOk, length, map, option_map};
 ghost use Rattle.css_text.specs.Reading.{before};
-ghost use Rattle.css_syntax.specs.SelectorGrammar.{is_bar as is_bar_of};
+ghost use Rattle.css_syntax.specs.NameLists.{is_bar as is_bar_of};
 ghost use Rattle.css_syntax.specs.TokenViews.{token_of};
 ghost use Rattle.css_syntax.specs.NameLists.{word_of, takes_selectors as takes_selectors_of};
 ghost use Rattle.css_syntax.specs.NameLists.{takes_compound as takes_compound_of};
