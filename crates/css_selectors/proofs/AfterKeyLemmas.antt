@@ -1,15 +1,15 @@
 -- A selector that begins with its key matches an element that has this key exactly if the element
 -- satisfies the rest.
 -- Serves `after_key` and the index over selectors.
-use Rattle.std.proofs.Common.{◌≡◌, ℕ, zero, suc, ◌+◌, ◌-◌, ◌*◌, ◌≤◌, ◌&&◌, ◌||◌, Bool, true, false, IsTrue, List, [], ◌∷◌, length, None, refl, sym, ap, ◌∙◌, subst, arith}
-use Rattle.std.specs.Prelude.{not, min, max, nat_lt, if◌then◌else◌}
+use Rattle.std.proofs.Common.{◌≡◌, ℕ, zero, suc, ◌+◌, ◌-◌, ◌*◌, ◌≤◌, ◌&&◌, ◌||◌, Bool, true, false, IsTrue, List, [], ◌∷◌, length, refl, sym, ap, ◌∙◌, subst, arith}
+use Rattle.std.specs.Prelude.{not, nat_lt, if◌then◌else◌}
 use Rattle.std.specs.List.{list_any, list_all}
 use Rattle.css_matching.specs.Bounds.{longest_fixed}
 use Rattle.css_matching.specs.declared.Combinator.{Combinator}
 use Rattle.css_selectors.specs.AfterKeys.{have_no_greater, begin_with_key, is_led_by_key, begins_with_key, after_first, conditions_after_key, MatchesAfterKey, MatchesFoundBy}
-use Rattle.css_selectors.specs.AncestorKeys.{is_exact, is_exact_condition, is_exact_key, keys_among}
-use Rattle.css_selectors.specs.Components.{Simple, Condition, Conditions, Part, Selector, conditions_from, parts_from}
-use Rattle.css_selectors.specs.Components.Simple.{universal, type_name, id, class, has_attribute, attribute, structure, language, state, function, named_element, nesting}
+use Rattle.css_selectors.specs.AncestorKeys.{is_exact_condition, is_exact_key, keys_among}
+use Rattle.css_selectors.specs.Components.{Condition, Conditions, Part, Selector, conditions_from, parts_from}
+use Rattle.css_selectors.specs.Components.Simple.{universal, type_name, id, class, has_attribute, attribute, structure, language, state, function, named_element, nesting, namespaced, nth_of}
 use Rattle.css_selectors.specs.Components.Condition.{simple, negation, any_of, where_any}
 use Rattle.css_selectors.specs.Components.Parts.{end_of_selector, with_part}
 use Rattle.css_selectors.specs.Costs.{compound_cost, dearest_part, most_questions, most_tests}
@@ -66,6 +66,8 @@ first_better (simple (state name)) h = absurd (cc)
 first_better (simple (function name argument)) h = absurd (cc)
 first_better (simple (named_element name argument)) h = absurd (cc)
 first_better (simple (nesting list)) h = absurd (cc)
+first_better (simple (namespaced namespace local)) h = absurd (cc)
+first_better (simple (nth_of last p selectors)) h = absurd (cc)
 first_better (negation selectors) h = absurd (cc)
 first_better (any_of selectors) h = absurd (cc)
 first_better (where_any selectors) h = absurd (cc)
@@ -84,6 +86,8 @@ first_exact (simple (state name)) h = absurd (cc)
 first_exact (simple (function name argument)) h = absurd (cc)
 first_exact (simple (named_element name argument)) h = absurd (cc)
 first_exact (simple (nesting list)) h = absurd (cc)
+first_exact (simple (namespaced namespace local)) h = absurd (cc)
+first_exact (simple (nth_of last p selectors)) h = absurd (cc)
 first_exact (negation selectors) h = absurd (cc)
 first_exact (any_of selectors) h = absurd (cc)
 first_exact (where_any selectors) h = absurd (cc)
@@ -145,6 +149,8 @@ module _ {Node : Type 0} (d : Document Node) (n : Node) where
   first_met (simple (function name argument)) h k = absurd (cc)
   first_met (simple (named_element name argument)) h k = absurd (cc)
   first_met (simple (nesting list)) h k = absurd (cc)
+  first_met (simple (namespaced namespace local)) h k = absurd (cc)
+  first_met (simple (nth_of last p selectors)) h k = absurd (cc)
   first_met (negation selectors) h k = absurd (cc)
   first_met (any_of selectors) h k = absurd (cc)
   first_met (where_any selectors) h k = absurd (cc)

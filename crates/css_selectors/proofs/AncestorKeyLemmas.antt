@@ -23,7 +23,7 @@ use Rattle.css_selectors.specs.Views.{condition_of, part_of, complex_of}
 use Rattle.css_selectors.specs.Documents.{Document, shape}
 use Rattle.css_selectors.specs.declared.components.Condition.{Condition as ConditionOf}
 use Rattle.css_selectors.specs.Components.{Simple, Condition, Conditions, Parts, Selectors, conditions_from, parts_from, Part, PseudoElement, Selector}
-use Rattle.css_selectors.specs.Components.Simple.{universal, type_name, id, class, has_attribute, attribute, structure, language, state, function, named_element, nesting}
+use Rattle.css_selectors.specs.Components.Simple.{universal, type_name, id, class, has_attribute, attribute, structure, language, state, function, named_element, nesting, namespaced, nth_of}
 use Rattle.css_selectors.specs.Components.Condition.{simple, negation, any_of, where_any}
 use Rattle.css_selectors.specs.Components.Conditions.{end_of_compound, with_condition}
 use Rattle.css_selectors.specs.Components.Parts.{end_of_selector, with_part}
@@ -185,6 +185,8 @@ exact_key (state name) h = absurd (cc)
 exact_key (function name argument) h = absurd (cc)
 exact_key (named_element name argument) h = absurd (cc)
 exact_key (nesting list) h = absurd (cc)
+exact_key (namespaced namespace local) h = absurd (cc)
+exact_key (nth_of last p selectors) h = absurd (cc)
 
 exact_compound : (c : Conditions) → IsTrue (is_one_id_or_class c)
     → IsTrue (is_exact_key (compound_key c)) × (3 ≤ rank (compound_key c))
@@ -243,6 +245,8 @@ keys_are (simple (state name)) h = absurd (cc)
 keys_are (simple (function name argument)) h = absurd (cc)
 keys_are (simple (named_element name argument)) h = absurd (cc)
 keys_are (simple (nesting list)) h = absurd (cc)
+keys_are (simple (namespaced namespace local)) h = absurd (cc)
+keys_are (simple (nth_of last p selectors)) h = absurd (cc)
 keys_are (negation selectors) h = absurd (cc)
 keys_are (any_of selectors) h = list_keys selectors h
 keys_are (where_any selectors) h = list_keys selectors h
@@ -260,6 +264,8 @@ whole_key (state name) h = absurd (cc)
 whole_key (function name argument) h = absurd (cc)
 whole_key (named_element name argument) h = absurd (cc)
 whole_key (nesting list) h = absurd (cc)
+whole_key (namespaced namespace local) h = absurd (cc)
+whole_key (nth_of last p selectors) h = absurd (cc)
 
 exact_condition : (c : Condition) → IsTrue (is_only_key c)
     → IsTrue (list_all is_exact_key (condition_keys c))
@@ -299,6 +305,8 @@ exact_whole (state name) h = absurd (cc)
 exact_whole (function name argument) h = absurd (cc)
 exact_whole (named_element name argument) h = absurd (cc)
 exact_whole (nesting list) h = absurd (cc)
+exact_whole (namespaced namespace local) h = absurd (cc)
+exact_whole (nth_of last p selectors) h = absurd (cc)
 
 module _ {Node : Type 0} (d : Document Node) (n : Node) where
   whole_holds : (s : Simple) → IsTrue (is_whole s) → has_key d n (simple_key s) ≡ holds d n s
@@ -314,6 +322,8 @@ module _ {Node : Type 0} (d : Document Node) (n : Node) where
   whole_holds (function name argument) h = absurd (cc)
   whole_holds (named_element name argument) h = absurd (cc)
   whole_holds (nesting list) h = absurd (cc)
+  whole_holds (namespaced namespace local) h = absurd (cc)
+  whole_holds (nth_of last p selectors) h = absurd (cc)
 
   compound_met : (c : Conditions) → IsTrue (is_one_id_or_class c)
       → IsTrue (has_key d n (compound_key c)) → AreMet d c n

@@ -1,18 +1,19 @@
 -- An argument that is kept as it is written is read again before a closing parenthesis.
 -- Serves `printing_laws::printing_law`.
-use Rattle.std.proofs.Common.{◌≡◌, ℕ, Bool, true, false, not, ◌&&◌, if◌then◌else◌, List, ◌∷◌, ◌++◌, refl, ap, ◌∙◌, subst}
-use Rattle.css_text.specs.AsciiBytes.{close_parenthesis}
+use Rattle.std.proofs.Common.{◌≡◌, ℕ, Bool, true, false, not, ◌&&◌, if◌then◌else◌, List, ◌∷◌, ◌++◌, refl, sym, ap, ◌∙◌, subst}
+use Rattle.css_text.specs.AsciiBytes.{close_parenthesis, space}
 use Rattle.css_syntax.specs.declared.quality.Quality.{Quality}
 use Rattle.css_syntax.specs.declared.quality.Quality.TheVariants.{Whole, Open, BadString, BadUrl, StrayBracket, TooDeep}
 use Rattle.css_syntax.specs.Parts.{Stated, parts as parts_stated}
 use Rattle.css_syntax.specs.Printing.{ends_lone}
 use Rattle.css_syntax.specs.Qualities.{is_whole}
-use Rattle.css_syntax.specs.Tokens.{past_gap}
+use Rattle.css_syntax.specs.Tokens.{gap_part, past_gap}
+use Rattle.css_syntax.proofs.Shorter.{each-goes, gap_part-takes}
 use Rattle.css_syntax.proofs.PartingParts.{gap-again}
 use Rattle.css_syntax.proofs.PartsAgain.{parts-again}
 use Rattle.css_selectors.specs.declared.refusal.Why.TheVariants.{Unexpected}
 use Rattle.css_selectors.specs.Readings.{got, refused, follow, give, ◌>>◌}
-use Rattle.css_selectors.specs.Grammar.{argument, argument_ends, is_argument, is_empty_text, parenthesis}
+use Rattle.css_selectors.specs.Grammar.{argument, argument_ends, is_argument, is_empty_text, values_read, parenthesis}
 use Rattle.css_selectors.proofs.ReadingLemmas.{followed}
 
 -- an argument is whole, and does not end in a lone backslash
@@ -69,3 +70,14 @@ argument-again text a rest h more = by (is_argument read.0) refl h
     by true e k =
         let f = followed (parenthesis read.1) (λ u. give read.0.text) a rest k in
         let is : read.0.text ≡ a = (let g = f.second in cc) in again (whole_text read.0 e) is
+
+past_space : (text : List ℕ) → past_gap text ≡ past_gap (space ∷ text)
+unfolding gap_part
+past_space text = each-goes gap_part gap_part-takes (space ∷ text) text tt refl
+
+-- a blank before an argument is none of it
+pub argument_spaced : (text : List ℕ) → argument (space ∷ text) ≡ argument text
+unfolding argument
+argument_spaced text =
+    ap (λ (l : List ℕ). follow (values_read l (parts_stated argument_ends l))
+    (λ a. parenthesis >> give a)) (sym (past_space text))

@@ -1,10 +1,10 @@
 -- Printed compound selectors, and lists of complex ones, read back.
 -- Serves `printing_laws::printing_law`.
-use Rattle.std.proofs.Common.{◌≡◌, ℕ, zero, suc, ◌≤◌, ◌⊎◌, inl, inr, Bool, true, false, List, [], ◌∷◌, ◌++◌, Option, None, Some, All, length, flat_map, append_assoc, arith, refl, sym, ap, ◌∙◌, subst, eqb-true}
+use Rattle.std.proofs.Common.{◌≡◌, ℕ, zero, suc, ◌≤◌, ◌⊎◌, inl, inr, ◌||◌, Bool, true, false, List, [], ◌∷◌, ◌++◌, Option, None, Some, All, length, flat_map, append_assoc, arith, refl, sym, ap, ◌∙◌, subst, eqb-true}
 use Rattle.std.specs.Prelude.{codes, if◌then◌else◌}
 use Rattle.std.proofs.lemmas.List.Elements.{All-nil, All-cons, All-head, All-tail}
-use Rattle.css_text.specs.AsciiBytes.{asterisk, close_parenthesis, colon, comma, greater_than_sign, open_parenthesis, plus_sign, space, tilde}
-use Rattle.css_text.specs.Bytes.{starts_by, starts}
+use Rattle.css_text.specs.AsciiBytes.{asterisk, close_parenthesis, colon, comma, full_stop, greater_than_sign, number_sign, open_bracket, open_parenthesis, plus_sign, space, tilde}
+use Rattle.css_text.specs.Bytes.{starts_by, starts, past_one}
 use Rattle.css_text.specs.Comments.{opens_comment}
 use Rattle.css_text.proofs.bytes.GapLemmas.{no_gap-byte, NoGap}
 use Rattle.css_syntax.proofs.Shorter.{each-rests}
@@ -13,18 +13,19 @@ use Rattle.css_matching.specs.declared.Combinator.{Combinator}
 use Rattle.css_matching.specs.declared.Combinator.TheVariants.{Descendant, Child, Adjacent, Sibling}
 use Rattle.css_selectors.specs.declared.components.ListKind.{ListKind}
 use Rattle.css_selectors.specs.declared.components.ListKind.TheVariants.{Not, Is, Where}
-use Rattle.css_selectors.specs.Components.{Simple, Condition, Selectors, Part, selectors_from}
-use Rattle.css_selectors.specs.Components.Simple.{universal, type_name, id, class, has_attribute, attribute, structure, language, state, function, named_element, nesting}
+use Rattle.css_selectors.specs.Components.{Namespace, Simple, Condition, Selectors, Part, selectors_from}
+use Rattle.css_selectors.specs.Components.Local.{any_type, a_type, some_attribute, an_attribute}
+use Rattle.css_selectors.specs.Components.Simple.{universal, type_name, id, class, has_attribute, attribute, structure, language, state, function, named_element, nesting, namespaced, nth_of}
 use Rattle.css_selectors.specs.Components.Condition.{simple, negation, any_of, where_any}
-use Rattle.css_selectors.specs.Readings.{Reading, got, refused, follow, give, ◌>>=◌, ◌>>◌, Step, item, none, stop, as_item, with_first, items}
-use Rattle.css_selectors.specs.Grammar.{gap, begins_compound, closing, one_more, list_kind, function_named, with_argument, type_selector, next_simple, after_type, some_of, Finder, ListReader, compound, ends_part, part_value, past_part, no_selector, part_end, judged, listed_part, next_listed, kept, keep, selectors_after, is_forgiving, list_by, listed, begins_pseudo_class, simple_item, condition_here, condition_by, too_deep, next_condition, deepest, after_type_name, some_or_element, conditions, CompoundReader, sign_combinator, first_sign, joined_by, by_sign, part_after, next_part_in, complex, complex_list}
-use Rattle.css_selectors.specs.Printing.{identifier_text, further_text, list_text, condition_text, selectors_text, combinator_text, part_text, parts_text}
-use Rattle.css_selectors.specs.WellFormed.{IsName, IsFurtherCondition, IsFirstCondition, IsList, AreConditions}
+use Rattle.css_selectors.specs.Readings.{Reading, got, refused, follow, give, ◌>>=◌, ◌>>◌, Step, item, none, stop, step_after, as_item, with_first, items}
+use Rattle.css_selectors.specs.Grammar.{gap, past_comments, begins_name, past_any_name, is_bar, at_bar, prefix, namespace, in_namespace, ampersand, any_or_name, type_after, begins_compound, closing, one_more, list_kind, function_named, is_list_text, with_argument, type_selector, next_simple, after_type, some_of, Finder, ListReader, compound, ends_part, part_value, past_part, no_selector, part_end, judged, listed_part, next_listed, kept, keep, selectors_after, is_forgiving, list_by, listed, begins_pseudo_class, simple_item, condition_here, condition_by, too_deep, next_condition, deepest, after_type_name, some_or_element, conditions, CompoundReader, sign_combinator, first_sign, joined_by, by_sign, part_after, next_part_in, complex, complex_list}
+use Rattle.css_selectors.specs.Printing.{identifier_text, namespace_text, further_text, list_text, condition_text, selectors_text, combinator_text, part_text, parts_text}
+use Rattle.css_selectors.specs.WellFormed.{IsName, IsNamespace, IsListText, IsFurtherCondition, IsFirstCondition, IsList, AreConditions}
 use Rattle.css_selectors.proofs.GapLemmas.{no_comments}
 use Rattle.css_selectors.proofs.SpelledAgain.{name-again}
 use Rattle.css_selectors.proofs.NumbersAgain.{no_gap, one_blank}
 use Rattle.css_selectors.proofs.NestedLists.{selectors_in, selectors_from-in, row_text, rows_text, IsRow, IsLink, IsChain, AreChains, chains_out}
-use Rattle.css_selectors.proofs.SimplesAgain.{EachReads, items-again, ends, ends_name, begins_solid, differ, name_other, name_compound, named_text, is_start, by_start, further_starts, call-again, further-again}
+use Rattle.css_selectors.proofs.SimplesAgain.{EachReads, items-again, ends, ends_name, ends_calm, ends_barless, bare-again, namespace-again, namespace_begins, namespace_name, begins_solid, differ, name_other, name_compound, named_text, is_start, by_start, further_starts, call-again, further-again}
 
 -- ---- how conditions begin
 
@@ -41,12 +42,29 @@ start_some : (text : List ℕ) → Starts text → 1 ≤ length text
 start_some [] h = absurd (cc)
 start_some (b ∷ text) h = omega arith
 
+-- no type selector is where neither `*`, a name nor a bar is
+untyped : (text : List ℕ) → opens_comment text ≡ false → past_any_name text ≡ text
+    → is_bar text ≡ false → (starts asterisk text || begins_name text) ≡ false
+    → type_selector text ≡ none
+unfolding type_selector namespace at_bar
+untyped text calm stays bare nothing =
+    ap (λ l. step_after (if is_bar l then got (Some (prefix text)) (past_comments (past_one l))
+    else got None text) type_after) (ap past_comments stays ∙ no_comments text calm)
+    ∙ ap (λ (t : Bool). step_after (if t then got (Some (prefix text)) (past_comments (past_one text))
+    else got None text) type_after) bare
+    ∙ ap (λ (t : Bool). if t then as_item (in_namespace None) (any_or_name text) else none) nothing
+
 -- no type selector is where a sign is
 start_untyped : (text rest : List ℕ) → Starts text → type_selector (text ++ rest) ≡ none
-unfolding type_selector
 start_untyped [] rest h = absurd (cc)
 start_untyped (b ∷ text) rest h =
-    by_start (λ d. type_selector (d ∷ (text ++ rest)) ≡ none) refl refl refl refl refl b h
+    let more : List ℕ = text ++ rest in
+    by_start (λ d. type_selector (d ∷ more) ≡ none)
+    (untyped (number_sign ∷ more) refl refl refl refl)
+    (untyped (full_stop ∷ more) refl refl refl refl)
+    (untyped (open_bracket ∷ more) refl refl refl refl)
+    (untyped (colon ∷ more) refl refl refl refl)
+    (untyped (ampersand ∷ more) refl refl refl refl) b h
 
 start_begins : (text rest : List ℕ) → Starts text → starts_by begins_compound (text ++ rest) ≡ true
 start_begins [] rest h = absurd (cc)
@@ -54,25 +72,56 @@ start_begins (b ∷ text) rest h =
     by_start (λ d. begins_compound d ≡ true) refl refl refl refl refl b h
 
 condition_starts : (n : ℕ) (c : Condition) → IsFurtherCondition n c → Starts (condition_text c)
-condition_starts n (simple s) w = further_starts s w
+condition_starts n (simple s) w = further_starts n s w
 condition_starts n (negation _) w = refl
 condition_starts n (any_of _) w = refl
 condition_starts n (where_any _) w = refl
 
--- `*` or a type
-star-again : (rest : List ℕ) → type_selector (asterisk ∷ rest) ≡ item universal rest
-unfolding type_selector
-star-again rest = refl
+-- `*` or a type, without a namespace and with one
+star_bare : (rest : List ℕ) → ends rest ≡ true
+    → namespace (asterisk ∷ rest) ≡ got None (asterisk ∷ rest)
+unfolding namespace at_bar
+star_bare rest h =
+    let text : List ℕ = asterisk ∷ rest in
+    ap (λ l. if is_bar l then got (Some (prefix text)) (past_comments (past_one l)) else got None text)
+    (no_comments rest (ends_calm rest h))
+    ∙ ap (λ (t : Bool). if t then got (Some (prefix text)) (past_comments (past_one rest))
+    else got None text) (ends_barless rest h)
+
+star-again : (rest : List ℕ) → ends rest ≡ true
+    → type_selector (asterisk ∷ rest) ≡ item universal rest
+unfolding type_selector any_or_name
+star-again rest h = ap (λ r. step_after r type_after) (star_bare rest h)
 
 type-again : (n rest : List ℕ) → IsName n → ends rest ≡ true
     → type_selector (identifier_text n ++ rest) ≡ item (type_name n) rest
-unfolding type_selector
+unfolding type_selector any_or_name
 type-again n rest some h =
+    let text : List ℕ = identifier_text n ++ rest in
     let begins = named_text n rest some h in
-    let star : starts asterisk (identifier_text n ++ rest) ≡ false =
-    name_other asterisk (identifier_text n ++ rest) begins refl in
+    let star : starts asterisk text ≡ false = name_other asterisk text begins refl in
     let reads = name-again n rest some (ends_name rest h) in
-    rw (star, begins, reads) refl
+    ap (λ r. step_after r type_after)
+    (bare-again n rest some (ends_name rest h) (ends_calm rest h) (ends_barless rest h))
+    ∙ rw (star, begins, reads) refl
+
+star_in-again : (p : Namespace) (rest : List ℕ) → IsNamespace p
+    → type_selector (namespace_text p ++ (asterisk ∷ rest)) ≡ item (namespaced p any_type) rest
+unfolding type_selector any_or_name
+star_in-again p rest w =
+    ap (λ r. step_after r type_after) (namespace-again p (asterisk ∷ rest) w refl refl)
+
+type_in-again : (p : Namespace) (n rest : List ℕ) → IsNamespace p → IsName n → ends rest ≡ true
+    → type_selector (namespace_text p ++ (identifier_text n ++ rest))
+    ≡ item (namespaced p (a_type n)) rest
+unfolding type_selector any_or_name
+type_in-again p n rest w some h =
+    let text : List ℕ = identifier_text n ++ rest in
+    let begins = named_text n rest some h in
+    let star : starts asterisk text ≡ false = name_other asterisk text begins refl in
+    let reads = name-again n rest some (ends_name rest h) in
+    ap (λ r. step_after r type_after) (namespace_name p n rest w some (ends_name rest h))
+    ∙ rw (star, reads) refl
 
 -- the condition is `*` or a type, which is read
 record IsTyped (c : Condition) (rest : List ℕ) : Type 0 where
@@ -85,7 +134,7 @@ record IsTyped (c : Condition) (rest : List ℕ) : Type 0 where
 first_kind : (n : ℕ) (c : Condition) (rest : List ℕ) → IsFirstCondition n c → ends rest ≡ true
     → IsTyped c rest ⊎ IsFurtherCondition n c
 first_kind n (simple universal) rest w h =
-    inl (record { value = universal; is = refl; reads = star-again rest; begins = refl })
+    inl (record { value = universal; is = refl; reads = star-again rest h; begins = refl })
 first_kind n (simple (type_name name)) rest w h =
     inl (record {
       value = type_name name;
@@ -103,6 +152,26 @@ first_kind n (simple (state name)) rest w h = inr w
 first_kind n (simple (function name argument)) rest w h = inr w
 first_kind n (simple (named_element name argument)) rest w h = absurd w
 first_kind n (simple (nesting list)) rest w h = inr w
+first_kind n (simple (namespaced p any_type)) rest w h =
+    let joined = append_assoc (namespace_text p) (asterisk ∷ []) rest in
+    inl (record {
+      value = namespaced p any_type;
+      is = refl;
+      reads = ap type_selector joined ∙ star_in-again p rest w.0;
+      begins = ap (starts_by begins_compound) joined ∙ namespace_begins p (asterisk ∷ rest) w.0;
+    })
+first_kind n (simple (namespaced p (a_type name))) rest w h =
+    let joined = append_assoc (namespace_text p) (identifier_text name) rest in
+    inl (record {
+      value = namespaced p (a_type name);
+      is = refl;
+      reads = ap type_selector joined ∙ type_in-again p name rest w.0 w.1 h;
+      begins = ap (starts_by begins_compound) joined
+          ∙ namespace_begins p (identifier_text name ++ rest) w.0;
+    })
+first_kind n (simple (namespaced p (some_attribute name))) rest w h = inr w
+first_kind n (simple (namespaced p (an_attribute name c v ignores))) rest w h = inr w
+first_kind n (simple (nth_of last p selectors)) rest w h = inr w
 first_kind n (negation _) rest w h = inr w
 first_kind n (any_of _) rest w h = inr w
 first_kind n (where_any _) rest w h = inr w
@@ -468,9 +537,12 @@ module _ (n : ℕ) (reads : ReadsFurther n) (f : Bool) where
   nothing_there : (rest : List ℕ)
       → complex (next_condition n) (close_parenthesis ∷ rest)
       ≡ refused NoSelector (close_parenthesis ∷ rest)
-  unfolding complex compound type_selector next_simple
+  unfolding complex compound next_simple
   nothing_there rest =
-      ap (λ r. follow (some_of (close_parenthesis ∷ rest) r) (λ first.
+      ap (λ s. follow (after_type (next_condition n) (close_parenthesis ∷ rest) s) (λ first.
+      one_more (joined_by Descendant first) (items (next_part_in (next_condition n)))))
+      (untyped (close_parenthesis ∷ rest) refl refl refl refl)
+      ∙ ap (λ r. follow (some_of (close_parenthesis ∷ rest) r) (λ first.
       one_more (joined_by Descendant first) (items (next_part_in (next_condition n)))))
       (items-again (next_condition n) condition_text [] (close_parenthesis ∷ rest)
       (none_read n (close_parenthesis ∷ rest) refl refl refl))
@@ -523,7 +595,8 @@ ReadsLists n list = (kind : ListKind) (opened rest : List ℕ) (selectors : Sele
     → list kind opened (selectors_text selectors ++ (close_parenthesis ∷ rest))
     ≡ got (selectors_in selectors) rest
 
-module _ (n : ℕ) (list : ListReader) (reads : ReadsLists n list) where
+module _ (n : ℕ) (list : ListReader) (reads : ReadsLists n list)
+    (checks : (a : List ℕ) → IsListText n a → is_list_text list a ≡ true) where
   list-again : (name rest : List ℕ) (kind : ListKind) (selectors : Selectors) → IsName name
       → list_kind name ≡ Some kind → IsList (is_forgiving kind) n selectors
       → condition_by list (colon ∷ (identifier_text name ++ (open_parenthesis ∷
@@ -541,7 +614,7 @@ module _ (n : ℕ) (list : ListReader) (reads : ReadsLists n list) where
 
   condition_by-again : (c : Condition) (rest : List ℕ) → IsFurtherCondition n c
       → ends rest ≡ true → condition_by list (condition_text c ++ rest) ≡ item c rest
-  condition_by-again (simple s) rest w h = further-again list s rest w h
+  condition_by-again (simple s) rest w h = further-again list n checks s rest w h
   condition_by-again (negation selectors) rest w h =
       list-again (codes "not") rest Not selectors (omega arith) refl w
       ∙ ap (λ cs. item (negation cs) rest) (selectors_from-in selectors)
@@ -564,10 +637,10 @@ complex_list-again n reads kind opened rest selectors w =
 pub condition-again : (n : ℕ) → ReadsFurther n
 unfolding next_condition
 condition-again zero c rest w h =
-    condition_by-again zero too_deep (λ kind opened end selectors v. absurd v) c rest w h
+    condition_by-again zero too_deep (λ kind opened end selectors v. absurd v) (λ a e. e) c rest w h
 condition-again (suc n) c rest w h =
     condition_by-again (suc n) (list_by (next_condition n))
-    (complex_list-again n (condition-again n)) c rest w h
+    (complex_list-again n (condition-again n)) (λ a e. e) c rest w h
 
 -- ---- the compound selectors of a selector
 

@@ -1,12 +1,11 @@
 -- What `escape` and `quote` write reads back.
 -- Serves `escaping::escaping_law`.
-use Rattle.std.proofs.Common.{◌≡◌, ◌≢◌, ℕ, suc, ◌<◌, ◌≤◌, ◌==◌, encode_utf8, eqb-true, flat_map, Bool, true, false, List, [], ◌∷◌, ◌++◌, length, refl, sym, ap, ◌∙◌, subst, arith, if◌then◌else◌, append_assoc, append-nil, length-append}
+use Rattle.std.proofs.Common.{◌≡◌, ◌≢◌, ℕ, suc, ◌<◌, ◌==◌, encode_utf8, eqb-true, Bool, true, false, List, [], ◌∷◌, ◌++◌, length, refl, sym, ap, ◌∙◌, arith, if◌then◌else◌, append_assoc, append-nil}
 use Rattle.std.proofs.Math.ListN.{get_or}
 use Rattle.std.proofs.lemmas.Grind.{flat_map-append}
-use Rattle.css_selectors.specs.Escaping.{without_nul_byte, without_nul, escaped, quoted, EscapedReadsBack, QuotedReadsBack}
+use Rattle.css_selectors.specs.Escaping.{without_nul_byte, without_nul, EscapedReadsBack, QuotedReadsBack}
 use Rattle.css_selectors.specs.Grammar.{ident_sequence, value}
 use Rattle.css_selectors.specs.Printing.{identifier_text, string_text}
-use Rattle.css_selectors.specs.Readings.{got}
 use Rattle.css_selectors.proofs.SpelledAgain.{EndsName, ident-again, value-again}
 
 -- a name that has something has something without U+0000

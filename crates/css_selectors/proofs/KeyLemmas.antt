@@ -5,7 +5,7 @@ use Rattle.std.specs.Prelude.{is_none, nat_lt, min, if◌then◌else◌}
 use Rattle.std.specs.List.{list_any}
 use Rattle.css_selectors.specs.Documents.{Document}
 use Rattle.css_selectors.specs.Components.{Comparison, Simple, Condition, Conditions, Parts, Selectors, Part, Selector, conditions_from, parts_from, selectors_from}
-use Rattle.css_selectors.specs.Components.Simple.{universal, type_name, id, class, has_attribute, attribute, structure, language, state, function, named_element, nesting}
+use Rattle.css_selectors.specs.Components.Simple.{universal, type_name, id, class, has_attribute, attribute, structure, language, state, function, named_element, nesting, namespaced, nth_of}
 use Rattle.css_selectors.specs.Components.Condition.{simple, negation, any_of, where_any}
 use Rattle.css_selectors.specs.Components.Conditions.{end_of_compound, with_condition}
 use Rattle.css_selectors.specs.Components.Parts.{end_of_selector, with_part}
@@ -48,6 +48,8 @@ module _ {Node : Type 0} (d : Document Node) (n : Node) where
   simple_has (function name argument) h = refl
   simple_has (named_element name argument) h = refl
   simple_has (nesting list) h = refl
+  simple_has (namespaced namespace local) h = refl
+  simple_has (nth_of last p selectors) h = refl
 
   chosen : (b : Bool) (one other : Key) → IsTrue (has_key d n one) → IsTrue (has_key d n other)
       → IsTrue (has_key d n (if b then other else one))

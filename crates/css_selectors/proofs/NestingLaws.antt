@@ -11,7 +11,7 @@ use Rattle.css_matching.specs.Placements.{HasPlacement, Relates}
 use Rattle.css_selectors.specs.declared.components.Nesting.{Nesting}
 use Rattle.css_selectors.specs.Documents.{Document, shape}
 use Rattle.css_selectors.specs.Components.{Simple, Condition, Conditions, Parts, Selectors, Part, PseudoElement, Selector, conditions_from, parts_from}
-use Rattle.css_selectors.specs.Components.Simple.{universal, type_name, id, class, has_attribute, attribute, structure, language, state, function, named_element, nesting}
+use Rattle.css_selectors.specs.Components.Simple.{universal, type_name, id, class, has_attribute, attribute, structure, language, state, function, named_element, nesting, namespaced, nth_of}
 use Rattle.css_selectors.specs.Components.Condition.{simple, negation, any_of, where_any}
 use Rattle.css_selectors.specs.Components.Conditions.{end_of_compound, with_condition}
 use Rattle.css_selectors.specs.Components.Parts.{end_of_selector, with_part}
@@ -121,6 +121,8 @@ module _ (list : Nesting) (all : Selectors) where
     simple_same (function name argument) n = (λ h. h, λ h. h)
     simple_same (named_element name argument) n = (λ h. h, λ h. h)
     simple_same (nesting other) n = answers n
+    simple_same (namespaced namespace local) n = (λ h. h, λ h. h)
+    simple_same (nth_of last p selectors) n = (λ h. h, λ h. h)
 
     mutual
       condition_same : (c : Condition) (n : Node)
@@ -188,6 +190,8 @@ module _ (list : Nesting) (all : Selectors) where
     simple_counts (function name argument) = refl
     simple_counts (named_element name argument) = refl
     simple_counts (nesting other) = counts
+    simple_counts (namespaced namespace local) = refl
+    simple_counts (nth_of last p selectors) = refl
 
     mutual
       condition_counts : (c : Condition)
@@ -259,6 +263,8 @@ module _ (list : Nesting) where
   simple_prints (function name argument) = refl
   simple_prints (named_element name argument) = refl
   simple_prints (nesting other) = refl
+  simple_prints (namespaced namespace local) = refl
+  simple_prints (nth_of last p selectors) = refl
 
   mutual
     condition_prints : (c : Condition)

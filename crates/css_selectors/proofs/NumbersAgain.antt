@@ -8,14 +8,14 @@ use Rattle.std.proofs.lemmas.Bool.Decides.{nat_tests}
 use Rattle.std.proofs.lemmas.Fmt.{decimal_is_IsNumeral}
 use Rattle.std.proofs.lemmas.Str.{digit_value_digit}
 use Rattle.std.proofs.lemmas.Str.Parse.{digit_from_value}
-use Rattle.css_text.specs.AsciiBytes.{close_parenthesis, hyphen, plus_sign, slash}
+use Rattle.css_text.specs.AsciiBytes.{close_parenthesis, hyphen, plus_sign, slash, space}
 use Rattle.css_text.specs.Characters.{is_space}
 use Rattle.css_text.specs.Bytes.{starts_by, is_digit, past_one}
 use Rattle.css_text.proofs.bytes.GapLemmas.{NoGap, no_gap-byte, gap-none, gap-space}
 use Rattle.css_syntax.specs.Tokens.{is_name_byte}
 use Rattle.css_selectors.specs.Components.{Signed, Progression}
 use Rattle.css_selectors.specs.declared.refusal.Why.TheVariants.{NoProgression}
-use Rattle.css_selectors.specs.Readings.{got, refused, follow}
+use Rattle.css_selectors.specs.Readings.{Reading, got, refused, Reader, follow, ◌>>◌, give}
 use Rattle.css_selectors.specs.Grammar.{gap, past_comments, begins_name, closed_gap, digits, with_digit, sign, is_sign, signed, stepping, offset_after, offset_or_none, with_offset, is_number, subtracted, by_tail, n_word, numbered, is_lone_plus, unsigned, progression, ident_sequence, name, word_progression}
 use Rattle.css_selectors.proofs.SpelledAgain.{EndsName, begins-again, ident-again, name-again, all_below, passes, none_passes}
 use Rattle.css_selectors.specs.Printing.{minus_text, signed_text, is_zero, size_text, plus_text, offset_text, progression_text, byte_text, escape_text, start_text, identifier_text}
@@ -123,64 +123,127 @@ number_begins n rest small =
     subst (λ l. starts_by is_digit (l ++ rest) ≡ true) (sym f.is)
     (digit_byte f.first f.low f.high is_digit refl)
 
+-- what is after a printed `An+B`, and what is left of that after a gap
+pub record Ended (end left : List ℕ) : Type 0 where
+  pub spaced : Bool
+  pub gap_there : gap end ≡ got spaced left
+  pub solid : gap left ≡ got false left
+  pub unsigned : starts_by is_sign left ≡ false
+  pub ends : EndsName end
+  pub stops : starts_by is_digit end ≡ false
+  pub unnamed : begins_name end ≡ false
+
+-- a value, and a gap after it
+abbrev pub gapped : {A : Type 0} → Reading A → Reading A
+gapped r = follow r (λ x. gap >> give x)
+
+pub gapped_next : {A B : Type 0} (r : Reading A) (next : A → Reader B) (x : A) (left : List ℕ)
+    → gapped r ≡ got x left → follow r (λ y. gap >> next y) ≡ next x left
+gapped_next {A} {B} (got y mid) next x left h = by (gap mid) h
+  where
+    by : (g : Reading Bool) → follow g (λ s. give y) ≡ got x left
+        → follow g (λ s. next y) ≡ next x left
+    by (got s m) k =
+        let one : y ≡ x = cc in
+        let two : m ≡ left = cc in
+        ap (λ z. next z m) one ∙ ap (next x) two
+    by (refused why m) k = absurd (cc)
+gapped_next (refused why m) next x left h = absurd (cc)
+
+-- the closing parenthesis
+pub closed_end : (rest : List ℕ) → Ended (close_parenthesis ∷ rest) (close_parenthesis ∷ rest)
+closed_end rest =
+    let calm = no_gap (close_parenthesis ∷ rest) (no_gap-byte close_parenthesis rest refl refl) in
+    record {
+      spaced = false;
+      gap_there = calm;
+      solid = calm;
+      unsigned = refl;
+      ends = record { bare = refl; calm = refl; apart = refl };
+      stops = refl;
+      unnamed = refl;
+    }
+
+-- a blank and then `o`, as in `of`
+pub of_end : (rest : List ℕ) → Ended (space ∷ 111 ∷ rest) (111 ∷ rest)
+of_end rest =
+    let solid = no_gap-byte 111 rest refl refl in
+    record {
+      spaced = true;
+      gap_there = one_blank (111 ∷ rest) solid;
+      solid = no_gap (111 ∷ rest) solid;
+      unsigned = refl;
+      ends = record { bare = refl; calm = refl; apart = refl };
+      stops = refl;
+      unnamed = refl;
+    }
+
 -- what follows the sign of an offset
-offset_after-again : (step : Signed) (negative : Bool) (n : ℕ) (rest : List ℕ) → n ≤ 4294967295
-    → follow (gap (decimal n ++ (close_parenthesis ∷ rest)))
-    (λ spaced. offset_after step negative)
-    ≡ got (stepping step (signed negative n)) (close_parenthesis ∷ rest)
-offset_after-again step negative n rest small =
-    let text : List ℕ = decimal n ++ (close_parenthesis ∷ rest) in
-    let calm : gap text ≡ got false text =
-    no_gap text (number_calm n (close_parenthesis ∷ rest) small) in
-    let begins : starts_by is_digit text ≡ true =
-    number_begins n (close_parenthesis ∷ rest) small in
-    let reads : digits 0 text ≡ (n, close_parenthesis ∷ rest) =
-    digits-again n (close_parenthesis ∷ rest) small refl in
+offset_after-again : (step : Signed) (negative : Bool) (n : ℕ) (end left : List ℕ)
+    → n ≤ 4294967295 → Ended end left
+    → follow (gap (decimal n ++ end)) (λ spaced. offset_after step negative)
+    ≡ got (stepping step (signed negative n)) end
+offset_after-again step negative n end left small e =
+    let text : List ℕ = decimal n ++ end in
+    let calm : gap text ≡ got false text = no_gap text (number_calm n end small) in
+    let begins : starts_by is_digit text ≡ true = number_begins n end small in
+    let reads : digits 0 text ≡ (n, end) = digits-again n end small e.stops in
+    let bare = e.unnamed in
     ap (λ r. follow r (λ spaced. offset_after step negative)) calm
-    ∙ ap (λ (t : Bool). if t
+    ∙ ap (λ (t : Bool). if t && not (begins_name (digits 0 text).1)
     then got (stepping step (signed negative (digits 0 text).0)) (digits 0 text).1
     else refused NoProgression text) begins
-    ∙ ap (λ p. got (stepping step (signed negative p.0)) p.1) reads
+    ∙ ap (λ p. if not (begins_name p.1) then got (stepping step (signed negative p.0)) p.1
+    else refused NoProgression text) reads
+    ∙ ap (λ (t : Bool). if not t then got (stepping step (signed negative n)) end
+    else refused NoProgression text) bare
+
+-- the gap after a value
+gap_end : {A : Type 0} (x : A) (end left : List ℕ) → Ended end left
+    → gapped (got x end) ≡ got x left
+gap_end x end left e = ap (λ r. follow r (λ s. give x)) e.gap_there
 
 -- B after `An`
-offset-again : (step offset : Signed) (rest : List ℕ) → offset.size ≤ 4294967295
-    → with_offset step (offset_text offset ++ (close_parenthesis ∷ rest))
-    ≡ got (stepping step offset) (close_parenthesis ∷ rest)
+offset-again : (step offset : Signed) (end left : List ℕ) → offset.size ≤ 4294967295
+    → Ended end left
+    → gapped (with_offset step (offset_text offset ++ end)) ≡ got (stepping step offset) left
 unfolding with_offset offset_or_none
-offset-again step offset rest small =
+offset-again step offset end left small e =
     by offset.is_negative offset.size (offset.size == 0) small refl
   where
-    end : List ℕ
-    end = close_parenthesis ∷ rest
-
     reads : (text : List ℕ) (negative : Bool) (n : ℕ) → n ≤ 4294967295 → NoGap text
         → starts_by is_sign text ≡ true → sign text ≡ (negative, decimal n ++ end)
-        → with_offset step text ≡ got (stepping step (signed negative n)) end
+        → gapped (with_offset step text) ≡ got (stepping step (signed negative n)) left
     reads text negative n small calm begins is =
         let none = no_gap text calm in
-        ap (λ r. follow r (λ spaced. offset_or_none step)) none
-        ∙ ap (λ (t : Bool). if t
+        ap (λ r. gapped (follow r (λ spaced. offset_or_none step))) none
+        ∙ ap (λ (t : Bool). gapped (if t
         then follow (gap (sign text).1) (λ spaced. offset_after step (sign text).0)
-        else got (stepping step (signed false 0)) text) begins
-        ∙ ap (λ p. follow (gap p.1) (λ spaced. offset_after step p.0)) is
-        ∙ offset_after-again step negative n rest small
+        else got (stepping step (signed false 0)) text)) begins
+        ∙ ap (λ p. gapped (follow (gap p.1) (λ spaced. offset_after step p.0))) is
+        ∙ ap gapped (offset_after-again step negative n end left small e)
+        ∙ gap_end (stepping step (signed negative n)) end left e
 
     by : (negative : Bool) (n : ℕ) (none : Bool) → n ≤ 4294967295 → (n == 0) ≡ none
-        → with_offset step ((if none && not negative then []
-        else plus_text negative ++ (minus_text negative ++ decimal n)) ++ end)
-        ≡ got (stepping step (signed negative n)) end
-    by true n true small e =
+        → gapped (with_offset step ((if none && not negative then []
+        else plus_text negative ++ (minus_text negative ++ decimal n)) ++ end))
+        ≡ got (stepping step (signed negative n)) left
+    by true n true small z =
         reads (hyphen ∷ (decimal n ++ end)) true n small
         (no_gap-byte hyphen (decimal n ++ end) refl refl) refl refl
-    by true n false small e =
+    by true n false small z =
         reads (hyphen ∷ (decimal n ++ end)) true n small
         (no_gap-byte hyphen (decimal n ++ end) refl refl) refl refl
-    by false n true small e =
-        let is : n ≡ 0 = eqb-true n 0 e in
-        ap (λ r. follow r (λ spaced. offset_or_none step)) (no_gap end
-        (no_gap-byte close_parenthesis rest refl refl))
-        ∙ ap (λ m. got (stepping step (signed false m)) end) (sym is)
-    by false n false small e =
+    by false n true small z =
+        let is : n ≡ 0 = eqb-true n 0 z in
+        let zero : Progression = stepping step (signed false 0) in
+        ap (λ r. gapped (follow r (λ spaced. offset_or_none step))) e.gap_there
+        ∙ ap (λ (t : Bool). gapped (if t
+        then follow (gap (sign left).1) (λ spaced. offset_after step (sign left).0)
+        else got zero left)) e.unsigned
+        ∙ ap (λ r. follow r (λ s. give zero)) e.solid
+        ∙ ap (λ m. got (stepping step (signed false m)) left) (sym is)
+    by false n false small z =
         reads (plus_sign ∷ (decimal n ++ end)) false n small
         (no_gap-byte plus_sign (decimal n ++ end) refl refl) refl refl
 
@@ -222,16 +285,18 @@ number_alone n rest small =
     digit_other f.first f.low f.high (λ k. k == plus_sign) refl in
     subst (λ l. is_lone_plus (l ++ rest) ≡ false) (sym f.is) (rw plus refl)
 
-number-again : (negative : Bool) (n : ℕ) (rest : List ℕ) → n ≤ 4294967295
-    → progression ((minus_text negative ++ decimal n) ++ (close_parenthesis ∷ rest))
-    ≡ got (stepping (signed false 0) (signed negative n)) (close_parenthesis ∷ rest)
-number-again negative n rest small =
-    from_number _ (decimal n ++ end) end negative n (alone negative) (signs negative)
-    (number_begins n end small) (digits-again n end small refl)
+number-again : (negative : Bool) (n : ℕ) (end left : List ℕ) → n ≤ 4294967295 → Ended end left
+    → gapped (progression ((minus_text negative ++ decimal n) ++ end))
+    ≡ got (stepping (signed false 0) (signed negative n)) left
+number-again negative n end left small e =
+    let text : List ℕ = (minus_text negative ++ decimal n) ++ end in
+    let is : Progression = stepping (signed false 0) (signed negative n) in
+    ap gapped (from_number text (decimal n ++ end) end negative n (alone negative) (signs negative)
+    (number_begins n end small) (digits-again n end small e.stops)
+    ∙ ap (λ (t : Bool). if t then follow (ident_sequence end) (n_word text (signed negative n))
+    else got is end) e.unnamed)
+    ∙ gap_end is end left e
   where
-    end : List ℕ
-    end = close_parenthesis ∷ rest
-
     alone : (t : Bool) → is_lone_plus ((minus_text t ++ decimal n) ++ end) ≡ false
     alone true = refl
     alone false = number_alone n end small
@@ -252,14 +317,14 @@ digits_kept (c ∷ ds) all =
     ∙ ap (λ l. c ∷ l) (digits_kept ds all.1)
 
 -- what follows the `n` of a word, in it and after it, is read as the offset
-record Tail (offset : Signed) (rest : List ℕ) : Type 0 where
+record Tail (offset : Signed) (end left : List ℕ) : Type 0 where
   pub tail : List ℕ
   pub after : List ℕ
-  pub is : offset_text offset ++ (close_parenthesis ∷ rest) ≡ tail ++ after
+  pub is : offset_text offset ++ end ≡ tail ++ after
   pub kept : flat_map (byte_text None) tail ≡ tail
   pub ends : EndsName after
   pub reads : (start : List ℕ) (step : Signed)
-      → by_tail start step tail after ≡ got (stepping step offset) (close_parenthesis ∷ rest)
+      → gapped (by_tail start step tail after) ≡ got (stepping step offset) left
 
 -- a printed number is one
 is_number-again : (n : ℕ) → n ≤ 4294967295
@@ -286,31 +351,27 @@ subtracted-again start rest step n small =
         else refused NoProgression start) w.0
         ∙ ap (λ m. got (stepping step (signed true m)) rest) w.1
 
-tail_of : (offset : Signed) (rest : List ℕ) → offset.size ≤ 4294967295 → Tail offset rest
+tail_of : (offset : Signed) (end left : List ℕ) → offset.size ≤ 4294967295 → Ended end left
+    → Tail offset end left
 unfolding by_tail
-tail_of offset rest small =
-    by offset.is_negative (is_zero offset) refl refl
+tail_of offset end left small e = by offset.is_negative (is_zero offset) refl refl
   where
-    end : List ℕ
-    end = close_parenthesis ∷ rest
-
     -- nothing follows in the word
-    none : EndsName (offset_text offset ++ end) → Tail offset rest
+    none : EndsName (offset_text offset ++ end) → Tail offset end left
     none ends = record {
       tail = [];
       after = offset_text offset ++ end;
       is = refl;
       kept = refl;
       ends = ends;
-      reads = λ start step. offset-again step offset rest small;
+      reads = λ start step. offset-again step offset end left small e;
     }
 
     by : (negative zero : Bool) → offset.is_negative ≡ negative → is_zero offset ≡ zero
-        → Tail offset rest
+        → Tail offset end left
     by negative true en ez =
         none (subst (λ (t : Bool). EndsName ((if t then []
-        else plus_text offset.is_negative ++ signed_text offset) ++ end)) (sym ez)
-        (record { bare = refl; calm = refl; apart = refl }))
+        else plus_text offset.is_negative ++ signed_text offset) ++ end)) (sym ez) e.ends)
     by false false en ez =
         none (subst (λ (t : Bool). EndsName ((if t then []
         else plus_text offset.is_negative ++ signed_text offset) ++ end)) (sym ez)
@@ -324,24 +385,22 @@ tail_of offset rest small =
           ∙ ap (λ (t : Bool). (plus_text t ++ (minus_text t ++ decimal offset.size)) ++ end) en;
       kept = ap (λ l. hyphen ∷ l)
           (digits_kept (decimal offset.size) (decimal_is_IsNumeral offset.size (omega arith)).0.1);
-      ends = record { bare = refl; calm = refl; apart = refl };
-      reads = λ start step. subtracted-again start end step offset.size small
-          ∙ ap (λ (t : Bool). got (stepping step (signed t offset.size)) end) (sym en);
+      ends = e.ends;
+      reads = λ start step. ap gapped (subtracted-again start end step offset.size small
+          ∙ ap (λ (t : Bool). got (stepping step (signed t offset.size)) end) (sym en))
+          ∙ gap_end (stepping step offset) end left e;
     }
 
-step-again : (negative : Bool) (n : ℕ) (offset : Signed) (rest : List ℕ) → n ≤ 4294967295
-    → offset.size ≤ 4294967295
-    → progression ((minus_text negative ++ size_text n ++ codes "n" ++ offset_text offset)
-    ++ (close_parenthesis ∷ rest))
-    ≡ got (stepping (signed negative n) offset) (close_parenthesis ∷ rest)
+step-again : (negative : Bool) (n : ℕ) (offset : Signed) (end left : List ℕ) → n ≤ 4294967295
+    → offset.size ≤ 4294967295 → Ended end left
+    → gapped (progression ((minus_text negative ++ size_text n ++ codes "n" ++ offset_text offset)
+    ++ end))
+    ≡ got (stepping (signed negative n) offset) left
 unfolding n_word
-step-again negative n offset rest small within = by negative (n == 1) refl
+step-again negative n offset end left small within e = by negative (n == 1) refl
   where
-    end : List ℕ
-    end = close_parenthesis ∷ rest
-
-    t : Tail offset rest
-    t = tail_of offset rest within
+    t : Tail offset end left
+    t = tail_of offset end left within e
 
     after : List ℕ
     after = t.tail ++ t.after
@@ -363,29 +422,30 @@ step-again negative n offset rest small within = by negative (n == 1) refl
     )
 
     one : (negative : Bool) → n ≡ 1
-        → progression (minus_text negative ++ (110 ∷ after))
-        ≡ got (stepping (signed negative n) offset) end
+        → gapped (progression (minus_text negative ++ (110 ∷ after)))
+        ≡ got (stepping (signed negative n) offset) left
     one true is =
-        from_word (hyphen ∷ 110 ∷ after) (hyphen ∷ word) t.after refl refl
-        (named (hyphen ∷ word) (omega arith) (ap (λ l. hyphen ∷ l) written)).0
+        ap gapped (from_word (hyphen ∷ 110 ∷ after) (hyphen ∷ word) t.after refl refl
+        (named (hyphen ∷ word) (omega arith) (ap (λ l. hyphen ∷ l) written)).0)
         ∙ t.reads (hyphen ∷ 110 ∷ after) (signed true 1)
-        ∙ ap (λ m. got (stepping (signed true m) offset) end) (sym is)
+        ∙ ap (λ m. got (stepping (signed true m) offset) left) (sym is)
     one false is =
-        from_word (110 ∷ after) word t.after refl refl (named word (omega arith) written).0
+        ap gapped
+        (from_word (110 ∷ after) word t.after refl refl (named word (omega arith) written).0)
         ∙ t.reads (110 ∷ after) (signed false 1)
-        ∙ ap (λ m. got (stepping (signed false m) offset) end) (sym is)
+        ∙ ap (λ m. got (stepping (signed false m) offset) left) (sym is)
 
     many : (negative : Bool) (text : List ℕ) → is_lone_plus text ≡ false
         → sign text ≡ (negative, decimal n ++ (110 ∷ after))
-        → progression text ≡ got (stepping (signed negative n) offset) end
+        → gapped (progression text) ≡ got (stepping (signed negative n) offset) left
     many negative text alone signs =
         let w = named word (omega arith) written in
-        from_number text (decimal n ++ (110 ∷ after)) (110 ∷ after) negative n alone signs
+        ap gapped (from_number text (decimal n ++ (110 ∷ after)) (110 ∷ after) negative n alone signs
         (number_begins n (110 ∷ after) small) (digits-again n (110 ∷ after) small refl)
         ∙ ap (λ (b : Bool). if b
         then follow (ident_sequence (110 ∷ after)) (n_word text (signed negative n))
         else got (stepping (signed false 0) (signed negative n)) (110 ∷ after)) w.1
-        ∙ ap (λ r. follow r (n_word text (signed negative n))) w.2
+        ∙ ap (λ r. follow r (n_word text (signed negative n))) w.2)
         ∙ t.reads text (signed negative n)
 
     joined : ((decimal n ++ codes "n") ++ offset_text offset) ++ end ≡ decimal n ++ (110 ∷ after)
@@ -395,37 +455,34 @@ step-again negative n offset rest small within = by negative (n == 1) refl
         ∙ ap (λ l. decimal n ++ (110 ∷ l)) t.is
 
     by : (negative is_one : Bool) → (n == 1) ≡ is_one
-        → progression ((minus_text negative ++ (if is_one then [] else decimal n) ++ codes "n"
-        ++ offset_text offset) ++ end) ≡ got (stepping (signed negative n) offset) end
-    by true true e =
-        ap (λ l. progression (hyphen ∷ 110 ∷ l)) t.is ∙ one true (eqb-true n 1 e)
-    by false true e = ap (λ l. progression (110 ∷ l)) t.is ∙ one false (eqb-true n 1 e)
-    by true false e = many true _ refl (ap (λ l. (true, l)) joined)
-    by false false e =
+        → gapped (progression ((minus_text negative ++ (if is_one then [] else decimal n)
+        ++ codes "n" ++ offset_text offset) ++ end)) ≡ got (stepping (signed negative n) offset) left
+    by true true z =
+        ap (λ l. gapped (progression (hyphen ∷ 110 ∷ l))) t.is ∙ one true (eqb-true n 1 z)
+    by false true z =
+        ap (λ l. gapped (progression (110 ∷ l))) t.is ∙ one false (eqb-true n 1 z)
+    by true false z = many true _ refl (ap (λ l. (true, l)) joined)
+    by false false z =
         many false _
         (ap is_lone_plus joined ∙ number_alone n (110 ∷ after) small)
         (ap sign joined ∙ number_unsigned n (110 ∷ after) small)
 
-pub progression-again : (p : Progression) (rest : List ℕ) → p.step.size ≤ 4294967295
-    → p.offset.size ≤ 4294967295
-    → progression (progression_text p ++ (close_parenthesis ∷ rest))
-    ≡ got p (close_parenthesis ∷ rest)
-progression-again p rest small within = by p.step.is_negative p.step.size
-    (p.step.size == 0) small refl
+pub progression-again : (p : Progression) (end left : List ℕ) → p.step.size ≤ 4294967295
+    → p.offset.size ≤ 4294967295 → Ended end left
+    → gapped (progression (progression_text p ++ end)) ≡ got p left
+progression-again p end left small within e =
+    by p.step.is_negative p.step.size (p.step.size == 0) small refl
   where
-    end : List ℕ
-    end = close_parenthesis ∷ rest
-
     by : (t : Bool) (n : ℕ) (none : Bool) → n ≤ 4294967295 → (n == 0) ≡ none
-        → progression ((if none && not t then signed_text p.offset
-        else minus_text t ++ size_text n ++ codes "n" ++ offset_text p.offset) ++ end)
-        ≡ got (stepping (signed t n) p.offset) end
-    by true n true fits e = step-again true n p.offset rest fits within
-    by true n false fits e = step-again true n p.offset rest fits within
-    by false n false fits e = step-again false n p.offset rest fits within
-    by false n true fits e =
-        number-again p.offset.is_negative p.offset.size rest within
-        ∙ ap (λ m. got (stepping (signed false m) p.offset) end) (sym (eqb-true n 0 e))
+        → gapped (progression ((if none && not t then signed_text p.offset
+        else minus_text t ++ size_text n ++ codes "n" ++ offset_text p.offset) ++ end))
+        ≡ got (stepping (signed t n) p.offset) left
+    by true n true fits z = step-again true n p.offset end left fits within e
+    by true n false fits z = step-again true n p.offset end left fits within e
+    by false n false fits z = step-again false n p.offset end left fits within e
+    by false n true fits z =
+        number-again p.offset.is_negative p.offset.size end left within e
+        ∙ ap (λ m. got (stepping (signed false m) p.offset) left) (sym (eqb-true n 0 z))
 
 -- no gap begins with a printed `An+B`
 pub progression_calm : (p : Progression) (rest : List ℕ) → p.step.size ≤ 4294967295

@@ -206,9 +206,9 @@ parts_first parts part rest items e split =
     ∙ ap (λ l. parts_text (map part_of l)) (sym split)
 
 pub attribute_joined : (n name c v flag : List ℕ) → n ≡ name
-    → ((codes "[" ++ identifier_text n) ++ (c ++ v ++ flag)) ++ codes "]"
-    ≡ codes "[" ++ identifier_text name ++ c ++ v ++ flag ++ codes "]"
+    → ((codes "[" ++ n) ++ (c ++ v ++ flag)) ++ codes "]"
+    ≡ codes "[" ++ name ++ c ++ v ++ flag ++ codes "]"
 attribute_joined n name c v flag e =
-    ap (λ m. (codes "[" ++ identifier_text m) ++ (c ++ v ++ flag) ++ codes "]") e
-    ∙ ap (λ l. l ++ codes "]") (sym (append_assoc (codes "[" ++ identifier_text name) (c ++ v) flag)
-    ∙ ap (λ l. l ++ flag) (sym (append_assoc (codes "[" ++ identifier_text name) c v)))
+    ap (λ m. (codes "[" ++ m) ++ (c ++ v ++ flag) ++ codes "]") e
+    ∙ ap (λ l. l ++ codes "]") (sym (append_assoc (codes "[" ++ name) (c ++ v) flag)
+    ∙ ap (λ l. l ++ flag) (sym (append_assoc (codes "[" ++ name) c v)))

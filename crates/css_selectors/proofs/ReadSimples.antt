@@ -1,6 +1,6 @@
 -- What a text reads as: simple selectors that are well-formed.
 -- Serves `printing_laws::printing_law`.
-use Rattle.std.proofs.Common.{◌≡◌, ℕ, zero, suc, ◌<◌, ◌≤◌, ◌==◌, ◌||◌, ◌&&◌, nat_le, eqb-true, Bool, true, false, List, [], ◌∷◌, Option, None, Some, All, length, length-append, arith, refl, ap, subst}
+use Rattle.std.proofs.Common.{◌≡◌, ℕ, zero, suc, ◌<◌, ◌≤◌, ◌==◌, ◌||◌, ◌&&◌, not, nat_le, eqb-true, Bool, true, false, List, [], ◌∷◌, Option, None, Some, All, length, length-append, arith, refl, ap, subst}
 use Rattle.std.specs.Prelude.{codes, if◌then◌else◌}
 use Rattle.std.specs.Str.{str_eq_ignore_ascii_case}
 use Rattle.std.proofs.lemmas.List.Elements.{All-nil, All-cons}
@@ -8,7 +8,7 @@ use Rattle.css_text.specs.AsciiBytes.{asterisk, full_stop, number_sign, open_bra
 use Rattle.css_text.specs.Bytes.{starts_by, starts, past_one, is_digit}
 use Rattle.css_text.specs.Characters.{is_letter}
 use Rattle.css_text.specs.Reading.{before}
-use Rattle.css_syntax.specs.Tokens.{is_name_byte, begins_escape, past_word}
+use Rattle.css_syntax.specs.Tokens.{is_name_byte, begins_escape, past_gap, past_word}
 use Rattle.css_syntax.specs.Statements.{begins_cdc}
 use Rattle.css_syntax.specs.Escapes.{decoded_in}
 use Rattle.css_syntax.proofs.Decoding.{decoded-some_bytes}
@@ -18,13 +18,16 @@ use Rattle.css_selectors.specs.declared.components.Numbering.{Numbering}
 use Rattle.css_selectors.specs.declared.components.Numbering.TheVariants.{Child as OfChild, LastChild as OfLastChild, OfType, LastOfType as OfLastType}
 use Rattle.css_selectors.specs.declared.components.Function.{Function}
 use Rattle.css_selectors.specs.declared.components.Function.TheVariants.{Numbered, Language}
-use Rattle.css_selectors.specs.Components.{Comparison, Signed, Progression, Structure, Simple, outermost}
+use Rattle.css_selectors.specs.declared.components.ListKind.TheVariants.{Not}
+use Rattle.css_selectors.specs.Components.{Comparison, Signed, Progression, Structure, Namespace, Local, Simple, outermost}
 use Rattle.css_selectors.specs.Components.Structure.{root, scope, empty, first_child, last_child, only_child, first_of_type, last_of_type, only_of_type}
-use Rattle.css_selectors.specs.Components.Simple.{universal, type_name, id, class, has_attribute, attribute, structure, language, state, function, named_element, nesting}
+use Rattle.css_selectors.specs.Components.Namespace.{absent, any_namespace, of_prefix}
+use Rattle.css_selectors.specs.Components.Local.{any_type, a_type, some_attribute, an_attribute}
+use Rattle.css_selectors.specs.Components.Simple.{universal, type_name, id, class, has_attribute, attribute, structure, language, state, function, named_element, nesting, namespaced, nth_of}
 use Rattle.css_selectors.specs.Readings.{Reading, got, refused, follow, give, ◌>>=◌, ◌>>◌, Step, item, none, stop, step_after, as_item, with_first, go_on, items, items_up_to}
-use Rattle.css_selectors.specs.declared.refusal.Why.TheVariants.{NoName, NoProgression, UnknownFunction}
-use Rattle.css_selectors.specs.Grammar.{gap, past_comments, ident_sequence, name, begins_name, begins_plain_name, begins_word, value, comparison, flag, compared, by_comparison, attribute_selector, closing, progression, digits, with_digit, sign, is_sign, is_n, signed, stepping, offset_after, offset_or_none, with_offset, is_number, subtracted, by_tail, n_word, numbered, is_lone_plus, unsigned, odd_or_even, word_progression, one_more, is_word, plain_structure, plain_pseudo, numbered_by, next_range, language_ranges, list_kind, function_named, argument, takes_none, argument_of, functional, is_old_element, named_pseudo, type_selector, next_simple, ampersand}
-use Rattle.css_selectors.specs.WellFormed.{IsName, IsArgumentOf, IsSize, IsProgression, IsStructure, IsFurther, IsFirst}
+use Rattle.css_selectors.specs.declared.refusal.Why.TheVariants.{NoName, NoProgression, UnknownFunction, Unexpected}
+use Rattle.css_selectors.specs.Grammar.{gap, past_comments, ident_sequence, name, begins_name, begins_plain_name, begins_word, value, comparison, flag, compared, by_comparison, is_bar, at_bar, prefix, namespace, in_namespace, attribute_from_name, attribute_selector, any_or_name, type_after, closing, progression, digits, with_digit, sign, is_sign, is_n, signed, stepping, offset_after, offset_or_none, with_offset, is_number, subtracted, by_tail, n_word, numbered, is_lone_plus, unsigned, odd_or_even, word_progression, one_more, is_word, plain_structure, plain_pseudo, numbered_by, next_range, language_ranges, list_kind, function_named, argument, takes_none, argument_of, is_list_text, no_list, of_list, after_word, without_list, from_last, after_progression, functional, is_old_element, ListReader, named_pseudo, type_selector, next_simple, ampersand}
+use Rattle.css_selectors.specs.WellFormed.{IsName, IsArgument, IsArgumentOf, IsListText, IsSize, IsProgression, IsStructure, IsNamespace, IsAttribute, IsLocal, IsFurther, IsFirst}
 use Rattle.css_selectors.proofs.ArgumentLemmas.{argument-again}
 use Rattle.css_selectors.proofs.ReadingLemmas.{followed}
 
@@ -191,7 +194,8 @@ digits_small n (b ∷ text) h =
 
 offset_well : (step : Signed) (negative : Bool) (text : List ℕ) (p : Progression) (rest : List ℕ)
     → IsSize step → offset_after step negative text ≡ got p rest → IsProgression p
-offset_well step negative text p rest fits h = by (starts_by is_digit text) h
+offset_well step negative text p rest fits h =
+    by (starts_by is_digit text && not (begins_name (digits 0 text).1)) h
   where
     by : (t : Bool) → (if t then got (stepping step (signed negative (digits 0 text).0))
         (digits 0 text).1
@@ -338,39 +342,85 @@ closed_well P byte x y text rest h =
     let is : x ≡ y = (let k = g.second in cc) in
     subst P is
 
-attribute_well : (text : List ℕ) (s : Simple) (rest : List ℕ)
-    → attribute_selector text ≡ got s rest → IsFurther s
-unfolding attribute_selector compared
-attribute_well text s rest h =
-    let f = followed (gap text) (λ x. name >>= λ n. gap >>
-    (comparison >>= by_comparison n))
-    s rest h in
-    let g = followed (name f.middle) (λ n. gap >>
-    (comparison >>= by_comparison n)) s rest
-    f.second in
-    let i = followed (gap g.middle) (λ x. comparison >>= by_comparison g.value) s rest
-    g.second in
-    let k = followed (comparison i.middle) (by_comparison g.value) s rest i.second in
-    by g.value (name_well f.middle g.value g.middle g.first) k.value k.middle k.second
+-- ---- namespaces
+
+prefix_well : (text : List ℕ) → IsNamespace (prefix text)
+unfolding prefix
+prefix_well text = by (starts asterisk text) (begins_name text) refl
   where
-    by : (n : List ℕ) → IsName n → (o : Option Comparison) (mid : List ℕ)
-        → by_comparison n o mid ≡ got s rest → IsFurther s
-    by n some None mid k =
-        let f = followed (closing close_bracket mid) (λ x. give
-        (has_attribute n)) s rest k in
-        let is : has_attribute n ≡ s = (let e = f.second in cc) in
-        subst IsFurther is some
-    by n some (Some c) mid k =
-        let f = followed (gap mid) (λ x. value >>= λ v. gap >> (flag >>= λ i. gap >>
-        (closing close_bracket >> give (attribute n c v i)))) s rest k in
-        let g = followed (value f.middle) (λ v. gap >> (flag >>= λ i. gap >>
-        (closing close_bracket >> give (attribute n c v i)))) s rest f.second in
-        let j = followed (gap g.middle) (λ x. flag >>= λ i. gap >>
-        (closing close_bracket >> give (attribute n c g.value i))) s rest g.second in
-        let l = followed (flag j.middle) (λ i. gap >>
-        (closing close_bracket >> give (attribute n c g.value i))) s rest j.second in
-        closed_well IsFurther close_bracket (attribute n c g.value l.value) s l.middle rest
-        l.second some
+    by : (a n : Bool) → begins_name text ≡ n
+        → IsNamespace (if a then any_namespace
+        else (if n then of_prefix (decoded_in false (before text (past_word text))) else absent))
+    by true n e = tt
+    by false true e = name_value text e
+    by false false e = tt
+
+namespace_well : (text : List ℕ) (p : Namespace) (rest : List ℕ)
+    → namespace text ≡ got (Some p) rest → IsNamespace p
+unfolding namespace
+namespace_well text p rest h = by (is_bar (at_bar text)) h
+  where
+    by : (t : Bool) → (if t then got (Some (prefix text)) (past_comments (past_one (at_bar text)))
+        else got None text) ≡ got (Some p) rest → IsNamespace p
+    by true k = let is : prefix text ≡ p = cc in subst IsNamespace is (prefix_well text)
+    by false k = absurd (cc)
+
+-- ---- attributes
+
+by_comparison_well : (n : List ℕ) → IsName n → (o : Option Comparison) (text : List ℕ) (l : Local)
+    (rest : List ℕ) → by_comparison n o text ≡ got l rest → IsAttribute l
+unfolding compared
+by_comparison_well n some None text l rest k =
+    let f = followed (closing close_bracket text) (λ x. give (some_attribute n)) l rest k in
+    let is : some_attribute n ≡ l = (let e = f.second in cc) in
+    subst IsAttribute is some
+by_comparison_well n some (Some c) text l rest k =
+    let f = followed (gap text) (λ x. value >>= λ v. gap >> (flag >>= λ i. gap >>
+    (closing close_bracket >> give (an_attribute n c v i)))) l rest k in
+    let g = followed (value f.middle) (λ v. gap >> (flag >>= λ i. gap >>
+    (closing close_bracket >> give (an_attribute n c v i)))) l rest f.second in
+    let j = followed (gap g.middle) (λ x. flag >>= λ i. gap >>
+    (closing close_bracket >> give (an_attribute n c g.value i))) l rest g.second in
+    let m = followed (flag j.middle) (λ i. gap >>
+    (closing close_bracket >> give (an_attribute n c g.value i))) l rest j.second in
+    closed_well IsAttribute close_bracket (an_attribute n c g.value m.value) l m.middle rest
+    m.second some
+
+from_name_well : (text : List ℕ) (l : Local) (rest : List ℕ)
+    → attribute_from_name text ≡ got l rest → IsAttribute l
+unfolding attribute_from_name
+from_name_well text l rest h =
+    let f = followed (name text) (λ n. gap >> (comparison >>= by_comparison n)) l rest h in
+    let g = followed (gap f.middle) (λ x. comparison >>= by_comparison f.value) l rest f.second in
+    let k = followed (comparison g.middle) (by_comparison f.value) l rest g.second in
+    by_comparison_well f.value (name_well text f.value f.middle f.first) k.value k.middle l rest
+    k.second
+
+-- an attribute selector, with a namespace or without one
+attribute_in_well : (d : ℕ) (o : Option Namespace) (text mid : List ℕ) → namespace text ≡ got o mid
+    → (l : Local) → IsAttribute l → IsFurther d (in_namespace o l)
+attribute_in_well d (Some p) text mid h l w = (namespace_well text p mid h, w)
+attribute_in_well d None text mid h any_type w = absurd w
+attribute_in_well d None text mid h (a_type n) w = absurd w
+attribute_in_well d None text mid h (some_attribute n) w = w
+attribute_in_well d None text mid h (an_attribute n c v ignores) w = w
+
+attribute_well : (d : ℕ) (text : List ℕ) (s : Simple) (rest : List ℕ)
+    → attribute_selector text ≡ got s rest → IsFurther d s
+unfolding attribute_selector
+attribute_well d text s rest h =
+    let f = followed (gap text) (λ x. namespace >>= λ n. attribute_from_name >>= λ l.
+    give (in_namespace n l)) s rest h in
+    let g = followed (namespace f.middle) (λ n. attribute_from_name >>= λ l.
+    give (in_namespace n l)) s rest f.second in
+    let k = followed (attribute_from_name g.middle) (λ l. give (in_namespace g.value l)) s rest
+    g.second in
+    let is : in_namespace g.value k.value ≡ s = (let e = k.second in cc) in
+    subst (IsFurther d) is
+    (attribute_in_well d g.value f.middle g.middle g.first k.value
+    (from_name_well g.middle k.value k.middle k.first))
+
+-- ---- arguments of pseudo-classes
 
 ranges_well : (text : List ℕ) (ranges : List (List ℕ)) (rest : List ℕ)
     → language_ranges text ≡ got ranges rest → 0 < length ranges
@@ -398,33 +448,82 @@ argument_of_well opened n text a rest h = by (takes_none n) refl h
     by true e k = absurd (cc)
     by false e k = (e, argument-again text a rest k [])
 
-pub functional_well : (opened n text : List ℕ) (kind : Option Function) (s : Simple)
+of_list_well : (d : ℕ) (list : ListReader)
+    → ((a : List ℕ) → is_list_text list a ≡ true → IsListText d a) → (last : Bool) (p : Progression)
+    (text : List ℕ) (s : Simple) (rest : List ℕ) → IsProgression p
+    → of_list list last p text ≡ got s rest → IsFurther d s
+unfolding of_list
+of_list_well d list checks last p text s rest fits h =
+    let f = followed (argument text) (λ a end. if is_list_text list a then got (nth_of last p a) end
+    else refused (no_list (list Not a a)) (past_gap text)) s rest h in
+    by f.value f.middle (argument-again text f.value f.middle f.first []) (is_list_text list f.value)
+    refl f.second
+  where
+    by : (a mid : List ℕ) → IsArgument a → (t : Bool) → is_list_text list a ≡ t
+        → (if t then got (nth_of last p a) mid else refused (no_list (list Not a a)) (past_gap text))
+        ≡ got s rest → IsFurther d s
+    by a mid w true e k =
+        let is : nth_of last p a ≡ s = cc in
+        subst (IsFurther d) is (fits, w, checks a e)
+    by a mid w false e k = absurd (cc)
+
+without_list_well : (d : ℕ) (kind : Numbering) (p : Progression) (text : List ℕ) (s : Simple)
+    (rest : List ℕ) → IsProgression p → without_list kind p text ≡ got s rest → IsFurther d s
+without_list_well d kind p text s rest fits h =
+    let f = followed (closing close_parenthesis text) (λ x. give (structure (numbered_by kind p))) s
+    rest h in
+    let is : structure (numbered_by kind p) ≡ s = (let e = f.second in cc) in
+    subst (IsFurther d) is (by kind)
+  where
+    by : (k : Numbering) → IsFurther d (structure (numbered_by k p))
+    by OfChild = fits
+    by OfLastChild = fits
+    by OfType = fits
+    by OfLastType = fits
+
+after_progression_well : (d : ℕ) (list : ListReader)
+    → ((a : List ℕ) → is_list_text list a ≡ true → IsListText d a) → (kind : Numbering)
+    (p : Progression) (o : Option Bool) (text : List ℕ) (s : Simple) (rest : List ℕ)
+    → IsProgression p → after_progression list kind p o text ≡ got s rest → IsFurther d s
+after_progression_well d list checks kind p None text s rest fits h =
+    without_list_well d kind p text s rest fits h
+after_progression_well d list checks kind p (Some last) text s rest fits h = by (begins_name text) h
+  where
+    word : (n mid : List ℕ) (t : Bool) → (if t then of_list list last p mid
+        else refused Unexpected text) ≡ got s rest → IsFurther d s
+    word n mid true k = of_list_well d list checks last p mid s rest fits k
+    word n mid false k = absurd (cc)
+
+    by : (t : Bool) → (if t then follow (name text) (after_word list last p text)
+        else without_list kind p text) ≡ got s rest → IsFurther d s
+    by true k =
+        let f = followed (name text) (after_word list last p text) s rest k in
+        word f.value f.middle (is_word (codes "of") f.value) f.second
+    by false k = without_list_well d kind p text s rest fits k
+
+pub functional_well : (d : ℕ) (list : ListReader)
+    → ((a : List ℕ) → is_list_text list a ≡ true → IsListText d a)
+    → (opened n text : List ℕ) (kind : Option Function) (s : Simple)
     (rest : List ℕ) → IsName n → list_kind n ≡ None → function_named n ≡ kind
-    → functional opened n kind text ≡ got s rest → IsFurther s
-functional_well opened n text None s rest some no_list no_kind h =
+    → functional list opened n kind text ≡ got s rest → IsFurther d s
+functional_well d list checks opened n text None s rest some no_list no_kind h =
     let f = followed (argument_of opened n text) (λ a. give (function n a)) s rest h in
     let is : function n f.value ≡ s = (let e = f.second in cc) in
-    subst IsFurther is
+    subst (IsFurther d) is
     (some, no_list, no_kind, argument_of_well opened n text f.value f.middle f.first)
-functional_well opened n text (Some Language) s rest some no_list is_kind h =
+functional_well d list checks opened n text (Some Language) s rest some no_list is_kind h =
     let f = followed (language_ranges text) (λ ranges. give (language ranges)) s rest h in
     let is : language f.value ≡ s = (let e = f.second in cc) in
-    subst IsFurther is (ranges_well text f.value f.middle f.first)
-functional_well opened n text (Some (Numbered kind)) s rest some no_list is_kind h =
+    subst (IsFurther d) is (ranges_well text f.value f.middle f.first)
+functional_well d list checks opened n text (Some (Numbered kind)) s rest some no_list is_kind h =
     let f = followed (gap text) (λ x. progression >>= λ p. gap >>
-    (closing close_parenthesis >> give (structure (numbered_by kind p)))) s rest h in
+    after_progression list kind p (from_last kind)) s rest h in
     let g = followed (progression f.middle) (λ p. gap >>
-    (closing close_parenthesis >> give (structure (numbered_by kind p)))) s rest f.second in
-    closed_well IsFurther close_parenthesis (structure (numbered_by kind g.value)) s g.middle
-    rest g.second
-    (by kind g.value (progression_well f.middle g.value g.middle g.first))
-  where
-    by : (k : Numbering) (p : Progression) → IsProgression p
-        → IsFurther (structure (numbered_by k p))
-    by OfChild p w = w
-    by OfLastChild p w = w
-    by OfType p w = w
-    by OfLastType p w = w
+    after_progression list kind p (from_last kind)) s rest f.second in
+    let i = followed (gap g.middle) (λ x. after_progression list kind g.value (from_last kind)) s rest
+    g.second in
+    after_progression_well d list checks kind g.value (from_last kind) i.middle s rest
+    (progression_well f.middle g.value g.middle g.first) i.second
 
 -- a pseudo-class that is only a name
 PlainWell : Option Structure → Type 0
@@ -449,82 +548,119 @@ plain_well n =
     (either_plain (is_word (codes "last-of-type") n) (Some last_of_type) _ tt
     (either_plain (is_word (codes "only-of-type") n) (Some only_of_type) None tt tt))))))))
 
-plain_pseudo_well : (n : List ℕ) → IsName n → is_old_element n ≡ false
-    → IsFurther (plain_pseudo n (plain_structure n))
+plain_pseudo_well : (d : ℕ) (n : List ℕ) → IsName n → is_old_element n ≡ false
+    → IsFurther d (plain_pseudo n (plain_structure n))
 unfolding PlainWell
-plain_pseudo_well n some other = by (plain_structure n) refl (plain_well n)
+plain_pseudo_well d n some other = by (plain_structure n) refl (plain_well n)
   where
     by : (o : Option Structure) → plain_structure n ≡ o → PlainWell o
-        → IsFurther (plain_pseudo n o)
+        → IsFurther d (plain_pseudo n o)
     by None e w = (some, e, other)
     by (Some s) e w = w
 
-pub named_pseudo_well : (n text : List ℕ) (s : Simple) (rest : List ℕ) → IsName n
-    → named_pseudo n text ≡ item s rest → IsFurther s
-named_pseudo_well n text s rest some h = by (is_old_element n) refl h
+pub named_pseudo_well : (d : ℕ) (n text : List ℕ) (s : Simple) (rest : List ℕ) → IsName n
+    → named_pseudo n text ≡ item s rest → IsFurther d s
+named_pseudo_well d n text s rest some h = by (is_old_element n) refl h
   where
     by : (t : Bool) → is_old_element n ≡ t
         → (if t then none else item (plain_pseudo n (plain_structure n)) text) ≡ item s rest
-        → IsFurther s
+        → IsFurther d s
     by true e k = absurd (cc)
     by false e k =
         let is : plain_pseudo n (plain_structure n) ≡ s = cc in
-        subst IsFurther is (plain_pseudo_well n some e)
+        subst (IsFurther d) is (plain_pseudo_well d n some e)
 
 -- what is a name after a sign
-named_well : (make : List ℕ → Simple) → ((n : List ℕ) → IsName n → IsFurther (make n))
+named_well : (d : ℕ) (make : List ℕ → Simple) → ((n : List ℕ) → IsName n → IsFurther d (make n))
     → (r : Reading (List ℕ)) → ((n rest : List ℕ) → r ≡ got n rest → IsName n) → (s : Simple)
-    (rest : List ℕ) → as_item make r ≡ item s rest → IsFurther s
-named_well make well r are s rest h =
+    (rest : List ℕ) → as_item make r ≡ item s rest → IsFurther d s
+named_well d make well r are s rest h =
     let m = made make r s rest h in
-    subst IsFurther m.is (well m.value (are m.value rest m.first))
+    subst (IsFurther d) m.is (well m.value (are m.value rest m.first))
 
-pub next_simple_well : (text : List ℕ) (s : Simple) (rest : List ℕ)
-    → next_simple text ≡ item s rest → IsFurther s
+pub next_simple_well : (d : ℕ) (text : List ℕ) (s : Simple) (rest : List ℕ)
+    → next_simple text ≡ item s rest → IsFurther d s
 unfolding next_simple
-next_simple_well [] s rest h = absurd (cc)
-next_simple_well (b ∷ text) s rest h =
+next_simple_well d [] s rest h = absurd (cc)
+next_simple_well d (b ∷ text) s rest h =
     by (b == full_stop) (b == number_sign) (b == open_bracket) (b == ampersand) h
   where
     by : (c i o a : Bool) → (if c then as_item class (name (past_comments text))
         else (if i then as_item id (ident_sequence text)
         else (if o then as_item (λ s. s) (attribute_selector text)
-        else (if a then item (nesting outermost) text else none)))) ≡ item s rest → IsFurther s
+        else (if a then item (nesting outermost) text else none)))) ≡ item s rest → IsFurther d s
     by true i o a k =
-        named_well class (λ n some. some) (name (past_comments text))
+        named_well d class (λ n some. some) (name (past_comments text))
         (name_well (past_comments text)) s rest k
     by false true o a k =
-        named_well id (λ n some. some) (ident_sequence text) (ident_well text) s rest k
+        named_well d id (λ n some. some) (ident_sequence text) (ident_well text) s rest k
     by false false true a k =
         let m = made (λ x. x) (attribute_selector text) s rest k in
-        subst IsFurther m.is (attribute_well text m.value rest m.first)
-    by false false false true k = let is : nesting outermost ≡ s = cc in subst IsFurther is refl
+        subst (IsFurther d) m.is (attribute_well d text m.value rest m.first)
+    by false false false true k = let is : nesting outermost ≡ s = cc in subst (IsFurther d) is refl
     by false false false false k = absurd (cc)
 
-pub type_well : (text : List ℕ) (s : Simple) (rest : List ℕ) → type_selector text ≡ item s rest
-    → IsFirst s
-unfolding type_selector
-type_well text s rest h = by (starts asterisk text) (begins_name text) h
+any_or_name_well : (text : List ℕ) (l : Local) (rest : List ℕ) → any_or_name text ≡ got l rest
+    → IsLocal l
+unfolding any_or_name
+any_or_name_well text l rest h = by (starts asterisk text) h
   where
-    by : (a n : Bool) → (if a then item universal (past_one text)
-        else (if n then as_item type_name (name text) else none)) ≡ item s rest → IsFirst s
-    by true n k = let is : universal ≡ s = cc in subst IsFirst is tt
-    by false true k =
-        let m = made type_name (name text) s rest k in
-        subst IsFirst m.is (name_well text m.value rest m.first)
-    by false false k = absurd (cc)
+    by : (a : Bool) → (if a then got any_type (past_one text)
+        else follow (name text) (λ n. give (a_type n))) ≡ got l rest → IsLocal l
+    by true k = let is : any_type ≡ l = cc in subst IsLocal is tt
+    by false k =
+        let f = followed (name text) (λ n. give (a_type n)) l rest k in
+        let is : a_type f.value ≡ l = (let e = f.second in cc) in
+        subst IsLocal is (name_well text f.value f.middle f.first)
+
+type_in_well : (d : ℕ) (o : Option Namespace) (text mid : List ℕ) → namespace text ≡ got o mid
+    → (l : Local) → IsLocal l → IsFirst d (in_namespace o l)
+type_in_well d (Some p) text mid h l w = (namespace_well text p mid h, w)
+type_in_well d None text mid h any_type w = tt
+type_in_well d None text mid h (a_type n) w = w
+type_in_well d None text mid h (some_attribute n) w = w
+type_in_well d None text mid h (an_attribute n c v ignores) w = w
+
+pub type_well : (d : ℕ) (text : List ℕ) (s : Simple) (rest : List ℕ) → type_selector text ≡ item s rest
+    → IsFirst d s
+unfolding type_selector
+type_well d text s rest h =
+    let f = found_after (namespace text) type_after s rest h in
+    by f.value f.middle f.first f.second
+  where
+    here : (o : Option Namespace) (mid : List ℕ) → namespace text ≡ got o mid
+        → as_item (in_namespace o) (any_or_name mid) ≡ item s rest → IsFirst d s
+    here o mid e k =
+        let m = made (in_namespace o) (any_or_name mid) s rest k in
+        subst (IsFirst d) m.is
+        (type_in_well d o text mid e m.value (any_or_name_well mid m.value rest m.first))
+
+    by : (o : Option Namespace) (mid : List ℕ) → namespace text ≡ got o mid
+        → type_after o mid ≡ item s rest → IsFirst d s
+    by (Some p) mid e k = here (Some p) mid e k
+    by None mid e k = there (starts asterisk mid || begins_name mid) k
+      where
+        there : (t : Bool) → (if t then as_item (in_namespace None) (any_or_name mid) else none)
+            ≡ item s rest → IsFirst d s
+        there true k = here None mid e k
+        there false k = absurd (cc)
 
 -- what may follow others may be the first
-pub first_of_further : (s : Simple) → IsFurther s → IsFirst s
-first_of_further universal w = tt
-first_of_further (type_name n) w = absurd w
-first_of_further (id n) w = w
-first_of_further (class n) w = w
-first_of_further (has_attribute n) w = w
-first_of_further (attribute n c v ignores) w = w
-first_of_further (structure s) w = w
-first_of_further (language ranges) w = w
-first_of_further (state n) w = w
-first_of_further (function n a) w = w
-first_of_further (named_element n a) w = absurd w
-first_of_further (nesting list) w = w
+pub first_of_further : (d : ℕ) (s : Simple) → IsFurther d s → IsFirst d s
+first_of_further d universal w = tt
+first_of_further d (type_name n) w = absurd w
+first_of_further d (id n) w = w
+first_of_further d (class n) w = w
+first_of_further d (has_attribute n) w = w
+first_of_further d (attribute n c v ignores) w = w
+first_of_further d (structure s) w = w
+first_of_further d (language ranges) w = w
+first_of_further d (state n) w = w
+first_of_further d (function n a) w = w
+first_of_further d (named_element n a) w = absurd w
+first_of_further d (nesting list) w = w
+first_of_further d (namespaced p any_type) w = absurd w.1
+first_of_further d (namespaced p (a_type n)) w = absurd w.1
+first_of_further d (namespaced p (some_attribute n)) w = w
+first_of_further d (namespaced p (an_attribute n c v ignores)) w = w
+first_of_further d (nth_of last p selectors) w = w

@@ -1,28 +1,31 @@
 -- Printed simple selectors read back.
 -- Serves `printing_laws::printing_law`.
-use Rattle.std.proofs.Common.{◌≡◌, ℕ, zero, suc, ◌<◌, ◌≤◌, ◌==◌, ◌||◌, ◌&&◌, not, Bool, true, false, List, [], ◌∷◌, ◌++◌, None, Some, length, length-append, flat_map, append_assoc, arith, refl, sym, ap, ◌∙◌, subst, eqb-true}
-use Rattle.std.specs.Prelude.{codes}
-use Rattle.css_text.specs.AsciiBytes.{backslash, close_bracket, close_parenthesis, colon, comma, double_quote, form_feed, full_stop, hyphen, newline, carriage_return, number_sign, open_bracket, open_parenthesis, slash, space, tab}
-use Rattle.css_text.specs.Bytes.{starts_by, starts}
+use Rattle.std.proofs.Common.{◌≡◌, ℕ, zero, suc, ◌<◌, ◌≤◌, ◌==◌, ◌||◌, ◌&&◌, not, Bool, true, false, List, [], ◌∷◌, ◌++◌, Option, None, Some, length, length-append, flat_map, append_assoc, arith, refl, sym, ap, ◌∙◌, subst, eqb-true}
+use Rattle.std.specs.Prelude.{codes, if◌then◌else◌}
+use Rattle.css_text.specs.AsciiBytes.{backslash, asterisk, close_bracket, close_parenthesis, colon, comma, double_quote, equals_sign, form_feed, full_stop, hyphen, newline, carriage_return, number_sign, open_bracket, open_parenthesis, slash, space, tab, vertical_bar}
+use Rattle.css_text.specs.Bytes.{starts_by, starts, past_one}
 use Rattle.css_text.specs.Comments.{opens_comment}
 use Rattle.css_text.proofs.bytes.GapLemmas.{NoGap, no_gap-byte}
-use Rattle.css_syntax.specs.Tokens.{is_name_byte}
+use Rattle.css_syntax.specs.Tokens.{is_name_byte, past_gap}
 use Rattle.css_selectors.specs.declared.components.Numbering.{Numbering}
 use Rattle.css_selectors.specs.declared.components.Numbering.TheVariants.{Child as OfChild, LastChild as OfLastChild, OfType, LastOfType as OfLastType}
 use Rattle.css_selectors.specs.declared.components.Function.TheVariants.{Numbered, Language}
-use Rattle.css_selectors.specs.Components.{Comparison, Progression, Structure, Simple, Condition}
+use Rattle.css_selectors.specs.declared.components.ListKind.TheVariants.{Not}
+use Rattle.css_selectors.specs.Components.{Comparison, Progression, Structure, Namespace, Local, Simple, Condition}
 use Rattle.css_selectors.specs.Components.Comparison.{equals, has_word, has_subtag, starts as starts_with, ends as ends_with, contains}
 use Rattle.css_selectors.specs.Components.Structure.{root, scope, empty, first_child, last_child, only_child, first_of_type, last_of_type, only_of_type, nth_child, nth_last_child, nth_of_type, nth_last_of_type}
-use Rattle.css_selectors.specs.Components.Simple.{universal, type_name, id, class, has_attribute, attribute, structure, language, state, function, named_element, nesting}
+use Rattle.css_selectors.specs.Components.Namespace.{absent, any_namespace, of_prefix}
+use Rattle.css_selectors.specs.Components.Local.{any_type, a_type, some_attribute, an_attribute}
+use Rattle.css_selectors.specs.Components.Simple.{universal, type_name, id, class, has_attribute, attribute, structure, language, state, function, named_element, nesting, namespaced, nth_of}
 use Rattle.css_selectors.specs.Components.Condition.{simple}
-use Rattle.css_selectors.specs.Readings.{got, follow, give, ◌>>=◌, ◌>>◌, Step, item, none, as_item, with_first, go_on, items, items_up_to}
-use Rattle.css_selectors.specs.Grammar.{gap, past_comments, name, begins_name, begins_word, begins_compound, ampersand, value, comparison, flag, flag_named, compared, by_comparison, attribute_selector, closing, progression, one_more, plain_structure, plain_pseudo, list_kind, function_named, numbered_by, next_range, range_after, language_ranges, argument_of, functional, is_old_element, next_simple, simple_item, ListReader, with_argument, pseudo_condition, condition_here, condition_by}
-use Rattle.css_selectors.specs.Printing.{identifier_text, string_text, progression_text, comparison_text, flag_text, structure_text, further_text, list_text, simple_text}
-use Rattle.css_selectors.specs.WellFormed.{IsName, IsArgumentOf, IsProgression, IsStructure, IsFurther}
-use Rattle.css_selectors.proofs.ArgumentLemmas.{argument-again}
+use Rattle.css_selectors.specs.Readings.{got, refused, follow, give, ◌>>=◌, ◌>>◌, Step, item, none, as_item, with_first, go_on, items, items_up_to}
+use Rattle.css_selectors.specs.Grammar.{gap, past_comments, name, begins_name, begins_word, begins_compound, ampersand, value, comparison, flag, flag_named, compared, by_comparison, is_bar, at_bar, prefix, namespace, in_namespace, attribute_from_name, attribute_selector, closing, progression, one_more, plain_structure, plain_pseudo, list_kind, function_named, numbered_by, next_range, range_after, language_ranges, argument_of, is_list_text, no_list, of_list, after_word, from_last, after_progression, functional, is_old_element, next_simple, simple_item, ListReader, with_argument, pseudo_condition, condition_here, condition_by}
+use Rattle.css_selectors.specs.Printing.{identifier_text, string_text, progression_text, comparison_text, flag_text, structure_text, further_text, list_text, namespace_text, nth_of_text, simple_text}
+use Rattle.css_selectors.specs.WellFormed.{IsName, IsArgument, IsArgumentOf, IsListText, IsProgression, IsStructure, IsNamespace, IsFurther}
+use Rattle.css_selectors.proofs.ArgumentLemmas.{argument-again, argument_spaced}
 use Rattle.css_selectors.proofs.GapLemmas.{no_comments}
-use Rattle.css_selectors.proofs.SpelledAgain.{EndsName, ident-again, name-again, begins-again, value-again, all_below, passes, either_fails}
-use Rattle.css_selectors.proofs.NumbersAgain.{no_gap, one_blank, progression-again, progression_calm}
+use Rattle.css_selectors.proofs.SpelledAgain.{EndsName, ident-again, name-again, begins-again, word-again, decoded-again, value-again, all_below, passes, either_fails}
+use Rattle.css_selectors.proofs.NumbersAgain.{no_gap, one_blank, gapped_next, closed_end, of_end, progression-again, progression_calm}
 
 -- ---- items
 
@@ -195,57 +198,144 @@ name_solid n rest some e =
     begins_solid (identifier_text n ++ rest)
     (name_compound (identifier_text n ++ rest) (begins-again n rest some e))
 
--- an attribute selector, as far as its operator
+-- no comment is where a simple selector ends, and no bar
+pub ends_calm : (text : List ℕ) → ends text ≡ true → opens_comment text ≡ false
+ends_calm [] h = refl
+ends_calm (b ∷ text) h =
+    no_comment_here (b ∷ text) (end_fails (λ k. k == slash) refl b h)
+
+pub ends_barless : (text : List ℕ) → ends text ≡ true → is_bar text ≡ false
+ends_barless [] h = refl
+ends_barless (b ∷ text) h =
+    let other = end_fails (λ k. k == vertical_bar) refl b h in rw other refl
+
+-- where a bar may be after a printed name
+bar_after : (n rest : List ℕ) → IsName n → EndsName rest → opens_comment rest ≡ false
+    → at_bar (identifier_text n ++ rest) ≡ rest
+unfolding at_bar
+bar_after n rest some e calm =
+    let text : List ℕ = identifier_text n ++ rest in
+    let begins = begins-again n rest some e in
+    let star : starts asterisk text ≡ false = name_other asterisk text begins refl in
+    rw (star, begins) (ap past_comments (word-again n rest some e) ∙ no_comments rest calm)
+
+-- a printed name without a bar after it has no namespace
+pub bare-again : (n rest : List ℕ) → IsName n → EndsName rest → opens_comment rest ≡ false
+    → is_bar rest ≡ false
+    → namespace (identifier_text n ++ rest) ≡ got None (identifier_text n ++ rest)
+unfolding namespace
+bare-again n rest some e calm bare =
+    let text : List ℕ = identifier_text n ++ rest in
+    ap (λ l. if is_bar l then got (Some (prefix text)) (past_comments (past_one l)) else got None text)
+    (bar_after n rest some e calm)
+    ∙ ap (λ (t : Bool). if t then got (Some (prefix text)) (past_comments (past_one rest))
+    else got None text) bare
+
+-- a bar, and what is before it
+barred : (text rest : List ℕ) (p : Namespace) → at_bar text ≡ vertical_bar ∷ rest
+    → prefix text ≡ p → opens_comment rest ≡ false → starts equals_sign rest ≡ false
+    → namespace text ≡ got (Some p) rest
+unfolding namespace
+barred text rest p at is calm other =
+    let bar : is_bar (vertical_bar ∷ rest) ≡ true = rw other refl in
+    ap (λ l. if is_bar l then got (Some (prefix text)) (past_comments (past_one l)) else got None text)
+    at
+    ∙ ap (λ (t : Bool). if t then got (Some (prefix text)) (past_comments rest)
+    else got None text) bar
+    ∙ ap (λ q. got (Some q) (past_comments rest)) is
+    ∙ ap (got (Some p)) (no_comments rest calm)
+
+-- a printed namespace is read before what begins neither a comment nor with an equals sign
+pub namespace-again : (p : Namespace) (rest : List ℕ) → IsNamespace p → opens_comment rest ≡ false
+    → starts equals_sign rest ≡ false → namespace (namespace_text p ++ rest) ≡ got (Some p) rest
+unfolding at_bar prefix
+namespace-again absent rest w calm other =
+    barred (vertical_bar ∷ rest) rest absent (no_comments (vertical_bar ∷ rest) refl) refl calm other
+namespace-again any_namespace rest w calm other =
+    barred (asterisk ∷ vertical_bar ∷ rest) rest any_namespace (no_comments (vertical_bar ∷ rest) refl)
+    refl calm other
+namespace-again (of_prefix n) rest w calm other =
+    let bar : List ℕ = vertical_bar ∷ rest in
+    let text : List ℕ = identifier_text n ++ bar in
+    let e : EndsName bar = record { bare = refl; calm = refl; apart = refl } in
+    let begins = begins-again n bar w e in
+    let star : starts asterisk text ≡ false = name_other asterisk text begins refl in
+    ap namespace (append_assoc (identifier_text n) (vertical_bar ∷ []) rest)
+    ∙ barred text rest (of_prefix n) (bar_after n bar w e refl)
+    (rw (star, begins) (ap of_prefix (decoded-again n bar w e))) calm other
+
+pub namespace_begins : (p : Namespace) (rest : List ℕ) → IsNamespace p
+    → starts_by begins_compound (namespace_text p ++ rest) ≡ true
+namespace_begins absent rest w = refl
+namespace_begins any_namespace rest w = refl
+namespace_begins (of_prefix n) rest w =
+    let bar : List ℕ = vertical_bar ∷ rest in
+    ap (starts_by begins_compound) (append_assoc (identifier_text n) (vertical_bar ∷ []) rest)
+    ∙ name_compound (identifier_text n ++ bar)
+    (begins-again n bar w (record { bare = refl; calm = refl; apart = refl }))
+
+-- and before a printed name
+pub namespace_name : (p : Namespace) (n rest : List ℕ) → IsNamespace p → IsName n → EndsName rest
+    → namespace (namespace_text p ++ (identifier_text n ++ rest))
+    ≡ got (Some p) (identifier_text n ++ rest)
+namespace_name p n rest w some e =
+    let text : List ℕ = identifier_text n ++ rest in
+    let begins = begins-again n rest some e in
+    namespace-again p text w (no_comment_here text (name_other slash text begins refl))
+    (name_other equals_sign text begins refl)
+
+-- an attribute selector from its name on, as far as its operator
 attribute_front : (n rest : List ℕ) → IsName n → EndsName rest → NoGap rest
-    → attribute_selector (identifier_text n ++ rest)
+    → attribute_from_name (identifier_text n ++ rest)
     ≡ follow (comparison rest) (by_comparison n)
-unfolding attribute_selector
+unfolding attribute_from_name
 attribute_front n rest some e calm =
-    ap (λ r. follow r (λ x. name >>= λ m. gap >> (comparison >>= by_comparison m)))
-    (no_gap (identifier_text n ++ rest) (name_solid n rest some e))
-    ∙ ap (λ r. follow r (λ m. gap >> (comparison >>= by_comparison m)))
+    ap (λ r. follow r (λ m. gap >> (comparison >>= by_comparison m)))
     (name-again n rest some e)
     ∙ ap (λ r. follow r (λ x. comparison >>= by_comparison n)) (no_gap rest calm)
 
-has_attribute-again : (n rest : List ℕ) → IsName n
-    → attribute_selector (identifier_text n ++ (close_bracket ∷ rest))
-    ≡ got (has_attribute n) rest
+bracket_end : (rest : List ℕ) → EndsName (close_bracket ∷ rest)
+bracket_end rest = record { bare = refl; calm = refl; apart = refl }
+
+some_attribute-again : (n rest : List ℕ) → IsName n
+    → attribute_from_name (identifier_text n ++ (close_bracket ∷ rest))
+    ≡ got (some_attribute n) rest
 unfolding comparison
-has_attribute-again n rest some =
-    attribute_front n (close_bracket ∷ rest) some (record { bare = refl; calm = refl; apart = refl })
+some_attribute-again n rest some =
+    attribute_front n (close_bracket ∷ rest) some (bracket_end rest)
     (no_gap-byte close_bracket rest refl refl)
 
 -- the flag and the bracket at the end
 flag_end : (rest n v : List ℕ) (c : Comparison) (ignores : Bool)
     → follow (gap (flag_text ignores ++ (close_bracket ∷ rest)))
-    (λ x. flag >>= λ i. gap >> (closing close_bracket >> give (attribute n c v i)))
-    ≡ got (attribute n c v ignores) rest
+    (λ x. flag >>= λ i. gap >> (closing close_bracket >> give (an_attribute n c v i)))
+    ≡ got (an_attribute n c v ignores) rest
 unfolding flag
 flag_end rest n v c ignores = by ignores
   where
     closed : (i : Bool) → gap (close_bracket ∷ rest) ≡ got false (close_bracket ∷ rest)
-        → (gap >> (closing close_bracket >> give (attribute n c v i))) (close_bracket ∷ rest)
-        ≡ got (attribute n c v i) rest
+        → (gap >> (closing close_bracket >> give (an_attribute n c v i))) (close_bracket ∷ rest)
+        ≡ got (an_attribute n c v i) rest
     closed i calm =
-        ap (λ r. follow r (λ x. closing close_bracket >> give (attribute n c v i))) calm
+        ap (λ r. follow r (λ x. closing close_bracket >> give (an_attribute n c v i))) calm
 
     calm : gap (close_bracket ∷ rest) ≡ got false (close_bracket ∷ rest)
     calm = no_gap (close_bracket ∷ rest) (no_gap-byte close_bracket rest refl refl)
 
     by : (i : Bool) → follow (gap (flag_text i ++ (close_bracket ∷ rest)))
         (λ x. flag >>= λ j. gap >> (closing close_bracket >> give
-        (attribute n c v j)))
-        ≡ got (attribute n c v i) rest
+        (an_attribute n c v j)))
+        ≡ got (an_attribute n c v i) rest
     by false =
         ap (λ r. follow r (λ x. flag >>= λ j. gap >>
-        (closing close_bracket >> give (attribute n c v j)))) calm
+        (closing close_bracket >> give (an_attribute n c v j)))) calm
         ∙ closed false calm
     by true =
         ap (λ r. follow r (λ x. flag >>= λ j. gap >>
-        (closing close_bracket >> give (attribute n c v j))))
+        (closing close_bracket >> give (an_attribute n c v j))))
         (one_blank (105 ∷ close_bracket ∷ rest) (no_gap-byte 105 (close_bracket ∷ rest) refl refl))
         ∙ ap (λ r. follow (follow r (flag_named (105 ∷ close_bracket ∷ rest))) (λ j. gap >>
-        (closing close_bracket >> give (attribute n c v j))))
+        (closing close_bracket >> give (an_attribute n c v j))))
         (name-again (codes "i") (close_bracket ∷ rest) (omega arith)
         (record { bare = refl; calm = refl; apart = refl }))
         ∙ closed true calm
@@ -277,41 +367,140 @@ operator_end ends_with rest =
 operator_end contains rest =
     (record { bare = refl; calm = refl; apart = refl }, no_gap-byte 42 (61 ∷ rest) refl refl)
 
-attribute-again : (n v rest : List ℕ) (c : Comparison) (ignores : Bool) → IsName n
-    → attribute_selector (identifier_text n ++ (comparison_text c ++ (string_text v
+-- what follows the name of an attribute that is compared
+abbrev tested : Comparison → List ℕ → Bool → List ℕ → List ℕ
+tested c v ignores rest =
+    comparison_text c ++ (string_text v ++ (flag_text ignores ++ (close_bracket ∷ rest)))
+
+tested_end : (c : Comparison) (v : List ℕ) (ignores : Bool) (rest : List ℕ)
+    → EndsName (tested c v ignores rest)
+tested_end c v ignores rest =
+    (operator_end c (string_text v ++ (flag_text ignores ++ (close_bracket ∷ rest)))).0
+
+operator_calm : (c : Comparison) (rest : List ℕ) → opens_comment (comparison_text c ++ rest) ≡ false
+operator_calm equals rest = refl
+operator_calm has_word rest = refl
+operator_calm has_subtag rest = refl
+operator_calm starts_with rest = refl
+operator_calm ends_with rest = refl
+operator_calm contains rest = refl
+
+-- no operator is a bar after a namespace
+operator_bare : (c : Comparison) (rest : List ℕ) → is_bar (comparison_text c ++ rest) ≡ false
+operator_bare equals rest = refl
+operator_bare has_word rest = refl
+operator_bare has_subtag rest = refl
+operator_bare starts_with rest = refl
+operator_bare ends_with rest = refl
+operator_bare contains rest = refl
+
+an_attribute-again : (n v rest : List ℕ) (c : Comparison) (ignores : Bool) → IsName n
+    → attribute_from_name (identifier_text n ++ (comparison_text c ++ (string_text v
     ++ (flag_text ignores ++ (close_bracket ∷ rest)))))
-    ≡ got (attribute n c v ignores) rest
+    ≡ got (an_attribute n c v ignores) rest
 unfolding compared
-attribute-again n v rest c ignores some =
+an_attribute-again n v rest c ignores some =
     let end : List ℕ = flag_text ignores ++ (close_bracket ∷ rest) in
     let quoted : List ℕ = string_text v ++ end in
     let p = operator_end c quoted in
     attribute_front n (comparison_text c ++ quoted) some p.0 p.1
     ∙ ap (λ r. follow r (by_comparison n)) (operator-again _ c)
     ∙ ap (λ r. follow r (λ x. value >>= λ t. gap >> (flag >>= λ i. gap >>
-    (closing close_bracket >> give (attribute n c t i)))))
+    (closing close_bracket >> give (an_attribute n c t i)))))
     (no_gap quoted (no_gap-byte double_quote _ refl refl))
     ∙ ap (λ r. follow r (λ t. gap >> (flag >>= λ i. gap >>
-    (closing close_bracket >> give (attribute n c t i)))))
+    (closing close_bracket >> give (an_attribute n c t i)))))
     (value-again v end)
     ∙ flag_end rest n v c ignores
+
+-- an attribute selector, by the namespace before its name
+attribute_by : (text mid rest : List ℕ) (p : Option Namespace) (local : Local) → NoGap text
+    → namespace text ≡ got p mid → attribute_from_name mid ≡ got local rest
+    → attribute_selector text ≡ got (in_namespace p local) rest
+unfolding attribute_selector
+attribute_by text mid rest p local solid spaced reads =
+    ap (λ r. follow r (λ x. namespace >>= λ n. attribute_from_name >>= λ l.
+    give (in_namespace n l))) (no_gap text solid)
+    ∙ ap (λ r. follow r (λ n. attribute_from_name >>= λ l. give (in_namespace n l))) spaced
+    ∙ ap (λ r. follow r (λ l. give (in_namespace p l))) reads
+
+-- without a namespace
+attribute_bare : (n after rest : List ℕ) (local : Local) → IsName n → EndsName after
+    → opens_comment after ≡ false → is_bar after ≡ false
+    → attribute_from_name (identifier_text n ++ after) ≡ got local rest
+    → attribute_selector (identifier_text n ++ after) ≡ got (in_namespace None local) rest
+attribute_bare n after rest local some e calm bare reads =
+    attribute_by (identifier_text n ++ after) (identifier_text n ++ after) rest None local
+    (name_solid n after some e) (bare-again n after some e calm bare) reads
+
+-- with one
+attribute_in : (p : Namespace) (n after rest : List ℕ) (local : Local) → IsNamespace p → IsName n
+    → EndsName after → attribute_from_name (identifier_text n ++ after) ≡ got local rest
+    → attribute_selector (namespace_text p ++ (identifier_text n ++ after))
+    ≡ got (namespaced p local) rest
+attribute_in p n after rest local w some e reads =
+    let text : List ℕ = namespace_text p ++ (identifier_text n ++ after) in
+    attribute_by text (identifier_text n ++ after) rest (Some p) local
+    (begins_solid text (namespace_begins p (identifier_text n ++ after) w))
+    (namespace_name p n after w some e) reads
 
 -- ---- arguments of pseudo-classes
 
 -- the argument of a pseudo-class with `An+B`
-numbered_argument : (opened n rest : List ℕ) (kind : Numbering) (p : Progression) → IsProgression p
-    → functional opened n (Some (Numbered kind)) (progression_text p ++ (close_parenthesis ∷ rest))
+numbered_argument : (list : ListReader) (opened n rest : List ℕ) (kind : Numbering) (p : Progression)
+    → IsProgression p
+    → functional list opened n (Some (Numbered kind)) (progression_text p ++ (close_parenthesis ∷ rest))
     ≡ got (structure (numbered_by kind p)) rest
-numbered_argument opened n rest kind p w =
+numbered_argument list opened n rest kind p w =
+    let end : List ℕ = close_parenthesis ∷ rest in
     ap (λ r. follow r (λ x. progression >>= λ q. gap >>
-    (closing close_parenthesis >> give (structure (numbered_by kind q)))))
-    (no_gap _ (progression_calm p (close_parenthesis ∷ rest) w.0 w.1))
-    ∙ ap (λ r. follow r (λ q. gap >>
-    (closing close_parenthesis >> give (structure (numbered_by kind q)))))
-    (progression-again p rest w.0 w.1)
-    ∙ ap (λ r. follow r (λ x. closing close_parenthesis >>
-    give (structure (numbered_by kind p))))
-    (no_gap (close_parenthesis ∷ rest) (no_gap-byte close_parenthesis rest refl refl))
+    after_progression list kind q (from_last kind)))
+    (no_gap _ (progression_calm p end w.0 w.1))
+    ∙ gapped_next (progression (progression_text p ++ end))
+    (λ q. after_progression list kind q (from_last kind)) p end
+    (progression-again p end end w.0 w.1 (closed_end rest))
+    ∙ by (from_last kind)
+  where
+    by : (o : Option Bool)
+        → after_progression list kind p o (close_parenthesis ∷ rest)
+        ≡ got (structure (numbered_by kind p)) rest
+    by None = refl
+    by (Some last) = refl
+
+-- the list after `of`
+of_list-again : (list : ListReader) (last : Bool) (p : Progression) (a rest : List ℕ) → IsArgument a
+    → is_list_text list a ≡ true
+    → of_list list last p (space ∷ (a ++ (close_parenthesis ∷ rest))) ≡ got (nth_of last p a) rest
+unfolding of_list
+of_list-again list last p a rest w is =
+    let text : List ℕ = space ∷ (a ++ (close_parenthesis ∷ rest)) in
+    ap (λ r. follow r (λ b end. if is_list_text list b then got (nth_of last p b) end
+    else refused (no_list (list Not b b)) (past_gap text)))
+    (argument_spaced (a ++ (close_parenthesis ∷ rest))
+    ∙ argument-again (a ++ (close_parenthesis ∷ [])) a [] w rest)
+    ∙ ap (λ (t : Bool). if t then got (nth_of last p a) rest
+    else refused (no_list (list Not a a)) (past_gap text)) is
+
+of_argument : (list : ListReader) (opened n rest : List ℕ) (kind : Numbering) (last : Bool)
+    (p : Progression) (a : List ℕ) → from_last kind ≡ Some last → IsProgression p → IsArgument a
+    → is_list_text list a ≡ true
+    → functional list opened n (Some (Numbered kind)) (progression_text p
+    ++ (codes " of " ++ (a ++ (close_parenthesis ∷ rest))))
+    ≡ got (nth_of last p a) rest
+of_argument list opened n rest kind last p a is_last w is_a is =
+    let listed : List ℕ = space ∷ (a ++ (close_parenthesis ∷ rest)) in
+    let left : List ℕ = 111 ∷ 102 ∷ listed in
+    let end : List ℕ = space ∷ left in
+    ap (λ r. follow r (λ x. progression >>= λ q. gap >>
+    after_progression list kind q (from_last kind)))
+    (no_gap _ (progression_calm p end w.0 w.1))
+    ∙ gapped_next (progression (progression_text p ++ end))
+    (λ q. after_progression list kind q (from_last kind)) p left
+    (progression-again p end left w.0 w.1 (of_end (102 ∷ listed)))
+    ∙ ap (λ o. after_progression list kind p o left) is_last
+    ∙ ap (λ r. follow r (after_word list last p left))
+    (name-again (codes "of") listed (omega arith) (record { bare = refl; calm = refl; apart = refl }))
+    ∙ of_list-again list last p a rest is_a is
 
 -- a further language range
 range-again : (range rest : List ℕ)
@@ -358,10 +547,10 @@ ranges-again rest (range ∷ ranges) some =
     ∙ ap (λ r. follow r (λ x. closing close_parenthesis >> give (range ∷ ranges)))
     (no_gap end (no_gap-byte close_parenthesis rest refl refl))
 
-language_argument : (opened n rest : List ℕ) (ranges : List (List ℕ)) → 0 < length ranges
-    → functional opened n (Some Language) (list_text string_text ranges ++ (close_parenthesis ∷ rest))
+language_argument : (list : ListReader) (opened n rest : List ℕ) (ranges : List (List ℕ)) → 0 < length ranges
+    → functional list opened n (Some Language) (list_text string_text ranges ++ (close_parenthesis ∷ rest))
     ≡ got (language ranges) rest
-language_argument opened n rest ranges some =
+language_argument list opened n rest ranges some =
     ap (λ r. follow r (λ all. give (language all))) (ranges-again rest ranges some)
 
 -- ---- pseudo-classes without a list
@@ -388,14 +577,14 @@ by_start P pn pf po pc pa b h =
     by false false false false false en ef eo ec ea h = absurd (cc)
 
 -- a further simple selector is no type
-pub further_starts : (s : Simple) → IsFurther s → starts_by is_start (simple_text s) ≡ true
-further_starts universal w = absurd w
-further_starts (type_name n) w = absurd w
-further_starts (id n) w = refl
-further_starts (class n) w = refl
-further_starts (has_attribute n) w = refl
-further_starts (attribute n c v ignores) w = refl
-further_starts (structure s) w = by s
+pub further_starts : (d : ℕ) (s : Simple) → IsFurther d s → starts_by is_start (simple_text s) ≡ true
+further_starts d universal w = absurd w
+further_starts d (type_name n) w = absurd w
+further_starts d (id n) w = refl
+further_starts d (class n) w = refl
+further_starts d (has_attribute n) w = refl
+further_starts d (attribute n c v ignores) w = refl
+further_starts d (structure s) w = by s
   where
     by : (s : Structure) → starts_by is_start (structure_text s) ≡ true
     by root = refl
@@ -411,11 +600,17 @@ further_starts (structure s) w = by s
     by (nth_last_child p) = refl
     by (nth_of_type p) = refl
     by (nth_last_of_type p) = refl
-further_starts (language ranges) w = refl
-further_starts (state n) w = refl
-further_starts (function n a) w = refl
-further_starts (named_element n a) w = absurd w
-further_starts (nesting list) w = refl
+further_starts d (language ranges) w = refl
+further_starts d (state n) w = refl
+further_starts d (function n a) w = refl
+further_starts d (named_element n a) w = absurd w
+further_starts d (nesting list) w = refl
+further_starts d (namespaced p any_type) w = absurd w.1
+further_starts d (namespaced p (a_type n)) w = absurd w.1
+further_starts d (namespaced p (some_attribute n)) w = refl
+further_starts d (namespaced p (an_attribute n c v ignores)) w = refl
+further_starts d (nth_of true p a) w = refl
+further_starts d (nth_of false p a) w = refl
 
 pub call_end : (argument : List ℕ) → EndsName (open_parenthesis ∷ argument)
 call_end argument = record { bare = refl; calm = refl; apart = refl }
@@ -423,6 +618,12 @@ call_end argument = record { bare = refl; calm = refl; apart = refl }
 attribute_assoc : (a b c d e f : List ℕ)
     → (((((a ++ b) ++ c) ++ d) ++ e)) ++ f ≡ a ++ (b ++ (c ++ (d ++ (e ++ f))))
 attribute_assoc a b c d e f = simp append_assoc
+
+nth_assoc : (a b c d e : List ℕ) → (((a ++ b) ++ c) ++ d) ++ e ≡ a ++ (b ++ (c ++ (d ++ e)))
+nth_assoc a b c d e = simp append_assoc
+
+some_assoc : (a b c d : List ℕ) → ((a ++ b) ++ c) ++ d ≡ a ++ (b ++ (c ++ d))
+some_assoc a b c d = simp append_assoc
 
 -- a name and an argument in parentheses, before more
 pub call_assoc : (n a rest : List ℕ)
@@ -491,7 +692,7 @@ module _ (list : ListReader) where
           ∙ ap (λ f. with_argument list opened n None f argument) is
           ∙ ap (with_argument list opened n None (Some (Numbered kind)))
           (append_assoc (progression_text p) (close_parenthesis ∷ []) rest)
-          ∙ ap (λ r. follow r (λ s. give (simple s))) (numbered_argument opened n rest kind p w)
+          ∙ ap (λ r. follow r (λ s. give (simple s))) (numbered_argument list opened n rest kind p w)
 
   structure-again : (s : Structure) (rest : List ℕ) → IsStructure s → ends rest ≡ true
       → condition_by list (structure_text s ++ rest) ≡ item (simple (structure s)) rest
@@ -527,12 +728,12 @@ module _ (list : ListReader) where
       rest (simple (language ranges)) (omega arith) (λ opened.
       ap (with_argument list opened (codes "lang") None (Some Language))
       (append_assoc (list_text string_text ranges) (close_parenthesis ∷ []) rest)
-      ∙ ap (λ r. follow r (λ s. give (simple s))) (language_argument opened (codes "lang") rest ranges some))
+      ∙ ap (λ r. follow r (λ s. give (simple s))) (language_argument list opened (codes "lang") rest ranges some))
 
   -- one that has no meaning here
-  called-again : (n a rest : List ℕ) → IsFurther (function n a)
+  called-again : (d : ℕ) (n a rest : List ℕ) → IsFurther d (function n a)
       → condition_by list (simple_text (function n a) ++ rest) ≡ item (simple (function n a)) rest
-  called-again n a rest w =
+  called-again d n a rest w =
       ap (λ l. condition_by list (colon ∷ l)) (call_assoc (identifier_text n) a rest)
       ∙ call-again n (a ++ (close_parenthesis ∷ rest)) rest (simple (function n a)) w.0 reads
     where
@@ -543,39 +744,95 @@ module _ (list : ListReader) where
           rw (w.1, w.2) (ap (λ r. follow (follow r (λ b. give (function n b)))
           (λ s. give (simple s))) (argument_of-again opened n a rest w.3))
 
+  -- one with a list after `An+B`
+  nth-again : (n rest : List ℕ) (kind : Numbering) (last : Bool) (p : Progression) (a : List ℕ)
+      → IsName n → list_kind n ≡ None → function_named n ≡ Some (Numbered kind)
+      → from_last kind ≡ Some last → IsProgression p → IsArgument a → is_list_text list a ≡ true
+      → condition_by list (colon ∷ (identifier_text n ++ (open_parenthesis ∷ ((nth_of_text p a
+      ++ (close_parenthesis ∷ [])) ++ rest))))
+      ≡ item (simple (nth_of last p a)) rest
+  nth-again n rest kind last p a some no_list is is_last w is_a listed =
+      call-again n argument rest (simple (nth_of last p a)) some reads
+    where
+      argument : List ℕ
+      argument = (nth_of_text p a ++ (close_parenthesis ∷ [])) ++ rest
+
+      reads : (opened : List ℕ)
+          → with_argument list opened n (list_kind n) (function_named n) argument
+          ≡ got (simple (nth_of last p a)) rest
+      reads opened =
+          ap (λ k. with_argument list opened n k (function_named n) argument) no_list
+          ∙ ap (λ f. with_argument list opened n None f argument) is
+          ∙ ap (with_argument list opened n None (Some (Numbered kind)))
+          (nth_assoc (progression_text p) (codes " of ") a (close_parenthesis ∷ []) rest)
+          ∙ ap (λ r. follow r (λ s. give (simple s)))
+          (of_argument list opened n rest kind last p a is_last w is_a listed)
+
   -- a simple selector that is no type
-  pub further-again : (s : Simple) (rest : List ℕ) → IsFurther s → ends rest ≡ true
+  pub further-again : (d : ℕ) → ((a : List ℕ) → IsListText d a → is_list_text list a ≡ true)
+      → (s : Simple) (rest : List ℕ) → IsFurther d s → ends rest ≡ true
       → condition_by list (simple_text s ++ rest) ≡ item (simple s) rest
   unfolding next_simple
-  further-again universal rest w h = absurd w
-  further-again (type_name n) rest w h = absurd w
-  further-again (id n) rest w h =
+  further-again d checks universal rest w h = absurd w
+  further-again d checks (type_name n) rest w h = absurd w
+  further-again d checks (id n) rest w h =
       ap (condition_here list) (no_comments (number_sign ∷ (identifier_text n ++ rest)) refl)
       ∙ ap (λ r. simple_item (as_item id r)) (ident-again n rest w (ends_name rest h))
-  further-again (class n) rest w h =
+  further-again d checks (class n) rest w h =
       ap (condition_here list) (no_comments (full_stop ∷ (identifier_text n ++ rest)) refl)
       ∙ ap (λ l. simple_item (as_item class (name l))) (no_comments (identifier_text n ++ rest)
       (no_comment_here (identifier_text n ++ rest)
       (name_other slash (identifier_text n ++ rest) (named_text n rest w h) refl)))
       ∙ ap (λ r. simple_item (as_item class r)) (name-again n rest w (ends_name rest h))
-  further-again (has_attribute n) rest w h =
+  further-again d checks (has_attribute n) rest w h =
       ap (condition_here list) (no_comments (simple_text (has_attribute n) ++ rest) refl)
       ∙ ap (λ l. simple_item (next_simple (open_bracket ∷ l)))
       (append_assoc (identifier_text n) (close_bracket ∷ []) rest)
-      ∙ ap (λ r. simple_item (as_item (λ s. s) r)) (has_attribute-again n rest w)
-  further-again (attribute n c v ignores) rest w h =
+      ∙ ap (λ r. simple_item (as_item (λ s. s) r))
+      (attribute_bare n (close_bracket ∷ rest) rest (some_attribute n) w (bracket_end rest) refl refl
+      (some_attribute-again n rest w))
+  further-again d checks (attribute n c v ignores) rest w h =
       ap (condition_here list)
       (no_comments (simple_text (attribute n c v ignores) ++ rest) refl)
       ∙ ap (λ l. simple_item (next_simple (open_bracket ∷ l)))
       (attribute_assoc (identifier_text n) (comparison_text c) (string_text v) (flag_text ignores)
       (close_bracket ∷ []) rest)
-      ∙ ap (λ r. simple_item (as_item (λ s. s) r)) (attribute-again n v rest c ignores w)
-  further-again (structure s) rest w h = structure-again s rest w h
-  further-again (language ranges) rest w h = language-again ranges rest w
-  further-again (state n) rest w h =
+      ∙ ap (λ r. simple_item (as_item (λ s. s) r))
+      (attribute_bare n (tested c v ignores rest) rest (an_attribute n c v ignores) w
+      (tested_end c v ignores rest) (operator_calm c _) (operator_bare c _)
+      (an_attribute-again n v rest c ignores w))
+  further-again d checks (structure s) rest w h = structure-again s rest w h
+  further-again d checks (language ranges) rest w h = language-again ranges rest w
+  further-again d checks (state n) rest w h =
       plain-again n rest (state n) w.0 w.2 h (ap (plain_pseudo n) w.1)
-  further-again (function n a) rest w h = called-again n a rest w
-  further-again (named_element n a) rest w h = absurd w
-  further-again (nesting stands) rest w h =
+  further-again d checks (function n a) rest w h = called-again d n a rest w
+  further-again d checks (named_element n a) rest w h = absurd w
+  further-again d checks (nesting stands) rest w h =
       ap (condition_here list) (no_comments (ampersand ∷ rest) refl)
       ∙ ap (λ l. item (simple (nesting l)) rest) (sym w)
+  further-again d checks (namespaced p any_type) rest w h = absurd w.1
+  further-again d checks (namespaced p (a_type n)) rest w h = absurd w.1
+  further-again d checks (namespaced p (some_attribute n)) rest w h =
+      ap (condition_here list)
+      (no_comments (simple_text (namespaced p (some_attribute n)) ++ rest) refl)
+      ∙ ap (λ l. simple_item (next_simple (open_bracket ∷ l)))
+      (some_assoc (namespace_text p) (identifier_text n) (close_bracket ∷ []) rest)
+      ∙ ap (λ r. simple_item (as_item (λ s. s) r))
+      (attribute_in p n (close_bracket ∷ rest) rest (some_attribute n) w.0 w.1 (bracket_end rest)
+      (some_attribute-again n rest w.1))
+  further-again d checks (namespaced p (an_attribute n c v ignores)) rest w h =
+      ap (condition_here list)
+      (no_comments (simple_text (namespaced p (an_attribute n c v ignores)) ++ rest) refl)
+      ∙ ap (λ l. simple_item (next_simple (open_bracket ∷ l)))
+      (attribute_assoc (namespace_text p ++ identifier_text n) (comparison_text c) (string_text v)
+      (flag_text ignores) (close_bracket ∷ []) rest
+      ∙ append_assoc (namespace_text p) (identifier_text n) (tested c v ignores rest))
+      ∙ ap (λ r. simple_item (as_item (λ s. s) r))
+      (attribute_in p n (tested c v ignores rest) rest (an_attribute n c v ignores) w.0 w.1
+      (tested_end c v ignores rest) (an_attribute-again n v rest c ignores w.1))
+  further-again d checks (nth_of false p a) rest w h =
+      nth-again (codes "nth-child") rest OfChild false p a (omega arith) refl refl refl w.0 w.1
+      (checks a w.2)
+  further-again d checks (nth_of true p a) rest w h =
+      nth-again (codes "nth-last-child") rest OfLastChild true p a (omega arith) refl refl refl w.0 w.1
+      (checks a w.2)

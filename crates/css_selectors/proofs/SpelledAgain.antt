@@ -607,3 +607,17 @@ name-again n rest some ends =
 pub begins-again : (n rest : List ℕ) → 0 < length n → EndsName rest
     → begins_name (identifier_text n ++ rest) ≡ true
 begins-again n rest some ends = (named n rest some ends).begins
+
+-- the name ends where what follows it begins
+pub word-again : (n rest : List ℕ) → 0 < length n → EndsName rest
+    → past_word (identifier_text n ++ rest) ≡ rest
+word-again n rest some ends = (named n rest some ends).spells.leaves
+
+-- and what is before that denotes it
+pub decoded-again : (n rest : List ℕ) → 0 < length n → EndsName rest
+    → decoded_in false (before (identifier_text n ++ rest) (past_word (identifier_text n ++ rest)))
+    ≡ n
+decoded-again n rest some ends =
+    let w = named n rest some ends in
+    ap (λ r. decoded_in false (before (identifier_text n ++ rest) r)) w.spells.leaves
+    ∙ whole None (identifier_text n ++ rest) n rest w.spells

@@ -10,11 +10,13 @@ use Rattle.css_syntax.specs.ComponentValues.{block_of, past_open, component_valu
 use Rattle.css_syntax.specs.Escapes.{decoded_part, decoded_in}
 use Rattle.css_selectors.specs.declared.refusal.Why.TheVariants.{NoSelector, NoName, NoProgression, NoValue, UnknownFunction, TooDeep}
 use Rattle.css_selectors.specs.Components.{Part}
-use Rattle.css_selectors.specs.Components.Comparison.{equals}
-use Rattle.css_selectors.specs.Components.Simple.{type_name, class, has_attribute, attribute, state}
+use Rattle.css_selectors.specs.Components.Comparison.{equals, has_subtag}
+use Rattle.css_selectors.specs.Components.Namespace.{absent, any_namespace, of_prefix}
+use Rattle.css_selectors.specs.Components.Local.{any_type, a_type, some_attribute, an_attribute}
+use Rattle.css_selectors.specs.Components.Simple.{type_name, class, has_attribute, attribute, state, namespaced}
 use Rattle.css_selectors.specs.Components.Condition.{simple}
 use Rattle.css_selectors.specs.Readings.{got, refused, item, stop}
-use Rattle.css_selectors.specs.Grammar.{gap, ident_sequence, name, string, value, comparison, flag, compared, attribute_selector, signed, stepping, offset_or_none, with_offset, subtracted, by_tail, n_word, progression, type_selector, next_simple, next_condition, compound, complex, next_part_in, listed_part, next_listed, past_part, complex_list}
+use Rattle.css_selectors.specs.Grammar.{gap, ident_sequence, name, string, value, comparison, flag, compared, namespace, at_bar, prefix, attribute_from_name, attribute_selector, signed, stepping, offset_or_none, with_offset, subtracted, by_tail, n_word, progression, any_or_name, type_selector, next_simple, next_condition, compound, complex, next_part_in, listed_part, next_listed, past_part, complex_list}
 
 -- `-->` is no name, but in a hash its hyphens are one; a backslash before a newline is no escape
 pub names :
@@ -48,8 +50,22 @@ pub attributes :
     × (attribute_selector (codes "a=") ≡ refused NoValue [])
     × (attribute_selector (codes "*=b]") ≡ refused NoName (codes "*=b]"))
 unfolding each past_escape past_comment name_part string_part decoded_part decoded_in blank comment gap_before
-    gap ident_sequence name string value comparison flag compared attribute_selector lib.Utf8.encode
+    gap ident_sequence name string value comparison flag compared namespace at_bar attribute_from_name
+    attribute_selector lib.Utf8.encode
 attributes = (refl, refl, refl, refl, refl)
+
+-- a namespace, which comments may be in, and white space may not
+pub namespaces :
+    (attribute_selector (codes "n/**/|/**/a]") ≡ got (namespaced (of_prefix (codes "n")) (some_attribute (codes "a"))) [])
+    × (attribute_selector (codes "*|a=b]") ≡ got (namespaced any_namespace (an_attribute (codes "a") equals (codes "b") false)) [])
+    × (attribute_selector (codes "a|=b]") ≡ got (attribute (codes "a") has_subtag (codes "b") false) [])
+    × (type_selector (codes "n|*.c") ≡ item (namespaced (of_prefix (codes "n")) any_type) (codes ".c"))
+    × (type_selector (codes "|a") ≡ item (namespaced absent (a_type (codes "a"))) [])
+    × (type_selector (codes "n| a") ≡ stop NoName (codes " a"))
+unfolding each past_escape past_comment name_part string_part decoded_part decoded_in blank comment gap_before
+    gap ident_sequence name string value comparison flag compared namespace at_bar prefix attribute_from_name
+    attribute_selector any_or_name type_selector lib.Utf8.encode
+namespaces = (refl, refl, refl, refl, refl, refl)
 
 -- comments are between any two tokens; a url is no function
 pub conditions :
@@ -75,7 +91,7 @@ pub lists :
     × (complex_list true (next_condition zero) (codes "a,:is(b))") ≡ refused TooDeep (codes ":is(b))"))
     × (complex_list false (next_condition zero) (codes "a, %%)") ≡ refused NoSelector (codes "%%)"))
 unfolding each past_escape past_comment name_part decoded_part decoded_in blank comment gap_before gap
-    ident_sequence name type_selector next_simple next_condition compound complex next_part_in listed_part
+    ident_sequence name namespace at_bar any_or_name type_selector next_simple next_condition compound complex next_part_in listed_part
     next_listed past_part complex_list token block_of past_open component_value gap_part string_part
     past_string url_part remnant_part past_url spells past_letter lib.Utf8.encode
 lists = (refl, refl, refl, refl, refl, refl, refl)

@@ -1,6 +1,6 @@
 -- A word begins at the start of a value or after white space.
 -- Serves `attributes::is_word`.
-use Rattle.std.proofs.Common.{◌≡◌, ℕ, zero, suc, ◌<◌, ◌≤◌, ◌||◌, ◌&&◌, Bool, true, false, List, [], ◌∷◌, length, refl, sym, ap, ◌∙◌, subst, arith}
+use Rattle.std.proofs.Common.{◌≡◌, ℕ, ◌<◌, ◌≤◌, ◌||◌, Bool, true, false, List, [], ◌∷◌, length, refl, ap, ◌∙◌, arith}
 use Rattle.std.specs.Prelude.{if◌then◌else◌}
 use Rattle.css_text.specs.Characters.{is_space}
 use Rattle.css_selectors.specs.AttributeTests.{begins_up_to, is_word_of}

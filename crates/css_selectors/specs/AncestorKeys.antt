@@ -6,7 +6,7 @@ use Rattle.css_matching.specs.declared.Combinator.{Combinator}
 use Rattle.css_matching.specs.declared.Combinator.TheVariants.{Descendant, Child, Adjacent, Sibling}
 use Rattle.css_selectors.specs.Documents.{Document}
 use Rattle.css_selectors.specs.Components.{Simple, Condition, Conditions, Parts, Selectors, Part, Selector, parts_from}
-use Rattle.css_selectors.specs.Components.Simple.{universal, type_name, id, class, has_attribute, attribute, structure, language, state, function, named_element, nesting}
+use Rattle.css_selectors.specs.Components.Simple.{universal, type_name, id, class, has_attribute, attribute, structure, language, state, function, named_element, nesting, namespaced, nth_of}
 use Rattle.css_selectors.specs.Components.Condition.{simple, negation, any_of, where_any}
 use Rattle.css_selectors.specs.Components.Conditions.{end_of_compound, with_condition}
 use Rattle.css_selectors.specs.Components.Parts.{end_of_selector, with_part}
@@ -84,6 +84,8 @@ is_exact (state name) = false
 is_exact (function name argument) = false
 is_exact (named_element name argument) = false
 is_exact (nesting list) = false
+is_exact (namespaced namespace local) = false
+is_exact (nth_of last p selectors) = false
 
 -- whether it is an id, a class or `*`
 abbrev pub is_whole : Simple → Bool
@@ -99,6 +101,8 @@ is_whole (state name) = false
 is_whole (function name argument) = false
 is_whole (named_element name argument) = false
 is_whole (nesting list) = false
+is_whole (namespaced namespace local) = false
+is_whole (nth_of last p selectors) = false
 
 -- whether the key is an id, a class or no condition
 abbrev pub is_exact_key : Key → Bool

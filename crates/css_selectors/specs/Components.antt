@@ -44,6 +44,25 @@ pub data Structure : Type 0 where
   nth_of_type : Progression → Structure
   nth_last_of_type : Progression → Structure
 
+-- what namespace a name is in (Selectors 4, section 5)
+pub data Namespace : Type 0 where
+  -- `|`: none
+  absent : Namespace
+  -- `*|`: any
+  any_namespace : Namespace
+  -- `prefix|`: that of the prefix
+  of_prefix : List ℕ → Namespace
+
+-- what is in a namespace: a type selector, or an attribute selector
+pub data Local : Type 0 where
+  -- `*`
+  any_type : Local
+  a_type : List ℕ → Local
+  -- `[name]`
+  some_attribute : List ℕ → Local
+  -- `[name=text]`; the last is whether the case of ASCII letters is ignored
+  an_attribute : List ℕ → Comparison → List ℕ → Bool → Local
+
 -- a simple selector that has no other selectors in it
 pub data Simple : Type 0 where
   -- `*`
@@ -66,6 +85,11 @@ pub data Simple : Type 0 where
   named_element : (name : List ℕ) (argument : Option (List ℕ)) → Simple
   -- `&`: an element that the list matches for which it stands (CSS Nesting 1, section 3)
   nesting : Nesting → Simple
+  -- a type or attribute selector with a namespace: it has no meaning here
+  namespaced : Namespace → Local → Simple
+  -- `:nth-child(An+B of S)`, or `:nth-last-child(An+B of S)` if elements are numbered from the last,
+  -- with its list as it is written: it has no meaning here
+  nth_of : (from_last : Bool) → Progression → (selectors : List ℕ) → Simple
 
 -- What `&` stands for outside of nested rules: `:scope`, which is the list of number 0, and it counts
 -- nothing (CSS Nesting 1, section 3).

@@ -29,10 +29,12 @@ use Rattle.css_selectors.specs.declared.reading.Start.{Start}
 use Rattle.css_selectors.specs.declared.reading.Start.TheVariants.{Plain, Relative}
 use Rattle.css_selectors.specs.declared.refusal.Why.{Why}
 use Rattle.css_selectors.specs.declared.refusal.Why.TheVariants.{NoSelector, NoName, BrokenString, NoOperator, NoValue, UnknownFlag, NoProgression, UnknownFunction, TooDeep, Unexpected}
-use Rattle.css_selectors.specs.Components.{Comparison, Signed, Progression, Structure, Simple, outermost, Condition, Part, PseudoElement, Placed, Selector, selectors_from}
+use Rattle.css_selectors.specs.Components.{Comparison, Signed, Progression, Structure, Namespace, Local, Simple, outermost, Condition, Part, PseudoElement, Placed, Selector, selectors_from}
 use Rattle.css_selectors.specs.Components.Comparison.{equals, has_word, has_subtag, starts as starts_with, ends as ends_with, contains}
 use Rattle.css_selectors.specs.Components.Structure.{root, scope, empty, first_child, last_child, only_child, first_of_type, last_of_type, only_of_type, nth_child, nth_last_child, nth_of_type, nth_last_of_type}
-use Rattle.css_selectors.specs.Components.Simple.{universal, type_name, id, class, has_attribute, attribute, structure, language, state, function, named_element, nesting}
+use Rattle.css_selectors.specs.Components.Namespace.{absent, any_namespace, of_prefix}
+use Rattle.css_selectors.specs.Components.Local.{any_type, a_type, some_attribute, an_attribute}
+use Rattle.css_selectors.specs.Components.Simple.{universal, type_name, id, class, has_attribute, attribute, structure, language, state, function, named_element, nesting, namespaced, nth_of}
 use Rattle.css_selectors.specs.Components.Condition.{simple, negation, any_of, where_any}
 use Rattle.css_selectors.specs.Readings.{Reading, got, refused, Reader, follow, ◌>>=◌, ◌>>◌, give, Step, item, none, stop, step_after, as_item, with_first, items}
 
@@ -104,6 +106,43 @@ abbrev pub closing : ℕ → Reader (Unit {0})
 closing byte [] = got tt []
 closing byte (b ∷ text) = if b == byte then got tt text else refused Unexpected (b ∷ text)
 
+-- ---- namespaces (Selectors 4, section 5)
+
+-- a bar, which is none of `|=`
+abbrev pub is_bar : List ℕ → Bool
+is_bar text = starts vertical_bar text && not (starts equals_sign (past_one text))
+
+-- the rest after `*` or a name, if one is next
+abbrev pub past_any_name : List ℕ → List ℕ
+past_any_name text =
+    if starts asterisk text then past_one text
+    else (if begins_name text then past_word text else text)
+
+-- where a bar may be: after `*` or a name, and comments
+unfoldable pub at_bar : List ℕ → List ℕ
+at_bar text = past_comments (past_any_name text)
+
+-- what is before the bar
+unfoldable pub prefix : List ℕ → Namespace
+prefix text =
+    if starts asterisk text then any_namespace
+    else (if begins_name text then of_prefix (decoded (before text (past_word text))) else absent)
+
+-- A namespace and its bar, if they are next, and comments. There is no white space in it.
+unfoldable pub namespace : Reader (Option Namespace)
+namespace text =
+    if is_bar (at_bar text)
+    then got (Some (prefix text)) (past_comments (past_one (at_bar text)))
+    else got None text
+
+-- a type or attribute selector, by the namespace that was read before its name
+abbrev pub in_namespace : Option Namespace → Local → Simple
+in_namespace (Some n) local = namespaced n local
+in_namespace None any_type = universal
+in_namespace None (a_type n) = type_name n
+in_namespace None (some_attribute n) = has_attribute n
+in_namespace None (an_attribute n c v ignores) = attribute n c v ignores
+
 -- ---- attributes
 
 -- an operator of two bytes, by its first
@@ -154,7 +193,7 @@ flag (b ∷ text) =
     else follow (name (b ∷ text)) (flag_named (b ∷ text))
 
 -- what follows the operator
-unfoldable pub compared : List ℕ → Comparison → Reader Simple
+unfoldable pub compared : List ℕ → Comparison → Reader Local
 compared n c = do
   gap
   v ← value
@@ -162,20 +201,27 @@ compared n c = do
   ignores ← flag
   gap
   closing close_bracket
-  give (attribute n c v ignores)
+  give (an_attribute n c v ignores)
 
-abbrev pub by_comparison : List ℕ → Option Comparison → Reader Simple
-by_comparison n None = closing close_bracket >> give (has_attribute n)
+abbrev pub by_comparison : List ℕ → Option Comparison → Reader Local
+by_comparison n None = closing close_bracket >> give (some_attribute n)
 by_comparison n (Some c) = compared n c
+
+-- an attribute selector, from its name on
+unfoldable pub attribute_from_name : Reader Local
+attribute_from_name = do
+  n ← name
+  gap
+  c ← comparison
+  by_comparison n c
 
 -- an attribute selector, from after its bracket
 unfoldable pub attribute_selector : Reader Simple
 attribute_selector = do
   gap
-  n ← name
-  gap
-  c ← comparison
-  by_comparison n c
+  n ← namespace
+  local ← attribute_from_name
+  give (in_namespace n local)
 
 -- ---- An+B (CSS Syntax 3, section 6.2)
 
@@ -201,10 +247,10 @@ signed is_negative size = record { is_negative = is_negative; size = size }
 abbrev pub stepping : Signed → Signed → Progression
 stepping step offset = record { step = step; offset = offset }
 
--- the digits of the offset, after its sign
+-- the digits of the offset, after its sign; a unit follows no offset
 abbrev pub offset_after : Signed → Bool → Reader Progression
 offset_after step is_negative text =
-    if starts_by is_digit text
+    if starts_by is_digit text && not (begins_name (digits 0 text).1)
     then got (stepping step (signed is_negative (digits 0 text).0)) (digits 0 text).1
     else refused NoProgression text
 
@@ -412,17 +458,6 @@ takes_none n = is_word (codes "url") n || is_old_element n
 abbrev pub argument_of : List ℕ → List ℕ → Reader (List ℕ)
 argument_of opened n text = if takes_none n then refused UnknownFunction opened else argument text
 
--- the argument of a pseudo-class with this name
-abbrev pub functional : List ℕ → List ℕ → Option Function → Reader Simple
-functional opened n None = argument_of opened n >>= λ a. give (function n a)
-functional opened n (Some Language) = language_ranges >>= λ ranges. give (language ranges)
-functional opened n (Some (Numbered kind)) = do
-  gap
-  p ← progression
-  gap
-  closing close_parenthesis
-  give (structure (numbered_by kind p))
-
 -- a pseudo-class that is only a name; a pseudo-element is none
 abbrev pub named_pseudo : List ℕ → List ℕ → Step Simple
 named_pseudo n text =
@@ -431,10 +466,21 @@ named_pseudo n text =
 -- ---- compound selectors
 
 -- `*` or a name
+unfoldable pub any_or_name : Reader Local
+any_or_name text =
+    if starts asterisk text then got any_type (past_one text)
+    else follow (name text) (λ n. give (a_type n))
+
+-- after a namespace there must be one
+abbrev pub type_after : Option Namespace → List ℕ → Step Simple
+type_after None text =
+    if starts asterisk text || begins_name text then as_item (in_namespace None) (any_or_name text)
+    else none
+type_after (Some n) text = as_item (in_namespace (Some n)) (any_or_name text)
+
+-- `*` or a name, with a namespace or without one
 unfoldable pub type_selector : List ℕ → Step Simple
-type_selector text =
-    if starts asterisk text then item universal (past_one text)
-    else (if begins_name text then as_item type_name (name text) else none)
+type_selector text = step_after (namespace text) type_after
 
 -- `&`
 abbrev pub ampersand : ℕ
@@ -479,7 +525,7 @@ sign_combinator b =
 abbrev pub begins_compound : ℕ → Bool
 begins_compound b =
     begins_word b || b == hyphen || b == asterisk || b == full_stop || b == number_sign
-    || b == open_bracket || b == colon || b == backslash || b == ampersand
+    || b == open_bracket || b == colon || b == backslash || b == ampersand || b == vertical_bar
 
 abbrev pub joined_by : Combinator → List Condition → Part
 joined_by combinator conditions = record { combinator = combinator; conditions = conditions }
@@ -602,6 +648,62 @@ ListReader = ListKind → List ℕ → Reader (List (List Part))
 abbrev pub list_by : Finder → ListReader
 list_by next kind opened = complex_list (is_forgiving kind) next
 
+-- ---- functional pseudo-classes
+
+-- the text was read as a list, to its end
+abbrev pub is_read_whole : Reading (List (List Part)) → Bool
+is_read_whole (got selectors rest) = is_empty_text rest
+is_read_whole (refused why rest) = false
+
+-- the text is a list of selectors, by what reads one
+abbrev pub is_list_text : ListReader → List ℕ → Bool
+is_list_text list text = is_read_whole (list Not text text)
+
+-- why it is none: the refusal begins where the list does
+abbrev pub no_list : Reading (List (List Part)) → Why
+no_list (got selectors rest) = Unexpected
+no_list (refused why rest) = why
+
+-- the list after `of`, which is kept as it is written
+unfoldable pub of_list : ListReader → Bool → Progression → Reader Simple
+of_list list last p text =
+    follow (argument text) (λ a rest. if is_list_text list a then got (nth_of last p a) rest
+    else refused (no_list (list Not a a)) (past_gap text))
+
+-- a word after `An+B`: only `of` may be one
+abbrev pub after_word : ListReader → Bool → Progression → List ℕ → List ℕ → Reader Simple
+after_word list last p text word rest =
+    if is_word (codes "of") word then of_list list last p rest else refused Unexpected text
+
+-- no list is after `An+B`
+abbrev pub without_list : Numbering → Progression → Reader Simple
+without_list kind p = closing close_parenthesis >> give (structure (numbered_by kind p))
+
+-- whether elements are numbered from the last, if all siblings are: only then a list may be after `An+B`
+-- (Selectors 4, section 14.3)
+abbrev pub from_last : Numbering → Option Bool
+from_last OfChild = Some false
+from_last OfLastChild = Some true
+from_last OfType = None
+from_last OfLastType = None
+
+-- what is after `An+B`
+abbrev pub after_progression : ListReader → Numbering → Progression → Option Bool → Reader Simple
+after_progression list kind p None text = without_list kind p text
+after_progression list kind p (Some last) text =
+    if begins_name text then follow (name text) (after_word list last p text)
+    else without_list kind p text
+
+-- the argument of a pseudo-class with this name, by what reads a list
+abbrev pub functional : ListReader → List ℕ → List ℕ → Option Function → Reader Simple
+functional list opened n None = argument_of opened n >>= λ a. give (function n a)
+functional list opened n (Some Language) = language_ranges >>= λ ranges. give (language ranges)
+functional list opened n (Some (Numbered kind)) = do
+  gap
+  p ← progression
+  gap
+  after_progression list kind p (from_last kind)
+
 -- one colon
 abbrev pub begins_pseudo_class : List ℕ → Bool
 begins_pseudo_class text =
@@ -615,7 +717,7 @@ simple_item (stop why rest) = stop why rest
 -- the argument of a functional pseudo-class, from after its parenthesis, by what reads a list
 abbrev pub with_argument
     : ListReader → List ℕ → List ℕ → Option ListKind → Option Function → Reader Condition
-with_argument list opened n None kind = functional opened n kind >>= λ s. give (simple s)
+with_argument list opened n None kind = functional list opened n kind >>= λ s. give (simple s)
 with_argument list opened n (Some kind) other =
     list kind opened >>= λ selectors. give (listed kind selectors)
 

@@ -4,7 +4,7 @@ use Rattle.std.specs.Prelude.{ℕ, ◌-◌, Bool, true, List, [], ◌∷◌, len
 use Rattle.std.specs.Option.{option_map_or}
 use Rattle.css_selectors.specs.Documents.{Document}
 use Rattle.css_selectors.specs.Components.{Simple, Condition, Conditions, Parts, Selectors, Part, Selector}
-use Rattle.css_selectors.specs.Components.Simple.{universal, type_name, id, class, has_attribute, attribute, structure, language, state, function, named_element, nesting}
+use Rattle.css_selectors.specs.Components.Simple.{universal, type_name, id, class, has_attribute, attribute, structure, language, state, function, named_element, nesting, namespaced, nth_of}
 use Rattle.css_selectors.specs.Components.Condition.{simple, negation, any_of, where_any}
 use Rattle.css_selectors.specs.Components.Conditions.{end_of_compound, with_condition}
 use Rattle.css_selectors.specs.Components.Parts.{end_of_selector, with_part}
@@ -41,6 +41,8 @@ simple_key (state name) = by_nothing
 simple_key (function name argument) = by_nothing
 simple_key (named_element name argument) = by_nothing
 simple_key (nesting list) = by_nothing
+simple_key (namespaced namespace local) = by_nothing
+simple_key (nth_of last p selectors) = by_nothing
 
 -- how few elements have a key: the greater, the fewer
 abbrev pub rank : Key → ℕ

@@ -11,6 +11,7 @@ pub mod KeyViews
 pub mod Keys
 pub mod Meanings
 pub mod Numbers
+pub mod Originating
 pub mod PlacementLists
 pub mod Printing
 pub mod Escaping

@@ -9,7 +9,7 @@ use Rattle.css_selectors.specs.Documents.{Document, shape}
 use Rattle.css_selectors.specs.Components.{Comparison, Structure, Simple, Condition, Conditions, Parts, Selectors, Selector, parts_from}
 use Rattle.css_selectors.specs.Components.Comparison.{equals, has_word}
 use Rattle.css_selectors.specs.Components.Structure.{root, scope, empty, first_child, last_child, only_child, first_of_type, last_of_type, only_of_type, nth_child, nth_last_child, nth_of_type, nth_last_of_type}
-use Rattle.css_selectors.specs.Components.Simple.{universal, type_name, id, class, has_attribute, attribute, structure, language, state, function, named_element, nesting}
+use Rattle.css_selectors.specs.Components.Simple.{universal, type_name, id, class, has_attribute, attribute, structure, language, state, function, named_element, nesting, namespaced, nth_of}
 use Rattle.css_selectors.specs.Components.Condition.{simple, negation, any_of, where_any}
 use Rattle.css_selectors.specs.Components.Conditions.{end_of_compound, with_condition}
 use Rattle.css_selectors.specs.Components.Parts.{end_of_selector, with_part}
@@ -54,6 +54,8 @@ holds document n (state name) = document.is_in_state n name
 holds document n (function name argument) = false
 holds document n (named_element name argument) = false
 holds document n (nesting list) = document.is_in_list n list.number
+holds document n (namespaced namespace local) = false
+holds document n (nth_of last p selectors) = false
 
 -- how the part at an index is joined to the part before it
 abbrev pub combinator_at : Parts → ℕ → Combinator

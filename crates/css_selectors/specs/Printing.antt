@@ -1,7 +1,7 @@
 -- The text that a selector is printed as: it is serialized as in CSSOM (sections "Common
 -- Serializing Idioms" and "Serializing Selectors") and CSS Syntax 3 (section 9.1). What would not
 -- read back as the same components is written otherwise: the `*` before other simple selectors is
--- kept, and so are U+0000, the sign of a negative zero, and the case of letters in names.
+-- kept, and so are U+0000, the sign of a negative zero, namespaces, and the case of letters in names.
 use Rattle.std.specs.Prelude.{ℕ, Bool, false, not, ◌&&◌, ◌||◌, ◌==◌, if◌then◌else◌, List, [], ◌∷◌, ◌++◌, codes, Option, Some, None}
 use Rattle.std.specs.Fmt.{decimal, digits}
 use Rattle.std.specs.List.{flat_map}
@@ -10,10 +10,12 @@ use Rattle.css_text.specs.Bytes.{is_digit, is_within, past_one, starts}
 use Rattle.css_syntax.specs.Tokens.{is_name_byte}
 use Rattle.css_matching.specs.declared.Combinator.{Combinator}
 use Rattle.css_matching.specs.declared.Combinator.TheVariants.{Descendant, Child, Adjacent, Sibling}
-use Rattle.css_selectors.specs.Components.{Comparison, Signed, Progression, Structure, Simple, Condition, Conditions, Parts, Selectors, Part, PseudoElement, Selector}
+use Rattle.css_selectors.specs.Components.{Comparison, Signed, Progression, Structure, Namespace, Local, Simple, Condition, Conditions, Parts, Selectors, Part, PseudoElement, Selector}
 use Rattle.css_selectors.specs.Components.Comparison.{equals, has_word, has_subtag, starts as starts_with, ends as ends_with, contains}
 use Rattle.css_selectors.specs.Components.Structure.{root, scope, empty, first_child, last_child, only_child, first_of_type, last_of_type, only_of_type, nth_child, nth_last_child, nth_of_type, nth_last_of_type}
-use Rattle.css_selectors.specs.Components.Simple.{universal, type_name, id, class, has_attribute, attribute, structure, language, state, function, named_element, nesting}
+use Rattle.css_selectors.specs.Components.Namespace.{absent, any_namespace, of_prefix}
+use Rattle.css_selectors.specs.Components.Local.{any_type, a_type, some_attribute, an_attribute}
+use Rattle.css_selectors.specs.Components.Simple.{universal, type_name, id, class, has_attribute, attribute, structure, language, state, function, named_element, nesting, namespaced, nth_of}
 use Rattle.css_selectors.specs.Components.Condition.{simple, negation, any_of, where_any}
 use Rattle.css_selectors.specs.Components.Conditions.{end_of_compound, with_condition}
 use Rattle.css_selectors.specs.Components.Parts.{end_of_selector, with_part}
@@ -141,16 +143,47 @@ abbrev pub argument_text : Option (List ℕ) → List ℕ
 argument_text None = []
 argument_text (Some argument) = codes "(" ++ argument ++ codes ")"
 
+-- by whether elements are numbered from the last
+abbrev pub nth_name : Bool → List ℕ
+nth_name last = if last then codes ":nth-last-child(" else codes ":nth-child("
+
+-- `An+B of` and a list, as it is written
+abbrev pub nth_of_text : Progression → List ℕ → List ℕ
+nth_of_text p selectors = progression_text p ++ codes " of " ++ selectors
+
+-- a namespace, as it is written before a name
+abbrev pub namespace_text : Namespace → List ℕ
+namespace_text absent = codes "|"
+namespace_text any_namespace = codes "*|"
+namespace_text (of_prefix prefix) = identifier_text prefix ++ codes "|"
+
+-- `[name]`, by what stands for the name
+abbrev pub some_attribute_text : List ℕ → List ℕ
+some_attribute_text name = codes "[" ++ name ++ codes "]"
+
+-- `[name=text]` and the like
+abbrev pub attribute_text : List ℕ → Comparison → List ℕ → Bool → List ℕ
+attribute_text name comparison value ignores_case =
+    codes "[" ++ name ++ comparison_text comparison ++ string_text value ++ flag_text ignores_case
+    ++ codes "]"
+
+-- a type or attribute selector, by what stands before its name
+abbrev pub local_text : List ℕ → Local → List ℕ
+local_text namespace any_type = namespace ++ codes "*"
+local_text namespace (a_type name) = namespace ++ identifier_text name
+local_text namespace (some_attribute name) = some_attribute_text (namespace ++ identifier_text name)
+local_text namespace (an_attribute name comparison value ignores_case) =
+    attribute_text (namespace ++ identifier_text name) comparison value ignores_case
+
 -- "serialize a simple selector"
 abbrev pub simple_text : Simple → List ℕ
 simple_text universal = codes "*"
 simple_text (type_name name) = identifier_text name
 simple_text (id name) = codes "#" ++ identifier_text name
 simple_text (class name) = codes "." ++ identifier_text name
-simple_text (has_attribute name) = codes "[" ++ identifier_text name ++ codes "]"
+simple_text (has_attribute name) = some_attribute_text (identifier_text name)
 simple_text (attribute name comparison value ignores_case) =
-    codes "[" ++ identifier_text name ++ comparison_text comparison ++ string_text value
-    ++ flag_text ignores_case ++ codes "]"
+    attribute_text (identifier_text name) comparison value ignores_case
 simple_text (structure s) = structure_text s
 simple_text (language ranges) = function_text (codes ":lang(") (list_text string_text ranges)
 simple_text (state name) = codes ":" ++ identifier_text name
@@ -159,6 +192,8 @@ simple_text (function name argument) =
 simple_text (named_element name argument) =
     codes "::" ++ identifier_text name ++ argument_text argument
 simple_text (nesting n) = codes "&"
+simple_text (namespaced namespace local) = local_text (namespace_text namespace) local
+simple_text (nth_of last p selectors) = function_text (nth_name last) (nth_of_text p selectors)
 
 abbrev pub combinator_text : Combinator → List ℕ
 combinator_text Descendant = codes " "

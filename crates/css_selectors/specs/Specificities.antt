@@ -1,7 +1,8 @@
 -- Specificity (section 9; Selectors 4, section 17, for lists). Each count stops at 4,294,967,295.
 use Rattle.std.specs.Prelude.{ℕ, ◌+◌, Bool, ◌&&◌, ◌||◌, ◌==◌, nat_lt, min, if◌then◌else◌, Option, None, Some}
-use Rattle.css_selectors.specs.Components.{Simple, Condition, Conditions, Parts, Selectors, conditions_from, parts_from, PseudoElement, Selector}
-use Rattle.css_selectors.specs.Components.Simple.{universal, type_name, id, class, has_attribute, attribute, structure, language, state, function, named_element, nesting}
+use Rattle.css_selectors.specs.Components.{Local, Simple, Condition, Conditions, Parts, Selectors, conditions_from, parts_from, PseudoElement, Selector}
+use Rattle.css_selectors.specs.Components.Local.{any_type, a_type, some_attribute, an_attribute}
+use Rattle.css_selectors.specs.Components.Simple.{universal, type_name, id, class, has_attribute, attribute, structure, language, state, function, named_element, nesting, namespaced, nth_of}
 use Rattle.css_selectors.specs.Components.Condition.{simple, negation, any_of, where_any}
 use Rattle.css_selectors.specs.Components.Conditions.{end_of_compound, with_condition}
 use Rattle.css_selectors.specs.Components.Parts.{end_of_selector, with_part}
@@ -46,6 +47,13 @@ is_less a b =
 abbrev pub greater : Counts → Counts → Counts
 greater a b = if is_less a b then b else a
 
+-- what is in a namespace counts as without one
+abbrev pub of_local : Local → Counts
+of_local any_type = nothing
+of_local (a_type name) = one_name
+of_local (some_attribute name) = one_class
+of_local (an_attribute name comparison text ignores) = one_class
+
 abbrev pub of_simple : Simple → Counts
 of_simple universal = nothing
 of_simple (type_name name) = one_name
@@ -63,6 +71,8 @@ of_simple (nesting list) = record {
   classes = list.specificity.classes;
   names = list.specificity.names;
 }
+of_simple (namespaced namespace local) = of_local local
+of_simple (nth_of last p selectors) = one_class
 
 abbrev mutual
   -- `:not()` and `:is()` count as the greatest of their lists, `:where()` counts nothing

@@ -2,7 +2,7 @@
 use Rattle.std.specs.Prelude.{◌&&◌, ◌-◌, nat_le, ℕ, Bool, true, false, not, if◌then◌else◌, List, [], ◌∷◌, map, codes, Option, None, Some, is_none}
 use Rattle.css_selectors.specs.declared.refusal.Why.TheVariants.{Unsupported}
 use Rattle.css_selectors.specs.Components.{Simple, Condition, Conditions, Parts, Selectors, parts_from, PseudoElement, Selector, Placed}
-use Rattle.css_selectors.specs.Components.Simple.{state, function, named_element}
+use Rattle.css_selectors.specs.Components.Simple.{state, function, named_element, namespaced, nth_of}
 use Rattle.css_selectors.specs.Components.Condition.{simple, negation, any_of, where_any}
 use Rattle.css_selectors.specs.Components.Conditions.{end_of_compound, with_condition}
 use Rattle.css_selectors.specs.Components.Parts.{end_of_selector, with_part}
@@ -12,11 +12,13 @@ use Rattle.css_selectors.specs.NestedTests.{search_count}
 use Rattle.css_selectors.specs.Readings.{Reading, got, refused, Reader}
 
 -- What has an argument that is kept as it is written has no meaning, nor has `:host`, which is an
--- element outside of the tree.
+-- element outside of the tree, nor what has a namespace, or a list after `An+B`.
 abbrev pub is_supported_simple : Simple → Bool
 is_supported_simple (state name) = not (is_word (codes "host") name)
 is_supported_simple (function name argument) = false
 is_supported_simple (named_element name argument) = false
+is_supported_simple (namespaced namespace local) = false
+is_supported_simple (nth_of last p selectors) = false
 is_supported_simple s = true
 
 -- How many selectors with combinators that stand in lists may be within one another: their tests

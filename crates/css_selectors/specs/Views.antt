@@ -9,17 +9,23 @@ use Rattle.css_selectors.specs.declared.components.Progression.{Progression as P
 use Rattle.css_selectors.specs.declared.components.Structure.{Structure as StructureOf}
 use Rattle.css_selectors.specs.declared.components.Structure.TheVariants.{Root, Scope, Empty, FirstChild, LastChild, OnlyChild, FirstOfType, LastOfType, OnlyOfType, NthChild, NthLastChild, NthOfType, NthLastOfType}
 use Rattle.css_selectors.specs.declared.components.Simple.{Simple as SimpleOf}
-use Rattle.css_selectors.specs.declared.components.Simple.TheVariants.{Universal, TypeName, Id, Class, HasAttribute, Attribute, Structure as StructureIs, Language, State, Function, Element, Nesting as NestingIs}
+use Rattle.css_selectors.specs.declared.components.Simple.TheVariants.{Universal, TypeName, Id, Class, HasAttribute, Attribute, Structure as StructureIs, Language, State, Function, Element, Nesting as NestingIs, Namespaced as NamespacedIs, NthOf as NthOfIs}
+use Rattle.css_selectors.specs.declared.components.Namespace.{Namespace as NamespaceOf}
+use Rattle.css_selectors.specs.declared.components.Namespace.TheVariants.{Absent, Any, Prefix}
+use Rattle.css_selectors.specs.declared.components.Local.{Local as LocalOf}
+use Rattle.css_selectors.specs.declared.components.Local.TheVariants.{Universal as AnyType, TypeName as AType, HasAttribute as SomeAttribute, Attribute as AnAttribute}
 use Rattle.css_selectors.specs.declared.components.Complex.{Complex, out-Complex}
 use Rattle.css_selectors.specs.declared.components.Condition.{Condition as ConditionOf, fold-Condition}
 use Rattle.css_selectors.specs.declared.components.Condition.TheOpen.{Condition-F, Complex-F, Part-F}
 use Rattle.css_selectors.specs.declared.components.Part.{Part as PartOf}
 use Rattle.css_selectors.specs.declared.components.ElementName.{ElementName}
 use Rattle.css_selectors.specs.declared.components.PseudoElement.{PseudoElement as PseudoElementOf}
-use Rattle.css_selectors.specs.Components.{Comparison, Signed, Progression, Structure, Simple, Condition, selectors_from, Part, PseudoElement}
+use Rattle.css_selectors.specs.Components.{Comparison, Signed, Progression, Structure, Namespace, Local, Simple, Condition, selectors_from, Part, PseudoElement}
 use Rattle.css_selectors.specs.Components.Comparison.{equals, has_word, has_subtag, starts, ends, contains}
 use Rattle.css_selectors.specs.Components.Structure.{root, scope, empty, first_child, last_child, only_child, first_of_type, last_of_type, only_of_type, nth_child, nth_last_child, nth_of_type, nth_last_of_type}
-use Rattle.css_selectors.specs.Components.Simple.{universal, type_name, id, class, has_attribute, attribute, structure, language, state, function, named_element, nesting}
+use Rattle.css_selectors.specs.Components.Namespace.{absent, any_namespace, of_prefix}
+use Rattle.css_selectors.specs.Components.Local.{any_type, a_type, some_attribute, an_attribute}
+use Rattle.css_selectors.specs.Components.Simple.{universal, type_name, id, class, has_attribute, attribute, structure, language, state, function, named_element, nesting, namespaced, nth_of}
 use Rattle.css_selectors.specs.Components.Condition.{simple, negation, any_of, where_any}
 
 abbrev pub comparison_of : ComparisonOf → Comparison
@@ -51,6 +57,19 @@ structure_of (NthLastChild p) = nth_last_child (progression_of p)
 structure_of (NthOfType p) = nth_of_type (progression_of p)
 structure_of (NthLastOfType p) = nth_last_of_type (progression_of p)
 
+abbrev pub namespace_of : NamespaceOf → Namespace
+namespace_of Absent = absent
+namespace_of Any = any_namespace
+namespace_of (Prefix prefix) = of_prefix (cow_str_bytes prefix)
+
+abbrev pub local_of : LocalOf → Local
+local_of AnyType = any_type
+local_of (AType name) = a_type (cow_str_bytes name)
+local_of (SomeAttribute name) = some_attribute (cow_str_bytes name)
+local_of (AnAttribute test) =
+    an_attribute (cow_str_bytes test.name) (comparison_of test.comparison) (cow_str_bytes test.text)
+    test.ignores_case
+
 abbrev pub simple_of : SimpleOf → Simple
 simple_of Universal = universal
 simple_of (TypeName name) = type_name (cow_str_bytes name)
@@ -66,6 +85,8 @@ simple_of (State name) = state (cow_str_bytes name)
 simple_of (Function call) = function (cow_str_bytes call.name) (cow_str_bytes call.argument)
 simple_of (Element e) = named_element (cow_str_bytes e.name) (option_map cow_str_bytes e.argument)
 simple_of (NestingIs n) = nesting n
+simple_of (NamespacedIs n) = namespaced (namespace_of n.namespace) (local_of n.local)
+simple_of (NthOfIs n) = nth_of n.from_last (progression_of n.progression) (cow_str_bytes n.selectors)
 
 -- one level, with what is within its lists already seen as the definitions see it
 abbrev pub condition_step : Condition-F Condition (List Part) Part → Condition

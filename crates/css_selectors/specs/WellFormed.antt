@@ -2,15 +2,17 @@
 use Rattle.std.specs.Prelude.{◌≡◌, ◌<◌, ◌≤◌, ◌&&◌, ℕ, zero, suc, Bool, true, false, List, [], ◌∷◌, ◌++◌, codes, length, All, Option, None}
 use Rattle.std.specs.Option.{ForSome, is_some}
 use Rattle.css_matching.specs.declared.Combinator.TheVariants.{Descendant}
-use Rattle.css_selectors.specs.Components.{Signed, Progression, Structure, Simple, outermost, Condition, Conditions, Parts, Selectors, Part, PseudoElement, Selector}
+use Rattle.css_selectors.specs.Components.{Signed, Progression, Structure, Namespace, Local, Simple, outermost, Condition, Conditions, Parts, Selectors, Part, PseudoElement, Selector}
 use Rattle.css_selectors.specs.Components.Structure.{nth_child, nth_last_child, nth_of_type, nth_last_of_type}
-use Rattle.css_selectors.specs.Components.Simple.{universal, type_name, id, class, has_attribute, attribute, structure, language, state, function, named_element, nesting}
+use Rattle.css_selectors.specs.Components.Namespace.{absent, any_namespace, of_prefix}
+use Rattle.css_selectors.specs.Components.Local.{any_type, a_type, some_attribute, an_attribute}
+use Rattle.css_selectors.specs.Components.Simple.{universal, type_name, id, class, has_attribute, attribute, structure, language, state, function, named_element, nesting, namespaced, nth_of}
 use Rattle.css_selectors.specs.Components.Condition.{simple, negation, any_of, where_any}
 use Rattle.css_selectors.specs.Components.Conditions.{end_of_compound, with_condition}
 use Rattle.css_selectors.specs.Components.Parts.{end_of_selector, with_part}
 use Rattle.css_selectors.specs.Components.Selectors.{end_of_list, with_selector}
 use Rattle.css_selectors.specs.Readings.{got}
-use Rattle.css_selectors.specs.Grammar.{argument, takes_none, plain_structure, is_old_element, list_kind, function_named, deepest}
+use Rattle.css_selectors.specs.Grammar.{argument, takes_none, plain_structure, is_old_element, list_kind, function_named, is_list_text, list_within, deepest}
 
 -- a name is not empty
 abbrev pub IsName : List ℕ → Type 0
@@ -38,42 +40,68 @@ IsArgument a = argument (a ++ codes ")") ≡ got a []
 abbrev pub IsArgumentOf : List ℕ → List ℕ → Type 0
 IsArgumentOf name a = (takes_none name ≡ false) × IsArgument a
 
--- A simple selector that may follow others. `*`, a type and a pseudo-element may not. A pseudo-class
--- that is a structural one by its name is no other, and none has the name of a pseudo-element that
--- may have one colon. `&` stands for what it does outside of nested rules.
-abbrev pub IsFurther : Simple → Type 0
-IsFurther universal = ⊥
-IsFurther (type_name name) = ⊥
-IsFurther (id name) = IsName name
-IsFurther (class name) = IsName name
-IsFurther (has_attribute name) = IsName name
-IsFurther (attribute name comparison value ignores_case) = IsName name
-IsFurther (structure s) = IsStructure s
-IsFurther (language ranges) = 0 < length ranges
-IsFurther (state name) =
+abbrev pub IsNamespace : Namespace → Type 0
+IsNamespace absent = Unit {0}
+IsNamespace any_namespace = Unit {0}
+IsNamespace (of_prefix prefix) = IsName prefix
+
+-- an attribute selector
+abbrev pub IsAttribute : Local → Type 0
+IsAttribute any_type = ⊥
+IsAttribute (a_type name) = ⊥
+IsAttribute (some_attribute name) = IsName name
+IsAttribute (an_attribute name comparison value ignores_case) = IsName name
+
+-- a type or attribute selector
+abbrev pub IsLocal : Local → Type 0
+IsLocal any_type = Unit {0}
+IsLocal (a_type name) = IsName name
+IsLocal local = IsAttribute local
+
+-- the text is a list of selectors, with lists nested at most `n` deep, itself included
+abbrev pub IsListText : ℕ → List ℕ → Type 0
+IsListText n selectors = is_list_text (list_within n) selectors ≡ true
+
+-- A simple selector that may follow others, with lists nested at most `n` deep. `*`, a type and a
+-- pseudo-element may not. A pseudo-class that is a structural one by its name is no other, and none has
+-- the name of a pseudo-element that may have one colon. `&` stands for what it does outside of nested
+-- rules.
+abbrev pub IsFurther : ℕ → Simple → Type 0
+IsFurther n universal = ⊥
+IsFurther n (type_name name) = ⊥
+IsFurther n (id name) = IsName name
+IsFurther n (class name) = IsName name
+IsFurther n (has_attribute name) = IsName name
+IsFurther n (attribute name comparison value ignores_case) = IsName name
+IsFurther n (structure s) = IsStructure s
+IsFurther n (language ranges) = 0 < length ranges
+IsFurther n (state name) =
     IsName name × (plain_structure name ≡ None) × (is_old_element name ≡ false)
-IsFurther (function name a) =
+IsFurther n (function name a) =
     IsName name × (list_kind name ≡ None) × (function_named name ≡ None) × IsArgumentOf name a
-IsFurther (named_element name a) = ⊥
-IsFurther (nesting list) = list ≡ outermost
+IsFurther n (named_element name a) = ⊥
+IsFurther n (nesting list) = list ≡ outermost
+IsFurther n (namespaced namespace local) = IsNamespace namespace × IsAttribute local
+IsFurther n (nth_of last p selectors) = IsProgression p × IsArgument selectors × IsListText n selectors
 
 -- a simple selector that may be the first
-abbrev pub IsFirst : Simple → Type 0
-IsFirst universal = Unit {0}
-IsFirst (type_name name) = IsName name
-IsFirst s = IsFurther s
+abbrev pub IsFirst : ℕ → Simple → Type 0
+IsFirst n universal = Unit {0}
+IsFirst n (type_name name) = IsName name
+IsFirst n (namespaced namespace local) = IsNamespace namespace × IsLocal local
+IsFirst n s = IsFurther n s
 
 abbrev mutual
   -- a condition that may follow others, with lists nested at most `n` deep
   pub IsFurtherCondition : ℕ → Condition → Type 0
-  IsFurtherCondition n (simple s) = IsFurther s
+  IsFurtherCondition n (simple s) = IsFurther n s
   IsFurtherCondition n (negation selectors) = IsList false n selectors
   IsFurtherCondition n (any_of selectors) = IsList true n selectors
   IsFurtherCondition n (where_any selectors) = IsList true n selectors
 
   -- a condition that may be the first
   pub IsFirstCondition : ℕ → Condition → Type 0
-  IsFirstCondition n (simple s) = IsFirst s
+  IsFirstCondition n (simple s) = IsFirst n s
   IsFirstCondition n (negation selectors) = IsList false n selectors
   IsFirstCondition n (any_of selectors) = IsList true n selectors
   IsFirstCondition n (where_any selectors) = IsList true n selectors
@@ -133,6 +161,7 @@ is_pseudo_class (structure s) = true
 is_pseudo_class (language ranges) = true
 is_pseudo_class (state name) = true
 is_pseudo_class (function name a) = true
+is_pseudo_class (nth_of last p selectors) = true
 is_pseudo_class s = false
 
 -- the name of a pseudo-element, and its argument
@@ -142,7 +171,7 @@ IsElementName name a = IsName name × ForSome a (IsArgumentOf name)
 -- what may follow a pseudo-element
 abbrev pub IsAfterElement : Condition → Type 0
 IsAfterElement (simple (named_element name a)) = IsElementName name a
-IsAfterElement (simple s) = (is_pseudo_class s ≡ true) × IsFurther s
+IsAfterElement (simple s) = (is_pseudo_class s ≡ true) × IsFurther deepest s
 IsAfterElement c = IsFurtherCondition deepest c
 
 abbrev pub IsPseudoElement : PseudoElement → Type 0

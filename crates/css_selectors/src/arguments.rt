@@ -35,8 +35,8 @@ fn read_parenthesis(text: &str) -> Result<((), &str), Refusal<'_>>
 
 /// Reads an argument that is kept as it is written, from after its parenthesis.
 #[tactic(auto, unfolding(crate::specs::Grammar::argument))]
-pub(crate) fn read_kept<'a>(text: &'a str) -> Result<(CowStr<'a>, &'a str), Refusal<'a>>
-    ensures { Reads cow_str_bytes result (argument text.now) }
+pub(crate) fn read_kept(text: &str) -> Result<(&str, &str), Refusal<'_>>
+    ensures { reading_of (λ a. a.now) result ≡ argument text.now }
 {
     let stops = Stops {
         semicolon: false,
@@ -51,5 +51,5 @@ pub(crate) fn read_kept<'a>(text: &'a str) -> Result<(CowStr<'a>, &'a str), Refu
         return Err(Refusal::new(Why::Unexpected, start));
     }
     let (_, rest) = read_parenthesis(parts.rest)?;
-    Ok((CowStr::Borrowed(parts.text), rest))
+    Ok((parts.text, rest))
 }

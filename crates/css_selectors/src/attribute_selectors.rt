@@ -2,12 +2,13 @@
 ghost use Rattle.std.specs.Prelude.{◌≡◌, option_map};
 ghost use Rattle.css_text.specs.Bytes.{starts_by};
 ghost use Rattle.css_selectors.specs.Grammar.{is_sign_byte, two_bytes as two_bytes_of, comparison as comparison_of_text};
-ghost use Rattle.css_selectors.specs.Grammar.{value as value_of, flag as flag_of, compared, attribute_selector};
+ghost use Rattle.css_selectors.specs.Grammar.{value as value_of, flag as flag_of, compared, attribute_from_name, attribute_selector};
 ghost use Rattle.css_selectors.specs.internal.Reads.{reading_of, Reads};
 ghost use Rattle.std.specs.Cow.{cow_str_bytes};
-ghost use Rattle.css_selectors.specs.Views.{comparison_of, simple_of};
+ghost use Rattle.css_selectors.specs.Views.{comparison_of, local_of, simple_of};
 
-use crate::components::{AttributeTest, Comparison, Simple};
+use crate::components::{AttributeTest, Comparison, Local, Simple};
+use crate::namespaces::{in_namespace, read_namespace};
 use crate::refusal::{Refusal, Why};
 use crate::texts::split_ascii;
 use crate::words::{read_closing, read_gap, read_name, read_string};
@@ -106,8 +107,8 @@ fn read_compared<'a>(
     name: CowStr<'a>,
     comparison: Comparison,
     text: &'a str,
-) -> Result<(Simple<'a>, &'a str), Refusal<'a>>
-    ensures { Reads simple_of result
+) -> Result<(Local<'a>, &'a str), Refusal<'a>>
+    ensures { Reads local_of result
         (compared (cow_str_bytes name.entry) (comparison_of comparison) text.now) }
 {
     let (_, rest) = read_gap(text);
@@ -122,7 +123,24 @@ fn read_compared<'a>(
         text: value,
         ignores_case,
     };
-    Ok((Simple::Attribute(test), rest))
+    Ok((Local::Attribute(test), rest))
+}
+
+/// Reads an attribute selector, from its name on.
+#[tactic(auto, unfolding(crate::specs::Grammar::attribute_from_name))]
+fn read_from_name<'a>(alloc: Global, text: &'a str) -> Result<(Local<'a>, &'a str), Refusal<'a>>
+    ensures { Reads local_of result (attribute_from_name text.now) }
+{
+    let (name, rest) = read_name(alloc, text)?;
+    let (_, rest) = read_gap(rest);
+    let (comparison, rest) = read_comparison(rest)?;
+    match comparison {
+        None => {
+            let (_, rest) = read_closing(b']', rest)?;
+            Ok((Local::HasAttribute(name), rest))
+        }
+        Some(comparison) => read_compared(alloc, name, comparison, rest),
+    }
 }
 
 /// Reads an attribute selector, from after its bracket.
@@ -134,14 +152,7 @@ pub(crate) fn read_attribute<'a>(
     ensures { Reads simple_of result (attribute_selector text.now) }
 {
     let (_, rest) = read_gap(text);
-    let (name, rest) = read_name(alloc, rest)?;
-    let (_, rest) = read_gap(rest);
-    let (comparison, rest) = read_comparison(rest)?;
-    match comparison {
-        None => {
-            let (_, rest) = read_closing(b']', rest)?;
-            Ok((Simple::HasAttribute(name), rest))
-        }
-        Some(comparison) => read_compared(alloc, name, comparison, rest),
-    }
+    let (namespace, rest) = read_namespace(alloc, rest)?;
+    let (local, rest) = read_from_name(alloc, rest)?;
+    Ok((in_namespace(namespace, local), rest))
 }

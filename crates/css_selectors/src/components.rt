@@ -115,6 +115,39 @@ pub struct AttributeTest<'a> {
     pub ignores_case: bool,
 }
 
+/// What namespace a name is in.
+#[derive(Drop)]
+pub enum Namespace<'a> {
+    /// `|`: none.
+    Absent,
+    /// `*|`: any.
+    Any,
+    /// `prefix|`: that of the prefix.
+    Prefix(CowStr<'a>),
+}
+
+/// What is in a namespace: a type selector, or an attribute selector.
+#[derive(Drop)]
+pub enum Local<'a> {
+    /// `*`
+    Universal,
+    /// A name.
+    TypeName(CowStr<'a>),
+    /// `[name]`
+    HasAttribute(CowStr<'a>),
+    /// `[name=text]` and the like
+    Attribute(AttributeTest<'a>),
+}
+
+/// A type or attribute selector with a namespace.
+#[derive(Drop)]
+pub struct Namespaced<'a> {
+    /// What is before the bar.
+    pub namespace: Namespace<'a>,
+    /// The selector without it.
+    pub local: Local<'a>,
+}
+
 /// A pseudo-class with an argument that has no meaning here.
 #[derive(Drop)]
 pub struct FunctionCall<'a> {
@@ -131,6 +164,17 @@ pub struct ElementName<'a> {
     pub name: CowStr<'a>,
     /// What is in its parentheses, if it has any, as written, without blanks at either end.
     pub argument: Option<CowStr<'a>>,
+}
+
+/// `:nth-child(An+B of S)` or `:nth-last-child(An+B of S)`.
+#[derive(Drop)]
+pub struct NthOf<'a> {
+    /// Whether elements are numbered from the last.
+    pub from_last: bool,
+    /// `An+B`.
+    pub progression: Progression,
+    /// The list, as written, without blanks at either end.
+    pub selectors: CowStr<'a>,
 }
 
 /// What `&` stands for: a list of selectors.
@@ -175,6 +219,10 @@ pub enum Simple<'a> {
     Element(ElementName<'a>),
     /// `&`, with the list that it stands for.
     Nesting(Nesting),
+    /// A type or attribute selector with a namespace. No element satisfies it.
+    Namespaced(Namespaced<'a>),
+    /// `:nth-child(..)` or `:nth-last-child(..)` with a list. No element satisfies it.
+    NthOf(NthOf<'a>),
 }
 
 /// A simple selector, or a pseudo-class with a list of complex selectors.

@@ -1,52 +1,45 @@
 //! Reads compound selectors and lists of them.
 ghost use Rattle.std.specs.Prelude.{◌≡◌, ◌∷◌, ◌++◌, [], ℕ, List, map, IfOk, option_map, option_to_list};
-ghost use Rattle.css_selectors.specs.Grammar.{type_selector, next_simple as next_simple_of, compound as compound_of_text};
+ghost use Rattle.css_selectors.specs.Grammar.{next_simple as next_simple_of, compound as compound_of_text};
 ghost use Rattle.css_selectors.specs.Grammar.{next_part_in as next_part_of, complex as complex_of_text};
 ghost use Rattle.css_selectors.specs.Grammar.{ends_part as ends_part_of, past_part as past_part_of, is_lasting as is_lasting_of, no_selector as no_selector_of, part_end, gap};
 ghost use Rattle.css_selectors.specs.Grammar.{listed_part, next_listed as next_listed_of, selectors_after, is_forgiving as is_forgiving_of, list_by, listed as listed_as};
-ghost use Rattle.css_selectors.specs.Grammar.{list_kind as list_kind_of, function_named as function_of};
+ghost use Rattle.css_selectors.specs.Grammar.{list_kind as list_kind_of, function_named as function_of, of_list, after_progression, from_last as from_last_of, functional};
 ghost use Rattle.std.specs.Cow.{cow_str_bytes};
 ghost use Rattle.css_selectors.specs.Grammar.{name as name_of, list_within, with_argument, pseudo_condition, begins_pseudo_class as begins_pseudo_class_of};
 ghost use Rattle.css_selectors.specs.Grammar.{next_condition as next_condition_of, conditions as conditions_of};
 ghost use Rattle.css_selectors.specs.Components.Condition.{simple};
 ghost use Rattle.css_selectors.specs.Readings.{step_after, items, found_before};
 ghost use Rattle.css_selectors.specs.internal.Reads.{Reads, Finds};
-ghost use Rattle.css_selectors.specs.Views.{simple_of, condition_of, part_of, complex_of};
+ghost use Rattle.css_selectors.specs.Views.{progression_of, simple_of, condition_of, part_of, complex_of};
 
 use crate::Combinator;
+use crate::arguments::read_kept;
 use crate::attribute_selectors::read_attribute;
-use crate::components::{Complex, Condition, ListKind, OUTERMOST, Part, Simple};
+use crate::components::{
+    Complex, Condition, Function, FunctionCall, ListKind, NthOf, Numbering, OUTERMOST, Part,
+    Progression, Simple,
+};
 use crate::joins::{begins_compound, take_sign};
+use crate::languages::read_ranges;
+use crate::namespaces::read_type;
+use crate::numbers::read_progression;
 use crate::pseudo_classes::{
-    function_named, is_old_element, list_kind, plain_pseudo, read_functional,
+    from_last, function_named, is_old_element, list_kind, numbered_by, plain_pseudo,
+    read_argument_of,
 };
 use crate::refusal::{Refusal, Why};
 use crate::texts::split_ascii;
 use crate::words::{
     begins_name, past_comments, read_closing, read_gap, read_ident_sequence, read_name,
 };
-use css_syntax::texts::{past_ascii, read_value};
+use css_syntax::texts::{past_ascii, past_gap, read_value};
 use css_text::readers;
 use std::alloc::{AllocFailed, Global};
 use std::borrow::CowStr;
 
 /// How many lists may be open at once.
 pub(crate) const DEEPEST: usize = 32;
-
-/// Reads `*` or a name, if one is next.
-#[tactic(auto, unfolding(crate::specs::Grammar::type_selector))]
-fn read_type<'a>(alloc: Global, text: &'a str) -> Result<Option<(Simple<'a>, &'a str)>, Refusal<'a>>
-    ensures { Finds simple_of result (type_selector text.now) }
-{
-    if let Some((b'*', rest)) = split_ascii(text) {
-        return Ok(Some((Simple::Universal, rest)));
-    }
-    if !begins_name(text) {
-        return Ok(None);
-    }
-    let (name, rest) = read_name(alloc, text)?;
-    Ok(Some((Simple::TypeName(name), rest)))
-}
 
 /// Reads the next simple selector of a compound selector, if one is next that is no pseudo-class.
 #[tactic(auto, unfolding(crate::specs::Grammar::next_simple))]
@@ -381,6 +374,95 @@ fn read_list<'a>(
     Ok((selectors, rest))
 }
 
+/// Reads the list after `of`, which is kept as it is written.
+#[cycle(lists)]
+#[tactic(auto, unfolding(crate::specs::Grammar::of_list))]
+fn read_of<'a>(
+    alloc: Global,
+    depth: usize,
+    from_last: bool,
+    progression: Progression,
+    text: &'a str,
+) -> Result<(Simple<'a>, &'a str), Refusal<'a>>
+    ensures { Reads simple_of result
+        (of_list (list_within depth) from_last (progression_of progression) text.now) }
+{
+    let (argument, rest) = read_kept(text)?;
+    match read_list(alloc, depth, ListKind::Not, argument, argument) {
+        Ok((_, after)) if after.is_empty() => {
+            let numbered = NthOf {
+                from_last,
+                progression,
+                selectors: CowStr::Borrowed(argument),
+            };
+            Ok((Simple::NthOf(numbered), rest))
+        }
+        Ok(_) => Err(Refusal::new(Why::Unexpected, past_gap(text))),
+        Err(refusal) => Err(Refusal::new(refusal.why, past_gap(text))),
+    }
+}
+
+/// Reads what is after `An+B`.
+#[cycle(lists)]
+fn read_after_progression<'a>(
+    alloc: Global,
+    depth: usize,
+    numbering: Numbering,
+    progression: Progression,
+    text: &'a str,
+) -> Result<(Simple<'a>, &'a str), Refusal<'a>>
+    ensures { Reads simple_of result
+        (after_progression (list_within depth) numbering (progression_of progression)
+        (from_last_of numbering) text.now) }
+{
+    match from_last(numbering) {
+        Some(from_last) if begins_name(text) => {
+            let (word, rest) = read_name(alloc, text)?;
+            if word.as_str().eq_ignore_ascii_case("of") {
+                read_of(alloc, depth, from_last, progression, rest)
+            } else {
+                Err(Refusal::new(Why::Unexpected, text))
+            }
+        }
+        _ => {
+            let (_, rest) = read_closing(b')', text)?;
+            Ok((Simple::Structure(numbered_by(numbering, progression)), rest))
+        }
+    }
+}
+
+/// Reads the argument of a functional pseudo-class without a list of its own. `opened` is the text from
+/// its colon on.
+#[cycle(lists)]
+fn read_functional<'a>(
+    alloc: Global,
+    depth: usize,
+    opened: &'a str,
+    name: CowStr<'a>,
+    function: Option<Function>,
+    text: &'a str,
+) -> Result<(Simple<'a>, &'a str), Refusal<'a>>
+    ensures { Reads simple_of result
+        (functional (list_within depth) opened.now (cow_str_bytes name.entry) function text.now) }
+{
+    match function {
+        None => {
+            let (argument, rest) = read_argument_of(opened, name.as_str(), text)?;
+            Ok((Simple::Function(FunctionCall { name, argument }), rest))
+        }
+        Some(Function::Language) => {
+            let (ranges, rest) = read_ranges(alloc, text)?;
+            Ok((Simple::Language(ranges), rest))
+        }
+        Some(Function::Numbered(numbering)) => {
+            let (_, rest) = read_gap(text);
+            let (progression, rest) = read_progression(alloc, rest)?;
+            let (_, rest) = read_gap(rest);
+            read_after_progression(alloc, depth, numbering, progression, rest)
+        }
+    }
+}
+
 /// Reads the argument of a functional pseudo-class of this name. `opened` is the text from its colon
 /// on.
 #[cycle(lists)]
@@ -402,7 +484,7 @@ fn read_argument<'a>(
         }
         None => {
             let function = function_named(name.as_str());
-            let (simple, rest) = read_functional(alloc, opened, name, function, text)?;
+            let (simple, rest) = read_functional(alloc, depth, opened, name, function, text)?;
             Ok((Condition::Simple(simple), rest))
         }
     }

@@ -58,7 +58,9 @@ fn key_of_simple<'s>(simple: &'s Simple<'_>) -> Key<'s>
         | Simple::State(_)
         | Simple::Function(_)
         | Simple::Element(_)
-        | Simple::Nesting(_) => Key::Any,
+        | Simple::Nesting(_)
+        | Simple::Namespaced(_)
+        | Simple::NthOf(_) => Key::Any,
     }
 }
 

@@ -11,8 +11,8 @@
 //!
 //! A pseudo-element may have an argument, and pseudo-classes and further pseudo-elements after it. Its
 //! argument, and that of a pseudo-class that has no meaning here, is kept as it is written. A selector
-//! with one of these, or with `:host`, is unsupported: `parse` refuses it as such, and `read_list`
-//! reads it.
+//! with one of these, with `:host`, a namespace, or a list after `An+B`, is unsupported: `parse` refuses
+//! it as such, and `read_list` reads it.
 //!
 //! `&` stands for a list of selectors by its number, of which the element is asked. `parse` reads it as
 //! what it is outside of nested rules, `:scope`. `parse_nested_list` reads the list of a nested rule, whose
@@ -23,7 +23,7 @@
 //! `Element`.
 //!
 //! Lists may be 32 deep within one another. A selector with combinators in a list of another that is
-//! in a list is unsupported. Namespaces are not read.
+//! in a list is unsupported.
 #![tactic(auto)]
 
 mod after_key;
@@ -42,11 +42,13 @@ mod languages;
 mod matching;
 mod matching_laws;
 mod meeting;
+mod namespaces;
 mod nested;
 mod nesting;
 mod nesting_laws;
 mod numbers;
 mod occurrences;
+mod originating;
 mod printing;
 mod printing_laws;
 mod progression;
@@ -64,8 +66,9 @@ mod texts;
 mod words;
 
 pub use components::{
-    AttributeTest, Comparison, Complex, Condition, ElementName, FunctionCall, Nesting, OUTERMOST,
-    Part, Progression, PseudoElement, Signed, Simple, Structure,
+    AttributeTest, Comparison, Complex, Condition, ElementName, FunctionCall, Local, Namespace,
+    Namespaced, Nesting, NthOf, OUTERMOST, Part, Progression, PseudoElement, Signed, Simple,
+    Structure,
 };
 pub use css_matching::{Combinator, Tests};
 pub use element::Element;
@@ -73,4 +76,4 @@ pub use escaping::{escape, quote};
 pub use key::Key;
 pub use refusal::{Refusal, Why};
 pub use selector::{Listed, Selector};
-pub use specificity::Specificity;
+pub use specificity::{NOTHING, Specificity, greater};

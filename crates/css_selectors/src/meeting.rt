@@ -92,7 +92,8 @@ fn holds<E: Element>(simple: &Simple<'_>, element: &E) -> bool
         Simple::Structure(structure) => is_placed_on(*structure, element),
         Simple::Language(ranges) => is_in_any(ranges.as_slice(), element),
         Simple::State(name) => element.is_in_state(name.as_str()),
-        Simple::Function(_) | Simple::Element(_) => false,
+        Simple::Function(_) | Simple::Element(_) | Simple::Namespaced(_) | Simple::NthOf(_) =>
+            false,
         Simple::Nesting(list) => element.is_in_list(list.number),
     }
 }

@@ -1,4 +1,4 @@
-//! `&` in selectors: whether there is one, and for which list it stands.
+//! `&` in selectors: whether there is one, and which list it denotes.
 ghost use Rattle.std.specs.Prelude.{◌≡◌, ◌||◌, IfOk, false, map, option_map};
 ghost use Rattle.css_selectors.specs.Components.{conditions_from, parts_from, selectors_from};
 ghost use Rattle.css_selectors.specs.Nested.{has_ampersand as has_ampersand_of, is_nesting as is_nesting_of};
@@ -40,6 +40,7 @@ fn is_nesting(simple: &Simple<'_>) -> bool
         Simple::Nesting(_) => true,
         Simple::Function(call) => has_ampersand(call.argument.as_str()),
         Simple::Element(element) => is_nesting_element(element),
+        Simple::NthOf(numbered) => has_ampersand(numbered.selectors.as_str()),
         Simple::Universal
         | Simple::TypeName(_)
         | Simple::Id(_)
@@ -48,7 +49,8 @@ fn is_nesting(simple: &Simple<'_>) -> bool
         | Simple::Attribute(_)
         | Simple::Structure(_)
         | Simple::Language(_)
-        | Simple::State(_) => false,
+        | Simple::State(_)
+        | Simple::Namespaced(_) => false,
     }
 }
 
@@ -131,7 +133,7 @@ fn has_nesting(selector: &Selector<'_>) -> bool
     )
 }
 
-/// Returns the simple selector in which `&` stands for the list.
+/// Returns the simple selector in which `&` denotes the list.
 fn simple_under<'a>(list: Nesting, simple: Simple<'a>) -> Simple<'a>
     ensures { simple_of result ≡ simple_under_of list (simple_of simple.entry) }
 {
@@ -141,7 +143,7 @@ fn simple_under<'a>(list: Nesting, simple: Simple<'a>) -> Simple<'a>
     }
 }
 
-/// Returns the selectors of a list in which `&` stands for another.
+/// Returns the selectors of a list in which `&` denotes another.
 #[cycle(nesting)]
 fn selectors_under<'a>(
     alloc: Global,
@@ -159,7 +161,7 @@ fn selectors_under<'a>(
     Ok(under)
 }
 
-/// Returns the condition in which `&` stands for the list.
+/// Returns the condition in which `&` denotes the list.
 #[cycle(nesting)]
 fn condition_under<'a>(
     alloc: Global,
@@ -177,7 +179,7 @@ fn condition_under<'a>(
     }
 }
 
-/// Returns the conditions in which `&` stands for the list.
+/// Returns the conditions in which `&` denotes the list.
 #[cycle(nesting)]
 fn conditions_under<'a>(
     alloc: Global,
@@ -194,7 +196,7 @@ fn conditions_under<'a>(
     Ok(under)
 }
 
-/// Returns the parts in which `&` stands for the list.
+/// Returns the parts in which `&` denotes the list.
 #[cycle(nesting)]
 fn parts_under<'a>(
     alloc: Global,
@@ -215,7 +217,7 @@ fn parts_under<'a>(
     Ok(under)
 }
 
-/// Returns the pseudo-element in which `&` stands for the list, if there is one.
+/// Returns the pseudo-element in which `&` denotes the list, if there is one.
 fn element_under<'a>(
     alloc: Global,
     list: Nesting,

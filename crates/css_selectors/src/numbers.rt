@@ -96,6 +96,9 @@ fn read_offset<'a>(
         return Err(Refusal::new(Why::NoProgression, text));
     }
     let (size, rest) = read_digits(text);
+    if begins_name(rest) {
+        return Err(Refusal::new(Why::NoProgression, text));
+    }
     let offset = Signed { is_negative, size };
     Ok((Progression { step, offset }, rest))
 }

@@ -8,14 +8,14 @@ ghost use Rattle.std.specs.Option.{option_map};
 ghost use Rattle.std.specs.Result.{IsOk};
 ghost use Rattle.css_selectors.specs.Printing.{minus_text, signed_text, is_zero as is_zero_number, size_text, plus_text, offset_text, progression_text};
 ghost use Rattle.css_selectors.specs.Printing.{comparison_text, flag_text, function_text, structure_text, list_text, further_text, string_text, identifier_text, argument_text};
-ghost use Rattle.css_selectors.specs.Printing.{simple_text, condition_text, combinator_text, part_text, parts_text};
+ghost use Rattle.css_selectors.specs.Printing.{nth_name, nth_of_text, namespace_text, some_attribute_text, attribute_text, local_text, simple_text, condition_text, combinator_text, part_text, parts_text};
 ghost use Rattle.css_selectors.specs.Printing.{pseudo_element_text, selector_text};
-ghost use Rattle.css_selectors.specs.Views.{comparison_of, signed_of, progression_of, structure_of, simple_of, complex_of, condition_of, part_of, pseudo_element_of};
-ghost use Rattle.css_selectors.specs.declared.components.Simple.TheVariants.{Function, Element};
+ghost use Rattle.css_selectors.specs.Views.{comparison_of, signed_of, progression_of, structure_of, namespace_of, local_of, simple_of, complex_of, condition_of, part_of, pseudo_element_of};
+ghost use Rattle.css_selectors.specs.declared.components.Simple.TheVariants.{Function, Element, NthOf as NthOfIs};
 
 use crate::components::{
-    AttributeTest, Comparison, Complex, Condition, ElementName, FunctionCall, Part, Progression,
-    PseudoElement, Signed, Simple, Structure,
+    AttributeTest, Comparison, Complex, Condition, ElementName, FunctionCall, Local, Namespace,
+    Namespaced, NthOf, Part, Progression, PseudoElement, Signed, Simple, Structure,
 };
 use crate::spelling::{write_identifier, write_string};
 use crate::{Combinator, Selector};
@@ -289,6 +289,145 @@ fn write_element<W: fmt::Write>(f: &mut fmt::Formatter<W>, element: &ElementName
     write_any_argument(f, &element.argument)
 }
 
+/// Writes a prefix and a bar.
+fn write_prefix<W: fmt::Write>(f: &mut fmt::Formatter<W>, prefix: &str) -> fmt::Result
+    ensures { WritesStyledOnOk W.write_str_gives f.old result
+        (identifier_text prefix.now ++ codes "|") f.new }
+{
+    write_identifier(f, prefix)?;
+    f.write_str("|")
+}
+
+/// Writes a namespace before a name.
+fn write_namespace<W: fmt::Write>(f: &mut fmt::Formatter<W>, namespace: &Namespace) -> fmt::Result
+    ensures { WritesStyledOnOk W.write_str_gives f.old result
+        (namespace_text (namespace_of namespace.now)) f.new }
+{
+    match namespace {
+        Namespace::Absent => f.write_str("|"),
+        Namespace::Any => f.write_str("*|"),
+        Namespace::Prefix(prefix) => write_prefix(f, prefix.as_str()),
+    }
+}
+
+/// Writes a namespace and `*`.
+fn write_any_in<W: fmt::Write>(f: &mut fmt::Formatter<W>, namespace: &Namespace) -> fmt::Result
+    ensures { WritesStyledOnOk W.write_str_gives f.old result
+        (namespace_text (namespace_of namespace.now) ++ codes "*") f.new }
+{
+    write_namespace(f, namespace)?;
+    f.write_str("*")
+}
+
+/// Writes a namespace and a name.
+fn write_qualified<W: fmt::Write>(
+    f: &mut fmt::Formatter<W>,
+    namespace: &Namespace,
+    name: &str,
+) -> fmt::Result
+    ensures { WritesStyledOnOk W.write_str_gives f.old result
+        (namespace_text (namespace_of namespace.now) ++ identifier_text name.now) f.new }
+{
+    write_namespace(f, namespace)?;
+    write_identifier(f, name)
+}
+
+/// Writes a bracket, a namespace and a name.
+fn write_opened<W: fmt::Write>(
+    f: &mut fmt::Formatter<W>,
+    namespace: &Namespace,
+    name: &str,
+) -> fmt::Result
+    ensures { WritesStyledOnOk W.write_str_gives f.old result
+        (codes "[" ++ (namespace_text (namespace_of namespace.now) ++ identifier_text name.now)) f.new }
+{
+    f.write_str("[")?;
+    write_qualified(f, namespace, name)
+}
+
+/// Writes `[ns|name]`.
+fn write_has_in<W: fmt::Write>(
+    f: &mut fmt::Formatter<W>,
+    namespace: &Namespace,
+    name: &str,
+) -> fmt::Result
+    ensures { WritesStyledOnOk W.write_str_gives f.old result
+        (some_attribute_text (namespace_text (namespace_of namespace.now)
+        ++ identifier_text name.now)) f.new }
+{
+    write_opened(f, namespace, name)?;
+    f.write_str("]")
+}
+
+/// Writes `[ns|name=text]` and the like.
+fn write_attribute_in<W: fmt::Write>(
+    f: &mut fmt::Formatter<W>,
+    namespace: &Namespace,
+    test: &AttributeTest,
+) -> fmt::Result
+    ensures { WritesStyledOnOk W.write_str_gives f.old result
+        (attribute_text (namespace_text (namespace_of namespace.now)
+        ++ identifier_text (cow_str_bytes test.now.name)) (comparison_of test.now.comparison)
+        (cow_str_bytes test.now.text) test.now.ignores_case) f.new }
+{
+    write_opened(f, namespace, test.name.as_str())?;
+    write_test(f, test)?;
+    f.write_str("]")
+}
+
+/// Writes a type or attribute selector with a namespace.
+fn write_namespaced<W: fmt::Write>(
+    f: &mut fmt::Formatter<W>,
+    namespaced: &Namespaced,
+) -> fmt::Result
+    ensures { WritesStyledOnOk W.write_str_gives f.old result
+        (local_text (namespace_text (namespace_of namespaced.now.namespace))
+        (local_of namespaced.now.local)) f.new }
+{
+    let namespace = &namespaced.namespace;
+    match &namespaced.local {
+        Local::Universal => write_any_in(f, namespace),
+        Local::TypeName(name) => write_qualified(f, namespace, name.as_str()),
+        Local::HasAttribute(name) => write_has_in(f, namespace, name.as_str()),
+        Local::Attribute(test) => write_attribute_in(f, namespace, test),
+    }
+}
+
+/// Returns the start of a pseudo-class with a list, by whether elements are numbered from the last.
+fn nth_start(from_last: bool) -> &'static str
+    ensures { result.now ≡ nth_name from_last }
+{
+    if from_last {
+        ":nth-last-child("
+    } else {
+        ":nth-child("
+    }
+}
+
+/// Writes `An+B` and a list as it is written.
+fn write_of<W: fmt::Write>(
+    f: &mut fmt::Formatter<W>,
+    progression: Progression,
+    selectors: &str,
+) -> fmt::Result
+    ensures { WritesStyledOnOk W.write_str_gives f.old result
+        (nth_of_text (progression_of progression) selectors.now) f.new }
+{
+    write_progression(f, progression)?;
+    f.write_str(" of ")?;
+    f.write_str(selectors)
+}
+
+/// Writes `:nth-child(..)` or `:nth-last-child(..)` with a list.
+fn write_nth_of<W: fmt::Write>(f: &mut fmt::Formatter<W>, numbered: &NthOf) -> fmt::Result
+    ensures { WritesStyledOnOk W.write_str_gives f.old result
+        (simple_text (simple_of (NthOfIs numbered.now))) f.new }
+{
+    f.write_str(nth_start(numbered.from_last))?;
+    write_of(f, numbered.progression, numbered.selectors.as_str())?;
+    f.write_str(")")
+}
+
 /// Writes a simple selector.
 fn write_simple<W: fmt::Write>(f: &mut fmt::Formatter<W>, simple: &Simple) -> fmt::Result
     ensures { WritesStyledOnOk W.write_str_gives f.old result
@@ -307,6 +446,8 @@ fn write_simple<W: fmt::Write>(f: &mut fmt::Formatter<W>, simple: &Simple) -> fm
         Simple::Function(call) => write_call(f, call),
         Simple::Element(element) => write_element(f, element),
         Simple::Nesting(_) => f.write_str("&"),
+        Simple::Namespaced(namespaced) => write_namespaced(f, namespaced),
+        Simple::NthOf(numbered) => write_nth_of(f, numbered),
     }
 }
 

@@ -1,7 +1,7 @@
 //! Reads pseudo-classes.
 ghost use Rattle.std.specs.Prelude.{◌≡◌, None, option_map};
 ghost use Rattle.css_selectors.specs.Grammar.{plain_structure, numbering as numbering_of, numbered_by as numbered_by_of};
-ghost use Rattle.css_selectors.specs.Grammar.{list_kind as list_kind_of, functional};
+ghost use Rattle.css_selectors.specs.Grammar.{list_kind as list_kind_of, from_last as from_last_of};
 ghost use Rattle.css_selectors.specs.Grammar.{is_old_element as is_old_element_of, takes_none as takes_none_of, argument_of};
 ghost use Rattle.css_selectors.specs.internal.Reads.{Reads};
 ghost use Rattle.std.specs.Cow.{cow_str_bytes};
@@ -74,7 +74,7 @@ pub(crate) fn function_named(name: &str) -> Option<Function>
 }
 
 /// Returns the structural pseudo-class that numbers these siblings.
-fn numbered_by(numbering: Numbering, progression: Progression) -> Structure
+pub(crate) fn numbered_by(numbering: Numbering, progression: Progression) -> Structure
     ensures { structure_of result ≡ numbered_by_of numbering (progression_of progression) }
 {
     match numbering {
@@ -130,7 +130,8 @@ pub(crate) fn read_argument_of<'a>(
     if takes_none(name) {
         return Err(Refusal::new(Why::UnknownFunction, opened));
     }
-    read_kept(text)
+    let (argument, rest) = read_kept(text)?;
+    Ok((CowStr::Borrowed(argument), rest))
 }
 
 /// Returns the pseudo-class without an argument of this name.
@@ -144,43 +145,14 @@ pub(crate) fn plain_pseudo<'a>(name: CowStr<'a>) -> Simple<'a>
     }
 }
 
-/// Reads the argument of a functional pseudo-class of this name that has no meaning here.
-fn read_call<'a>(
-    alloc: Global,
-    opened: &'a str,
-    name: CowStr<'a>,
-    text: &'a str,
-) -> Result<(Simple<'a>, &'a str), Refusal<'a>>
-    ensures { Reads simple_of result
-        (functional opened.now (cow_str_bytes name.entry) None text.now) }
+/// Returns whether elements are numbered from the last, if all siblings are: only then a list may be
+/// after `An+B`.
+pub(crate) fn from_last(numbering: Numbering) -> Option<bool>
+    ensures { result ≡ from_last_of numbering }
 {
-    let (argument, rest) = read_argument_of(opened, name.as_str(), text)?;
-    Ok((Simple::Function(FunctionCall { name, argument }), rest))
-}
-
-/// Reads the argument of a functional pseudo-class. `opened` is the text from its colon on.
-pub(crate) fn read_functional<'a>(
-    alloc: Global,
-    opened: &'a str,
-    name: CowStr<'a>,
-    function: Option<Function>,
-    text: &'a str,
-) -> Result<(Simple<'a>, &'a str), Refusal<'a>>
-    ensures { Reads simple_of result
-        (functional opened.now (cow_str_bytes name.entry) function text.now) }
-{
-    let numbering = match function {
-        None => return read_call(alloc, opened, name, text),
-        Some(Function::Language) => {
-            let (ranges, rest) = read_ranges(alloc, text)?;
-            return Ok((Simple::Language(ranges), rest));
-        }
-        Some(Function::Numbered(numbering)) => numbering,
-    };
-    let (_, rest) = read_gap(text);
-    let (progression, rest) = read_progression(alloc, rest)?;
-    let (_, rest) = read_gap(rest);
-    let (_, rest) = read_closing(b')', rest)?;
-    let structure = numbered_by(numbering, progression);
-    Ok((Simple::Structure(structure), rest))
+    match numbering {
+        Numbering::Child => Some(false),
+        Numbering::LastChild => Some(true),
+        Numbering::OfType | Numbering::LastOfType => None,
+    }
 }

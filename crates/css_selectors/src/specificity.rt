@@ -2,14 +2,14 @@
 ghost use Rattle.std.specs.Prelude.{◌≡◌, map, option_map};
 ghost use Rattle.css_selectors.specs.Specificities.{Counts, nothing, one_id, one_class, one_name};
 ghost use Rattle.css_selectors.specs.Specificities.{plus as sum_of, greater as greater_of, is_less};
-ghost use Rattle.css_selectors.specs.Specificities.{of_simple as counts_of_simple, of_pseudo_element as counts_of_element};
+ghost use Rattle.css_selectors.specs.Specificities.{of_local as counts_of_local, of_simple as counts_of_simple, of_pseudo_element as counts_of_element};
 ghost use Rattle.css_selectors.specs.Specificities.{greatest as greatest_of};
 ghost use Rattle.css_selectors.specs.Specificities.{of_condition as counts_of_condition, of_compound, of_parts as counts_of_parts};
 ghost use Rattle.css_selectors.specs.Components.{conditions_from, parts_from, selectors_from};
 ghost use Rattle.css_selectors.specs.SpecificityViews.{counts_of};
-ghost use Rattle.css_selectors.specs.Views.{simple_of, complex_of, condition_of, part_of, pseudo_element_of};
+ghost use Rattle.css_selectors.specs.Views.{local_of, simple_of, complex_of, condition_of, part_of, pseudo_element_of};
 
-use crate::{Complex, Condition, Part, PseudoElement, Selector, Simple};
+use crate::{Complex, Condition, Local, Part, PseudoElement, Selector, Simple};
 
 /// How specific a selector is: ids count more than classes, and these more than names.
 #[derive(Clone, Copy, Debug, PartialEq, Eq, PartialOrd, Ord)]
@@ -22,8 +22,8 @@ pub struct Specificity {
     pub names: u32,
 }
 
-/// Nothing is counted.
-pub(crate) const NOTHING: Specificity = Specificity {
+/// What a selector counts that has nothing which counts.
+pub const NOTHING: Specificity = Specificity {
     ids: 0,
     classes: 0,
     names: 0,
@@ -51,13 +51,30 @@ fn is_less_specific(one: Specificity, other: Specificity) -> bool
 }
 
 /// Returns the more specific of the two.
-fn greater(one: Specificity, other: Specificity) -> Specificity
+pub fn greater(one: Specificity, other: Specificity) -> Specificity
     ensures { counts_of result ≡ greater_of (counts_of one) (counts_of other) }
 {
     if is_less_specific(one, other) {
         other
     } else {
         one
+    }
+}
+
+/// Returns what is counted of what is in a namespace.
+fn of_local(local: &Local<'_>) -> Specificity
+    ensures { counts_of result ≡ counts_of_local (local_of local.now) }
+{
+    match local {
+        Local::Universal => NOTHING,
+        Local::TypeName(_) => Specificity {
+            names: 1,
+            ..NOTHING
+        },
+        Local::HasAttribute(_) | Local::Attribute(_) => Specificity {
+            classes: 1,
+            ..NOTHING
+        },
     }
 }
 
@@ -68,6 +85,7 @@ fn of_simple(simple: &Simple<'_>) -> Specificity
     match simple {
         Simple::Universal => NOTHING,
         Simple::Nesting(list) => list.specificity,
+        Simple::Namespaced(namespaced) => of_local(&namespaced.local),
         Simple::TypeName(_) | Simple::Element(_) => Specificity {
             names: 1,
             ..NOTHING
@@ -79,7 +97,8 @@ fn of_simple(simple: &Simple<'_>) -> Specificity
         | Simple::Structure(_)
         | Simple::Language(_)
         | Simple::State(_)
-        | Simple::Function(_) => Specificity {
+        | Simple::Function(_)
+        | Simple::NthOf(_) => Specificity {
             classes: 1,
             ..NOTHING
         },

@@ -19,7 +19,8 @@ fn is_supported_simple(simple: &Simple<'_>) -> bool
 {
     match simple {
         Simple::State(name) => !name.as_str().eq_ignore_ascii_case("host"),
-        Simple::Function(_) | Simple::Element(_) => false,
+        Simple::Function(_) | Simple::Element(_) | Simple::Namespaced(_) | Simple::NthOf(_) =>
+            false,
         Simple::Universal
         | Simple::TypeName(_)
         | Simple::Id(_)
@@ -119,8 +120,9 @@ impl<'a> Selector<'a> {
     ghost use Rattle.css_selectors.specs.Supported.{is_supported_selector};
 
     /// Whether the selector has a meaning here. A pseudo-class or a pseudo-element with an argument that
-    /// is kept as it is written has none, nor has `:host`, nor what follows a pseudo-element. Nor has
-    /// a selector with combinators in a list of another that is in a list: their tests multiply.
+    /// is kept as it is written has none, nor has `:host`, what has a namespace, or what follows a
+    /// pseudo-element. Nor has a selector with combinators in a list of another that is in a list: their
+    /// tests multiply.
     pub fn is_supported(&self) -> bool
         ensures { result ≡ is_supported_selector self.now }
     {

@@ -9,7 +9,7 @@ use Rattle.css_matching.specs.ListTrees.{spot, lesser_before}
 use Rattle.css_matching.specs.Placements.{IsBeyond, is_next, is_further, Relates, HasPlacement}
 use Rattle.css_selectors.specs.declared.components.Nesting.{Nesting}
 use Rattle.css_selectors.specs.Components.{Simple, Condition, Conditions, Parts, Selectors, Part, PseudoElement, Selector, conditions_from, parts_from, selectors_from}
-use Rattle.css_selectors.specs.Components.Simple.{universal, type_name, id, class, has_attribute, attribute, structure, language, state, function, named_element, nesting}
+use Rattle.css_selectors.specs.Components.Simple.{universal, type_name, id, class, has_attribute, attribute, structure, language, state, function, named_element, nesting, namespaced, nth_of}
 use Rattle.css_selectors.specs.Components.Condition.{simple, negation, any_of, where_any}
 use Rattle.css_selectors.specs.Components.Conditions.{end_of_compound, with_condition}
 use Rattle.css_selectors.specs.Components.Parts.{end_of_selector, with_part}
@@ -194,6 +194,8 @@ module _ (list : Nesting) (all : Selectors) where
     simple_same (function name argument) n is = (λ h. h, λ h. h)
     simple_same (named_element name argument) n is = (λ h. h, λ h. h)
     simple_same (nesting other) n is = answers n is
+    simple_same (namespaced namespace local) n is = (λ h. h, λ h. h)
+    simple_same (nth_of last p selectors) n is = (λ h. h, λ h. h)
 
     mutual
       condition_same : (c : Condition) (n : Page × ℕ) → IsElement page n

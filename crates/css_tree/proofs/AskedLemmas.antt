@@ -10,7 +10,7 @@ use Rattle.css_matching.specs.ListTrees.{spot}
 use Rattle.css_matching.specs.Placements.{IsBeyond, is_next, is_further, Relates, HasPlacement}
 use Rattle.css_selectors.specs.Components.{Structure, Simple, Condition, Conditions, Parts, Selectors, Selector, parts_from}
 use Rattle.css_selectors.specs.Components.Structure.{root, scope, empty, first_child, last_child, only_child, first_of_type, last_of_type, only_of_type, nth_child, nth_last_child, nth_of_type, nth_last_of_type}
-use Rattle.css_selectors.specs.Components.Simple.{universal, type_name, id, class, has_attribute, attribute, structure, language, state, function, named_element, nesting}
+use Rattle.css_selectors.specs.Components.Simple.{universal, type_name, id, class, has_attribute, attribute, structure, language, state, function, named_element, nesting, namespaced, nth_of}
 use Rattle.css_selectors.specs.Components.Condition.{simple, negation, any_of, where_any}
 use Rattle.css_selectors.specs.Components.Conditions.{end_of_compound, with_condition}
 use Rattle.css_selectors.specs.Components.Parts.{end_of_selector, with_part}
@@ -170,6 +170,8 @@ module _ (page : Page) (m n : List (List Bool)) (limit : ℕ)
   simple_same (function name argument) i asks = (λ h. h, λ h. h)
   simple_same (named_element name argument) i asks = (λ h. h, λ h. h)
   simple_same (nesting list) i asks = same_true _ _ (asked_same list.number i asks)
+  simple_same (namespaced namespace local) i asks = (λ h. h, λ h. h)
+  simple_same (nth_of last p selectors) i asks = (λ h. h, λ h. h)
 
   placed_both : (ps : Parts) (i : ℕ)
       → ((k j : ℕ) → MeetsPart page_document ps k (spot (with_marks page m) j)

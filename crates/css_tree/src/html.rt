@@ -7,16 +7,16 @@ ghost use Rattle.std.specs.Prelude.{◌≡◌, ◌<◌, IfOk, length, map, optio
 ghost use Rattle.std.specs.List.{list_any};
 ghost use Rattle.std.specs.Char.{is_ascii_uppercase};
 ghost use Rattle.std.specs.Cow.{cow_str_bytes};
-ghost use Rattle.css_selectors.specs.Views.{simple_of, complex_of, condition_of, part_of, element_name_of, pseudo_element_of};
-ghost use Rattle.css_selectors.specs.declared.components.Simple.TheVariants.{Attribute, Function};
+ghost use Rattle.css_selectors.specs.Views.{namespace_of, local_of, simple_of, complex_of, condition_of, part_of, element_name_of, pseudo_element_of};
+ghost use Rattle.css_selectors.specs.declared.components.Simple.TheVariants.{Attribute, Function, Namespaced as NamespacedIs, NthOf as NthOfIs};
 ghost use Rattle.css_tree.specs.Html.{caseless_attributes, quirks_attributes, is_among};
 ghost use Rattle.css_tree.specs.Html.{is_caseless};
 ghost use Rattle.css_tree.specs.Html.{lower_case, word_in, simple_in};
 ghost use Rattle.css_tree.specs.Html.{condition_in, part_in, pseudo_element_in, html_selector};
 
 use css_selectors::{
-    AttributeTest, Complex, Condition, ElementName, FunctionCall, Part, PseudoElement, Selector,
-    Simple,
+    AttributeTest, Complex, Condition, ElementName, FunctionCall, Local, Namespace, Namespaced,
+    NthOf, Part, PseudoElement, Selector, Simple,
 };
 use std::alloc::{AllocError, Global};
 use std::borrow::CowStr;
@@ -195,6 +195,62 @@ fn same_element<'s>(element: &'s ElementName<'_>) -> ElementName<'s>
     }
 }
 
+/// Returns the same namespace, which is not copied.
+fn same_namespace<'s>(namespace: &'s Namespace<'_>) -> Namespace<'s>
+    ensures { namespace_of result ≡ namespace_of namespace.now }
+{
+    match namespace {
+        Namespace::Absent => Namespace::Absent,
+        Namespace::Any => Namespace::Any,
+        Namespace::Prefix(prefix) => Namespace::Prefix(CowStr::Borrowed(prefix.as_str())),
+    }
+}
+
+/// Returns the same condition on an attribute, which is not copied.
+fn same_test<'s>(test: &'s AttributeTest<'_>) -> AttributeTest<'s>
+    ensures { simple_of (Attribute result) ≡ simple_of (Attribute test.now) }
+{
+    AttributeTest {
+        name: CowStr::Borrowed(test.name.as_str()),
+        comparison: test.comparison,
+        text: CowStr::Borrowed(test.text.as_str()),
+        ignores_case: test.ignores_case,
+    }
+}
+
+/// Returns the same type or attribute selector, which is not copied.
+fn same_local<'s>(local: &'s Local<'_>) -> Local<'s>
+    ensures { local_of result ≡ local_of local.now }
+{
+    match local {
+        Local::Universal => Local::Universal,
+        Local::TypeName(name) => Local::TypeName(CowStr::Borrowed(name.as_str())),
+        Local::HasAttribute(name) => Local::HasAttribute(CowStr::Borrowed(name.as_str())),
+        Local::Attribute(test) => Local::Attribute(same_test(test)),
+    }
+}
+
+/// Returns the same type or attribute selector with a namespace, which is not copied.
+fn same_namespaced<'s>(namespaced: &'s Namespaced<'_>) -> Namespaced<'s>
+    ensures { simple_of (NamespacedIs result) ≡ simple_of (NamespacedIs namespaced.now) }
+{
+    Namespaced {
+        namespace: same_namespace(&namespaced.namespace),
+        local: same_local(&namespaced.local),
+    }
+}
+
+/// Returns the same pseudo-class with a list after `An+B`, which is not copied.
+fn same_nth_of<'s>(numbered: &'s NthOf<'_>) -> NthOf<'s>
+    ensures { simple_of (NthOfIs result) ≡ simple_of (NthOfIs numbered.now) }
+{
+    NthOf {
+        from_last: numbered.from_last,
+        progression: numbered.progression,
+        selectors: CowStr::Borrowed(numbered.selectors.as_str()),
+    }
+}
+
 /// Returns a simple selector as a document reads it.
 fn simple_in<'s>(
     alloc: Global,
@@ -216,6 +272,8 @@ fn simple_in<'s>(
         Simple::Function(call) => Ok(Simple::Function(same_call(call))),
         Simple::Element(element) => Ok(Simple::Element(same_element(element))),
         Simple::Nesting(list) => Ok(Simple::Nesting(*list)),
+        Simple::Namespaced(namespaced) => Ok(Simple::Namespaced(same_namespaced(namespaced))),
+        Simple::NthOf(numbered) => Ok(Simple::NthOf(same_nth_of(numbered))),
     }
 }
 

@@ -43,37 +43,46 @@ decreases-read_selectors-selectors l = l.left
 
 -- each function calls those before it at the same depth, and `read_list` all at one less
 abbrev pub decreases-read_list : goal.decreases-read_list
-decreases-read_list l = 12 * l.depth
+decreases-read_list l = 15 * l.depth
+
+abbrev pub decreases-read_of : goal.decreases-read_of
+decreases-read_of l = 15 * l.depth + 1
+
+abbrev pub decreases-read_after_progression : goal.decreases-read_after_progression
+decreases-read_after_progression l = 15 * l.depth + 2
+
+abbrev pub decreases-read_functional : goal.decreases-read_functional
+decreases-read_functional l = 15 * l.depth + 3
 
 abbrev pub decreases-read_argument : goal.decreases-read_argument
-decreases-read_argument l = 12 * l.depth + 1
+decreases-read_argument l = 15 * l.depth + 4
 
 abbrev pub decreases-read_pseudo_condition : goal.decreases-read_pseudo_condition
-decreases-read_pseudo_condition l = 12 * l.depth + 2
+decreases-read_pseudo_condition l = 15 * l.depth + 5
 
 abbrev pub decreases-next_condition : goal.decreases-next_condition
-decreases-next_condition l = 12 * l.depth + 3
+decreases-next_condition l = 15 * l.depth + 6
 
 abbrev pub decreases-read_more : goal.decreases-read_more
-decreases-read_more l = 12 * l.depth + 4
+decreases-read_more l = 15 * l.depth + 7
 
 abbrev pub decreases-read_compound : goal.decreases-read_compound
-decreases-read_compound l = 12 * l.depth + 5
+decreases-read_compound l = 15 * l.depth + 8
 
 abbrev pub decreases-next_part : goal.decreases-next_part
-decreases-next_part l = 12 * l.depth + 6
+decreases-next_part l = 15 * l.depth + 9
 
 abbrev pub decreases-read_parts : goal.decreases-read_parts
-decreases-read_parts l = 12 * l.depth + 7
+decreases-read_parts l = 15 * l.depth + 10
 
 abbrev pub decreases-read_complex : goal.decreases-read_complex
-decreases-read_complex l = 12 * l.depth + 8
+decreases-read_complex l = 15 * l.depth + 11
 
 abbrev pub decreases-read_listed : goal.decreases-read_listed
-decreases-read_listed l = 12 * l.depth + 9
+decreases-read_listed l = 15 * l.depth + 12
 
 abbrev pub decreases-next_listed : goal.decreases-next_listed
-decreases-next_listed l = 12 * l.depth + 10
+decreases-next_listed l = 15 * l.depth + 13
 
 abbrev pub decreases-read_selectors : goal.decreases-read_selectors
-decreases-read_selectors l = 12 * l.depth + 11
+decreases-read_selectors l = 15 * l.depth + 14

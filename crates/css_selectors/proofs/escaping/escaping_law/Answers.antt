@@ -1,5 +1,3 @@
-use Rattle.std.proofs.Common.{[], refl, subst, append-nil}
-use Rattle.css_selectors.specs.Escaping.{without_nul}
 use Rattle.css_selectors.proofs.EscapedAgain.{escaped-again, quoted-again}
 use Rattle.css_selectors.proofs.escaping.escaping_law.Goals as goal
 

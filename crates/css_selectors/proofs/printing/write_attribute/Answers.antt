@@ -1,4 +1,5 @@
-use Rattle.std.proofs.Common.{true, refl}
+use Rattle.std.proofs.Common.{true, refl, ap}
+use Rattle.css_selectors.specs.Printing.{identifier_text}
 use Rattle.css_selectors.proofs.PrintLemmas.{attribute_joined}
 use Rattle.css_text.proofs.round_trip.StyledWrites.{styled_three}
 use Rattle.css_selectors.proofs.printing.write_attribute.Goals as goal
@@ -9,4 +10,4 @@ returns g c = λ flush ok.
     let two = c.in_ok-write_test.ensures one.flush (refl {a = true}) in
     let three = c.write_str.ensures.styled two.flush ok in
     styled_three _ _ _ _ _ _ _ _ _ one two three
-    (attribute_joined _ _ _ _ _ c.as_str.ensures.value)
+    (attribute_joined _ _ _ _ _ (ap identifier_text c.as_str.ensures.value))
