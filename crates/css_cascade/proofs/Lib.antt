@@ -3,4 +3,5 @@ pub mod CascadeVectors
 pub mod LayerLemmas
 pub mod NameLemmas
 pub mod PartLemmas
+pub mod RollbackLemmas
 pub mod WinnerLemmas

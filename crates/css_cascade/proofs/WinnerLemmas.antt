@@ -6,8 +6,7 @@ use Rattle.std.specs.declared.cmp.Ordering.TheVariants.{Less, Equal, Greater}
 use Rattle.std.specs.Ordering.{is_gt, ordering_reverse}
 use Rattle.std.proofs.lemmas.Cmp.{upto, tied_itself}
 use Rattle.std.proofs.lemmas.List.Elements.{All-nil, All-cons}
-use Rattle.css_cascade.specs.Cascade.{Weighed, Wins, beats, cascade_cmp}
-use Rattle.css_cascade.specs.internal.Steps.{better, winner_from}
+use Rattle.css_cascade.specs.Cascade.{Weighed, Wins, beats, better, cascade_cmp, winner_from}
 use Rattle.css_cascade.proofs.CascadeLemmas.{cascade_total}
 
 reversed : (r : Ordering) → is_gt r ≡ true → is_gt (ordering_reverse r) ≡ false

@@ -1,10 +1,11 @@
 -- The order of declarations of one property on one element (CSS Cascading 5, section 6.1), and which
 -- one wins.
-use Rattle.std.specs.Prelude.{◌≡◌, ℕ, Bool, false, if◌then◌else◌, List}
+use Rattle.std.specs.Prelude.{◌≡◌, ℕ, Bool, false, if◌then◌else◌, List, [], ◌∷◌, Option, None, Some}
 use Rattle.std.specs.List.{All, Contains}
 use Rattle.std.specs.declared.cmp.Ordering.{Ordering}
 use Rattle.std.specs.Ordering.{is_gt, bool_cmp, nat_cmp, on, then_cmp, flip_args}
 use Rattle.std.specs.Cmp.Lexicographic.{slice_cmp}
+use Rattle.css_cascade.specs.declared.rollback.Rollback.{Rollback}
 use Rattle.css_cascade.specs.declared.weights.Origin.{Origin}
 use Rattle.css_cascade.specs.declared.weights.Origin.TheVariants.{UserAgent, User, Hint, Author}
 
@@ -19,7 +20,7 @@ origin_rank Author = 3
 -- What the cascade sees of a declaration: whether it is important; its origin; whether it is attached to
 -- the element, as those of a style attribute are, and not in a rule; the rank of its layer, which of one
 -- origin is the greater the later the layer is; the specificity of its rule, of which the first count that
--- differs decides; and where it stands.
+-- differs decides; where it stands; and what its value says of the cascade.
 pub record Weighed : Type 0 where
   pub important : Bool
   pub origin : Origin
@@ -27,6 +28,7 @@ pub record Weighed : Type 0 where
   pub layer : ℕ
   pub specificity : List ℕ
   pub place : List ℕ
+  pub rollback : Rollback
 
 -- the rank of the origin of a declaration that is not important; all that are count alike
 abbrev pub normal_origin : Weighed → ℕ
@@ -77,6 +79,19 @@ cascade_cmp = then_cmp (on (λ (d : Weighed). d.important) bool_cmp) origin_cmp
 -- the first declaration beats the second
 abbrev pub beats : Weighed → Weighed → Bool
 beats a b = is_gt (cascade_cmp a b)
+
+-- the later of two, unless the earlier beats it
+abbrev pub better : {X : Type 0} → (X → Weighed) → Option X → X → X
+better weight None later = later
+better weight (Some earlier) later =
+    if beats (weight earlier) (weight later) then earlier else later
+
+-- The one that wins of these and of the best before them: none of them beats it. Of several that nothing
+-- tells apart it is the last.
+abbrev pub winner_from : {X : Type 0} → (X → Weighed) → Option X → List X → Option X
+winner_from weight best [] = best
+winner_from weight best (one ∷ more) =
+    winner_from weight (Some (better weight best one)) more
 
 -- It is one of these, and none of them beats it, where `weight` is what the cascade sees of one.
 pub record Wins {X : Type 0} (weight : X → Weighed) (found : List X) (one : X) : Type 0 where

@@ -1,12 +1,14 @@
--- The order of cascade layers (CSS Cascading 5, section 6.4.3): by first appearance, where what is
--- nested in a layer comes with that one.
+-- The order of cascade layers (CSS Cascading 5, section 6.4.3): in each origin by first appearance, where
+-- what is nested in a layer comes with that one.
 use Rattle.std.specs.Prelude.{ℕ, zero, suc, Bool, true, false, ◌&&◌, ◌==◌, if◌then◌else◌, nat_eq, List, [], ◌∷◌, ◌++◌, length, take, drop, option_and_then, Option, None, Some}
 use Rattle.std.specs.Cmp.Lexicographic.{pointwise}
+use Rattle.css_cascade.specs.declared.weights.Origin.{Origin}
+use Rattle.css_cascade.specs.declared.weights.Origin.TheVariants.{UserAgent, User, Hint, Author}
 
 -- What tells a layer from the others that are directly in the same one: its name, as it is after
 -- escapes; or, if it has none, the place where it begins, in which text and where in that, so that each
--- is a new one. Nothing tells the outermost one, in which all layers are: what is in no layer is
--- directly in that.
+-- is a new one. Nothing tells the outermost one of an origin, in which all of its layers are: what is in
+-- no layer is directly in that.
 pub data LayerPart : Type 0 where
   named : (name : List ℕ) → LayerPart
   anonymous : (place : List ℕ) → LayerPart
@@ -19,8 +21,30 @@ pub record LayerText : Type 0 where
   pub outer : ℕ
   pub part : LayerPart
 
-abbrev pub outermost_layer : LayerText
-outermost_layer = record { number = 0; outer = 0; part = outermost }
+-- the number of the outermost layer of an origin
+abbrev pub outermost_number : Origin → ℕ
+outermost_number Author = 0
+outermost_number Hint = 1
+outermost_number User = 2
+outermost_number UserAgent = 3
+
+abbrev pub outermost_layer : Origin → LayerText
+outermost_layer origin = record {
+  number = outermost_number origin;
+  outer = outermost_number origin;
+  part = outermost;
+}
+
+-- The layers where none is mentioned. Each origin has its own, so that no layer of one is before, after or
+-- the same as one of another; the order of these four makes no difference.
+abbrev pub outermost_layers : List LayerText
+outermost_layers =
+    outermost_layer Author ∷ outermost_layer Hint ∷ outermost_layer User ∷ outermost_layer UserAgent
+    ∷ []
+
+-- how many origins there are
+abbrev pub origin_count : ℕ
+origin_count = 4
 
 abbrev pub is_same_part : LayerPart → LayerPart → Bool
 is_same_part (named a) (named b) = pointwise nat_eq a b
@@ -83,6 +107,6 @@ number_at outer [] known = Some outer
 number_at outer (part ∷ more) known =
     option_and_then (λ (number : ℕ). number_at number more known) (number_in outer part known)
 
--- how many layers there may be beside the outermost one
+-- how many layers there may be beside the outermost ones
 abbrev pub most_layers : ℕ
 most_layers = 1024

@@ -4,4 +4,4 @@ pub mod LayerNames
 pub mod LayerNameViews
 pub mod Cascade
 pub mod WeightViews
-pub mod internal
+pub mod Rollbacks

@@ -10,4 +10,5 @@ weighed w = record {
   layer = w.layer;
   specificity = w.specificity;
   place = w.place;
+  rollback = w.rollback;
 }

@@ -1,15 +1,19 @@
 //! The order of cascade layers (CSS Cascading 5, section 6.4).
-ghost use Rattle.std.specs.Prelude.{◌≡◌, ◌∷◌, ◌+◌, ◌≤◌, ◌<◌, [], IfErr, IfOk, OnOk, Some, length, map};
+ghost use Rattle.std.specs.Prelude.{◌≡◌, ◌+◌, ◌≤◌, ◌<◌, IfErr, IfOk, OnOk, Some, length, map};
 ghost use Rattle.css_cascade.specs.Layers.{is_same_part as is_same_part_of, number_in as number_in_known};
-ghost use Rattle.css_cascade.specs.Layers.{number_at, number_of, place_of as place_in, outermost_layer, with_layer, with_name, most_layers};
+ghost use Rattle.css_cascade.specs.Layers.{number_at, number_of, place_of as place_in, outermost_layer, outermost_layers, outermost_number, with_layer, with_name, most_layers, origin_count};
 ghost use Rattle.css_cascade.specs.declared.layers.LayersError.TheVariants.{TooManyLayers};
 ghost use Rattle.css_cascade.specs.LayerViews.{part_of, known_layer, known_of};
 
+use crate::weights::Origin;
 use std::alloc::{AllocError, AllocFailed, Global};
 use std::borrow::CowStr;
 
-/// How many layers there may be.
+/// How many layers there may be beside the outermost ones.
 const MOST: usize = 1024;
+
+/// How many outermost layers there are: one of each origin.
+const OUTERMOST: usize = 4;
 
 /// What tells a layer from the others that are directly in the same one.
 #[derive(Drop)]
@@ -19,7 +23,7 @@ pub enum LayerPart<'a> {
     /// The place at which it begins, if it has no name: a number of its text, and one in that. Each is a
     /// new one.
     Anonymous([usize; 2]),
-    /// Nothing: it is the outermost one, in which all layers are.
+    /// Nothing: it is the outermost one of an origin, in which all of its layers are.
     Outermost,
 }
 
@@ -63,8 +67,8 @@ pub struct KnownLayer<'a> {
     pub(crate) part: LayerPart<'a>,
 }
 
-/// The layers that were mentioned, in the order of the cascade, each with a number. The last one,
-/// with the number 0, is what is in no layer.
+/// The layers that were mentioned, each with a number: those of the author in their order, and then those
+/// of each other origin in theirs. The last one of an origin is what is in no layer.
 #[derive(Drop)]
 pub struct Layers<'a> {
     /// The layers.
@@ -114,17 +118,42 @@ fn place_of(known: &[KnownLayer<'_>], number: usize) -> usize
     place
 }
 
+/// Returns the number of the layer of an origin in which all of its layers are.
+pub fn outermost(origin: Origin) -> usize
+    ensures { result ≡ outermost_number origin }
+{
+    match origin {
+        Origin::Author => 0,
+        Origin::Hint => 1,
+        Origin::User => 2,
+        Origin::UserAgent => 3,
+    }
+}
+
+impl<'a> KnownLayer<'a> {
+    /// Returns the layer of an origin in which all of its layers are.
+    fn outermost(origin: Origin) -> KnownLayer<'a>
+        ensures { known_layer result ≡ outermost_layer origin }
+    {
+        let number = outermost(origin);
+        KnownLayer {
+            number,
+            outer: number,
+            part: LayerPart::Outermost,
+        }
+    }
+}
+
 impl<'a> Layers<'a> {
-    /// Returns the outermost layer alone.
+    /// Returns the outermost layers alone, one of each origin.
     pub fn new(alloc: Global) -> Result<Layers<'a>, AllocError>
-        ensures { IfOk result (λ layers. known_of layers ≡ outermost_layer ∷ []) }
+        ensures { IfOk result (λ layers. known_of layers ≡ outermost_layers) }
     {
         let mut known = Vec::new(alloc);
-        known.push(KnownLayer {
-            number: 0,
-            outer: 0,
-            part: LayerPart::Outermost,
-        })?;
+        known.push(KnownLayer::outermost(Origin::Author))?;
+        known.push(KnownLayer::outermost(Origin::Hint))?;
+        known.push(KnownLayer::outermost(Origin::User))?;
+        known.push(KnownLayer::outermost(Origin::UserAgent))?;
         Ok(Layers { known })
     }
 
@@ -135,17 +164,17 @@ impl<'a> Layers<'a> {
             ≡ with_layer (known_of self.old) outer (part_of part.entry)) }
         ensures number { IfOk result (λ number. number
             ≡ number_of outer (part_of part.entry) (known_of self.new)) }
-        ensures within { OnOk result (length (known_of self.old) ≤ most_layers + 1
-            → length (known_of self.new) ≤ most_layers + 1) }
+        ensures within { OnOk result (length (known_of self.old) ≤ most_layers + origin_count
+            → length (known_of self.new) ≤ most_layers + origin_count) }
         ensures kept { IfErr result (λ _. known_of self.new ≡ known_of self.old) }
-        ensures refused { IfErr result (λ error. error ≡ TooManyLayers → most_layers + 1
+        ensures refused { IfErr result (λ error. error ≡ TooManyLayers → most_layers + origin_count
             < length (with_layer (known_of self.old) outer (part_of part.entry))) }
     {
         if let Some(number) = number_in(&self.known, outer, &part) {
             return Ok(number);
         }
         let number = self.known.len();
-        if number > MOST {
+        if number >= MOST + OUTERMOST {
             return Err(LayersError::TooManyLayers);
         }
         let at = place_of(&self.known, outer);
@@ -171,9 +200,9 @@ impl<'a> Layers<'a> {
             ≡ with_name (known_of self.old) outer (map part_of parts.entry.items)) }
         ensures number { IfOk result (λ number.
             number_at outer (map part_of parts.entry.items) (known_of self.new) ≡ Some number) }
-        ensures within { OnOk result (length (known_of self.old) ≤ most_layers + 1
-            → length (known_of self.new) ≤ most_layers + 1) }
-        ensures refused { IfErr result (λ error. error ≡ TooManyLayers → most_layers + 1
+        ensures within { OnOk result (length (known_of self.old) ≤ most_layers + origin_count
+            → length (known_of self.new) ≤ most_layers + origin_count) }
+        ensures refused { IfErr result (λ error. error ≡ TooManyLayers → most_layers + origin_count
             < length (with_name (known_of self.old) outer (map part_of parts.entry.items))) }
     {
         let mut number = outer;
@@ -183,8 +212,8 @@ impl<'a> Layers<'a> {
         Ok(number)
     }
 
-    /// Returns how many layers are before the one with this number in the order of the cascade: of two
-    /// layers the one with the greater rank is the later.
+    /// Returns how many layers are before the one with this number: of two layers of one origin the one with
+    /// the greater rank is the later in the order of the cascade.
     pub fn rank(&self, number: usize) -> usize
         ensures { result ≡ place_in number (known_of self.now) }
     {

@@ -4,8 +4,10 @@
 
 mod layers;
 mod names;
+mod rollback;
 mod weights;
 
-pub use layers::{LayerPart, Layers, LayersError};
+pub use layers::{LayerPart, Layers, LayersError, outermost};
 pub use names::{LayerName, is_block_name, read_block_name, read_layer_names};
+pub use rollback::{Rollback, is_left, rolls_back};
 pub use weights::{Origin, Weight, beats, cascade_cmp};

@@ -9,6 +9,7 @@ ghost use Rattle.css_cascade.specs.Cascade.{attached_cmp as attached_cmp_of};
 ghost use Rattle.css_cascade.specs.Cascade.{layered_cmp as layered_cmp_of, rule_cmp as rule_cmp_of};
 ghost use Rattle.css_cascade.specs.WeightViews.{weighed};
 
+use crate::rollback::Rollback;
 use std::cmp::Ordering;
 
 /// Where a declaration comes from (CSS Cascading 5, sections 6.2 and 6.5).
@@ -54,6 +55,8 @@ pub struct Weight {
     pub specificity: [u32; 3],
     /// Where it stands: the place of its rule among all, and its own in the rule.
     pub place: [usize; 2],
+    /// What its value says of the cascade.
+    pub rollback: Rollback,
 }
 
 /// The rank of the origin of a declaration that is not important.

@@ -15,8 +15,11 @@ use Rattle.cssq.specs.Winners.{Beats, weight}
 use Rattle.cssq.specs.Winners.Beats.{by_importance, by_rule, by_index}
 use Rattle.css_syntax.specs.DeclarationLists.{DeclarationText}
 use Rattle.css_cascade.specs.Cascade.{beats, origin_rank}
+use Rattle.css_cascade.specs.Rollbacks.{rollback_of}
+use Rattle.css_cascade.specs.declared.rollback.Rollback.{Rollback}
 use Rattle.css_cascade.specs.declared.weights.Origin.{Origin}
-use Rattle.css_sheet.specs.SheetOrder.{SheetText, SheetRuleText, rule_counts, rule_key, is_before, source_rules, cascade_rules, weight as counted}
+use Rattle.css_sheet.specs.Sheets.{SheetText, origin_at}
+use Rattle.css_sheet.specs.SheetOrder.{SheetRuleText, rule_counts, rule_key, is_before, source_rules, cascade_rules, weight as counted}
 use Rattle.css_styles.specs.Contenders.{in_rule}
 
 -- of equal ones
@@ -54,13 +57,13 @@ decided_by Greater i k p l after before same = (
     later not_before not_same = inl (omega (arith, not_before, not_same))
 
 -- Of two declarations of one layer of one origin, where the specificities rise with the numbers of the rules.
-in_layer : (m n : Bool) (origin : Origin) (layer : ℕ) (a b : List ℕ) (i k p l : ℕ)
+in_layer : (m n : Bool) (origin : Origin) (layer : ℕ) (u v : Rollback) (a b : List ℕ) (i k p l : ℕ)
     → (k < i → is_lt (slice_cmp nat_cmp a b) ≡ false)
     → (i < k → is_lt (slice_cmp nat_cmp b a) ≡ false) → (i ≡ k → a ≡ b)
-    → (beats (record { important = m; origin = origin; attached = false; layer = layer; specificity = a; place = i ∷ p ∷ [] })
-    (record { important = n; origin = origin; attached = false; layer = layer; specificity = b; place = k ∷ l ∷ [] }) ≡ true)
+    → (beats (record { important = m; origin = origin; attached = false; layer = layer; specificity = a; place = i ∷ p ∷ []; rollback = u })
+    (record { important = n; origin = origin; attached = false; layer = layer; specificity = b; place = k ∷ l ∷ []; rollback = v }) ≡ true)
     ↔ (((n ≡ false) × (m ≡ true)) ⊎ ((m ≡ n) × ((k < i) ⊎ ((k ≡ i) × (l < p)))))
-in_layer m n origin layer a b i k p l after before same = go m n
+in_layer m n origin layer u v a b i k p l after before same = go m n
   where
     o : Ordering
     o = slice_cmp nat_cmp a b
@@ -83,8 +86,8 @@ in_layer m n origin layer a b i k p l after before same = go m n
         (λ lt. flipped o (slice_cmp nat_cmp b a) (nat_list_cmp_total.antisymm a b) (before lt)) itself
 
     go : (m n : Bool)
-        → (beats (record { important = m; origin = origin; attached = false; layer = layer; specificity = a; place = i ∷ p ∷ [] })
-        (record { important = n; origin = origin; attached = false; layer = layer; specificity = b; place = k ∷ l ∷ [] }) ≡ true)
+        → (beats (record { important = m; origin = origin; attached = false; layer = layer; specificity = a; place = i ∷ p ∷ []; rollback = u })
+        (record { important = n; origin = origin; attached = false; layer = layer; specificity = b; place = k ∷ l ∷ []; rollback = v }) ≡ true)
         ↔ (((n ≡ false) × (m ≡ true)) ⊎ ((m ≡ n) × ((k < i) ⊎ ((k ≡ i) × (l < p)))))
     go true false = (λ h. inl (refl, refl), λ h. refl)
     go false true = (
@@ -172,7 +175,8 @@ rule_beats holds sheets i j k l r s a b x y at_i at_k origin layer own other =
     let rises = (ordered_arranges is_before (ranks_by nat_list_cmp_total (λ rule. rule_key rule))
     (source_rules holds sheets)).rises in
     let same : i ≡ k → r ≡ s = λ e. some (sym at_i ∙ ap (slice_get rules) e ∙ at_k) in
-    let first = in_layer x.important y.important s.origin s.layer (counted (rule_counts r))
+    let first = in_layer x.important y.important s.origin s.layer (rollback_of a.value) (rollback_of b.value)
+    (counted (rule_counts r))
     (counted (rule_counts s)) i k j l
     (λ lt. not_less r s origin layer (rises_at is_before rules rises i k r s lt at_i at_k))
     (λ lt. not_less s r (sym origin) (sym layer) (rises_at is_before rules rises k i s r lt at_k at_i))

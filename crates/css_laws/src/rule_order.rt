@@ -5,7 +5,8 @@ ghost use Rattle.simplecss_grammar.specs.Declarations.{StyleDeclaration};
 ghost use Rattle.cssq.specs.Winners.{Beats};
 ghost use Rattle.css_syntax.specs.DeclarationLists.{DeclarationText};
 ghost use Rattle.css_cascade.specs.Cascade.{beats};
-ghost use Rattle.css_sheet.specs.SheetOrder.{SheetText, SheetRuleText, cascade_rules};
+ghost use Rattle.css_sheet.specs.SheetOrder.{SheetRuleText, cascade_rules};
+ghost use Rattle.css_sheet.specs.Sheets.{SheetText};
 ghost use Rattle.css_styles.specs.Contenders.{in_rule};
 
 /// In one layer of one origin a declaration of a rule beats another exactly if it does so in CSS 2.1. It is more

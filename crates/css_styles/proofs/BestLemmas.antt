@@ -6,7 +6,7 @@ use Rattle.std.specs.declared.cmp.Ordering.{Ordering}
 use Rattle.std.specs.declared.cmp.Ordering.TheVariants.{Less, Equal, Greater}
 use Rattle.std.specs.Ordering.{is_gt, ordering_reverse}
 use Rattle.css_cascade.specs.Cascade.{Weighed, beats, cascade_cmp}
-use Rattle.css_cascade.specs.internal.Steps.{better, winner_from}
+use Rattle.css_cascade.specs.Cascade.{better, winner_from}
 use Rattle.css_cascade.proofs.CascadeLemmas.{cascade_total}
 use Rattle.css_cascade.proofs.WinnerLemmas.{bounds-trans}
 

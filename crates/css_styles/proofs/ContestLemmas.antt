@@ -8,13 +8,15 @@ use Rattle.std.proofs.lemmas.List.Elements.{filter-append, recursion_from_All}
 use Rattle.css_cascade.specs.Cascade.{Weighed, beats}
 use Rattle.css_cascade.specs.WeightViews.{weighed}
 use Rattle.css_cascade.specs.declared.weights.Weight.{Weight}
-use Rattle.css_cascade.specs.internal.Steps.{better, winner_from}
+use Rattle.css_cascade.specs.Cascade.{better, winner_from}
 use Rattle.css_cascade.proofs.WinnerLemmas.{winner-append}
 use Rattle.css_styles.specs.declared.contest.Numbered.{Numbered}
-use Rattle.css_styles.specs.Contenders.{Contender, is_property}
+use Rattle.css_styles.specs.Contenders.{Contender, is_property, of_property}
 use Rattle.css_styles.specs.Properties.{number_in, property_key}
 use Rattle.css_styles.specs.Winners.{WinnerText, as_winner, is_beaten}
-use Rattle.css_styles.specs.internal.Numbered.{IsNumbered, IsNoted, best_of, numbered_of, weight_of}
+use Rattle.css_styles.specs.internal.Numbered.{IsNumbered, IsNoted, best_of, is_kept, is_kept_by, numbered_of, weight_of}
+use Rattle.css_styles.specs.internal.Stepping.{seen}
+use Rattle.css_cascade.specs.Rollbacks.{is_left_under, best_of as best_seen}
 use Rattle.css_styles.proofs.BestLemmas.{any-beats, best_beats, itself}
 use Rattle.css_styles.proofs.NumberLemmas.{bytes-same, bytes-itself, number-once}
 use Rattle.css_styles.proofs.PropertyLemmas.{property-keys}
@@ -172,6 +174,49 @@ module _ (properties : List (List ℕ)) (one : Numbered) (of-one : IsNumbered pr
       beaten-by all (recursion_from_All (IsNumbered properties) all numbered)
       ∙ any-beats (weight_of one)
       (map weight_of (filter (λ (n : Numbered). n.property == one.property) all))
+
+  -- those of its property are those with its number
+  rivals-of : (all : List Numbered) → AllByRecursion (IsNumbered properties) all
+      → map seen (of_property (name one) (map numbered_of all))
+      ≡ map weight_of (filter (λ (n : Numbered). n.property == one.property) all)
+  rivals-of [] numbered = refl
+  rivals-of (n ∷ all) numbered =
+      by (n.property == one.property) (same-number n numbered.0) (rivals-of all numbered.1)
+    where
+      by : (t : Bool) → is_property (name one) (name n) ≡ t
+          → map seen (of_property (name one) (map numbered_of all))
+          ≡ map weight_of (filter (λ (n : Numbered). n.property == one.property) all)
+          → map seen (of_property (name one) (map numbered_of (n ∷ all)))
+          ≡ map weight_of (cond t (n ∷ filter (λ (n : Numbered). n.property == one.property) all)
+          (filter (λ (n : Numbered). n.property == one.property) all))
+      by true e rest =
+          ap (λ s. map seen (cond s (numbered_of n ∷ of_property (name one) (map numbered_of all))
+          (of_property (name one) (map numbered_of all)))) e
+          ∙ ap (λ ws. weight_of n ∷ ws) rest
+      by false e rest =
+          ap (λ s. map seen (cond s (numbered_of n ∷ of_property (name one) (map numbered_of all))
+          (of_property (name one) (map numbered_of all)))) e
+          ∙ rest
+
+  -- what is noted tells whether it counts still
+  pub kept-noted : (all : List Numbered) (best : List (Option Weight))
+      → All (IsNumbered properties) all → IsNoted all best one
+      → is_kept best one
+      ≡ is_left_under (best_seen seen (of_property (name one) (map numbered_of all))) (weight_of one)
+  kept-noted all best numbered = by (slice_get best one.property)
+    where
+      same : best_seen seen (of_property (name one) (map numbered_of all)) ≡ best_of one.property all
+      same =
+          ap (winner_from itself None)
+          (rivals-of all (recursion_from_All (IsNumbered properties) all numbered))
+
+      by : (o : Option (Option Weight))
+          → option_map (option_map weighed) o ≡ Some (best_of one.property all)
+          → is_kept_by o (weight_of one)
+          ≡ is_left_under (best_seen seen (of_property (name one) (map numbered_of all))) (weight_of one)
+      by None e = absurd (cc)
+      by (Some None) e = ap (λ b. is_left_under b (weight_of one)) (some-same e ∙ sym same)
+      by (Some (Some w)) e = ap (λ b. is_left_under b (weight_of one)) (some-same e ∙ sym same)
 
   pub noted-some : (all : List Numbered) (best : List (Option Weight)) (w : Weight)
       → All (IsNumbered properties) all → IsNoted all best one

@@ -6,6 +6,7 @@ mod ContestLemmas
 mod StatedLemmas
 mod ReadLemmas
 mod RestLemmas
+mod RollingLemmas
 mod WinningLemmas
 mod GatherLemmas
 mod StyleLemmas

@@ -1,33 +1,31 @@
--- The declaration of one property that wins, as declarations are gone through one after another.
--- Serves the functions of `one_property` and `gathering`.
-use Rattle.std.proofs.Common.{◌≡◌, ℕ, ◌+◌, Bool, true, false, not, ◌&&◌, cond, if◌then◌else◌, List, [], ◌∷◌, ◌++◌, Option, None, Some, refl, sym, ap, ◌∙◌, map, option_map}
+-- The declarations of one property, as they are taken one after another, and the one that wins.
+-- Serves the functions of `one_property` and `asked`.
+use Rattle.std.proofs.Common.{◌≡◌, ℕ, ◌+◌, Bool, true, false, not, ◌&&◌, cond, if◌then◌else◌, List, [], ◌∷◌, ◌++◌, Option, None, Some, refl, sym, ap, ◌∙◌, append-nil, map, option_map}
 use Rattle.std.specs.Prelude.{filter}
 use Rattle.std.specs.Option.{is_some}
 use Rattle.css_syntax.specs.DeclarationLists.{DeclarationText}
 use Rattle.css_selectors.specs.Components.{Selector}
-use Rattle.css_cascade.specs.internal.Steps.{better, winner_from}
-use Rattle.std.proofs.lemmas.List.{map-append}
+use Rattle.css_cascade.specs.Cascade.{winner_from}
+use Rattle.std.proofs.lemmas.List.{append_assoc}
 use Rattle.std.proofs.lemmas.List.Elements.{filter-append}
-use Rattle.css_cascade.proofs.WinnerLemmas.{wins, found-some, winner-append}
+use Rattle.css_cascade.proofs.WinnerLemmas.{wins, found-some}
 use Rattle.css_sheet.specs.SheetOrder.{SheetRuleText}
-use Rattle.css_styles.specs.Contenders.{Contender, contenders, OwnText, in_rule, in_turn, is_named, is_property, of_names, of_own, of_property, of_rule, of_rules, rule_declarations}
-use Rattle.css_styles.specs.Winners.{AreWinners, IsWinner, as_winner}
-use Rattle.css_styles.specs.declared.contest.Numbered.{Numbered}
-use Rattle.css_styles.specs.internal.Numbered.{numbered_of}
-use Rattle.css_styles.specs.internal.Stepping.{best_named, seen, stated_of}
+use Rattle.css_styles.specs.Contenders.{Contender, contenders, OwnText, in_rule, in_turn, is_property, of_names, of_own, of_property, of_rule, of_rules, rule_declarations}
+use Rattle.css_styles.specs.Winners.{AreWinners, IsUnbeaten, IsWinner, as_winner, counting}
+use Rattle.css_styles.specs.internal.Stepping.{best_named, decided, seen, stated_of}
 
 none-found : (all : List Contender) → winner_from seen None all ≡ None → all ≡ []
 none-found [] e = refl
 none-found (one ∷ more) e = absurd (found-some seen one more e)
 
-is-winner : (all : List Contender) (best : Option Contender) → winner_from seen None all ≡ best
-    → IsWinner all (option_map as_winner best)
-is-winner all None e = none-found all e
-is-winner all (Some one) e = (one, (wins seen all one e, refl))
+unbeaten-is : (all : List Contender) (best : Option Contender) → winner_from seen None all ≡ best
+    → IsUnbeaten all (option_map as_winner best)
+unbeaten-is all None e = none-found all e
+unbeaten-is all (Some one) e = (one, (wins seen all one e, refl))
 
-pub winner-is : (all : List Contender) (best : Option Contender) → best ≡ winner_from seen None all
-    → IsWinner all (option_map as_winner best)
-winner-is all best e = is-winner all best (sym e)
+pub decided-is : (found : List Contender) (best : Option Contender) → best ≡ decided found
+    → IsWinner found (option_map as_winner best)
+decided-is found best e = unbeaten-is (counting found) best (sym e)
 
 -- ---- rules that state nothing of the property, or do not apply
 
@@ -81,47 +79,51 @@ module _ (matches : Selector → Bool) (property : List ℕ) (k : ℕ) (rule : S
 
 -- ---- rules one after another
 
-pub of-first : (property : List ℕ) (best : Option Contender) (first later : List Contender)
-    → winner_from seen best (of_property property (first ++ later))
-    ≡ winner_from seen (winner_from seen best (of_property property first)) (of_property property later)
-of-first property best first later =
-    ap (winner_from seen best)
-    (filter-append (λ (one : Contender). is_property property one.declaration.name) first later)
-    ∙ winner-append seen best (of_property property first) (of_property property later)
+-- the first of these were taken, of those that are to come
+next-taken : (property : List ℕ) (first later had now whole : List Contender)
+    → now ≡ had ++ of_property property first → had ++ of_property property (first ++ later) ≡ whole
+    → now ++ of_property property later ≡ whole
+next-taken property first later had now whole taken come =
+    ap (λ cs. cs ++ of_property property later) taken
+    ∙ append_assoc had (of_property property first) (of_property property later)
+    ∙ sym (ap (λ cs. had ++ cs)
+    (filter-append (λ (one : Contender). is_property property one.declaration.name) first later))
+    ∙ come
 
-pub rules-step : (matches : Selector → Bool) (property : List ℕ) (k : ℕ) (rest : List SheetRuleText)
-    (rule : SheetRuleText) (after : List SheetRuleText) (best now whole : Option Contender)
-    → rest ≡ rule ∷ after
-    → winner_from seen best (of_property property (of_rules matches k rest)) ≡ whole
-    → now ≡ winner_from seen best (of_property property (of_rule matches k rule))
-    → winner_from seen now (of_property property (of_rules matches (k + 1) after)) ≡ whole
-rules-step matches property k rest rule after best now whole first before found =
-    ap (λ b. winner_from seen b (of_property property (of_rules matches (k + 1) after))) found
-    ∙ sym (of-first property best (of_rule matches k rule) (of_rules matches (k + 1) after))
-    ∙ sym (ap (λ rs. winner_from seen best (of_property property (of_rules matches k rs))) first)
-    ∙ before
+pub turn-taken : (property : List ℕ) (contends : (place : ℕ) → DeclarationText → Contender)
+    (place : ℕ) (one : DeclarationText) (before after : List DeclarationText)
+    (had now whole : List Contender) → before ≡ one ∷ after
+    → had ++ of_property property (in_turn contends place before) ≡ whole
+    → now ≡ had ++ of_property property (contends place one ∷ [])
+    → now ++ of_property property (in_turn contends (place + 1) after) ≡ whole
+turn-taken property contends place one before after had now whole first come taken =
+    next-taken property (contends place one ∷ []) (in_turn contends (place + 1) after) had now whole
+    taken (sym (ap (λ ds. had ++ of_property property (in_turn contends place ds)) first) ∙ come)
 
--- the best of those of all rules and of the attribute
-pub best-of-all : (matches : Selector → Bool) (property : List ℕ) (rules : List SheetRuleText)
-    (own : OwnText) (best now : Option Contender)
-    → best ≡ winner_from seen None (of_property property (of_rules matches 0 rules))
-    → now ≡ winner_from seen best (of_property property (of_own own))
-    → IsWinner (of_property property (contenders matches rules own)) (option_map as_winner now)
-best-of-all matches property rules own best now so_far found =
-    winner-is (of_property property (contenders matches rules own)) now
-    (found ∙ ap (λ b. winner_from seen b (of_property property (of_own own))) so_far
-    ∙ sym (of-first property None (of_rules matches 0 rules) (of_own own)))
+pub rules-taken : (matches : Selector → Bool) (property : List ℕ) (k : ℕ)
+    (rest : List SheetRuleText) (rule : SheetRuleText) (after : List SheetRuleText)
+    (had now whole : List Contender) → rest ≡ rule ∷ after
+    → had ++ of_property property (of_rules matches k rest) ≡ whole
+    → now ≡ had ++ of_property property (of_rule matches k rule)
+    → now ++ of_property property (of_rules matches (k + 1) after) ≡ whole
+rules-taken matches property k rest rule after had now whole first come taken =
+    next-taken property (of_rule matches k rule) (of_rules matches (k + 1) after) had now whole taken
+    (sym (ap (λ rs. had ++ of_property property (of_rules matches k rs)) first) ∙ come)
 
--- the same, if no rule is left
-pub whole-winner : (matches : Selector → Bool) (property : List ℕ) (k : ℕ)
-    (rest rules : List SheetRuleText) (own : OwnText) (best now : Option Contender) → rest ≡ []
-    → winner_from seen best (of_property property (of_rules matches k rest))
-    ≡ winner_from seen None (of_property property (of_rules matches 0 rules))
-    → now ≡ winner_from seen best (of_property property (of_own own))
-    → IsWinner (of_property property (contenders matches rules own)) (option_map as_winner now)
-whole-winner matches property k rest rules own best now none before =
-    best-of-all matches property rules own best now
-    (sym (ap (λ rs. winner_from seen best (of_property property (of_rules matches k rs))) none) ∙ before)
+-- the element's own after those of all rules
+pub own-taken : (matches : Selector → Bool) (property : List ℕ) (k : ℕ)
+    (rest rules : List SheetRuleText) (own : OwnText) (had now : List Contender) → rest ≡ []
+    → had ++ of_property property (of_rules matches k rest)
+    ≡ of_property property (of_rules matches 0 rules)
+    → now ≡ had ++ of_property property (of_own own)
+    → now ≡ of_property property (contenders matches rules own)
+own-taken matches property k rest rules own had now none come taken =
+    taken
+    ∙ ap (λ cs. cs ++ of_property property (of_own own))
+    (sym (append-nil had)
+    ∙ sym (ap (λ rs. had ++ of_property property (of_rules matches k rs)) none) ∙ come)
+    ∙ sym (filter-append (λ (one : Contender). is_property property one.declaration.name)
+    (of_rules matches 0 rules) (of_own own))
 
 pub some-mapped : {X Y : Type 0} (f : X → Y) (o : Option X) → is_some (option_map f o) ≡ is_some o
 some-mapped f None = refl
@@ -132,42 +134,4 @@ pub are-winners : (all : List Contender) (asked : List (List (List ℕ)))
     → AreWinners all asked (map (best_named all) asked)
 are-winners all [] = tt
 are-winners all (names ∷ asked) =
-    (winner-is (of_names names all) (winner_from seen None (of_names names all)) refl, are-winners all asked)
-
--- one declaration more, which has one of the names or not
-pub named-step : (names : List (List ℕ)) (before next : List Contender) (one : Contender)
-    (best now : Option Contender) → best ≡ winner_from seen None (of_names names before)
-    → next ≡ before ++ one ∷ []
-    → now ≡ winner_from seen best (of_names names (one ∷ []))
-    → now ≡ winner_from seen None (of_names names next)
-named-step names before next one best now so_far more found =
-    found ∙ ap (λ b. winner_from seen b (of_names names (one ∷ []))) so_far
-    ∙ sym (winner-append seen None (of_names names before) (of_names names (one ∷ [])))
-    ∙ sym (ap (winner_from seen None)
-    (filter-append (λ (c : Contender). is_named names c.declaration.name) before (one ∷ [])))
-    ∙ sym (ap (λ cs. winner_from seen None (of_names names cs)) more)
-
-module _ (names : List (List ℕ)) (before next : List Numbered) (one : Numbered)
-    (best now : Option Contender) (so_far : best ≡ winner_from seen None (of_names names (map numbered_of before)))
-    (more : next ≡ before ++ one ∷ []) where
-  all-next : map numbered_of next ≡ map numbered_of before ++ numbered_of one ∷ []
-  all-next = ap (map numbered_of) more ∙ map-append numbered_of before (one ∷ [])
-
-  abbrev is_one : Bool
-  is_one = is_named names (numbered_of one).declaration.name
-
-  -- the next declaration has one of the names
-  pub best-named : is_one ≡ true → now ≡ Some (better seen best (numbered_of one))
-      → now ≡ winner_from seen None (of_names names (map numbered_of next))
-  best-named e found =
-      named-step names (map numbered_of before) (map numbered_of next) (numbered_of one) best now so_far
-      all-next
-      (found ∙ sym (ap (λ t. winner_from seen best (cond t (numbered_of one ∷ []) [])) e))
-
-  -- it has none
-  pub best-unnamed : is_one ≡ false → now ≡ best
-      → now ≡ winner_from seen None (of_names names (map numbered_of next))
-  best-unnamed e found =
-      named-step names (map numbered_of before) (map numbered_of next) (numbered_of one) best now so_far
-      all-next
-      (found ∙ sym (ap (λ t. winner_from seen best (cond t (numbered_of one ∷ []) [])) e))
+    (decided-is (of_names names all) (decided (of_names names all)) refl, are-winners all asked)

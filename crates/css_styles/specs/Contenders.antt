@@ -11,6 +11,7 @@ use Rattle.css_text.specs.Bytes.{starts_two}
 use Rattle.css_syntax.specs.DeclarationLists.{DeclarationText, ListText, ItemText, declared, at_rule_item, skipped_item, items}
 use Rattle.css_selectors.specs.Components.{Selector}
 use Rattle.css_cascade.specs.Cascade.{Weighed}
+use Rattle.css_cascade.specs.Rollbacks.{rollback_of}
 use Rattle.css_cascade.specs.declared.weights.Origin.TheVariants.{Author, Hint}
 use Rattle.css_sheet.specs.SheetOrder.{SheetRuleText, rule_counts, weight}
 use Rattle.css_styles.specs.declared.winner.Source.{Source}
@@ -72,6 +73,7 @@ in_rule rule_place rule place one = record {
     layer = rule.layer;
     specificity = weight (rule_counts rule);
     place = rule_place ∷ place ∷ [];
+    rollback = rollback_of one.value;
   };
   declaration = one;
   source = sources.Rule rule_place;
@@ -88,6 +90,7 @@ in_style place one = record {
     layer = 0;
     specificity = 0 ∷ 0 ∷ 0 ∷ [];
     place = 0 ∷ place ∷ [];
+    rollback = rollback_of one.value;
   };
   declaration = one;
   source = sources.Style;
@@ -104,6 +107,7 @@ in_presentation place one = record {
     layer = 0;
     specificity = 0 ∷ 0 ∷ 0 ∷ [];
     place = 0 ∷ place ∷ [];
+    rollback = rollback_of one.value;
   };
   declaration = one;
   source = sources.Presentation;

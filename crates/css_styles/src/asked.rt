@@ -1,29 +1,62 @@
 //! Which declarations of some properties win on an element.
-ghost use Rattle.std.specs.Prelude.{◌≡◌, ◌++◌, [], None, OnErr, OnOk, map, option_map};
-ghost use Rattle.css_cascade.specs.internal.Steps.{winner_from};
+ghost use Rattle.std.specs.Prelude.{◌≡◌, ◌++◌, ◌∷◌, [], OnErr, OnOk, map, option_map};
 ghost use Rattle.css_styles.specs.Contenders.{of_names};
 ghost use Rattle.css_styles.specs.StyleViews.{names_of, winner_of};
 ghost use Rattle.css_styles.specs.internal.Numbered.{numbered_of};
-ghost use Rattle.css_styles.specs.internal.Stepping.{best_named as best_named_of, contender_of, seen};
+ghost use Rattle.css_styles.specs.internal.Stepping.{best_named as best_named_of, contender_of};
 
 use crate::Winner;
-use crate::contenders::{Contender, better_of, won};
+use crate::contenders::{Contender, won};
 use crate::contest::Numbered;
+use crate::decide::decide;
 use crate::properties::is_named;
 use std::alloc::AllocError;
 
-/// Returns the best of the declarations that have one of these names.
-fn best_named<'a>(names: &[&str], contenders: &[Numbered<'a>]) -> Option<Contender<'a>>
-    ensures { option_map contender_of result ≡ winner_from seen None
-        (of_names (map (λ name. name.now) names.now) (map numbered_of contenders.now)) }
+/// Appends the declaration, if it has one of these names.
+fn push_if_named<'a>(
+    names: &[&str],
+    one: Contender<'a>,
+    rivals: &mut Vec<Contender<'a>>,
+) -> Result<(), AllocError>
+    ensures { OnOk result (map contender_of rivals.new.items ≡ map contender_of rivals.old.items
+        ++ of_names (map (λ name. name.now) names.now) (contender_of one.entry ∷ [])) }
 {
-    let mut best = None;
-    for one in contenders {
-        if is_named(names, one.contender.winner.declaration.name) {
-            best = Some(better_of(best, one.contender));
-        }
+    if is_named(names, one.winner.declaration.name) {
+        rivals.push(one)?;
     }
-    best
+    Ok(())
+}
+
+/// Finds the declarations that have one of these names, which replace the items of `rivals`.
+fn pick<'a>(
+    names: &[&str],
+    contenders: &[Numbered<'a>],
+    rivals: &mut Vec<Contender<'a>>,
+) -> Result<(), AllocError>
+    ensures { OnOk result (map contender_of rivals.new.items
+        ≡ of_names (map (λ name. name.now) names.now) (map numbered_of contenders.now)) }
+{
+    rivals.clear();
+    for one in contenders {
+        push_if_named(names, one.contender, rivals)?;
+    }
+    Ok(())
+}
+
+/// Finds for the property of these names the declaration that wins, if one does.
+fn find_named<'a>(
+    names: &[&str],
+    contenders: &[Numbered<'a>],
+    rivals: &mut Vec<Contender<'a>>,
+    found: &mut Vec<Option<Winner<'a>>>,
+) -> Result<(), AllocError>
+    ensures { OnOk result (map (option_map winner_of) found.new.items
+        ≡ map (option_map winner_of) found.old.items
+        ++ best_named_of (map numbered_of contenders.now) (map (λ name. name.now) names.now) ∷ []) }
+{
+    pick(names, contenders, rivals)?;
+    found.push(won(decide(rivals)))?;
+    Ok(())
 }
 
 /// Finds for each of these properties, which may have several names, the declaration that wins: these
@@ -31,6 +64,7 @@ fn best_named<'a>(names: &[&str], contenders: &[Numbered<'a>]) -> Option<Contend
 pub(crate) fn find_asked<'a>(
     asked: &[&[&str]],
     contenders: &[Numbered<'a>],
+    rivals: &mut Vec<Contender<'a>>,
     found: &mut Vec<Option<Winner<'a>>>,
 ) -> Result<(), AllocError>
     ensures winners { OnOk result (map (option_map winner_of) found.new.items
@@ -39,9 +73,9 @@ pub(crate) fn find_asked<'a>(
 {
     found.clear();
     for names in asked {
-        if let Err(error) = found.push(won(best_named(*names, contenders))) {
+        if let Err(error) = find_named(*names, contenders, rivals, found) {
             found.clear();
-            return Err(error.into());
+            return Err(error);
         }
     }
     Ok(())

@@ -1,6 +1,6 @@
 //! Declarations that contend, with what the cascade sees of them.
 ghost use Rattle.std.specs.Prelude.{◌≡◌, option_map};
-ghost use Rattle.css_cascade.specs.internal.Steps.{better};
+ghost use Rattle.css_cascade.specs.Cascade.{better};
 ghost use Rattle.css_syntax.specs.Views.{declaration_of};
 ghost use Rattle.css_sheet.specs.SheetRuleViews.{sheet_rule_of};
 ghost use Rattle.css_styles.specs.Contenders.{in_rule as in_rule_of};
@@ -9,7 +9,7 @@ ghost use Rattle.css_styles.specs.Winners.{as_winner};
 ghost use Rattle.css_styles.specs.internal.Stepping.{contender_of, in_own as in_own_of, seen};
 
 use crate::{Source, Winner};
-use css_cascade::{Origin, Weight, beats};
+use css_cascade::{Origin, Rollback, Weight, beats};
 use css_sheet::SheetRule;
 use css_syntax::Declaration;
 
@@ -52,6 +52,7 @@ impl<'a> Contender<'a> {
                 layer: rule.layer,
                 specificity: [counts.ids, counts.classes, counts.names],
                 place: [rule_place, place],
+                rollback: Rollback::of(declaration.value),
             },
             winner: Winner {
                 declaration,
@@ -78,6 +79,7 @@ impl<'a> Contender<'a> {
                 layer: 0,
                 specificity: [0, 0, 0],
                 place: [0, place],
+                rollback: Rollback::of(declaration.value),
             },
             winner: Winner {
                 declaration,

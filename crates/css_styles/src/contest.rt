@@ -1,16 +1,16 @@
-//! The best of the declarations of each property.
-ghost use Rattle.std.specs.Prelude.{◌≡◌, ◌++◌, ◌∷◌, ◌<◌, ◌≤◌, [], if◌then◌else◌, Bool, List, ℕ, None, Some, OnErr, OnOk, not, map, length, slice_get, vec_len};
+//! The best of the declarations of each property that count.
+ghost use Rattle.std.specs.Prelude.{◌≡◌, ◌++◌, ◌∷◌, ◌<◌, ◌≤◌, [], if◌then◌else◌, true, false, Bool, List, ℕ, None, Some, OnErr, OnOk, filter, not, map, length, slice_get, vec_len};
 ghost use Rattle.std.specs.List.{All};
 ghost use Rattle.std.specs.Option.{option_map};
 ghost use Rattle.css_cascade.specs.WeightViews.{weighed};
-ghost use Rattle.css_cascade.specs.internal.Steps.{better};
+ghost use Rattle.css_cascade.specs.Cascade.{better};
 ghost use Rattle.css_styles.specs.StyleViews.{winner_of};
-ghost use Rattle.css_styles.specs.Winners.{as_winner, is_beaten, unbeaten};
-ghost use Rattle.css_styles.specs.internal.Numbered.{IsNoted, IsNumbered, numbered_of};
+ghost use Rattle.css_styles.specs.Winners.{as_winner, counting_each, is_beaten, unbeaten};
+ghost use Rattle.css_styles.specs.internal.Numbered.{IsNoted, IsNumbered, is_kept as is_kept_of, numbered_of};
 
 use crate::Winner;
 use crate::contenders::Contender;
-use css_cascade::{Weight, beats};
+use css_cascade::{Weight, beats, is_left};
 use std::alloc::AllocError;
 
 /// A declaration that applies to an element, with the number of its property.
@@ -52,6 +52,70 @@ fn note(contenders: &[Numbered<'_>], best: &mut [Option<Weight>])
 {
     for one in contenders {
         best[one.property] = Some(better_of(best[one.property], one.contender.weight));
+    }
+}
+
+/// Notes the best of each property.
+fn note_anew(contenders: &[Numbered<'_>], best: &mut [Option<Weight>])
+    requires { All (λ n. n.property < length best.old) contenders.now }
+    ensures len { length best.new ≡ length best.old }
+    ensures noted { All (IsNoted contenders.now best.new) contenders.now }
+{
+    forget(contenders, best);
+    note(contenders, best);
+}
+
+/// Whether a declaration counts still where the best of its property wins.
+fn is_kept(one: &Numbered<'_>, best: &[Option<Weight>]) -> bool
+    ensures { result ≡ is_kept_of best.now one.now }
+{
+    match best.get(one.property) {
+        Some(Some(weight)) => is_left(&one.contender.weight, weight),
+        _ => true,
+    }
+}
+
+/// Whether all of these count still.
+fn are_kept(contenders: &[Numbered<'_>], best: &[Option<Weight>]) -> bool
+    ensures { result ≡ true → All (λ n. is_kept_of best.now n ≡ true) contenders.now }
+{
+    for one in contenders {
+        if !is_kept(one, best) {
+            return false;
+        }
+    }
+    true
+}
+
+/// Leaves those that count still.
+fn keep(contenders: &mut Vec<Numbered<'_>>, best: &[Option<Weight>])
+    ensures { contenders.new.items ≡ filter (is_kept_of best.now) contenders.old.items }
+{
+    contenders.retain(
+        |one: &Numbered<'_>| -> bool
+            ensures { result ≡ is_kept_of best.entry.now one.now }
+        { is_kept(one, best) },
+    );
+}
+
+/// Leaves those that count in the end, and notes the best of each property.
+fn roll_back(contenders: &mut Vec<Numbered<'_>>, best: &mut [Option<Weight>])
+    requires { (properties : List (List ℕ)) × (length properties ≤ length best.old)
+        × All (IsNumbered properties) contenders.old.items }
+    ensures len { length best.new ≡ length best.old }
+    ensures counting { map numbered_of contenders.new.items
+        ≡ counting_each (map numbered_of contenders.old.items) }
+    ensures numbered { (properties : List (List ℕ)) → All (IsNumbered properties) contenders.old.items
+        → All (IsNumbered properties) contenders.new.items }
+    ensures noted { All (IsNoted contenders.new.items best.new) contenders.new.items }
+{
+    note_anew(contenders, best);
+    'rounds: for _ in 0..contenders.len() {
+        if are_kept(contenders, best) {
+            return;
+        }
+        keep(contenders, best);
+        note_anew(contenders, best);
     }
 }
 
@@ -111,22 +175,21 @@ pub(crate) fn make_room(best: &mut Vec<Option<Weight>>, count: usize) -> Result<
     Ok(())
 }
 
-/// Finds those that no other of the same property beats, which replace the items of `found`. After an
-/// error none are left.
+/// Finds those that count and that no other of the same property beats, which replace the items of `found`.
+/// Only those that count are left of the declarations. After an error none are found.
 pub(crate) fn find_unbeaten<'a>(
-    contenders: &[Numbered<'a>],
+    contenders: &mut Vec<Numbered<'a>>,
     best: &mut [Option<Weight>],
     found: &mut Vec<Winner<'a>>,
 ) -> Result<(), AllocError>
     requires { (properties : List (List ℕ)) × (length properties ≤ length best.old)
-        × All (IsNumbered properties) contenders.now }
+        × All (IsNumbered properties) contenders.old.items }
     ensures unbeaten { OnOk result (map winner_of found.new.items
-        ≡ map as_winner (unbeaten (map numbered_of contenders.now))) }
+        ≡ map as_winner (unbeaten (counting_each (map numbered_of contenders.old.items)))) }
     ensures err { OnErr result (found.new.items ≡ []) }
 {
     found.clear();
-    forget(contenders, best);
-    note(contenders, best);
+    roll_back(contenders, best);
     let pushed = push_unbeaten(contenders, best, found);
     if pushed.is_err() {
         found.clear();

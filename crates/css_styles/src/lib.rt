@@ -18,6 +18,7 @@
 mod asked;
 mod contenders;
 mod contest;
+mod decide;
 mod gathering;
 mod one_property;
 mod properties;

@@ -1,6 +1,5 @@
 //! Which declaration of one property wins on an element.
-ghost use Rattle.std.specs.Prelude.{◌≡◌, Bool, List, [], true, false, map, option_map};
-ghost use Rattle.css_cascade.specs.internal.Steps.{winner_from};
+ghost use Rattle.std.specs.Prelude.{◌≡◌, ◌++◌, ◌∷◌, Bool, List, [], true, false, IfOk, OnOk, map, option_map};
 ghost use Rattle.css_syntax.specs.DeclarationLists.{items};
 ghost use Rattle.css_syntax.specs.Views.{item_of};
 ghost use Rattle.css_selectors.specs.Components.{Selector};
@@ -10,14 +9,31 @@ ghost use Rattle.css_styles.specs.Contenders.{contenders, declared_in, in_rule, 
 ghost use Rattle.css_styles.specs.Contenders.{of_own, of_property, of_rule, own_declarations, rule_declarations};
 ghost use Rattle.css_styles.specs.StyleViews.{own_of, winner_of};
 ghost use Rattle.css_styles.specs.Winners.{Decides, IsWinner};
-ghost use Rattle.css_styles.specs.internal.Stepping.{contender_of, in_own, is_stated_by, seen, stated_of};
+ghost use Rattle.css_styles.specs.internal.Stepping.{contender_of, in_own, is_stated_by, stated_of};
 
-use crate::contenders::{Contender, OwnPart, better_of, won};
+use crate::contenders::{Contender, OwnPart, won};
+use crate::decide::decide;
 use crate::properties::is_property;
 use crate::{Own, Winner};
 use css_selectors::Element;
 use css_sheet::SheetRule;
 use css_syntax::{Declarations, Item};
+use std::alloc::{AllocError, Global};
+
+/// Appends the declaration, if it is one of the property.
+fn push_if_of<'a>(
+    rivals: &mut Vec<Contender<'a>>,
+    property: &str,
+    one: Contender<'a>,
+) -> Result<(), AllocError>
+    ensures { OnOk result (map contender_of rivals.new.items ≡ map contender_of rivals.old.items
+        ++ of_property property.now (contender_of one.entry ∷ [])) }
+{
+    if is_property(property, one.winner.declaration.name) {
+        rivals.push(one)?;
+    }
+    Ok(())
+}
 
 /// Whether an item is a declaration of the property.
 fn is_stated(property: &str, item: &Item<'_>) -> bool
@@ -42,117 +58,121 @@ fn states(property: &str, block: &str) -> bool
     false
 }
 
-/// Returns the declaration of the property that wins of the best of earlier ones and of those of a rule.
-fn with_block<'a>(
-    best: Option<Contender<'a>>,
+/// Appends the declarations of the property that a rule states.
+fn push_block<'a>(
+    rivals: &mut Vec<Contender<'a>>,
     property: &str,
     rule: &SheetRule<'a>,
     rule_place: usize,
-) -> Option<Contender<'a>>
-    ensures { option_map contender_of result ≡ winner_from seen (option_map contender_of best.entry)
-        (of_property property.now
+) -> Result<(), AllocError>
+    ensures { OnOk result (map contender_of rivals.new.items ≡ map contender_of rivals.old.items
+        ++ of_property property.now
         (in_turn (in_rule rule_place (sheet_rule_of rule.now)) 0 (rule_declarations (sheet_rule_of rule.now)))) }
 {
-    let mut winner = best;
     let mut place: usize = 0;
     let mut declarations = Declarations::of_block(rule.block);
     'items: while let Some(part) = declarations.next() {
         if let Item::Declaration(one) = part.item {
-            if is_property(property, one.name) {
-                winner = Some(better_of(winner, Contender::in_rule(rule, rule_place, place, one)));
-            }
+            let contender = Contender::in_rule(rule, rule_place, place, one);
+            push_if_of(rivals, property, contender)?;
             place += 1;
         }
     }
-    winner
+    Ok(())
 }
 
 /// The same of a rule, which may apply to the element or not. A rule that states nothing of the property
 /// is not matched.
-fn with_rule<'a, E: Element>(
-    best: Option<Contender<'a>>,
+fn push_rule<'a, E: Element>(
+    rivals: &mut Vec<Contender<'a>>,
     property: &str,
     rule: &SheetRule<'a>,
     rule_place: usize,
     element: &E,
-) -> Option<Contender<'a>>
+) -> Result<(), AllocError>
     ensures { (matches : Selector → Bool)
         → Decides matches (λ s. Matches E.document s (E.node element.now))
-        → option_map contender_of result ≡ winner_from seen (option_map contender_of best.entry)
-        (of_property property.now (of_rule matches rule_place (sheet_rule_of rule.now))) }
+        → OnOk result (map contender_of rivals.new.items ≡ map contender_of rivals.old.items
+        ++ of_property property.now (of_rule matches rule_place (sheet_rule_of rule.now))) }
 {
     if rule.pseudo_element.is_some() || !states(property, rule.block) {
-        return best;
+        return Ok(());
     }
     if rule.selector.matches(element) {
-        with_block(best, property, rule, rule_place)
+        push_block(rivals, property, rule, rule_place)
     } else {
-        best
+        Ok(())
     }
 }
 
 /// The same of one of the element's own texts.
-fn with_text<'a>(
-    best: Option<Contender<'a>>,
+fn push_text<'a>(
+    rivals: &mut Vec<Contender<'a>>,
     property: &str,
     part: OwnPart,
     text: &'a str,
-) -> Option<Contender<'a>>
-    ensures { option_map contender_of result ≡ winner_from seen (option_map contender_of best.entry)
-        (of_property property.now (in_turn (in_own part) 0 (own_declarations text.now))) }
+) -> Result<(), AllocError>
+    ensures { OnOk result (map contender_of rivals.new.items ≡ map contender_of rivals.old.items
+        ++ of_property property.now (in_turn (in_own part) 0 (own_declarations text.now))) }
 {
-    let mut winner = best;
     let mut place: usize = 0;
     let mut declarations = Declarations::new(text);
     'items: while let Some(part_of_text) = declarations.next() {
         if let Item::Declaration(one) = part_of_text.item {
-            if is_property(property, one.name) {
-                winner = Some(better_of(winner, Contender::in_own(part, place, one)));
-            }
+            let contender = Contender::in_own(part, place, one);
+            push_if_of(rivals, property, contender)?;
             place += 1;
         }
     }
-    winner
+    Ok(())
 }
 
 /// The same of the element's own declarations.
-fn with_own<'a>(best: Option<Contender<'a>>, property: &str, own: Own<'a>) -> Option<Contender<'a>>
-    ensures { option_map contender_of result ≡ winner_from seen (option_map contender_of best.entry)
-        (of_property property.now (of_own (own_of own.entry))) }
+fn push_own<'a>(
+    rivals: &mut Vec<Contender<'a>>,
+    property: &str,
+    own: Own<'a>,
+) -> Result<(), AllocError>
+    ensures { OnOk result (map contender_of rivals.new.items ≡ map contender_of rivals.old.items
+        ++ of_property property.now (of_own (own_of own.entry))) }
 {
-    let presented = with_text(best, property, OwnPart::Presentation, own.presentation);
-    with_text(presented, property, OwnPart::Style, own.style)
+    push_text(rivals, property, OwnPart::Presentation, own.presentation)?;
+    push_text(rivals, property, OwnPart::Style, own.style)
 }
 
 /// Returns the declaration of a property that wins on an element with these of its own, of rules in the
 /// order of the cascade such as [`read_sheets`](css_sheet::read_sheets) returns. Returns `None` if none that
-/// applies states the property.
+/// applies and counts states the property. Fails only if an allocation fails.
 ///
 /// An important declaration wins over others; then one of the attribute over those of rules; of those that
 /// are not important one in a later layer, and of important ones one in an earlier layer; then one of
-/// greater specificity, and then the one that is later.
+/// greater specificity, and then the one that is later. As long as the one that wins is `revert` or
+/// `revert-layer`, what is of its origin, or in its layer, and what is after that do not count.
 ///
 /// Rules with a pseudo-element do not apply to the element. A name is compared as it is written, in
 /// any case of its ASCII letters if it is not that of a custom property (`--x`); shorthands are not
 /// expanded.
 pub fn winning<'a, E: Element>(
+    alloc: Global,
     rules: &[SheetRule<'a>],
     element: &E,
     own: Own<'a>,
     property: &str,
-) -> Option<Winner<'a>>
+) -> Result<Option<Winner<'a>>, AllocError>
     ensures { (matches : Selector → Bool)
         → Decides matches (λ s. Matches E.document s (E.node element.now))
-        → IsWinner (of_property property.now (contenders matches (map sheet_rule_of rules.now) (own_of own.entry)))
-        (option_map winner_of result) }
+        → IfOk result (λ found. IsWinner
+        (of_property property.now (contenders matches (map sheet_rule_of rules.now) (own_of own.entry)))
+        (option_map winner_of found)) }
 {
-    let mut best = None;
+    let mut rivals = Vec::new(alloc);
     let mut place: usize = 0;
     let mut rest = rules;
     'rules: while let [rule, after @ ..] = rest {
-        best = with_rule(best, property, rule, place, element);
+        push_rule(&mut rivals, property, rule, place, element)?;
         place += 1;
         rest = after;
     }
-    won(with_own(best, property, own))
+    push_own(&mut rivals, property, own)?;
+    Ok(won(decide(&mut rivals)))
 }

@@ -1,6 +1,7 @@
 //! The rules of sheets, with their declarations.
 ghost use Rattle.std.specs.Prelude.{◌≡◌, ◌≤◌, ◌<◌, ◌^◌, ℕ, Bool, List, IfErr, IfOk, OnOk, IfSome, map, length, slice_get};
-ghost use Rattle.css_sheet.specs.SheetOrder.{cascade_rules, nested_lists, source_rules, declarations_in, texts_in};
+ghost use Rattle.css_sheet.specs.SheetOrder.{cascade_rules, nested_lists, source_rules, declarations_in};
+ghost use Rattle.css_sheet.specs.Sheets.{texts_in};
 ghost use Rattle.css_sheet.specs.SheetRuleViews.{Answers, sheet_of, sheet_rule_of};
 ghost use Rattle.css_sheet.specs.declared.sheet_error.SheetError.TheVariants.{TooManyDeclarations, TooManyLayers};
 ghost use Rattle.css_sheet.specs.SheetLayers.{layer_count};
@@ -91,10 +92,10 @@ impl<'a> StyleRules<'a> {
             → IfErr result (λ error. error ≡ TooManyDeclarations
             → most < declarations_in (source_rules answers (map sheet_of sheets.now))) }
         ensures few_layers { (answers : List ℕ → List ℕ → Bool) → Answers (C.post holds) answers
-            → OnOk result (layer_count answers (texts_in (map sheet_of sheets.now)) ≤ most_layers) }
+            → OnOk result (layer_count answers (map sheet_of sheets.now) ≤ most_layers) }
         ensures many_layers { (answers : List ℕ → List ℕ → Bool) → Answers (C.post holds) answers
             → IfErr result (λ error. error ≡ TooManyLayers
-            → most_layers < layer_count answers (texts_in (map sheet_of sheets.now))) }
+            → most_layers < layer_count answers (map sheet_of sheets.now)) }
     {
         let SheetRules { rules, lists } = read_sheets(alloc, sheets, most, holds)?;
         let mut properties = Properties::new(alloc);

@@ -12,6 +12,7 @@ ghost use Rattle.css_styles.specs.StyleViews.{StylesText, names_of, own_of, winn
 ghost use Rattle.css_styles.specs.Winners.{AreReadBy, AreWinners, Decides, winners};
 
 use crate::asked::find_asked;
+use crate::contenders::Contender;
 use crate::contest::{Numbered, find_unbeaten, make_room};
 use crate::gathering::gather;
 use crate::{Own, StyleRules, Winner};
@@ -37,6 +38,8 @@ pub struct Styles<'s, 'a, 'w> {
     matching: Vec<usize>,
     /// The declarations that apply to it.
     contenders: Vec<Numbered<'a>>,
+    /// Those of them that contend for one property.
+    rivals: Vec<Contender<'a>>,
     /// The best of each property, by its number.
     best: Vec<Option<Weight>>,
     /// Allocates what a call needs.
@@ -79,6 +82,7 @@ impl<'s, 'a, 'w> Styles<'s, 'a, 'w> {
             walk,
             matching: Vec::new(alloc),
             contenders: Vec::new(alloc),
+            rivals: Vec::new(alloc),
             best: Vec::new(alloc),
             alloc,
         }
@@ -121,9 +125,9 @@ impl<'s, 'a, 'w> Styles<'s, 'a, 'w> {
     }
 
     /// Finds the declarations that win on the element at an index that has these of its own, and counts the
-    /// tests as [`TreeWalk::matching`] does: for each property the one that no other beats, in the order of
-    /// rules and of declarations in them, then those of its presentation declarations, and those of its style
-    /// attribute last. A walk is of one page alone.
+    /// tests as [`TreeWalk::matching`] does: for each property the one that counts and that no other that does
+    /// beats, in the order of rules and of declarations in them, then those of its presentation declarations,
+    /// and those of its style attribute last. A walk is of one page alone.
     ///
     /// An important declaration wins over others; then the origins decide, the presentation declarations being
     /// hints; then one of the attribute wins over those of rules; of those that are not important one in a
@@ -131,6 +135,12 @@ impl<'s, 'a, 'w> Styles<'s, 'a, 'w> {
     /// the one that is later. Rules with a pseudo-element do not apply to the element. A name is compared as
     /// it is written, in any case of its ASCII letters if it is not that of a custom property (`--x`);
     /// shorthands are not expanded.
+    ///
+    /// As long as the one that wins for a property has the value `revert` or `revert-layer`, what is of its
+    /// origin, or in its layer, and what is after that do not count for the property: hints are the author's
+    /// for `revert`, and a style attribute is a layer after all others. `revert` of the user agent's wins as
+    /// it is. If none counts, none wins. All that apply are gone through once more for each layer and
+    /// each origin that is rolled back, for the property with the most of them.
     ///
     /// The previous items of `found` are dropped. Fails only if an allocation fails; then no items are
     /// left, and the walk goes on.
@@ -163,13 +173,13 @@ impl<'s, 'a, 'w> Styles<'s, 'a, 'w> {
         let all = &mut self.contenders;
         let count = gather(self.alloc, self.rules, &self.matching, own, all)?;
         make_room(&mut self.best, count)?;
-        find_unbeaten(&self.contenders, &mut self.best, found)
+        find_unbeaten(&mut self.contenders, &mut self.best, found)
     }
 
     /// Finds for each of these properties the declaration that wins on the element at an index that has these
     /// of its own, as [`Styles::winners`] does. A property has one name or several, as a longhand and the
-    /// shorthands that set it: of the declarations that apply and have one of its names, no other beats the
-    /// one that wins. If there are none, none wins.
+    /// shorthands that set it: of the declarations that apply, have one of its names and count, no other
+    /// beats the one that wins. If there are none, none wins.
     ///
     /// They are in the order of the properties, and the previous items of `found` are dropped. For each
     /// property the time grows as the declarations that apply times its names. Fails only if an allocation
@@ -203,6 +213,6 @@ impl<'s, 'a, 'w> Styles<'s, 'a, 'w> {
             .matching(page, element, &mut self.matching, tests)?;
         let all = &mut self.contenders;
         gather(self.alloc, self.rules, &self.matching, own, all)?;
-        find_asked(asked, &self.contenders, found)
+        find_asked(asked, &self.contenders, &mut self.rivals, found)
     }
 }

@@ -1,12 +1,12 @@
 -- Declarations with the numbers of their properties, and the best of each property.
-use Rattle.std.specs.Prelude.{◌≡◌, ℕ, ◌==◌, List, [], ◌∷◌, ◌++◌, map, filter, Option, None, Some, if◌then◌else◌}
+use Rattle.std.specs.Prelude.{◌≡◌, ℕ, Bool, true, ◌==◌, List, [], ◌∷◌, ◌++◌, map, filter, Option, None, Some, if◌then◌else◌}
 use Rattle.std.specs.List.{All, slice_get}
 use Rattle.std.specs.Option.{is_some, option_map}
 use Rattle.std.specs.Global.{Vec}
 use Rattle.css_syntax.specs.DeclarationLists.{DeclarationText}
 use Rattle.css_syntax.specs.Views.{declaration_of}
-use Rattle.css_cascade.specs.Cascade.{Weighed}
-use Rattle.css_cascade.specs.internal.Steps.{winner_from}
+use Rattle.css_cascade.specs.Cascade.{Weighed, winner_from}
+use Rattle.css_cascade.specs.Rollbacks.{is_left}
 use Rattle.css_cascade.specs.WeightViews.{weighed}
 use Rattle.css_cascade.specs.declared.weights.Weight.{Weight}
 use Rattle.css_sheet.specs.SheetOrder.{SheetRuleText}
@@ -73,3 +73,12 @@ best_of property all =
 abbrev pub IsNoted : List Numbered → List (Option Weight) → Numbered → Type 0
 IsNoted all best n =
     option_map (option_map weighed) (slice_get best n.property) ≡ Some (best_of n.property all)
+
+-- a declaration counts still, by what is noted of its property
+abbrev pub is_kept_by : Option (Option Weight) → Weighed → Bool
+is_kept_by None one = true
+is_kept_by (Some None) one = true
+is_kept_by (Some (Some best)) one = is_left one (weighed best)
+
+abbrev pub is_kept : List (Option Weight) → Numbered → Bool
+is_kept best n = is_kept_by (slice_get best n.property) (weight_of n)

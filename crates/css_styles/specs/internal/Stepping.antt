@@ -4,15 +4,14 @@ use Rattle.std.specs.List.{slice_get}
 use Rattle.std.specs.Option.{is_some, option_map}
 use Rattle.css_syntax.specs.DeclarationLists.{DeclarationText, ItemText, declared, at_rule_item, skipped_item}
 use Rattle.css_syntax.specs.Views.{declaration_of}
-use Rattle.css_cascade.specs.Cascade.{Weighed}
+use Rattle.css_cascade.specs.Cascade.{Weighed, winner_from}
 use Rattle.css_cascade.specs.WeightViews.{weighed}
 use Rattle.css_styles.specs.declared.contenders.Contender.{Contender as ContenderCode}
 use Rattle.css_sheet.specs.SheetOrder.{SheetRuleText}
 use Rattle.css_styles.specs.declared.contenders.OwnPart.{OwnPart}
 use Rattle.css_styles.specs.declared.contenders.OwnPart.TheVariants as parts
 use Rattle.css_styles.specs.Contenders.{Contender, in_presentation, in_rule, in_style, in_turn, is_property, of_names, rule_declarations}
-use Rattle.css_styles.specs.Winners.{WinnerText, as_winner}
-use Rattle.css_cascade.specs.internal.Steps.{winner_from}
+use Rattle.css_styles.specs.Winners.{WinnerText, as_winner, counting}
 
 -- what contracts see of a declaration with its weight
 abbrev pub contender_of : ContenderCode → Contender
@@ -56,6 +55,10 @@ states_at index (Some rule) = states index rule
 abbrev pub stated_at : List SheetRuleText → ℕ → List Contender
 stated_at rules index = states_at index (slice_get rules index)
 
+-- what wins of these, which contend for one property
+abbrev pub decided : List Contender → Option Contender
+decided found = winner_from seen None (counting found)
+
 -- what wins of the declarations that have one of these names
 abbrev pub best_named : List Contender → (names : List (List ℕ)) → Option WinnerText
-best_named all names = option_map as_winner (winner_from seen None (of_names names all))
+best_named all names = option_map as_winner (decided (of_names names all))

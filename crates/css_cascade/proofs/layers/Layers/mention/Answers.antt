@@ -1,7 +1,7 @@
 use Rattle.std.proofs.Common.{◌≡◌, rules, map, List, ◌∷◌, subst, length, ◌+◌, ◌<◌}
 use Rattle.std.specs.Vec.Iter.{into_iter_items}
 use Rattle.css_cascade.specs.declared.layers.LayerPart.{LayerPart}
-use Rattle.css_cascade.specs.Layers.{most_layers, with_name}
+use Rattle.css_cascade.specs.Layers.{most_layers, origin_count, with_name}
 use Rattle.css_cascade.specs.LayerViews.{part_of, known_of}
 use Rattle.css_cascade.proofs.NameLemmas.{Mentioning, handed-error, many-named, mentioning-next}
 use Rattle.css_cascade.proofs.layers.Layers.mention.Goals as goal
@@ -30,9 +30,9 @@ returns-in_err-number-clause-refused c =
     let now = known_of c.parts.self in
     let left = into_iter_items c.next.new.self in
     let first : into_iter_items c.parts.part-iterator ≡ c.in-Some.part ∷ left = search rules in
-    handed-error (most_layers + 1 < length (with_name start c.args.outer all)) c.from_residual.result
+    handed-error (most_layers + origin_count < length (with_name start c.args.outer all)) c.from_residual.result
     c.in_err-number.field-0.0 c.from_residual.ensures.1
     (λ many. many-named start c.args.outer all now c.parts.number (part_of c.in-Some.part)
-    (map part_of left) (most_layers + 1)
+    (map part_of left) (most_layers + origin_count)
     (subst (λ (l : List LayerPart). Mentioning start c.args.outer all now c.parts.number
     (map part_of l)) first c.parts.invariant.mentioning) (c.in_err-number.ensures.refused many))

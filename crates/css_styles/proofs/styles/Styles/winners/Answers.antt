@@ -6,8 +6,8 @@ use Rattle.css_tree.specs.Pages.{page_document}
 use Rattle.css_tree.specs.Walks.{IsOpenAt}
 use Rattle.css_styles.specs.Contenders.{contenders, of_own, of_rules}
 use Rattle.css_styles.specs.StyleViews.{StylesText, own_of}
-use Rattle.css_styles.specs.Winners.{AreReadBy, as_winner, unbeaten, winners}
-use Rattle.css_styles.specs.internal.Numbered.{IsNumbered, numbered_of}
+use Rattle.css_styles.specs.Winners.{AreReadBy, as_winner, counting_each, unbeaten, winners}
+use Rattle.css_styles.specs.internal.Numbered.{numbered_of}
 use Rattle.css_styles.specs.internal.Stepping.{stated_at}
 use Rattle.css_styles.proofs.GatherLemmas.{then-ok}
 use Rattle.css_styles.proofs.StyleLemmas.{found-rules, found-within}
@@ -30,7 +30,7 @@ find_unbeaten-requires c =
     let count = numbered.1 in (
       numbered.0,
       omega (arith, room, len, count),
-      subst (All (IsNumbered numbered.0)) (sym c.deref-2.ensures.value) numbered.2,
+      numbered.2,
     )
 
 pub returns-clause-winners : goal.returns-clause-winners
@@ -43,11 +43,11 @@ returns-clause-winners c = λ read matches are_read decides.
     ap (flat_map (stated_at rules)) c.deref.ensures.value
     ∙ found-rules matches page_document (spot c.args.page.now c.args.element) read decides rules _ _ inside
     c.in_ok-matching.ensures.matches in
-    let all : map numbered_of c.deref-2.result.now ≡ contenders matches rules own =
-    ap (map numbered_of) c.deref-2.ensures.value ∙ c.in_ok-count.ensures.contenders
+    let all : map numbered_of c.gather.new.contenders.items ≡ contenders matches rules own =
+    c.in_ok-count.ensures.contenders
     ∙ ap (λ cs. cs ++ of_own own) stated_are in
     then-ok c.find_unbeaten.result
-    (λ found. found ∙ ap (λ cs. map as_winner (unbeaten cs)) all
+    (λ found. found ∙ ap (λ cs. map as_winner (unbeaten (counting_each cs))) all
     ∙ ap (λ (v : StylesText). winners matches v.rules own) c.self.view_is)
     c.find_unbeaten.ensures.unbeaten
 

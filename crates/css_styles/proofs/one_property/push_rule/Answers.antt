@@ -1,15 +1,15 @@
-use Rattle.std.proofs.Common.{◌≡◌, ◌∙◌, [], refl, sym, ap, option_map}
-use Rattle.css_cascade.specs.internal.Steps.{winner_from}
+use Rattle.std.proofs.Common.{◌≡◌, ◌++◌, ◌∙◌, [], append-nil, sym, ap, map}
 use Rattle.css_sheet.specs.SheetRuleViews.{sheet_rule_of}
 use Rattle.css_styles.specs.Contenders.{of_property, of_rule}
-use Rattle.css_styles.specs.internal.Stepping.{contender_of, seen}
+use Rattle.css_styles.specs.internal.Stepping.{contender_of}
 use Rattle.css_styles.proofs.WinningLemmas.{of-pseudo, of-unstated, some-mapped}
-use Rattle.css_styles.proofs.one_property.with_rule.Goals.{then-is_some-via-then-is_some, then-is_some-via-else-is_some+then-not-states}
-use Rattle.css_styles.proofs.one_property.with_rule.Goals as goal
+use Rattle.css_styles.proofs.one_property.push_rule.Goals.{then-is_some-via-then-is_some, then-is_some-via-else-is_some+then-not-states}
+use Rattle.css_styles.proofs.one_property.push_rule.Goals as goal
 
 pub returns-then-is_some : goal.returns-then-is_some
 returns-then-is_some g c = λ matches decides.
     let rule = sheet_rule_of c.args.rule.now in
+    let had = map contender_of c.args.rivals.now.items in
     let nothing : of_property c.args.property.now (of_rule matches c.args.rule_place rule) ≡ [] =
     elim c.then-is_some.branch [
       | then-is_some-via-then-is_some w ↦
@@ -20,4 +20,4 @@ returns-then-is_some g c = λ matches decides.
           of-unstated matches c.args.property.now c.args.rule_place rule
           (w.states.ensures w.if-not-states.true)
     ] in
-    sym (ap (winner_from seen (option_map contender_of c.args.best)) nothing)
+    sym (ap (λ cs. had ++ cs) nothing ∙ append-nil had)

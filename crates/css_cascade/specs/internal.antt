@@ -1,2 +1,0 @@
--- What contracts of private functions and proofs name, and no contract of a public call.
-pub mod Steps
