@@ -8,10 +8,9 @@ use Rattle.css_sheet.specs.SheetMessages.{of_layers}
 use Rattle.std.proofs.Common.{◌≡◌, ℕ, zero, suc, ◌+◌, ◌-◌, ◌<◌, ◌≤◌, Bool, true, false, if◌then◌else◌, List, [], ◌∷◌, ◌++◌, Option, None, Some, Result, Ok, Err, length, map, drop, get_or, take, slice_get, refl, sym, ap, ◌∙◌, subst, append-nil, arith}
 use Rattle.std.proofs.lemmas.Grind.{flat_map-append}
 use Rattle.std.proofs.lemmas.List.{append_assoc, take_all}
-use Rattle.std.specs.Borrow.{Bor}
 use Rattle.css_syntax.specs.Statements.{BlockText}
 use Rattle.css_syntax.specs.DeclarationLists.{ItemText, declared, at_rule_item, skipped_item}
-use Rattle.css_cascade.specs.Layers.{LayerPart, LayerText, number_at, or_outermost, outermost_layer, with_name}
+use Rattle.css_cascade.specs.Layers.{LayerPart, LayerText, number_at, or_outermost, outermost_layers, outermost_number, with_name}
 use Rattle.css_cascade.specs.LayerNames.{layer_names}
 use Rattle.css_cascade.proofs.NameLemmas.{Keeps, grows-name, keeps-then, keeps-itself, keeps-name, keeps-at, name-known, name-there}
 use Rattle.css_sheet.specs.declared.gathering.Gathered.{Gathered}
@@ -27,9 +26,11 @@ use Rattle.css_sheet.specs.declared.parents.OpenParents.{OpenParents}
 use Rattle.css_sheet.specs.OpenParents.{ParentsText, after_parts, none_open}
 use Rattle.css_sheet.specs.ParentViews.{parent_of, parents_of}
 use Rattle.css_sheet.specs.SheetOrder.{SheetRuleText, declarations_in, nested_lists, numbered_rules, part_rules, placed_rules, rules_of_parts}
-use Rattle.css_sheet.specs.SheetRuleViews.{gathered_rules}
+use Rattle.css_sheet.specs.Sheets.{SheetText, outermost_at, texts_in}
+use Rattle.css_sheet.specs.SheetRuleViews.{gathered_rules, sheet_of}
+use Rattle.css_sheet.specs.declared.sheet_rules.Sheet.{Sheet}
 use Rattle.css_sheet.specs.internal.GatherViews.{Awaits, AwaitsStill, GathersAll, GoesOn, NestsOn, rules_now}
-use Rattle.css_sheet.specs.internal.OpenViews.{known_in, numbers_in, innermost_of, AreMany, EntersLast, Goes, GoesOver, Tracks}
+use Rattle.css_sheet.specs.internal.OpenViews.{known_in, numbers_in, outermost_in, innermost_of, AreMany, EntersLast, Goes, GoesOver, Tracks}
 use Rattle.css_sheet.proofs.OpenLemmas.{tracks-many, tracks-number, tracks-keeps, tracks-more, tracks-take, none-open, last-append}
 use Rattle.css_sheet.proofs.SheetRuleLemmas.{declarations-append}
 
@@ -65,29 +66,31 @@ module _ (Stays : List LayerText → List LayerText → Type 0)
       (stays-list outer rule.prelude.text known rule.block)
   stays-item outer known (skipped_item fault) = itself known
 
-  stays-mentioned : (known : List LayerText) (around : List OpenText) (part : SheetPart)
-      → Stays known (mentioned known around part)
-  stays-mentioned known around (states text) = itself known
-  stays-mentioned known around (begins kind) = named known 0 (layer_parts around)
-  stays-mentioned known around ends = itself known
-  stays-mentioned known around (stands item) =
-      stays-if known (with_item (number_in_all around known) known item) (applies_in around)
-      (stays-item (number_in_all around known) known item)
+  stays-mentioned : (outer : ℕ) (known : List LayerText) (around : List OpenText) (part : SheetPart)
+      → Stays known (mentioned outer known around part)
+  stays-mentioned outer known around (states text) = itself known
+  stays-mentioned outer known around (begins kind) = named known outer (layer_parts around)
+  stays-mentioned outer known around ends = itself known
+  stays-mentioned outer known around (stands item) =
+      let number = number_in_all outer around known in
+      stays-if known (with_item number known item) (applies_in around) (stays-item number known item)
 
-  stays-parts : (known : List LayerText) (parts : List PlacedPart)
-      → Stays known (with_parts known parts)
-  stays-parts known [] = itself known
-  stays-parts known (placed ∷ parts) =
-      joined known (with_part known placed) (with_parts (with_part known placed) parts)
-      (stays-mentioned known placed.around placed.part) (stays-parts (with_part known placed) parts)
+  stays-parts : (outer : ℕ → ℕ) (known : List LayerText) (parts : List PlacedPart)
+      → Stays known (with_parts outer known parts)
+  stays-parts outer known [] = itself known
+  stays-parts outer known (placed ∷ parts) =
+      let next = with_part outer known placed in
+      joined known next (with_parts outer next parts)
+      (stays-mentioned (outer placed.sheet) known placed.around placed.part)
+      (stays-parts outer next parts)
 
 -- layers stay known
-keeps-mentioned : (known : List LayerText) (around : List OpenText) (part : SheetPart)
-    → Keeps known (mentioned known around part)
+keeps-mentioned : (outer : ℕ) (known : List LayerText) (around : List OpenText) (part : SheetPart)
+    → Keeps known (mentioned outer known around part)
 keeps-mentioned = stays-mentioned Keeps keeps-itself keeps-then keeps-name
 
-keeps-parts : (known : List LayerText) (parts : List PlacedPart)
-    → Keeps known (with_parts known parts)
+keeps-parts : (outer : ℕ → ℕ) (known : List LayerText) (parts : List PlacedPart)
+    → Keeps known (with_parts outer known parts)
 keeps-parts = stays-parts Keeps keeps-itself keeps-then keeps-name
 
 -- there are as many or more
@@ -101,8 +104,8 @@ pub grows-names : (outer : ℕ) (known : List LayerText) (names : List (List Lay
     → Grows known (with_names outer known names)
 grows-names = stays-names Grows (λ known. omega arith) grows-then grows-name
 
-grows-parts : (known : List LayerText) (parts : List PlacedPart)
-    → Grows known (with_parts known parts)
+grows-parts : (outer : ℕ → ℕ) (known : List LayerText) (parts : List PlacedPart)
+    → Grows known (with_parts outer known parts)
 grows-parts = stays-parts Grows (λ known. omega arith) grows-then grows-name
 
 -- a further name is one layer too many, and so are all
@@ -129,6 +132,7 @@ first-then : (holds : List ℕ → List ℕ → Bool) (source : Source)
     (next : Option (SheetPart × List ℕ)) (one : PlacedPart) (parts : List PlacedPart)
     → part_then holds source more around next ≡ one ∷ parts
     → (place : List ℕ) × (one.around ≡ open_after holds around one.part place)
+    × (one.sheet ≡ source.sheet)
 first-then holds source more around None one parts e = absurd (cc)
 first-then holds source more around (Some found) one parts e =
     let place = place_at source found.1 in
@@ -136,12 +140,14 @@ first-then holds source more around (Some found) one parts e =
       place,
       ap (λ (p : PlacedPart). p.around) same
           ∙ sym (ap (λ (p : PlacedPart). open_after holds around p.part place) same),
+      ap (λ (p : PlacedPart). p.sheet) same,
     )
 
 first-from : (holds : List ℕ → List ℕ → Bool) (source : Source) (n : ℕ) (around : List OpenText) (text : List ℕ)
     (one : PlacedPart) (parts : List PlacedPart)
     → parts_from holds source n around text ≡ one ∷ parts
     → (place : List ℕ) × (one.around ≡ open_after holds around one.part place)
+    × (one.sheet ≡ source.sheet)
 unfolding parts_from
 first-from holds source zero around text one parts e = absurd (cc)
 first-from holds source (suc n) around text one parts e =
@@ -150,31 +156,32 @@ first-from holds source (suc n) around text one parts e =
 -- ---- the layers that are open
 
 -- the layers and the numbers of those that are open are right for these rules
-abbrev Follows : List LayerText → List OpenText → SheetPart → List LayerText → List ℕ → Type 0
-Follows known around part after now =
-    (after ≡ mentioned known around part) × Tracks after 0 now around
+abbrev Follows : (outer : ℕ) → List LayerText → List OpenText → SheetPart → List LayerText → List ℕ
+    → Type 0
+Follows outer known around part after now =
+    (after ≡ mentioned outer known around part) × Tracks after outer now around
 
-module _ (holds : List ℕ → List ℕ → Bool) (known after : List LayerText) (numbers now : List ℕ)
-    (before : List OpenText) (t : Tracks known 0 numbers before) where
+module _ (holds : List ℕ → List ℕ → Bool) (outer : ℕ) (known after : List LayerText) (numbers now : List ℕ)
+    (before : List OpenText) (t : Tracks known outer numbers before) where
   stay : (around : List OpenText) → around ≡ before → Keeps known after → now ≡ numbers
-      → Tracks after 0 now around
+      → Tracks after outer now around
   stay around e keeps f =
-      subst (λ (ns : List ℕ). Tracks after 0 ns around) (sym f)
-      (subst (Tracks after 0 numbers) (sym e) (tracks-keeps known after keeps 0 numbers before t))
+      subst (λ (ns : List ℕ). Tracks after outer ns around) (sym f)
+      (subst (Tracks after outer numbers) (sym e) (tracks-keeps known after keeps outer numbers before t))
 
   same : after ≡ known → Keeps known after
   same e = subst (Keeps known) (sym e) (keeps-itself known)
 
-  number : number_at 0 (layer_parts before) known ≡ Some (innermost_of 0 numbers)
-  number = tracks-number known 0 numbers before t
+  number : number_at outer (layer_parts before) known ≡ Some (innermost_of outer numbers)
+  number = tracks-number known outer numbers before t
 
   enters : (r : OpenText)
-      → after ≡ with_name known (innermost_of 0 numbers) (open_name r)
-      → now ≡ numbers ++ or_outermost (number_at (innermost_of 0 numbers) (open_name r) after) ∷ []
-      → (after ≡ with_name known 0 (layer_parts (before ++ r ∷ [])))
-      × Tracks after 0 now (before ++ r ∷ [])
+      → after ≡ with_name known (innermost_of outer numbers) (open_name r)
+      → now ≡ numbers ++ or_outermost (number_at (innermost_of outer numbers) (open_name r) after) ∷ []
+      → (after ≡ with_name known outer (layer_parts (before ++ r ∷ [])))
+      × Tracks after outer now (before ++ r ∷ [])
   enters r e f =
-      let n = innermost_of 0 numbers in
+      let n = innermost_of outer numbers in
       let name = open_name r in
       let parts : layer_parts (before ++ r ∷ []) ≡ layer_parts before ++ name =
       flat_map-append open_name before (r ∷ [])
@@ -183,108 +190,117 @@ module _ (holds : List ℕ → List ℕ → Bool) (known after : List LayerText)
       let found : number_at n name after ≡ Some (or_outermost (number_at n name after)) =
       subst (λ (k : List LayerText). number_at n name k ≡ Some (or_outermost (number_at n name k)))
       (sym e) (name-known known n name) in (
-        e ∙ sym (name-there known 0 (layer_parts before) name n number)
-            ∙ ap (with_name known 0) (sym parts),
-        subst (λ (ns : List ℕ). Tracks after 0 ns (before ++ r ∷ [])) (sym f)
-            (tracks-more after 0 numbers before r (or_outermost (number_at n name after))
-            (tracks-keeps known after keeps 0 numbers before t) found),
+        e ∙ sym (name-there known outer (layer_parts before) name n number)
+            ∙ ap (with_name known outer) (sym parts),
+        subst (λ (ns : List ℕ). Tracks after outer ns (before ++ r ∷ [])) (sym f)
+            (tracks-more after outer numbers before r (or_outermost (number_at n name after))
+            (tracks-keeps known after keeps outer numbers before t) found),
       )
 
   follows : (part : SheetPart) (around : List OpenText) (place : List ℕ)
-      → around ≡ open_after holds before part place → Goes known numbers part around after now
-      → Follows known around part after now
+      → around ≡ open_after holds before part place → Goes outer known numbers part around after now
+      → Follows outer known around part after now
   follows (states text) around place e g = (g.0, stay around e (same g.0) g.1)
   follows (begins kind) around place e g =
       let r = opened holds before kind place in
       let last : slice_get around (length around - 1) ≡ Some r =
       ap (λ (rs : List OpenText). slice_get rs (length rs - 1)) e ∙ last-append before r in
-      let h = subst (λ (o : Option OpenText). EntersLast known numbers o after now) last g in
+      let h = subst (λ (o : Option OpenText). EntersLast outer known numbers o after now) last g in
       let done = enters r h.0 h.1 in (
-        done.0 ∙ ap (λ (rs : List OpenText). with_name known 0 (layer_parts rs)) (sym e),
-        subst (Tracks after 0 now) (sym e) done.1,
+        done.0 ∙ ap (λ (rs : List OpenText). with_name known outer (layer_parts rs)) (sym e),
+        subst (Tracks after outer now) (sym e) done.1,
       )
   follows ends around place e g =
-      let many : length numbers ≡ length before = tracks-many known 0 numbers before t in
-      let cut : Tracks known 0 (take (length before - 1) numbers) (take (length before - 1) before) =
-      tracks-take known 0 numbers before (length before - 1) t in
+      let many : length numbers ≡ length before = tracks-many known outer numbers before t in
+      let cut : Tracks known outer (take (length before - 1) numbers) (take (length before - 1) before) =
+      tracks-take known outer numbers before (length before - 1) t in
       let now_is : now ≡ take (length before - 1) numbers =
       g.1 ∙ ap (λ (n : ℕ). take (n - 1) numbers) many in (
         g.0,
-        subst (λ (k : List LayerText). Tracks k 0 now around) (sym g.0)
-            (subst (λ (ns : List ℕ). Tracks known 0 ns around) (sym now_is)
-            (subst (Tracks known 0 (take (length before - 1) numbers)) (sym e) cut)),
+        subst (λ (k : List LayerText). Tracks k outer now around) (sym g.0)
+            (subst (λ (ns : List ℕ). Tracks known outer ns around) (sym now_is)
+            (subst (Tracks known outer (take (length before - 1) numbers)) (sym e) cut)),
       )
   follows (stands item) around place e g =
-      let here : number_in_all around known ≡ innermost_of 0 numbers =
-      ap (λ (rs : List OpenText). number_in_all rs known) e ∙ ap or_outermost number in
-      let is : after ≡ mentioned known around (stands item) =
+      let here : number_in_all outer around known ≡ innermost_of outer numbers =
+      ap (λ (rs : List OpenText). number_in_all outer rs known) e ∙ ap or_outermost number in
+      let is : after ≡ mentioned outer known around (stands item) =
       g.0 ∙ ap (λ (n : ℕ). if_applies (applies_in around) n known item) (sym here) in
-      (is, stay around e (subst (Keeps known) (sym is) (keeps-mentioned known around (stands item))) g.1)
+      (is, stay around e (subst (Keeps known) (sym is) (keeps-mentioned outer known around (stands item))) g.1)
 
 -- ---- a part leads somewhere
 
-enters-to : (known : List LayerText) (numbers : List ℕ) (last : Option OpenText)
-    → (after : List LayerText) × (now : List ℕ) × EntersLast known numbers last after now
-enters-to known numbers None = (known, numbers, (refl, refl))
-enters-to known numbers (Some rule) =
-    let n = innermost_of 0 numbers in
+enters-to : (outer : ℕ) (known : List LayerText) (numbers : List ℕ) (last : Option OpenText)
+    → (after : List LayerText) × (now : List ℕ) × EntersLast outer known numbers last after now
+enters-to outer known numbers None = (known, numbers, (refl, refl))
+enters-to outer known numbers (Some rule) =
+    let n = innermost_of outer numbers in
     let after = with_name known n (open_name rule) in
     (after, numbers ++ or_outermost (number_at n (open_name rule) after) ∷ [], (refl, refl))
 
-goes-to : (known : List LayerText) (numbers : List ℕ) (part : SheetPart) (around : List OpenText)
-    → (after : List LayerText) × (now : List ℕ) × Goes known numbers part around after now
-goes-to known numbers (states text) around = (known, numbers, (refl, refl))
-goes-to known numbers (begins kind) around =
-    enters-to known numbers (slice_get around (length around - 1))
-goes-to known numbers ends around = (known, take (length numbers - 1) numbers, (refl, refl))
-goes-to known numbers (stands item) around =
-    (if_applies (applies_in around) (innermost_of 0 numbers) known item, numbers, (refl, refl))
+goes-to : (outer : ℕ) (known : List LayerText) (numbers : List ℕ) (part : SheetPart) (around : List OpenText)
+    → (after : List LayerText) × (now : List ℕ) × Goes outer known numbers part around after now
+goes-to outer known numbers (states text) around = (known, numbers, (refl, refl))
+goes-to outer known numbers (begins kind) around =
+    enters-to outer known numbers (slice_get around (length around - 1))
+goes-to outer known numbers ends around = (known, take (length numbers - 1) numbers, (refl, refl))
+goes-to outer known numbers (stands item) around =
+    (if_applies (applies_in around) (innermost_of outer numbers) known item, numbers, (refl, refl))
 
 -- ---- steps
 
 -- The parts that are to come of a sheet, and these after them, give the rules and the layers of the
 -- sheets that are not gathered yet.
-pub record Reads (holds : List ℕ → List ℕ → Bool) (texts : List (List ℕ)) (most : ℕ)
+pub record Reads (holds : List ℕ → List ℕ → Bool) (sheets : List SheetText) (most : ℕ)
     (read : ReadRules) (reader : SheetParts) (more : List PlacedPart) : Type 0 where
-  pub tracks : Tracks (known_in read.opened) 0 (numbers_in read.opened) (open_in reader)
-  pub awaits : Awaits holds texts most read (parts_to_come (with_layers holds) reader ++ more)
+  pub outer : outermost_in read.opened ≡ outermost_at sheets (source_of reader).sheet
+  pub tracks : Tracks (known_in read.opened) (outermost_in read.opened) (numbers_in read.opened)
+      (open_in reader)
+  pub awaits : Awaits holds sheets most read (parts_to_come (with_layers holds) reader ++ more)
 
-module _ (holds : List ℕ → List ℕ → Bool) (texts : List (List ℕ)) (most : ℕ)
+module _ (holds : List ℕ → List ℕ → Bool) (sheets : List SheetText) (most : ℕ)
     (later : List PlacedPart) where
   abbrev final : List LayerText
-  final = sheet_layers holds texts
+  final = sheet_layers holds sheets
+
+  abbrev at : ℕ → ℕ
+  at = outermost_at sheets
 
   pub reads-none : (before read : ReadRules) (reader : SheetParts) (parts : List PlacedPart)
+      → outermost_in read.opened ≡ outermost_at sheets (source_of reader).sheet
       → known_in read.opened ≡ known_in before.opened → numbers_in read.opened ≡ []
       → read.gathered ≡ before.gathered → read.parents ≡ before.parents → open_in reader ≡ []
       → parts_to_come (with_layers holds) reader ≡ parts
-      → Awaits holds texts most before (parts ++ later) → Reads holds texts most read reader later
-  reads-none before read reader parts e f g same none come awaits = record {
-    tracks = none-open (known_in read.opened) (numbers_in read.opened) (open_in reader) f none;
+      → Awaits holds sheets most before (parts ++ later) → Reads holds sheets most read reader later
+  reads-none before read reader parts outer e f g same none come awaits = record {
+    outer = outer;
+    tracks =
+        none-open (known_in read.opened) (outermost_in read.opened) (numbers_in read.opened)
+        (open_in reader) f none;
     awaits =
-        subst (λ (ps : List PlacedPart). Awaits holds texts most read (ps ++ later)) (sym come)
+        subst (λ (ps : List PlacedPart). Awaits holds sheets most read (ps ++ later)) (sym come)
         (record {
           layers =
-              ap (λ (ls : List LayerText). with_parts ls (parts ++ later)) e ∙ awaits.layers;
+              ap (λ (ls : List LayerText). with_parts at ls (parts ++ later)) e ∙ awaits.layers;
           rules =
               ap (λ (all : Gathered).
-              gathered_rules all ++ rules_of_parts final (parents_of read.parents) (parts ++ later)) g
+              gathered_rules all ++ rules_of_parts at final (parents_of read.parents) (parts ++ later)) g
               ∙ ap (λ (nest : OpenParents). gathered_rules before.gathered
-              ++ rules_of_parts final (parents_of nest) (parts ++ later)) same
+              ++ rules_of_parts at final (parents_of nest) (parts ++ later)) same
               ∙ awaits.rules;
           lists =
               ap (λ (nest : OpenParents). (after_parts (parents_of nest) (parts ++ later)).lists) same
               ∙ awaits.lists;
           room =
               ap (λ (nest : OpenParents). most
-              + declarations_in (rules_of_parts final (parents_of nest) (parts ++ later))) same
+              + declarations_in (rules_of_parts at final (parents_of nest) (parts ++ later))) same
               ∙ awaits.room
-              ∙ sym (ap (λ (all : Gathered). all.left + declarations_in (numbered_rules holds texts)) g);
+              ∙ sym (ap (λ (all : Gathered). all.left + declarations_in (numbered_rules holds sheets)) g);
         });
   }
 
   module _ (read : ReadRules) (before after : SheetParts) (part : Part)
-      (h : Reads holds texts most read before later)
+      (h : Reads holds sheets most read before later)
       (gives : GivesPart (with_layers holds) before (Some part) after) where
     come : List PlacedPart
     come = parts_to_come (with_layers holds) after ++ later
@@ -294,85 +310,106 @@ module _ (holds : List ℕ → List ℕ → Bool) (texts : List (List ℕ)) (mos
     unfolding come
     gives-all = ap (λ (ps : List PlacedPart). ps ++ later) gives
 
-    open_is : (place : List ℕ) × (open_in after ≡ open_after (with_layers holds) (open_in before) (part_of part) place)
+    open_is : (place : List ℕ)
+        × (open_in after ≡ open_after (with_layers holds) (open_in before) (part_of part) place)
+        × ((source_of after).sheet ≡ (source_of before).sheet)
     open_is =
         first-from (with_layers holds) (source_of before) (length (left_in before)) (open_in before)
         (left_in before) (placed_last after (part_of part))
         (parts_to_come (with_layers holds) after) gives
 
     follow-to : (known : List LayerText) (numbers : List ℕ)
-        → Goes (known_in read.opened) (numbers_in read.opened) (part_of part) (open_in after) known
+        → Goes (outermost_in read.opened) (known_in read.opened) (numbers_in read.opened) (part_of part)
+        (open_in after) known numbers
+        → Follows (outermost_in read.opened) (known_in read.opened) (open_in after) (part_of part) known
         numbers
-        → Follows (known_in read.opened) (open_in after) (part_of part) known numbers
     follow-to known numbers goes =
-        follows (with_layers holds) (known_in read.opened) known (numbers_in read.opened) numbers
-        (open_in before) h.tracks (part_of part) (open_in after) open_is.0 open_is.1 goes
+        follows (with_layers holds) (outermost_in read.opened) (known_in read.opened) known
+        (numbers_in read.opened) numbers (open_in before) h.tracks (part_of part) (open_in after)
+        open_is.0 open_is.1 goes
+
+    -- all of the sheet is in the layer that is the outermost one now
+    outer_is : outermost_in read.opened ≡ at (source_of after).sheet
+    outer_is = h.outer ∙ sym (ap at open_is.2)
 
     layers_from : (known : List LayerText)
-        → known ≡ mentioned (known_in read.opened) (open_in after) (part_of part)
-        → with_parts known come ≡ final
+        → known ≡ mentioned (outermost_in read.opened) (known_in read.opened) (open_in after) (part_of part)
+        → with_parts at known come ≡ final
     layers_from known is =
-        ap (λ (k : List LayerText). with_parts k come) is
-        ∙ sym (ap (with_parts (known_in read.opened)) gives-all) ∙ h.awaits.layers
+        ap (λ (k : List LayerText). with_parts at k come)
+        (is ∙ ap (λ (n : ℕ). mentioned n (known_in read.opened) (open_in after) (part_of part)) outer_is)
+        ∙ sym (ap (with_parts at (known_in read.opened)) gives-all) ∙ h.awaits.layers
 
     -- too many layers would be known then
-    pub reads-many : GoesOver (known_in read.opened) (numbers_in read.opened) (part_of part) (open_in after)
-        → AreMany (sheet_layers holds texts)
+    pub reads-many : GoesOver (outermost_in read.opened) (known_in read.opened) (numbers_in read.opened)
+        (part_of part) (open_in after)
+        → AreMany (sheet_layers holds sheets)
     reads-many over =
-        let there = goes-to (known_in read.opened) (numbers_in read.opened) (part_of part) (open_in after) in
+        let there = goes-to (outermost_in read.opened) (known_in read.opened) (numbers_in read.opened) (part_of part) (open_in after) in
         let many = over there.0 there.1 there.2 in
-        let more = grows-parts there.0 come in
+        let more = grows-parts at there.0 come in
         let all = ap length (layers_from there.0 (follow-to there.0 there.1 there.2).0) in
         omega (arith, many, more, all)
 
   module _ (read now : ReadRules) (before after : SheetParts) (part : Part)
-      (h : Reads holds texts most read before later)
+      (h : Reads holds sheets most read before later)
       (gives : GivesPart (with_layers holds) before (Some part) after)
       (goes : GoesOn read now (part_of part) after)
       (nests : NestsOn read now (part_of part) after) where
     abbrev to_come : List PlacedPart
     to_come = come read before after part h gives
 
-    follow : Follows (known_in read.opened) (open_in after) (part_of part) (known_in now.opened)
-        (numbers_in now.opened)
-    follow =
-        follow-to read before after part h gives (known_in now.opened) (numbers_in now.opened) goes
+    outer_now : outermost_in now.opened ≡ at (source_of after).sheet
+    outer_now = goes.1 ∙ outer_is read before after part h gives
 
-    layers_now : with_parts (known_in now.opened) to_come ≡ final
+    follow : Follows (outermost_in read.opened) (known_in read.opened) (open_in after) (part_of part)
+        (known_in now.opened) (numbers_in now.opened)
+    follow =
+        follow-to read before after part h gives (known_in now.opened) (numbers_in now.opened) goes.0
+
+    tracks_now : Tracks (known_in now.opened) (outermost_in now.opened) (numbers_in now.opened) (open_in after)
+    tracks_now =
+        subst (λ (n : ℕ). Tracks (known_in now.opened) n (numbers_in now.opened) (open_in after))
+        (sym goes.1) follow.1
+
+    layers_now : with_parts at (known_in now.opened) to_come ≡ final
     layers_now = layers_from read before after part h gives (known_in now.opened) follow.0
 
-    number_is : number_in_all (open_in after) final ≡ innermost_of 0 (numbers_in now.opened)
+    number_is : number_in_all (at (source_of after).sheet) (open_in after) final
+        ≡ innermost_of (outermost_in now.opened) (numbers_in now.opened)
     number_is =
-        ap or_outermost
+        let outer = outermost_in now.opened in
+        ap (λ (n : ℕ). number_in_all n (open_in after) final) (sym outer_now)
+        ∙ ap or_outermost
         (keeps-at (known_in now.opened) final
-        (subst (Keeps (known_in now.opened)) layers_now (keeps-parts (known_in now.opened) to_come)) 0
-        (layer_parts (open_in after)) (innermost_of 0 (numbers_in now.opened))
-        (tracks-number (known_in now.opened) 0 (numbers_in now.opened) (open_in after) follow.1))
+        (subst (Keeps (known_in now.opened)) layers_now (keeps-parts at (known_in now.opened) to_come))
+        outer (layer_parts (open_in after)) (innermost_of outer (numbers_in now.opened))
+        (tracks-number (known_in now.opened) outer (numbers_in now.opened) (open_in after) tracks_now))
 
     more : List SheetRuleText
     more = rules_now now (part_of part) after
 
-    first_rules : rules_of_parts final (parents_of read.parents)
+    first_rules : rules_of_parts at final (parents_of read.parents)
         (parts_to_come (with_layers holds) before ++ later)
-        ≡ more ++ rules_of_parts final (parents_of now.parents) to_come
+        ≡ more ++ rules_of_parts at final (parents_of now.parents) to_come
     unfolding more
     first_rules =
-        ap (rules_of_parts final (parents_of read.parents)) (gives-all read before after part h gives)
+        ap (rules_of_parts at final (parents_of read.parents)) (gives-all read before after part h gives)
         ∙ ap (λ (nest : ParentsText).
-        placed_rules final nest.innermost (placed_last after (part_of part))
-        ++ rules_of_parts final nest to_come) (sym nests)
+        placed_rules at final nest.innermost (placed_last after (part_of part))
+        ++ rules_of_parts at final nest to_come) (sym nests)
         ∙ ap (λ (n : ℕ).
         part_rules n (parent_of now.parents.innermost) (placed_last after (part_of part))
-        ++ rules_of_parts final (parents_of now.parents) to_come) number_is
+        ++ rules_of_parts at final (parents_of now.parents) to_come) number_is
 
-    sums : declarations_in (rules_of_parts final (parents_of read.parents)
+    sums : declarations_in (rules_of_parts at final (parents_of read.parents)
         (parts_to_come (with_layers holds) before ++ later))
-        ≡ declarations_in more + declarations_in (rules_of_parts final (parents_of now.parents) to_come)
+        ≡ declarations_in more + declarations_in (rules_of_parts at final (parents_of now.parents) to_come)
     sums =
         ap declarations_in first_rules
-        ∙ declarations-append more (rules_of_parts final (parents_of now.parents) to_come)
+        ∙ declarations-append more (rules_of_parts at final (parents_of now.parents) to_come)
 
-    lists_now : (after_parts (parents_of now.parents) to_come).lists ≡ nested_lists holds texts
+    lists_now : (after_parts (parents_of now.parents) to_come).lists ≡ nested_lists holds (texts_in sheets)
     lists_now =
         ap (λ (nest : ParentsText). (after_parts nest to_come).lists) nests
         ∙ sym (ap (λ (ps : List PlacedPart). (after_parts (parents_of read.parents) ps).lists) (gives-all read before after part h gives))
@@ -381,21 +418,22 @@ module _ (holds : List ℕ → List ℕ → Bool) (texts : List (List ℕ)) (mos
     pub reads-part :
         gathered_rules now.gathered ≡ gathered_rules read.gathered ++ rules_now now (part_of part) after
         → now.gathered.left + declarations_in (rules_now now (part_of part) after) ≡ read.gathered.left
-        → Reads holds texts most now after later
+        → Reads holds sheets most now after later
     unfolding come more
     reads-part f g =
         let room = h.awaits.room in
         let parted = sums in
         record {
-          tracks = follow.1;
+          outer = outer_now;
+          tracks = tracks_now;
           awaits = record {
             layers = layers_now;
             lists = lists_now;
             rules =
                 ap (λ (rs : List SheetRuleText).
-                rs ++ rules_of_parts final (parents_of now.parents) to_come) f
+                rs ++ rules_of_parts at final (parents_of now.parents) to_come) f
                 ∙ append_assoc (gathered_rules read.gathered) more
-                (rules_of_parts final (parents_of now.parents) to_come)
+                (rules_of_parts at final (parents_of now.parents) to_come)
                 ∙ sym (ap (λ (rs : List SheetRuleText). gathered_rules read.gathered ++ rs) first_rules)
                 ∙ h.awaits.rules;
             room = omega (arith, room, parted, g);
@@ -403,43 +441,43 @@ module _ (holds : List ℕ → List ℕ → Bool) (texts : List (List ℕ)) (mos
         }
 
     pub reads-over : read.gathered.left < declarations_in (rules_now now (part_of part) after)
-        → most < declarations_in (numbered_rules holds texts)
+        → most < declarations_in (numbered_rules holds sheets)
     unfolding come more
     reads-over less =
         let room = h.awaits.room in let parted = sums in omega (arith, room, parted, less)
 
   -- nothing of the sheet is to come
-  pub reads-all : (read : ReadRules) (reader : SheetParts) → Reads holds texts most read reader later
-      → parts_to_come (with_layers holds) reader ≡ [] → Awaits holds texts most read later
+  pub reads-all : (read : ReadRules) (reader : SheetParts) → Reads holds sheets most read reader later
+      → parts_to_come (with_layers holds) reader ≡ [] → Awaits holds sheets most read later
   reads-all read reader h none =
-      subst (λ (ps : List PlacedPart). Awaits holds texts most read (ps ++ later)) none h.awaits
+      subst (λ (ps : List PlacedPart). Awaits holds sheets most read (ps ++ later)) none h.awaits
 
 -- ---- all sheets
 
 -- at the start
-pub awaits-none : (holds : List ℕ → List ℕ → Bool) (texts : List (List ℕ)) (most : ℕ)
-    (read : ReadRules) → known_in read.opened ≡ outermost_layer ∷ []
+pub awaits-none : (holds : List ℕ → List ℕ → Bool) (sheets : List SheetText) (most : ℕ)
+    (read : ReadRules) → known_in read.opened ≡ outermost_layers
     → gathered_rules read.gathered ≡ [] → parents_of read.parents ≡ none_open []
     → read.gathered.left ≡ most
-    → Awaits holds texts most read (layered_parts holds texts)
-awaits-none holds texts most read known rules none left = record {
-  layers = ap (λ (ls : List LayerText). with_parts ls (layered_parts holds texts)) known;
+    → Awaits holds sheets most read (layered_parts holds (texts_in sheets))
+awaits-none holds sheets most read known rules none left = record {
+  layers = ap (λ (ls : List LayerText). with_parts (outermost_at sheets) ls (layered_parts holds (texts_in sheets))) known;
   rules =
       ap (λ (nest : ParentsText). gathered_rules read.gathered
-      ++ rules_of_parts (sheet_layers holds texts) nest (layered_parts holds texts)) none
-      ∙ ap (λ (rs : List SheetRuleText). rs ++ numbered_rules holds texts) rules;
-  lists = ap (λ (nest : ParentsText). (after_parts nest (layered_parts holds texts)).lists) none;
+      ++ rules_of_parts (outermost_at sheets) (sheet_layers holds sheets) nest (layered_parts holds (texts_in sheets))) none
+      ∙ ap (λ (rs : List SheetRuleText). rs ++ numbered_rules holds sheets) rules;
+  lists = ap (λ (nest : ParentsText). (after_parts nest (layered_parts holds (texts_in sheets))).lists) none;
   room =
       ap (λ (nest : ParentsText). most
-      + declarations_in (rules_of_parts (sheet_layers holds texts) nest (layered_parts holds texts)))
+      + declarations_in (rules_of_parts (outermost_at sheets) (sheet_layers holds sheets) nest (layered_parts holds (texts_in sheets))))
       none
-      ∙ sym (ap (λ (n : ℕ). n + declarations_in (numbered_rules holds texts)) left);
+      ∙ sym (ap (λ (n : ℕ). n + declarations_in (numbered_rules holds sheets)) left);
 }
 
 -- nothing is to come
-pub awaits-all : (holds : List ℕ → List ℕ → Bool) (texts : List (List ℕ)) (most : ℕ)
-    (read : ReadRules) → Awaits holds texts most read [] → GathersAll most (Ok read) holds texts
-awaits-all holds texts most read h =
+pub awaits-all : (holds : List ℕ → List ℕ → Bool) (sheets : List SheetText) (most : ℕ)
+    (read : ReadRules) → Awaits holds sheets most read [] → GathersAll most (Ok read) holds sheets
+awaits-all holds sheets most read h =
     let room = h.room in (
       h.layers,
       sym (append-nil (gathered_rules read.gathered)) ∙ h.rules,
@@ -448,20 +486,20 @@ awaits-all holds texts most read h =
     )
 
 -- what stopped at the limit
-pub stopped-all : (most : ℕ) (holds : List ℕ → List ℕ → Bool) (texts : List (List ℕ))
+pub stopped-all : (most : ℕ) (holds : List ℕ → List ℕ → Bool) (sheets : List SheetText)
     (result : Result ReadRules SheetError) (error : SheetError) → result ≡ Err error
-    → (error ≡ TooManyDeclarations → most < declarations_in (numbered_rules holds texts))
-    → GathersAll most result holds texts
-stopped-all most holds texts result error e over =
-    subst (λ r. GathersAll most r holds texts) (sym e) over
+    → (error ≡ TooManyDeclarations → most < declarations_in (numbered_rules holds sheets))
+    → GathersAll most result holds sheets
+stopped-all most holds sheets result error e over =
+    subst (λ r. GathersAll most r holds sheets) (sym e) over
 
-pub stopped-sheet : (holds : List ℕ → List ℕ → Bool) (texts : List (List ℕ)) (most : ℕ)
+pub stopped-sheet : (holds : List ℕ → List ℕ → Bool) (sheets : List SheetText) (most : ℕ)
     (result : Result (Unit {0}) SheetError) (error : SheetError) (read : ReadRules)
     (more : List PlacedPart) → result ≡ Err error
-    → (error ≡ TooManyDeclarations → most < declarations_in (numbered_rules holds texts))
-    → AwaitsStill holds texts most result read more
-stopped-sheet holds texts most result error read more e over =
-    subst (λ r. AwaitsStill holds texts most r read more) (sym e) over
+    → (error ≡ TooManyDeclarations → most < declarations_in (numbered_rules holds sheets))
+    → AwaitsStill holds sheets most result read more
+stopped-sheet holds sheets most result error read more e over =
+    subst (λ r. AwaitsStill holds sheets most r read more) (sym e) over
 
 -- an error that is handed on
 pub handed-error : {V : Type 0} (P : Type 0) (result : Result V SheetError) (error : SheetError)
@@ -471,31 +509,30 @@ handed-error P result error e due =
     subst (λ r. IfErr r (λ reported. reported ≡ TooManyLayers → P)) (sym e) due
 
 -- the parts of the sheets that are left, of which the first has this number
-abbrev pub texts_left : (List ℕ → List ℕ → Bool) → (sheet : ℕ) → List (Bor (List ℕ))
-    → List PlacedPart
-texts_left holds sheet rest =
-    all_parts_from (with_layers holds) sheet (map (λ (text : Bor (List ℕ)). text.now) rest)
+abbrev pub sheets_left : (List ℕ → List ℕ → Bool) → (number : ℕ) → List Sheet → List PlacedPart
+sheets_left holds number rest =
+    all_parts_from (with_layers holds) number (texts_in (map sheet_of rest))
 
 -- so many were read, with the first of those that were left
-pub counted-next : (sheet n : ℕ) (rest : List (Bor (List ℕ))) → 1 ≤ length rest
-    → sheet + length rest ≡ n → sheet + 1 + length (take (length rest - 1) (drop 1 rest)) ≡ n
-counted-next sheet n [] l e = absurd (omega (arith, l))
-counted-next sheet n (text ∷ later) l e =
-    let same : length (take (length (text ∷ later) - 1) later) ≡ length later =
-    ap length (take_all (length (text ∷ later) - 1) later (omega arith)) in
+pub counted-next : (number n : ℕ) (rest : List Sheet) → 1 ≤ length rest
+    → number + length rest ≡ n → number + 1 + length (take (length rest - 1) (drop 1 rest)) ≡ n
+counted-next number n [] l e = absurd (omega (arith, l))
+counted-next number n (sheet ∷ later) l e =
+    let same : length (take (length (sheet ∷ later) - 1) later) ≡ length later =
+    ap length (take_all (length (sheet ∷ later) - 1) later (omega arith)) in
     omega (arith, e, same)
 
 -- the first of the sheets that are left, and then the others
-pub texts-first : (holds : List ℕ → List ℕ → Bool) (texts : List (List ℕ)) (most : ℕ)
-    (read : ReadRules) (sheet : ℕ) (rest : List (Bor (List ℕ))) (d : Bor (List ℕ)) → 1 ≤ length rest
-    → Awaits holds texts most read (texts_left holds sheet rest)
-    → Awaits holds texts most read
-    (sheet_parts (with_layers holds) sheet (get_or rest 0 d).now
-    ++ texts_left holds (sheet + 1) (take (length rest - 1) (drop 1 rest)))
-texts-first holds texts most read sheet [] d l awaits = absurd (omega (arith, l))
-texts-first holds texts most read sheet (text ∷ later) d l awaits =
-    let same : take (length (text ∷ later) - 1) later ≡ later =
-    take_all (length (text ∷ later) - 1) later (omega arith) in
-    subst (λ (ts : List (Bor (List ℕ))). Awaits holds texts most read
-    (sheet_parts (with_layers holds) sheet text.now ++ texts_left holds (sheet + 1) ts)) (sym same)
+pub sheets-first : (holds : List ℕ → List ℕ → Bool) (sheets : List SheetText) (most : ℕ)
+    (read : ReadRules) (number : ℕ) (rest : List Sheet) (d : Sheet) → 1 ≤ length rest
+    → Awaits holds sheets most read (sheets_left holds number rest)
+    → Awaits holds sheets most read
+    (sheet_parts (with_layers holds) number (get_or rest 0 d).text.now
+    ++ sheets_left holds (number + 1) (take (length rest - 1) (drop 1 rest)))
+sheets-first holds sheets most read number [] d l awaits = absurd (omega (arith, l))
+sheets-first holds sheets most read number (sheet ∷ later) d l awaits =
+    let same : take (length (sheet ∷ later) - 1) later ≡ later =
+    take_all (length (sheet ∷ later) - 1) later (omega arith) in
+    subst (λ (ss : List Sheet). Awaits holds sheets most read
+    (sheet_parts (with_layers holds) number sheet.text.now ++ sheets_left holds (number + 1) ss)) (sym same)
     awaits

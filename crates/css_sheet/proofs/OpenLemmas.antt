@@ -77,12 +77,12 @@ tracks-take known outer (n ∷ numbers) (r ∷ around) zero t = tt
 tracks-take known outer (n ∷ numbers) (r ∷ around) (suc k) t =
     (t.0, tracks-take known n numbers around k t.1)
 
-pub none-open : (known : List LayerText) (numbers : List ℕ) (around : List OpenText)
-    → numbers ≡ [] → around ≡ [] → Tracks known 0 numbers around
+pub none-open : (known : List LayerText) (outer : ℕ) (numbers : List ℕ) (around : List OpenText)
+    → numbers ≡ [] → around ≡ [] → Tracks known outer numbers around
 unfolding Tracks
-none-open known numbers around e f =
-    subst (λ (ns : List ℕ). Tracks known 0 ns around) (sym e)
-    (subst (λ (rs : List OpenText). Tracks known 0 [] rs) (sym f) tt)
+none-open known outer numbers around e f =
+    subst (λ (ns : List ℕ). Tracks known outer ns around) (sym e)
+    (subst (λ (rs : List OpenText). Tracks known outer [] rs) (sym f) tt)
 
 seam : {X : Type 0} (xs : List X) (x : X) → slice_get (xs ++ x ∷ []) (length xs) ≡ Some x
 seam [] x = refl

@@ -12,7 +12,8 @@ use Rattle.css_text.specs.Ranks.{ordered_by}
 use Rattle.css_text.proofs.order.RankLemmas.{ordered_is, arranges_from_sort, arranges-map}
 use Rattle.css_cascade.specs.Layers.{LayerText}
 use Rattle.css_sheet.specs.declared.sheet_rules.SheetRule.{SheetRule}
-use Rattle.css_sheet.specs.SheetOrder.{SheetRuleText, SheetText, declaration_count, declarations_in, rule_key, is_before, ranked}
+use Rattle.css_sheet.specs.SheetOrder.{SheetRuleText, declaration_count, declarations_in, rule_key, is_before, ranked}
+use Rattle.css_sheet.specs.Sheets.{SheetText}
 use Rattle.css_sheet.specs.SheetRuleViews.{sheet_rule_of}
 
 -- Rules were gathered and others are to come: together they are those before and all others. So it

@@ -9,6 +9,7 @@ pub mod NestedSelectors
 pub mod OpenParents
 pub mod ParentViews
 pub mod SheetMessages
+pub mod Sheets
 pub mod SheetLayers
 pub mod SheetOrder
 pub mod SheetRuleViews

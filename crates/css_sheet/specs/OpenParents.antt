@@ -6,8 +6,8 @@ use Rattle.css_syntax.specs.Parts.{Stated}
 use Rattle.css_selectors.specs.declared.components.Nesting.{Nesting}
 use Rattle.css_selectors.specs.Components.{Selector}
 use Rattle.css_selectors.specs.Specificities.{nothing}
-use Rattle.css_sheet.specs.RuleSelectors.{SelectorRead}
-use Rattle.css_sheet.specs.NestedSelectors.{element_selectors, greatest_read, list_numbered, selectors_under}
+use Rattle.css_sheet.specs.RuleSelectors.{SelectorRead, selectors_under}
+use Rattle.css_sheet.specs.NestedSelectors.{element_selectors, greatest_read, list_numbered}
 use Rattle.css_sheet.specs.SheetParts.{OpenText, RuleKind, style_rule, group_rule, SheetPart, states, begins, ends, stands, PlacedPart, applies_in}
 
 -- The style rule that something is in: none; one that has no rules, since it does not apply or a rule

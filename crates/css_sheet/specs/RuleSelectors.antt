@@ -1,51 +1,107 @@
--- The selectors of a rule set, each as it is read, where it is supported.
-use Rattle.std.specs.Prelude.{ℕ, List, [], ◌∷◌, map, codes, Option, Some, None, Result, Ok, Err}
+-- The selectors of a style rule, each as it is read, where it is supported.
+use Rattle.std.specs.Prelude.{ℕ, ◌-◌, Bool, ◌&&◌, ◌||◌, nat_le, nat_lt, if◌then◌else◌, List, [], length, map, slice_index, Option, Some, None, Result, Ok, Err}
+use Rattle.css_text.specs.AsciiBytes.{colon}
+use Rattle.css_text.specs.Bytes.{past_byte}
+use Rattle.css_text.specs.Reading.{before}
 use Rattle.css_syntax.specs.declared.quality.Fault.{Fault}
+use Rattle.css_syntax.specs.declared.quality.Fault.TheVariants.{InvalidSelector}
 use Rattle.css_syntax.specs.Parts.{Stated}
-use Rattle.css_syntax.specs.SelectorGrammar.{SelectorText, plain, with_element, other_valid, invalid}
-use Rattle.css_syntax.specs.SelectorLists.{ListedText, selectors, prelude_fault}
-use Rattle.css_selectors.specs.Components.{Selector}
-use Rattle.css_selectors.specs.Readings.{Reading, got, refused}
-use Rattle.css_selectors.specs.Supported.{supported_selector}
+use Rattle.css_syntax.specs.Qualities.{is_good, fault_of}
+use Rattle.css_syntax.specs.Tokens.{past_gap}
+use Rattle.css_selectors.specs.declared.components.Nesting.{Nesting}
+use Rattle.css_selectors.specs.Components.{Placed, PseudoElement, Selector}
+use Rattle.css_selectors.specs.Grammar.{placed_list}
+use Rattle.css_selectors.specs.Nested.{nested_list}
+use Rattle.css_selectors.specs.Originating.{originating}
+use Rattle.css_selectors.specs.Readings.{Reading, got, refused, Reader}
+use Rattle.css_selectors.specs.Supported.{is_last_condition, is_supported_selector, supported_selector}
 
--- A selector of a rule set: its text; the selector without its pseudo-element, if it is supported;
--- and the name of the pseudo-element at its end, if it has one.
+-- A selector of a rule: its text; the selector without its pseudo-element, if it is supported; and the
+-- name of the pseudo-element at its end, if it has one.
 pub record SelectorRead : Type 0 where
   pub text : List ℕ
   pub selector : Option Selector
   pub pseudo_element : Option (List ℕ)
+
+-- ---- texts
+
+-- whether a character of a text begins at the offset, or the text ends there
+abbrev pub is_boundary : List ℕ → ℕ → Bool
+is_boundary text i =
+    nat_le i (length text) && (nat_lt (slice_index text i) 128 || nat_le 192 (slice_index text i))
+
+-- The text from one place to another, by what is left of one text at each. Both are where a character
+-- begins, or else it would be no text.
+abbrev pub text_between : (from to : List ℕ) → List ℕ
+text_between from to =
+    if is_boundary from (length from - length to) then before from to else []
+
+-- what is left after the colons of a pseudo-element, and after comments that follow them
+abbrev pub past_colons : List ℕ → List ℕ
+past_colons text = past_gap (past_byte colon (past_gap (past_byte colon text)))
+
+-- ---- selectors
+
+-- the selector, if it has a meaning
+abbrev pub if_supported : Selector → Option Selector
+if_supported s = if is_supported_selector s then Some s else None
+
+-- a selector with a pseudo-element at its end
+abbrev pub element_read : Placed → SelectorRead
+element_read p = record {
+  text = text_between p.from p.to;
+  selector = if_supported (originating p.selector);
+  pseudo_element = Some (text_between (past_colons p.element) p.to);
+}
+
+-- A selector with a pseudo-element that something follows is unsupported, and has none at its end.
+abbrev pub read_with : Placed → Option PseudoElement → SelectorRead
+read_with p None = record {
+  text = text_between p.from p.to;
+  selector = if_supported p.selector;
+  pseudo_element = None;
+}
+read_with p (Some e) =
+    if is_last_condition e.after then element_read p
+    else record { text = text_between p.from p.to; selector = None; pseudo_element = None }
+
+-- what a selector of a list is in a rule
+abbrev pub selector_read : Placed → SelectorRead
+selector_read p = read_with p p.selector.pseudo_element
+
+-- ---- lists
+
+-- the list that a text is, for a rule that is in no other, or for one in a rule for whose list `&` stands
+abbrev pub list_under : Option Nesting → Reader (List Placed)
+list_under None = placed_list
+list_under (Some list) = nested_list list
+
+-- a list with one that is no selector is invalid as a whole
+abbrev pub listed_or : Reading (List Placed) → Result (List Placed) Fault
+listed_or (got all rest) = Ok all
+listed_or (refused why rest) = Err InvalidSelector
+
+-- the list of selectors of a rule with this prelude, or why the rule is dropped
+abbrev pub listed_under : Option Nesting → Stated → Result (List Placed) Fault
+listed_under under prelude =
+    if is_good prelude.quality then listed_or (list_under under prelude.text)
+    else Err (fault_of prelude.quality)
+
+abbrev pub all_read : Result (List Placed) Fault → Result (List SelectorRead) Fault
+all_read (Ok all) = Ok (map selector_read all)
+all_read (Err fault) = Err fault
+
+-- the selectors of a rule with this prelude, in order, or why the rule is dropped
+abbrev pub selectors_under : Option Nesting → Stated → Result (List SelectorRead) Fault
+selectors_under under prelude = all_read (listed_under under prelude)
+
+-- ---- one selector
 
 -- what was read, unless the text is refused
 abbrev pub if_read : Reading Selector → Option Selector
 if_read (got s rest) = Some s
 if_read (refused reason rest) = None
 
--- the selector that the text is by the grammar of modern selectors, if it is one
+-- the selector that the text is by the grammar of modern selectors, if it is one that is supported
 abbrev pub selector_of : List ℕ → Option Selector
 selector_of text = if_read (supported_selector text)
-
--- a pseudo-element alone is one of any element
-abbrev pub or_any : List ℕ → List ℕ
-or_any [] = codes "*"
-or_any (b ∷ text) = b ∷ text
-
--- A selector with a pseudo-element elsewhere than at its end is valid and unsupported.
-abbrev pub read_by_form : List ℕ → SelectorText → SelectorRead
-read_by_form text plain =
-    record { text = text; selector = selector_of text; pseudo_element = None }
-read_by_form text (with_element front name) =
-    record { text = text; selector = selector_of (or_any front); pseudo_element = Some name }
-read_by_form text other_valid = record { text = text; selector = None; pseudo_element = None }
-read_by_form text invalid = record { text = text; selector = None; pseudo_element = None }
-
-abbrev pub selector_read : ListedText → SelectorRead
-selector_read listed = read_by_form listed.text listed.form
-
-abbrev pub unless_dropped : List ListedText → Option Fault → Result (List SelectorRead) Fault
-unless_dropped listed None = Ok (map selector_read listed)
-unless_dropped listed (Some fault) = Err fault
-
--- The selectors of a rule set with this prelude, in order; or why the rule set is dropped: one that
--- is no selector drops all.
-unfoldable pub selectors_read : Stated → Result (List SelectorRead) Fault
-selectors_read prelude = unless_dropped (selectors prelude.text) (prelude_fault prelude)

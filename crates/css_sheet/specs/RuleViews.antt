@@ -2,6 +2,9 @@
 use Rattle.std.specs.Prelude.{List, map, Result, Ok, Err}
 use Rattle.std.specs.Option.{option_map}
 use Rattle.css_syntax.specs.declared.quality.Fault.{Fault}
+use Rattle.css_selectors.specs.declared.selector.Listed.{Listed}
+use Rattle.css_selectors.specs.Components.{Placed}
+use Rattle.css_selectors.specs.ReadViews.{placed_of}
 use Rattle.css_sheet.specs.declared.selectors.RuleSelector.{RuleSelector}
 use Rattle.css_sheet.specs.RuleSelectors.{SelectorRead}
 
@@ -17,3 +20,9 @@ abbrev pub listed_result : {V : Type 0} → (V → List RuleSelector) → Result
     → Result (List SelectorRead) Fault
 listed_result items (Ok selectors) = Ok (map rule_selector_of (items selectors))
 listed_result items (Err fault) = Err fault
+
+-- the same of the selectors of a list with where they are
+abbrev pub placed_result : {V : Type 0} → (V → List Listed) → Result V Fault
+    → Result (List Placed) Fault
+placed_result items (Ok all) = Ok (map placed_of (items all))
+placed_result items (Err fault) = Err fault

@@ -1,14 +1,15 @@
 -- The layers of sheets (CSS Cascading 5, section 6.4): those of the `@layer` rules whose group rules
--- all hold, in order.
+-- all hold, in order. Each origin has its own.
 use Rattle.std.specs.Prelude.{ℕ, ◌-◌, Bool, if◌then◌else◌, List, [], ◌∷◌, codes, length, Option, None, Some}
 use Rattle.std.specs.List.{flat_map}
 use Rattle.std.specs.Option.{is_some}
 use Rattle.css_syntax.specs.Tokens.{spells}
 use Rattle.css_syntax.specs.Statements.{BlockText, AtRuleText}
 use Rattle.css_syntax.specs.DeclarationLists.{ItemText, declared, at_rule_item, skipped_item}
-use Rattle.css_cascade.specs.Layers.{LayerPart, LayerText, outermost_layer, number_at, or_outermost, with_name}
+use Rattle.css_cascade.specs.Layers.{LayerPart, LayerText, origin_count, outermost_layers, number_at, or_outermost, with_name}
 use Rattle.css_cascade.specs.LayerNames.{block_name, layer_names}
 use Rattle.css_sheet.specs.SheetParts.{OpenText, RuleKind, style_rule, group_rule, SheetPart, states, begins, ends, stands, PlacedPart, applies_in, all_parts}
+use Rattle.css_sheet.specs.Sheets.{SheetText, outermost_at, texts_in}
 
 abbrev pub is_layer : List ℕ → Bool
 is_layer name = spells (codes "layer") name
@@ -39,9 +40,10 @@ open_name rule = if rule.applies then kind_name rule.kind rule.place else []
 abbrev pub layer_parts : List OpenText → List LayerPart
 layer_parts around = flat_map open_name around
 
--- the number of the layer that is innermost in these rules
-abbrev pub number_in_all : List OpenText → List LayerText → ℕ
-number_in_all around known = or_outermost (number_at 0 (layer_parts around) known)
+-- the number of the layer that is innermost in these rules, where all is in the outermost one
+abbrev pub number_in_all : (outermost : ℕ) → List OpenText → List LayerText → ℕ
+number_in_all outermost around known =
+    or_outermost (number_at outermost (layer_parts around) known)
 
 -- ---- the layers that are mentioned
 
@@ -70,34 +72,35 @@ abbrev pub if_applies : Bool → (outer : ℕ) → List LayerText → ItemText �
 if_applies applies outer known item = if applies then with_item outer known item else known
 
 -- A rule that begins mentions the layer that it is, if it is one and applies; an item outside of style
--- rules mentions others.
-abbrev pub mentioned : List LayerText → List OpenText → SheetPart → List LayerText
-mentioned known around (states text) = known
-mentioned known around (begins kind) = with_name known 0 (layer_parts around)
-mentioned known around ends = known
-mentioned known around (stands item) =
-    if_applies (applies_in around) (number_in_all around known) known item
+-- rules mentions others. All of a sheet is in the outermost layer of its origin.
+abbrev pub mentioned : (outermost : ℕ) → List LayerText → List OpenText → SheetPart → List LayerText
+mentioned outermost known around (states text) = known
+mentioned outermost known around (begins kind) = with_name known outermost (layer_parts around)
+mentioned outermost known around ends = known
+mentioned outermost known around (stands item) =
+    if_applies (applies_in around) (number_in_all outermost around known) known item
 
-abbrev pub with_part : List LayerText → PlacedPart → List LayerText
-with_part known placed = mentioned known placed.around placed.part
+-- where each sheet, by its number, is in the layer of this number
+abbrev pub with_part : (outermost : ℕ → ℕ) → List LayerText → PlacedPart → List LayerText
+with_part outermost known placed =
+    mentioned (outermost placed.sheet) known placed.around placed.part
 
 -- the layers after these parts
-abbrev pub with_parts : List LayerText → List PlacedPart → List LayerText
-with_parts known [] = known
-with_parts known (placed ∷ parts) = with_parts (with_part known placed) parts
-
--- the layers of these parts alone
-abbrev pub layers_in : List PlacedPart → List LayerText
-layers_in parts = with_parts (outermost_layer ∷ []) parts
+abbrev pub with_parts : (outermost : ℕ → ℕ) → List LayerText → List PlacedPart → List LayerText
+with_parts outermost known [] = known
+with_parts outermost known (placed ∷ parts) =
+    with_parts outermost (with_part outermost known placed) parts
 
 -- the parts of sheets, where `holds` says which group rules hold that are no `@layer`
 abbrev pub layered_parts : (List ℕ → List ℕ → Bool) → List (List ℕ) → List PlacedPart
 layered_parts holds texts = all_parts (with_layers holds) texts
 
--- The layers of sheets in order. One that is named in several of them is one layer.
-abbrev pub sheet_layers : (List ℕ → List ℕ → Bool) → List (List ℕ) → List LayerText
-sheet_layers holds texts = layers_in (layered_parts holds texts)
+-- The layers of sheets, those of each origin in order. One that is named in several sheets of an origin is
+-- one layer, and one of the same name in sheets of another is another.
+abbrev pub sheet_layers : (List ℕ → List ℕ → Bool) → List SheetText → List LayerText
+sheet_layers holds sheets =
+    with_parts (outermost_at sheets) outermost_layers (layered_parts holds (texts_in sheets))
 
--- how many layers there are, beside the outermost one
-abbrev pub layer_count : (List ℕ → List ℕ → Bool) → List (List ℕ) → ℕ
-layer_count holds texts = length (sheet_layers holds texts) - 1
+-- how many layers there are, beside the outermost ones
+abbrev pub layer_count : (List ℕ → List ℕ → Bool) → List SheetText → ℕ
+layer_count holds sheets = length (sheet_layers holds sheets) - origin_count

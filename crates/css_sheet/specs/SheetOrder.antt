@@ -17,31 +17,12 @@ use Rattle.css_cascade.specs.Cascade.{origin_rank}
 use Rattle.css_cascade.specs.Layers.{LayerText, place_of}
 use Rattle.css_cascade.specs.declared.weights.Origin.{Origin}
 use Rattle.css_cascade.specs.declared.weights.Origin.TheVariants.{Author}
-use Rattle.css_sheet.specs.RuleSelectors.{SelectorRead}
-use Rattle.css_sheet.specs.NestedSelectors.{selectors_under, with_element}
+use Rattle.css_sheet.specs.Sheets.{SheetText, origin_at, outermost_at, texts_in}
+use Rattle.css_sheet.specs.RuleSelectors.{SelectorRead, selectors_under}
+use Rattle.css_sheet.specs.NestedSelectors.{with_element}
 use Rattle.css_sheet.specs.OpenParents.{Parent, no_rule, dropped, style, ParentsText, none_open, after_part, after_parts}
 use Rattle.css_sheet.specs.SheetParts.{SheetPart, states, begins, ends, stands, PlacedPart, applies_in}
 use Rattle.css_sheet.specs.SheetLayers.{layered_parts, number_in_all, sheet_layers}
-
--- A style sheet, and where it comes from.
-pub record SheetText : Type 0 where
-  pub text : List ℕ
-  pub origin : Origin
-
-abbrev pub texts_in : List SheetText → List (List ℕ)
-texts_in sheets = map (λ (sheet : SheetText). sheet.text) sheets
-
--- a sheet of the author's
-abbrev pub authored : List ℕ → SheetText
-authored text = record { text = text; origin = Author }
-
-abbrev pub origin_if : Option SheetText → Origin
-origin_if (Some sheet) = sheet.origin
-origin_if None = Author
-
--- the origin of the sheet of a number
-abbrev pub origin_at : List SheetText → (number : ℕ) → Origin
-origin_at sheets number = origin_if (slice_get sheets number)
 
 -- A style rule with one selector: the origin of its sheet; the layer that it is in, by its number or its
 -- rank; the number of the sheet, and the offset there of the contents of its block; the text of the selector,
@@ -116,7 +97,7 @@ abbrev pub unless_invalid : RunText → Result (List SelectorRead) Fault → Lis
 unless_invalid run (Ok selectors) = rules_with run selectors
 unless_invalid run (Err fault) = []
 
--- the rules of a rule set, in which `&` stands for this: none without a declaration
+-- the rules of a rule set, in which `&` denotes this: none without a declaration
 abbrev pub rule_set_rules : Stated → Option Nesting → RunText → List SheetRuleText
 rule_set_rules prelude under run =
     if declaration_count run.text == 0 then []
@@ -124,7 +105,7 @@ rule_set_rules prelude under run =
 
 -- ---- the rules of sheets
 
--- The rules of declarations that stand one after another in style rules: those of the selectors of
+-- The rules of declarations that follow one another in style rules: those of the selectors of
 -- the one that they are in.
 abbrev pub stated_rules : Parent → RunText → List SheetRuleText
 stated_rules no_rule run = []
@@ -153,23 +134,27 @@ abbrev pub part_rules : (layer : ℕ) → Parent → PlacedPart → List SheetRu
 part_rules layer parent placed = rules_if_stated layer parent placed placed.part
 
 -- the rules of a part, each with the number of its layer
-abbrev pub placed_rules : List LayerText → Parent → PlacedPart → List SheetRuleText
-placed_rules known parent placed = part_rules (number_in_all placed.around known) parent placed
+abbrev pub placed_rules : (outermost : ℕ → ℕ) → List LayerText → Parent → PlacedPart
+    → List SheetRuleText
+placed_rules outermost known parent placed =
+    part_rules (number_in_all (outermost placed.sheet) placed.around known) parent placed
 
 -- the rules of these parts, one after another, before which these style rules are open
-abbrev pub rules_of_parts : List LayerText → ParentsText → List PlacedPart → List SheetRuleText
-rules_of_parts known parents [] = []
-rules_of_parts known parents (placed ∷ more) =
-    placed_rules known (after_part parents placed).innermost placed
-    ++ rules_of_parts known (after_part parents placed) more
+abbrev pub rules_of_parts : (outermost : ℕ → ℕ) → List LayerText → ParentsText → List PlacedPart
+    → List SheetRuleText
+rules_of_parts outermost known parents [] = []
+rules_of_parts outermost known parents (placed ∷ more) =
+    placed_rules outermost known (after_part parents placed).innermost placed
+    ++ rules_of_parts outermost known (after_part parents placed) more
 
--- the rules of texts, as they stand there, each with the number of its layer, if all are the author's
-abbrev pub numbered_rules : (List ℕ → List ℕ → Bool) → List (List ℕ) → List SheetRuleText
-numbered_rules holds texts =
-    rules_of_parts (sheet_layers holds texts) (none_open []) (layered_parts holds texts)
+-- the rules of sheets in the order of the texts, each with the number of its layer, with no origin yet
+abbrev pub numbered_rules : (List ℕ → List ℕ → Bool) → List SheetText → List SheetRuleText
+numbered_rules holds sheets =
+    rules_of_parts (outermost_at sheets) (sheet_layers holds sheets) (none_open [])
+    (layered_parts holds (texts_in sheets))
 
--- The lists of selectors that `&` stands for in nested rules of sheets, of which the first has number 1:
--- one for each style rule with rules in it, where all group rules hold. In a list `&` stands for one
+-- The lists of selectors that `&` denotes in nested rules of sheets, of which the first has number 1:
+-- one for each style rule with rules in it, where all group rules hold. In a list `&` denotes one
 -- before it.
 abbrev pub nested_lists : (List ℕ → List ℕ → Bool) → List (List ℕ) → List (List Selector)
 nested_lists holds texts = (after_parts (none_open []) (layered_parts holds texts)).lists
@@ -181,12 +166,12 @@ ranked known sheets rule = record rule {
   layer = place_of rule.layer known;
 }
 
--- The rules of sheets, as they stand there, each with its origin and the rank of its layer, where a group rule that is
+-- The rules of sheets in the order of the texts, each with its origin and the rank of its layer, where a group rule that is
 -- no `@layer` holds as `holds` says of its keyword and its prelude. A style rule with group rules in it
 -- has rules for the declarations before each, in it, and after it; so has one with nested style rules.
 abbrev pub source_rules : (List ℕ → List ℕ → Bool) → List SheetText → List SheetRuleText
 source_rules holds sheets =
-    map (ranked (sheet_layers holds (texts_in sheets)) sheets) (numbered_rules holds (texts_in sheets))
+    map (ranked (sheet_layers holds sheets) sheets) (numbered_rules holds sheets)
 
 -- the rules of sheets in order
 abbrev pub cascade_rules : (List ℕ → List ℕ → Bool) → List SheetText → List SheetRuleText

@@ -9,10 +9,9 @@ ghost use Rattle.css_sheet.specs.SheetOrder.{rule_set_rules, part_rules};
 ghost use Rattle.css_sheet.specs.SheetRuleViews.{run_of, Gathers};
 ghost use Rattle.css_sheet.specs.declared.sheet_error.SheetError.TheVariants.{TooManyLayers};
 
-use crate::nested_selectors::read_under;
 use crate::parents::{Parent, StyleRule};
 use crate::parts::{Part, SheetParts};
-use crate::selectors::RuleSelector;
+use crate::selectors::{RuleSelector, read_selectors};
 use crate::sheet_error::SheetError;
 use crate::sheet_rules::SheetRule;
 use css_cascade::Origin;
@@ -134,7 +133,7 @@ impl<'a> Gathered<'a> {
         if count == 0 {
             return Ok(());
         }
-        match read_under(alloc, rule.under, &rule.prelude) {
+        match read_selectors(alloc, rule.under, &rule.prelude) {
             Ok(Ok(selectors)) => self.push_rules(selectors, run, count),
             Ok(Err(_)) => Ok(()),
             Err(_) => Err(SheetError::Memory),

@@ -18,7 +18,7 @@ mod sheet_order;
 mod sheet_rules;
 mod state;
 
-pub use selectors::{RuleSelector, read_listed, read_selectors, read_supported};
+pub use selectors::{RuleSelector, read_listed, read_selectors, read_supported, rule_selector};
 pub use sheet_error::SheetError;
 pub use sheet_order::{SheetRules, read_sheet, read_sheets};
 pub use sheet_rules::{Sheet, SheetRule};

@@ -1,15 +1,15 @@
 //! The layers of sheets as far as they are read, and those that are open.
-ghost use Rattle.std.specs.Prelude.{◌≡◌, ◌∷◌, [], IfErr, IfOk, OnOk, Some, map};
+ghost use Rattle.std.specs.Prelude.{◌≡◌, [], IfErr, IfOk, OnOk, Some, map};
 ghost use Rattle.css_sheet.specs.declared.sheet_error.SheetError.TheVariants.{TooManyDeclarations, TooManyLayers};
 ghost use Rattle.css_syntax.specs.Views.{at_rule_of, item_of};
-ghost use Rattle.css_cascade.specs.Layers.{number_at, outermost_layer, with_name};
+ghost use Rattle.css_cascade.specs.Layers.{number_at, outermost_layers, with_name};
 ghost use Rattle.css_cascade.specs.LayerViews.{known_of};
 ghost use Rattle.css_cascade.specs.LayerNameViews.{name_of};
 ghost use Rattle.css_sheet.specs.internal.PartViews.{kind_of, open_of, part_of};
 ghost use Rattle.css_sheet.specs.SheetLayers.{is_layer as is_layer_of, kind_name, open_name};
 ghost use Rattle.css_sheet.specs.SheetLayers.{with_names, with_rule, with_item, if_applies};
 ghost use Rattle.css_sheet.specs.SheetParts.{applies_in as applies_in_rules};
-ghost use Rattle.css_sheet.specs.internal.OpenViews.{innermost_of, known_in, numbers_in, AreFew, AreMany};
+ghost use Rattle.css_sheet.specs.internal.OpenViews.{innermost_of, known_in, numbers_in, outermost_in, AreFew, AreMany};
 ghost use Rattle.css_sheet.specs.internal.OpenViews.{Enters, Goes, GoesOver};
 
 use crate::parts::{OpenRule, Part, RuleKind};
@@ -26,6 +26,8 @@ pub(crate) struct OpenLayers<'a> {
     pub(crate) layers: Layers<'a>,
     /// Of the rules that are open: the number of the layer that is innermost there.
     pub(crate) numbers: Vec<usize>,
+    /// The number of the layer that all of the sheet is in, which is being read.
+    pub(crate) outermost: usize,
 }
 
 /// Whether an at-rule of this name is about layers.
@@ -151,35 +153,38 @@ fn mention_item<'a>(
 }
 
 impl<'a> OpenLayers<'a> {
-    /// Returns the outermost layer alone, in which all is.
+    /// Returns the outermost layers alone.
     pub(crate) fn new(alloc: Global) -> Result<OpenLayers<'a>, AllocError>
-        ensures known { IfOk result (λ layers. known_in layers ≡ outermost_layer ∷ []) }
+        ensures known { IfOk result (λ layers. known_in layers ≡ outermost_layers) }
         ensures numbers { IfOk result (λ layers. numbers_in layers ≡ []) }
     {
         match Layers::new(alloc) {
             Ok(layers) => Ok(OpenLayers {
                 layers,
                 numbers: Vec::new(alloc),
+                outermost: 0,
             }),
             Err(error) => Err(error),
         }
     }
 
-    /// Leaves all that is open.
-    pub(crate) fn leave_all(&mut self)
+    /// Leaves all that is open, and begins a sheet that is in the layer of this number.
+    pub(crate) fn begin_sheet(&mut self, outermost: usize)
         ensures known { known_in self.new ≡ known_in self.old }
         ensures numbers { numbers_in self.new ≡ [] }
+        ensures outermost { outermost_in self.new ≡ outermost }
     {
         self.numbers.clear();
+        self.outermost = outermost;
     }
 
     /// Returns the number of the layer that is innermost.
     pub(crate) fn innermost(&self) -> usize
-        ensures { result ≡ innermost_of 0 (numbers_in self.now) }
+        ensures { result ≡ innermost_of (outermost_in self.now) (numbers_in self.now) }
     {
         match self.numbers.last() {
             Some(number) => *number,
-            None => 0,
+            None => self.outermost,
         }
     }
 
@@ -187,11 +192,12 @@ impl<'a> OpenLayers<'a> {
     fn enter(&mut self, alloc: Global, rule: &OpenRule<'a>) -> Result<(), SheetError>
         ensures refused { IfErr result (λ error. error ≡ TooManyDeclarations → ⊥) }
         ensures many { IfErr result (λ error. error ≡ TooManyLayers
-            → AreMany (with_name (known_in self.old) (innermost_of 0 (numbers_in self.old))
+            → AreMany (with_name (known_in self.old) (innermost_of (outermost_in self.old) (numbers_in self.old))
             (open_name (open_of rule.now)))) }
         ensures few { OnOk result (AreFew (known_in self.old) → AreFew (known_in self.new)) }
-        ensures enters { IfOk result (λ _. Enters (known_in self.old) (numbers_in self.old)
-            (open_of rule.now) (known_in self.new) (numbers_in self.new)) }
+        ensures enters { IfOk result (λ _. Enters (outermost_in self.old) (known_in self.old)
+            (numbers_in self.old) (open_of rule.now) (known_in self.new) (numbers_in self.new)) }
+        ensures outermost { outermost_in self.new ≡ outermost_in self.old }
     {
         let outer = self.innermost();
         let number = enter_rule(alloc, &mut self.layers, outer, rule)?;
@@ -211,11 +217,13 @@ impl<'a> OpenLayers<'a> {
         requires { applies ≡ applies_in_rules (map open_of around.now) }
         ensures refused { IfErr result (λ error. error ≡ TooManyDeclarations → ⊥) }
         ensures many { IfErr result (λ error. error ≡ TooManyLayers
-            → GoesOver (known_in self.old) (numbers_in self.old) (part_of part.now)
-            (map open_of around.now)) }
+            → GoesOver (outermost_in self.old) (known_in self.old) (numbers_in self.old)
+            (part_of part.now) (map open_of around.now)) }
         ensures few { OnOk result (AreFew (known_in self.old) → AreFew (known_in self.new)) }
-        ensures goes { IfOk result (λ _. Goes (known_in self.old) (numbers_in self.old)
-            (part_of part.now) (map open_of around.now) (known_in self.new) (numbers_in self.new)) }
+        ensures goes { IfOk result (λ _. Goes (outermost_in self.old) (known_in self.old)
+            (numbers_in self.old) (part_of part.now) (map open_of around.now) (known_in self.new)
+            (numbers_in self.new)) }
+        ensures outermost { outermost_in self.new ≡ outermost_in self.old }
     {
         match part {
             Part::States(_) => Ok(()),

@@ -10,9 +10,9 @@ ghost use Rattle.css_sheet.specs.ParentViews.{parent_of, parents_of};
 ghost use Rattle.css_sheet.specs.internal.PartViews.{kind_of, open_of, part_of};
 ghost use Rattle.css_sheet.specs.SheetParts.{applies_in as applies_in_rules};
 
-use crate::nested_selectors::{list_of, read_under};
+use crate::nested_selectors::list_of;
 use crate::parts::{OpenRule, Part, RuleKind};
-use crate::selectors::RuleSelector;
+use crate::selectors::{RuleSelector, read_selectors};
 use css_selectors::{Nesting, Selector};
 use css_syntax::{Fault, Prelude};
 use std::alloc::{AllocError, Global};
@@ -120,7 +120,7 @@ impl<'a> OpenParents<'a> {
         let innermost = self.innermost;
         match innermost {
             Parent::Style(rule) if rule.own.is_none() => {
-                let selectors = read_under(alloc, rule.under, &rule.prelude)?;
+                let selectors = read_selectors(alloc, rule.under, &rule.prelude)?;
                 self.add_list(alloc, rule, selectors)
             }
             _ => Ok(()),

@@ -311,6 +311,7 @@ impl<'a> SheetParts<'a> {
     /// Returns a reader at the start of the sheet of this number. Allocates nothing.
     pub(crate) fn new(alloc: Global, text: &'a str, sheet: usize) -> SheetParts<'a>
         ensures open { open_in result ≡ [] }
+        ensures sheet { (source_of result).sheet ≡ sheet }
         ensures parts { (answers : List ℕ → List ℕ → Bool)
             → parts_to_come answers result ≡ sheet_parts answers sheet text.now }
     {

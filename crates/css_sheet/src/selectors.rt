@@ -1,18 +1,20 @@
-//! The selectors of a rule set.
-ghost use Rattle.std.specs.Prelude.{◌≡◌, IfOk, map, option_map};
+//! The selectors of a style rule.
+ghost use Rattle.std.specs.Prelude.{◌≡◌, IfOk, map};
 ghost use Rattle.css_syntax.specs.Views.{prelude_of};
-ghost use Rattle.css_syntax.specs.SelectorLists.{listed_of};
-ghost use Rattle.css_sheet.specs.RuleSelectors.{or_any as or_any_of, selector_of};
-ghost use Rattle.css_sheet.specs.RuleSelectors.{selector_read, selectors_read};
-ghost use Rattle.css_sheet.specs.RuleViews.{rule_selector_of, listed_result};
+ghost use Rattle.css_selectors.specs.ReadSelectors.{ParsesPlaced};
+ghost use Rattle.css_selectors.specs.ReadViews.{placed_of};
+ghost use Rattle.css_sheet.specs.RuleSelectors.{text_between as text_between_of, past_colons as past_colons_of};
+ghost use Rattle.css_sheet.specs.RuleSelectors.{if_supported as if_supported_of, element_read, selector_read, selector_of};
+ghost use Rattle.css_sheet.specs.RuleSelectors.{list_under, listed_under, selectors_under};
+ghost use Rattle.css_sheet.specs.RuleViews.{rule_selector_of, listed_result, placed_result};
 
-use css_selectors::{Selector, Why};
+use css_selectors::{Listed, Nesting, Refusal, Selector, Why};
 use css_syntax::quality::{fault_of, is_good};
-use css_syntax::selectors::{ListedSelector, SelectorForm, Selectors, is_valid};
+use css_syntax::texts::{past_byte, past_gap};
 use css_syntax::{Fault, Prelude};
 use std::alloc::{AllocError, Global};
 
-/// A selector of a rule set.
+/// A selector of a style rule.
 ///
 /// With a `selector` and no `pseudo_element` it is one of elements, and matches those that
 /// `Selector::matches` says. With both it is one of a pseudo-element of these, and of no element
@@ -27,13 +29,6 @@ pub struct RuleSelector<'a> {
     pub pseudo_element: Option<&'a str>,
 }
 
-/// The text before a pseudo-element, or `*` if there is none.
-pub(crate) fn or_any(front: &str) -> &str
-    ensures { result.now ≡ or_any_of front.now }
-{
-    if front.is_empty() { "*" } else { front }
-}
-
 /// Reads a text as a selector, or returns `None` if it is none that is supported. Fails only if an
 /// allocation fails.
 pub fn read_supported<'a>(alloc: Global, text: &'a str) -> Result<Option<Selector<'a>>, AllocError>
@@ -46,58 +41,128 @@ pub fn read_supported<'a>(alloc: Global, text: &'a str) -> Result<Option<Selecto
     }
 }
 
-/// Reads a part of a list as a selector, without the pseudo-element at its end. Fails only if an
-/// allocation fails.
-pub fn read_listed<'a>(
-    alloc: Global,
-    listed: &ListedSelector<'a>,
-) -> Result<RuleSelector<'a>, AllocError>
-    ensures { IfOk result (λ read. selector_read (listed_of listed.now) ≡ rule_selector_of read) }
+/// Returns the text from one place to another, by what is left of one text at each.
+fn text_between<'a>(from: &'a str, to: &str) -> &'a str
+    ensures { result.now ≡ text_between_of from.now to.now }
 {
-    let (front, pseudo_element) = match listed.form {
-        SelectorForm::Plain => (listed.text, None),
-        SelectorForm::WithElement(element) => (or_any(element.front), Some(element.name)),
-        _ => {
-            return Ok(RuleSelector {
-                text: listed.text,
-                selector: None,
-                pseudo_element: None,
-            });
-        }
-    };
-    match read_supported(alloc, front) {
-        Ok(selector) => Ok(RuleSelector {
-            text: listed.text,
-            selector,
-            pseudo_element,
-        }),
-        Err(error) => Err(error),
+    let count = from.len().saturating_sub(to.len());
+    if from.is_char_boundary(count) {
+        &from[..count]
+    } else {
+        ""
     }
 }
 
-/// Reads the selectors of a rule set with this prelude, in order. The inner error is why the rule
-/// set is dropped: CSS drops it as a whole for one part that is no selector. Fails only if an
-/// allocation fails.
-#[tactic(auto, unfolding(crate::specs::RuleSelectors::selectors_read))]
-pub fn read_selectors<'a>(
+/// Returns what is left after the colons of a pseudo-element, and after comments that follow them.
+fn past_colons(element: &str) -> &str
+    ensures { result.now ≡ past_colons_of element.now }
+{
+    past_gap(past_byte(past_gap(past_byte(element, b':')), b':'))
+}
+
+/// Returns the selector, if it is supported.
+fn if_supported(selector: Selector<'_>) -> Option<Selector<'_>>
+    ensures { result ≡ if_supported_of selector.entry }
+{
+    if selector.is_supported() {
+        Some(selector)
+    } else {
+        None
+    }
+}
+
+/// Returns what a selector of a list is in a rule that has a pseudo-element at its end.
+fn with_element<'a>(alloc: Global, listed: Listed<'a>) -> Result<RuleSelector<'a>, AllocError>
+    ensures { IfOk result (λ read. element_read (placed_of listed.entry) ≡ rule_selector_of read) }
+{
+    Ok(RuleSelector {
+        text: text_between(listed.from, listed.to),
+        selector: if_supported(listed.selector.originating(alloc)?),
+        pseudo_element: Some(text_between(past_colons(listed.element), listed.to)),
+    })
+}
+
+/// Returns what a selector of a list is in a rule. Fails only if an allocation fails.
+pub fn rule_selector<'a>(alloc: Global, listed: Listed<'a>) -> Result<RuleSelector<'a>, AllocError>
+    ensures { IfOk result (λ read. selector_read (placed_of listed.entry) ≡ rule_selector_of read) }
+{
+    let text = text_between(listed.from, listed.to);
+    match listed.selector.pseudo_element() {
+        None => Ok(RuleSelector {
+            text,
+            selector: if_supported(listed.selector),
+            pseudo_element: None,
+        }),
+        Some(element) if element.after.is_empty() => with_element(alloc, listed),
+        Some(_) => Ok(RuleSelector {
+            text,
+            selector: None,
+            pseudo_element: None,
+        }),
+    }
+}
+
+/// Reads a text that is the list of a rule.
+fn read_list<'a>(
     alloc: Global,
+    under: Option<Nesting>,
+    text: &'a str,
+) -> Result<Vec<Listed<'a>>, Refusal<'a>>
+    ensures { ParsesPlaced result (list_under under text.now) }
+{
+    match under {
+        None => Selector::read_list(alloc, text),
+        Some(list) => Selector::read_nested_list(alloc, list, text),
+    }
+}
+
+/// Reads the list of selectors of a rule with this prelude: of one that is in no other rule, or of a nested
+/// one in which `&` stands for `under`. The inner error is why the rule is dropped: CSS drops it as a whole
+/// for one part that is no selector. Fails only if an allocation fails.
+pub fn read_listed<'a>(
+    alloc: Global,
+    under: Option<Nesting>,
     prelude: &Prelude<'a>,
-) -> Result<Result<Vec<RuleSelector<'a>>, Fault>, AllocError>
-    ensures { IfOk result (λ read. selectors_read (prelude_of prelude.now) ≡ listed_result (λ l. l.items) read) }
+) -> Result<Result<Vec<Listed<'a>>, Fault>, AllocError>
+    ensures { IfOk result (λ read. listed_under under (prelude_of prelude.now)
+        ≡ placed_result (λ l. l.items) read) }
 {
     if !is_good(prelude.quality) {
         return Ok(Err(fault_of(prelude.quality)));
     }
-    let mut parts = Selectors::new(prelude.text);
-    let mut selectors = Vec::new(alloc);
-    'parts: while let Some(part) = parts.next() {
-        if !is_valid(&part.form) {
-            return Ok(Err(Fault::InvalidSelector));
-        }
-        match read_listed(alloc, &part) {
-            Ok(selector) => selectors.push(selector)?,
-            Err(error) => return Err(error),
-        }
+    match read_list(alloc, under, prelude.text) {
+        Ok(all) => Ok(Ok(all)),
+        Err(refusal) if refusal.why == Why::Memory => Err(AllocError),
+        Err(_) => Ok(Err(Fault::InvalidSelector)),
     }
-    Ok(Ok(selectors))
+}
+
+/// Returns what the selectors of a list are in a rule.
+fn rule_selectors<'a>(
+    alloc: Global,
+    all: Vec<Listed<'a>>,
+) -> Result<Vec<RuleSelector<'a>>, AllocError>
+    ensures { IfOk result (λ selectors. map selector_read (map placed_of all.entry.items)
+        ≡ map rule_selector_of selectors.items) }
+{
+    let mut selectors = Vec::with_capacity(alloc, all.len())?;
+    'selectors: for listed in all {
+        selectors.push(rule_selector(alloc, listed)?)?;
+    }
+    Ok(selectors)
+}
+
+/// Reads the selectors of a rule with this prelude, in order, as `read_listed` does.
+pub fn read_selectors<'a>(
+    alloc: Global,
+    under: Option<Nesting>,
+    prelude: &Prelude<'a>,
+) -> Result<Result<Vec<RuleSelector<'a>>, Fault>, AllocError>
+    ensures { IfOk result (λ read. selectors_under under (prelude_of prelude.now)
+        ≡ listed_result (λ l. l.items) read) }
+{
+    match read_listed(alloc, under, prelude)? {
+        Ok(all) => Ok(Ok(rule_selectors(alloc, all)?)),
+        Err(fault) => Ok(Err(fault)),
+    }
 }

@@ -1,13 +1,14 @@
 //! The rules of sheets in the order of the cascade.
 ghost use Rattle.std.specs.Prelude.{◌≡◌, ◌≤◌, ◌<◌, ◌++◌, ◌∷◌, [], ℕ, Bool, List, IfErr, IfOk, OnOk, map};
-ghost use Rattle.css_cascade.specs.Layers.{most_layers};
+ghost use Rattle.css_cascade.specs.Layers.{most_layers, outermost_number};
 ghost use Rattle.css_cascade.specs.LayerViews.{known_of};
-ghost use Rattle.css_sheet.specs.internal.OpenViews.{known_in, numbers_in, AreFew, AreMany, GoesOver};
+ghost use Rattle.css_sheet.specs.internal.OpenViews.{known_in, numbers_in, outermost_in, AreFew, AreMany, GoesOver};
 ghost use Rattle.css_sheet.specs.internal.PartViews.{open_in, part_of};
 ghost use Rattle.css_sheet.specs.SheetLayers.{layer_count, sheet_layers, with_layers as with_layers_of};
 ghost use Rattle.css_sheet.specs.SheetParts.{PlacedPart, sheet_parts};
 ghost use Rattle.css_sheet.specs.SheetOrder.{cascade_rules, nested_lists, source_rules};
-ghost use Rattle.css_sheet.specs.SheetOrder.{authored, declarations_in, origin_at as origin_at_of, ranked, rule_key, texts_in};
+ghost use Rattle.css_sheet.specs.SheetOrder.{declarations_in, ranked, rule_key};
+ghost use Rattle.css_sheet.specs.Sheets.{SheetText, authored, origin_at as origin_at_of, outermost_at, texts_in};
 ghost use Rattle.css_sheet.specs.SheetRuleViews.{Answers, sheet_of, sheet_rule_of};
 ghost use Rattle.css_sheet.specs.internal.GatherViews.{Awaits, AwaitsStill, GathersAll, Pushes};
 ghost use Rattle.css_sheet.specs.declared.sheet_error.SheetError.TheVariants.{TooManyDeclarations, TooManyLayers};
@@ -18,7 +19,7 @@ use crate::parents::OpenParents;
 use crate::parts::{Part, SheetParts};
 use crate::sheet_error::SheetError;
 use crate::sheet_rules::{Sheet, SheetRule};
-use css_cascade::{Layers, Origin, is_block_name};
+use css_cascade::{Layers, Origin, is_block_name, outermost};
 use css_selectors::Selector;
 use std::alloc::{AllocError, Global};
 
@@ -58,8 +59,8 @@ impl<'a> ReadRules<'a> {
         ensures pushes { Pushes self.old result self.new (part_of part.now) reader.now }
         ensures few { OnOk result (AreFew (known_in self.old.opened) → AreFew (known_in self.new.opened)) }
         ensures many { IfErr result (λ error. error ≡ TooManyLayers
-            → GoesOver (known_in self.old.opened) (numbers_in self.old.opened) (part_of part.now)
-            (open_in reader.now)) }
+            → GoesOver (outermost_in self.old.opened) (known_in self.old.opened)
+            (numbers_in self.old.opened) (part_of part.now) (open_in reader.now)) }
     {
         let applies = reader.applies();
         self.opened
@@ -71,26 +72,30 @@ impl<'a> ReadRules<'a> {
             .push_part(alloc, part, layer, &self.parents.innermost, reader)
     }
 
-    /// Adds the layers and the rules of the sheet of this number. Nothing of another is open in it.
+    /// Adds the layers and the rules of the sheet of this number, which comes from this origin. Nothing of
+    /// another is open in it.
     fn push_sheet<C: Fn(&str, &str) -> bool>(
         &mut self,
         alloc: Global,
         text: &'a str,
         sheet: usize,
+        origin: Origin,
         holds: &C,
     ) -> Result<(), SheetError>
         requires { C.IsAlwaysCallable holds.now }
         ensures awaits { (answers : List ℕ → List ℕ → Bool) → Answers (C.post holds.now) answers
-            → (texts : List (List ℕ)) (most : ℕ) (more : List PlacedPart)
-            → Awaits answers texts most self.old (sheet_parts (with_layers_of answers) sheet text.now ++ more)
-            → AwaitsStill answers texts most result self.new more }
+            → (sheets : List SheetText) (most : ℕ) (more : List PlacedPart)
+            → outermost_number origin ≡ outermost_at sheets sheet
+            → Awaits answers sheets most self.old (sheet_parts (with_layers_of answers) sheet text.now ++ more)
+            → AwaitsStill answers sheets most result self.new more }
         ensures few { OnOk result (AreFew (known_in self.old.opened) → AreFew (known_in self.new.opened)) }
         ensures many { (answers : List ℕ → List ℕ → Bool) → Answers (C.post holds.now) answers
-            → (texts : List (List ℕ)) (most : ℕ) (more : List PlacedPart)
-            → Awaits answers texts most self.old (sheet_parts (with_layers_of answers) sheet text.now ++ more)
-            → IfErr result (λ error. error ≡ TooManyLayers → AreMany (sheet_layers answers texts)) }
+            → (sheets : List SheetText) (most : ℕ) (more : List PlacedPart)
+            → outermost_number origin ≡ outermost_at sheets sheet
+            → Awaits answers sheets most self.old (sheet_parts (with_layers_of answers) sheet text.now ++ more)
+            → IfErr result (λ error. error ≡ TooManyLayers → AreMany (sheet_layers answers sheets)) }
     {
-        self.opened.leave_all();
+        self.opened.begin_sheet(outermost(origin));
         let mut reader = SheetParts::new(alloc, text, sheet);
         'parts: loop {
             let part = reader.next(
@@ -108,20 +113,30 @@ impl<'a> ReadRules<'a> {
     }
 }
 
-/// Reads the rules of sheets, as they stand there, each with the number of its layer.
+/// Returns the origin of the sheet of a number.
+fn origin_at(sheets: &[Sheet<'_>], number: usize) -> Origin
+    ensures { result ≡ origin_at_of (map sheet_of sheets.now) number }
+{
+    match sheets.get(number) {
+        Some(sheet) => sheet.origin,
+        None => Origin::Author,
+    }
+}
+
+/// Reads the rules of sheets in the order of the texts, each with the number of its layer.
 fn gather<'a, C: Fn(&str, &str) -> bool>(
     alloc: Global,
-    texts: &[&'a str],
+    sheets: &[Sheet<'a>],
     most: usize,
     holds: &C,
 ) -> Result<ReadRules<'a>, SheetError>
     requires { C.IsAlwaysCallable holds.now }
     ensures gathers { (answers : List ℕ → List ℕ → Bool) → Answers (C.post holds.now) answers
-        → GathersAll most result answers (map (λ text. text.now) texts.now) }
+        → GathersAll most result answers (map sheet_of sheets.now) }
     ensures few { IfOk result (λ read. AreFew (known_in read.opened)) }
     ensures many { (answers : List ℕ → List ℕ → Bool) → Answers (C.post holds.now) answers
         → IfErr result (λ error. error ≡ TooManyLayers
-        → AreMany (sheet_layers answers (map (λ text. text.now) texts.now))) }
+        → AreMany (sheet_layers answers (map sheet_of sheets.now))) }
 {
     let gathered = Gathered {
         rules: Vec::new(alloc),
@@ -133,55 +148,15 @@ fn gather<'a, C: Fn(&str, &str) -> bool>(
         opened,
         parents: OpenParents::new(alloc),
     };
-    let mut sheet: usize = 0;
-    let mut rest = texts;
-    'texts: while let [text, after @ ..] = rest {
-        read.push_sheet(alloc, *text, sheet, holds)?;
-        sheet += 1;
+    let mut number: usize = 0;
+    let mut rest = sheets;
+    'sheets: while let [sheet, after @ ..] = rest {
+        let origin = origin_at(sheets, number);
+        read.push_sheet(alloc, sheet.text, number, origin, holds)?;
+        number += 1;
         rest = after;
     }
     Ok(read)
-}
-
-/// Returns the texts of sheets.
-fn texts_of<'a>(alloc: Global, sheets: &[Sheet<'a>]) -> Result<Vec<&'a str>, AllocError>
-    ensures { IfOk result (λ texts. map (λ text. text.now) texts.items
-        ≡ texts_in (map sheet_of sheets.now)) }
-{
-    let mut texts = Vec::new(alloc);
-    for sheet in sheets {
-        texts.push(sheet.text)?;
-    }
-    Ok(texts)
-}
-
-/// The same of sheets.
-fn gather_sheets<'a, C: Fn(&str, &str) -> bool>(
-    alloc: Global,
-    sheets: &[Sheet<'a>],
-    most: usize,
-    holds: &C,
-) -> Result<ReadRules<'a>, SheetError>
-    requires { C.IsAlwaysCallable holds.now }
-    ensures gathers { (answers : List ℕ → List ℕ → Bool) → Answers (C.post holds.now) answers
-        → GathersAll most result answers (texts_in (map sheet_of sheets.now)) }
-    ensures few { IfOk result (λ read. AreFew (known_in read.opened)) }
-    ensures many { (answers : List ℕ → List ℕ → Bool) → Answers (C.post holds.now) answers
-        → IfErr result (λ error. error ≡ TooManyLayers
-        → AreMany (sheet_layers answers (texts_in (map sheet_of sheets.now)))) }
-{
-    let texts = texts_of(alloc, sheets)?;
-    gather(alloc, &texts, most, holds)
-}
-
-/// Returns the origin of the sheet of a number.
-fn origin_at(sheets: &[Sheet<'_>], number: usize) -> Origin
-    ensures { result ≡ origin_at_of (map sheet_of sheets.now) number }
-{
-    match sheets.get(number) {
-        Some(sheet) => sheet.origin,
-        None => Origin::Author,
-    }
 }
 
 /// Gives the rules the origins of their sheets, and the ranks of their layers in the place of the numbers.
@@ -200,14 +175,14 @@ fn rank(rules: &mut Vec<SheetRule<'_>>, layers: &Layers<'_>, sheets: &[Sheet<'_>
 pub struct SheetRules<'a> {
     /// The rules.
     pub rules: Vec<SheetRule<'a>>,
-    /// The lists of selectors that `&` stands for in nested rules, each at its number less one
+    /// The lists of selectors that `&` denotes in nested rules, each at its number less one
     /// ([`Nesting::number`](css_selectors::Nesting)): one of each style rule with rules in it. In a list
-    /// `&` stands for one before it.
+    /// `&` denotes one before it.
     pub lists: Vec<Vec<Selector<'a>>>,
 }
 
 /// Reads the style rules of sheets, one after another, in the order of the cascade: by their origins, of one
-/// origin by their layers, in one layer by specificity, and as they stand in the sheets where that is equal.
+/// origin by their layers, in one layer by specificity, and by their order in the sheets where that is equal.
 ///
 /// Of a rule set there is one rule for each selector that is supported. A rule set with a part
 /// that is no selector, or without a declaration, has none. A rule in group rules such as `@media`
@@ -216,19 +191,19 @@ pub struct SheetRules<'a> {
 /// A group rule or a style rule may be in a style rule: then the declarations before it, in it, and after it
 /// are rules of their own, those of one style rule with the same selectors, which are read again for each.
 ///
-/// In a nested style rule `&` stands for the list of the one that it is in, by a number. An element is asked
+/// In a nested style rule `&` denotes the list of the one that it is in, by a number. An element is asked
 /// whether it is in the list ([`Element::is_in_list`](css_selectors::Element)), and the lists are returned
 /// beside the rules. A rule in one with a part that is no selector has no rules, nor have those in it.
 ///
 /// About an `@layer` nobody is asked: it holds, unless its prelude is neither a name nor nothing. Layers
 /// are in the order in which they are first mentioned where all group rules hold, by a block or, outside
-/// of style rules, by a list of names. A layer that several sheets name, of whatever origin, is one, and one
-/// without a name is new in each. The layers in a layer come before what is in that layer itself, and what is in no layer
-/// comes last. `!important` makes no difference here.
+/// of style rules, by a list of names, each origin having its own. A layer that several sheets of an origin
+/// name is one, and one without a name is new in each. The layers in a layer come before what is in that layer
+/// itself, and what is in no layer comes last. `!important` makes no difference here.
 ///
 /// The time is linear, but for that, which takes at most the length of a rule's selectors times the number
 /// of group rules and nested rules in it, and for layers: for each name of one and for each rule at most
-/// 1,025 layers are looked through.
+/// 1,028 layers are looked through.
 ///
 /// Fails if the rules hold more than `most` declarations, if there are more than 1,024 layers, or if an
 /// allocation fails. The declarations of a rule set count once for each of its rules, though none is
@@ -253,12 +228,12 @@ pub fn read_sheets<'a, C: Fn(&str, &str) -> bool>(
         → IfErr result (λ error. error ≡ TooManyDeclarations
         → most < declarations_in (source_rules answers (map sheet_of sheets.now))) }
     ensures few_layers { (answers : List ℕ → List ℕ → Bool) → Answers (C.post holds) answers
-        → OnOk result (layer_count answers (texts_in (map sheet_of sheets.now)) ≤ most_layers) }
+        → OnOk result (layer_count answers (map sheet_of sheets.now) ≤ most_layers) }
     ensures many_layers { (answers : List ℕ → List ℕ → Bool) → Answers (C.post holds) answers
         → IfErr result (λ error. error ≡ TooManyLayers
-        → most_layers < layer_count answers (texts_in (map sheet_of sheets.now))) }
+        → most_layers < layer_count answers (map sheet_of sheets.now)) }
 {
-    let read = gather_sheets(alloc, sheets, most, &holds)?;
+    let read = gather(alloc, sheets, most, &holds)?;
     let ReadRules {
         gathered,
         opened,
@@ -297,10 +272,10 @@ pub fn read_sheet<'a, C: Fn(&str, &str) -> bool>(
         → IfErr result (λ error. error ≡ TooManyDeclarations
         → most < declarations_in (source_rules answers (authored text.now ∷ []))) }
     ensures few_layers { (answers : List ℕ → List ℕ → Bool) → Answers (C.post holds) answers
-        → OnOk result (layer_count answers (text.now ∷ []) ≤ most_layers) }
+        → OnOk result (layer_count answers (authored text.now ∷ []) ≤ most_layers) }
     ensures many_layers { (answers : List ℕ → List ℕ → Bool) → Answers (C.post holds) answers
         → IfErr result (λ error. error ≡ TooManyLayers
-        → most_layers < layer_count answers (text.now ∷ [])) }
+        → most_layers < layer_count answers (authored text.now ∷ [])) }
 {
     let sheet = Sheet {
         text,

@@ -45,8 +45,9 @@ pub struct Sheet<'a> {
 pub struct SheetRule<'a> {
     /// The origin of its sheet.
     pub origin: Origin,
-    /// The rank of its layer: how many layers of the sheet are before that one in the order of the
-    /// cascade. Rules in no layer have the greatest.
+    /// The rank of its layer: of two rules of one origin, the one whose layer is later in the order of the
+    /// cascade has the greater. Rules in no layer have the greatest of their origin; of the author's, it is
+    /// how many layers are before.
     pub layer: usize,
     /// The number of the sheet that it is in, among those that were read together.
     pub sheet: usize,

@@ -7,22 +7,24 @@ use Rattle.css_sheet.specs.declared.sheet_order.ReadRules.{ReadRules}
 use Rattle.css_sheet.specs.internal.PartViews.{open_in, placed_last}
 use Rattle.css_sheet.specs.SheetParts.{SheetPart, PlacedPart}
 use Rattle.css_sheet.specs.SheetLayers.{sheet_layers, with_parts}
+use Rattle.css_sheet.specs.Sheets.{SheetText, outermost_at, texts_in}
 use Rattle.css_sheet.specs.SheetOrder.{SheetRuleText, declarations_in, part_rules, nested_lists, numbered_rules, rules_of_parts}
 use Rattle.css_sheet.specs.SheetRuleViews.{gathered_rules}
 use Rattle.css_sheet.specs.OpenParents.{after_part, after_parts}
 use Rattle.css_sheet.specs.ParentViews.{parent_of, parents_of}
-use Rattle.css_sheet.specs.internal.OpenViews.{known_in, numbers_in, innermost_of, Goes}
+use Rattle.css_sheet.specs.internal.OpenViews.{known_in, numbers_in, outermost_in, innermost_of, Goes}
 
 -- the rules of a part that was read, in the layer that is innermost
 abbrev pub rules_now : ReadRules → SheetPart → SheetParts → List SheetRuleText
 rules_now read part reader =
-    part_rules (innermost_of 0 (numbers_in read.opened)) (parent_of read.parents.innermost)
+    part_rules (innermost_of (outermost_in read.opened) (numbers_in read.opened)) (parent_of read.parents.innermost)
     (placed_last reader part)
 
 abbrev pub GoesOn : ReadRules → ReadRules → SheetPart → SheetParts → Type 0
 GoesOn before after part reader =
-    Goes (known_in before.opened) (numbers_in before.opened) part (open_in reader)
-    (known_in after.opened) (numbers_in after.opened)
+    Goes (outermost_in before.opened) (known_in before.opened) (numbers_in before.opened) part
+    (open_in reader) (known_in after.opened) (numbers_in after.opened)
+    × (outermost_in after.opened ≡ outermost_in before.opened)
 
 abbrev pub NestsOn : ReadRules → ReadRules → SheetPart → SheetParts → Type 0
 NestsOn before after part reader =
@@ -40,32 +42,34 @@ Pushes before (Err error) after part reader =
     × (before.gathered.left < declarations_in (rules_now after part reader))
 
 -- These parts that are to come give the layers and the rules of the sheets that are not gathered yet.
-pub record Awaits (holds : List ℕ → List ℕ → Bool) (texts : List (List ℕ)) (most : ℕ)
+pub record Awaits (holds : List ℕ → List ℕ → Bool) (sheets : List SheetText) (most : ℕ)
     (read : ReadRules) (more : List PlacedPart) : Type 0 where
-  pub layers : with_parts (known_in read.opened) more ≡ sheet_layers holds texts
+  pub layers : with_parts (outermost_at sheets) (known_in read.opened) more ≡ sheet_layers holds sheets
   pub rules : gathered_rules read.gathered
-      ++ rules_of_parts (sheet_layers holds texts) (parents_of read.parents) more
-      ≡ numbered_rules holds texts
-  pub lists : (after_parts (parents_of read.parents) more).lists ≡ nested_lists holds texts
+      ++ rules_of_parts (outermost_at sheets) (sheet_layers holds sheets) (parents_of read.parents) more
+      ≡ numbered_rules holds sheets
+  pub lists : (after_parts (parents_of read.parents) more).lists
+      ≡ nested_lists holds (texts_in sheets)
   pub room : most
-      + declarations_in (rules_of_parts (sheet_layers holds texts) (parents_of read.parents) more)
-      ≡ read.gathered.left + declarations_in (numbered_rules holds texts)
+      + declarations_in (rules_of_parts (outermost_at sheets) (sheet_layers holds sheets)
+      (parents_of read.parents) more)
+      ≡ read.gathered.left + declarations_in (numbered_rules holds sheets)
 
 -- So it is after a sheet; or the rules are beyond the limit.
-abbrev pub AwaitsStill : (List ℕ → List ℕ → Bool) → List (List ℕ) → ℕ
+abbrev pub AwaitsStill : (List ℕ → List ℕ → Bool) → List SheetText → ℕ
     → Result (Unit {0}) SheetError → ReadRules → List PlacedPart → Type 0
-AwaitsStill holds texts most (Ok done) read more = Awaits holds texts most read more
-AwaitsStill holds texts most (Err error) read more =
-    error ≡ TooManyDeclarations → most < declarations_in (numbered_rules holds texts)
+AwaitsStill holds sheets most (Ok done) read more = Awaits holds sheets most read more
+AwaitsStill holds sheets most (Err error) read more =
+    error ≡ TooManyDeclarations → most < declarations_in (numbered_rules holds sheets)
 
 -- All rules and layers of sheets were gathered, and the rules are within the limit; or they are beyond
 -- it.
 abbrev pub GathersAll : ℕ → Result ReadRules SheetError → (List ℕ → List ℕ → Bool)
-    → List (List ℕ) → Type 0
-GathersAll most (Ok read) holds texts =
-    (known_in read.opened ≡ sheet_layers holds texts)
-    × (gathered_rules read.gathered ≡ numbered_rules holds texts)
-    × ((parents_of read.parents).lists ≡ nested_lists holds texts)
-    × (read.gathered.left + declarations_in (numbered_rules holds texts) ≡ most)
-GathersAll most (Err error) holds texts =
-    error ≡ TooManyDeclarations → most < declarations_in (numbered_rules holds texts)
+    → List SheetText → Type 0
+GathersAll most (Ok read) holds sheets =
+    (known_in read.opened ≡ sheet_layers holds sheets)
+    × (gathered_rules read.gathered ≡ numbered_rules holds sheets)
+    × ((parents_of read.parents).lists ≡ nested_lists holds (texts_in sheets))
+    × (read.gathered.left + declarations_in (numbered_rules holds sheets) ≡ most)
+GathersAll most (Err error) holds sheets =
+    error ≡ TooManyDeclarations → most < declarations_in (numbered_rules holds sheets)

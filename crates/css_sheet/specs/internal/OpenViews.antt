@@ -1,6 +1,6 @@
 -- What contracts of private functions see of the layers that are open.
 use Rattle.std.specs.Prelude.{◌≡◌, ◌<◌, ◌≤◌, ℕ, ◌+◌, ◌-◌, List, [], ◌∷◌, ◌++◌, Option, Some, None, length, take, slice_get}
-use Rattle.css_cascade.specs.Layers.{LayerText, most_layers, number_at, or_outermost, with_name}
+use Rattle.css_cascade.specs.Layers.{LayerText, most_layers, origin_count, number_at, or_outermost, with_name}
 use Rattle.css_cascade.specs.LayerViews.{known_of}
 use Rattle.css_sheet.specs.declared.open_layers.OpenLayers.{OpenLayers}
 use Rattle.css_sheet.specs.SheetParts.{OpenText, SheetPart, states, begins, ends, stands, applies_in}
@@ -12,37 +12,47 @@ known_in o = known_of o.layers
 abbrev pub numbers_in : OpenLayers → List ℕ
 numbers_in o = o.numbers.items
 
+-- the number of the layer that all of the sheet is in
+abbrev pub outermost_in : OpenLayers → ℕ
+outermost_in o = o.outermost
+
 -- the number of the layer that is innermost: the last of these, or the one that all are in
 abbrev pub innermost_of : (outer : ℕ) → List ℕ → ℕ
 innermost_of outer [] = outer
 innermost_of outer (number ∷ numbers) = innermost_of number numbers
 
 -- the layer that a rule is was mentioned in the innermost one, and its number added to those of others
-abbrev pub Enters : List LayerText → List ℕ → OpenText → List LayerText → List ℕ → Type 0
-Enters known numbers rule after now =
-    (after ≡ with_name known (innermost_of 0 numbers) (open_name rule))
-    × (now ≡ numbers ++ or_outermost (number_at (innermost_of 0 numbers) (open_name rule) after) ∷ [])
+abbrev pub Enters : (outermost : ℕ) → List LayerText → List ℕ → OpenText → List LayerText → List ℕ
+    → Type 0
+Enters outermost known numbers rule after now =
+    (after ≡ with_name known (innermost_of outermost numbers) (open_name rule))
+    × (now ≡ numbers
+    ++ or_outermost (number_at (innermost_of outermost numbers) (open_name rule) after) ∷ [])
 
-abbrev pub EntersLast : List LayerText → List ℕ → Option OpenText → List LayerText → List ℕ → Type 0
-EntersLast known numbers None after now = (after ≡ known) × (now ≡ numbers)
-EntersLast known numbers (Some rule) after now = Enters known numbers rule after now
+abbrev pub EntersLast : (outermost : ℕ) → List LayerText → List ℕ → Option OpenText
+    → List LayerText → List ℕ → Type 0
+EntersLast outermost known numbers None after now = (after ≡ known) × (now ≡ numbers)
+EntersLast outermost known numbers (Some rule) after now =
+    Enters outermost known numbers rule after now
 
 -- no more layers are known than there may be, or more are
 abbrev pub AreFew : List LayerText → Type 0
-AreFew known = length known ≤ most_layers + 1
+AreFew known = length known ≤ most_layers + origin_count
 
 abbrev pub AreMany : List LayerText → Type 0
-AreMany known = most_layers + 1 < length known
+AreMany known = most_layers + origin_count < length known
 
 -- what the layers and the numbers of those that are open are after a part
-abbrev pub Goes : List LayerText → List ℕ → SheetPart → List OpenText → List LayerText → List ℕ → Type 0
-Goes known numbers (states text) around after now = (after ≡ known) × (now ≡ numbers)
-Goes known numbers (begins kind) around after now =
-    EntersLast known numbers (slice_get around (length around - 1)) after now
-Goes known numbers ends around after now =
+abbrev pub Goes : (outermost : ℕ) → List LayerText → List ℕ → SheetPart → List OpenText
+    → List LayerText → List ℕ → Type 0
+Goes outermost known numbers (states text) around after now = (after ≡ known) × (now ≡ numbers)
+Goes outermost known numbers (begins kind) around after now =
+    EntersLast outermost known numbers (slice_get around (length around - 1)) after now
+Goes outermost known numbers ends around after now =
     (after ≡ known) × (now ≡ take (length numbers - 1) numbers)
-Goes known numbers (stands item) around after now =
-    (after ≡ if_applies (applies_in around) (innermost_of 0 numbers) known item) × (now ≡ numbers)
+Goes outermost known numbers (stands item) around after now =
+    (after ≡ if_applies (applies_in around) (innermost_of outermost numbers) known item)
+    × (now ≡ numbers)
 
 -- Of each of these rules, the number of the layer that is innermost there, from this one that all are in.
 unfoldable pub Tracks : List LayerText → (outer : ℕ) → List ℕ → List OpenText → Type 0
@@ -53,6 +63,7 @@ Tracks known outer (number ∷ numbers) (rule ∷ around) =
     (number_at outer (open_name rule) known ≡ Some number) × Tracks known number numbers around
 
 -- after a part more layers would be known than there may be
-abbrev pub GoesOver : List LayerText → List ℕ → SheetPart → List OpenText → Type 0
-GoesOver known numbers part around =
-    (after : List LayerText) (now : List ℕ) → Goes known numbers part around after now → AreMany after
+abbrev pub GoesOver : (outermost : ℕ) → List LayerText → List ℕ → SheetPart → List OpenText → Type 0
+GoesOver outermost known numbers part around =
+    (after : List LayerText) (now : List ℕ) → Goes outermost known numbers part around after now
+    → AreMany after

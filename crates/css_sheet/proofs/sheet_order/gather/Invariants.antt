@@ -1,19 +1,18 @@
 use Rattle.std.proofs.Common.{◌≡◌, ◌+◌, ℕ, List, Bool, length, map}
-use Rattle.css_sheet.specs.SheetRuleViews.{Answers}
+use Rattle.css_sheet.specs.SheetRuleViews.{Answers, sheet_of}
 use Rattle.css_sheet.specs.internal.OpenViews.{known_in, AreFew}
 use Rattle.css_sheet.specs.internal.GatherViews.{Awaits}
-use Rattle.css_sheet.proofs.GatherLemmas.{texts_left}
+use Rattle.css_sheet.proofs.GatherLemmas.{sheets_left}
 use Rattle.css_sheet.proofs.sheet_order.gather.Given as goal
 
 -- So many sheets were read; and those that are left give what is left of rules and layers.
-abbrev pub invariant-texts : goal.invariant-texts
-invariant-texts g l = record {
-  counted : l.sheet + length l.rest ≡ length l.texts;
+abbrev pub invariant-sheets : goal.invariant-sheets
+invariant-sheets g l = record {
+  counted : l.number + length l.rest ≡ length l.sheets;
   awaits : (answers : List ℕ → List ℕ → Bool) → Answers (goal.C-post g l.holds) answers
-      → Awaits answers (map (λ text. text.now) l.texts) l.most l.read
-      (texts_left answers l.sheet l.rest);
+      → Awaits answers (map sheet_of l.sheets) l.most l.read (sheets_left answers l.number l.rest);
   few : AreFew (known_in l.read.opened);
 }
 
-abbrev pub decreases-texts : goal.decreases-texts
-decreases-texts g l = length l.rest
+abbrev pub decreases-sheets : goal.decreases-sheets
+decreases-sheets g l = length l.rest

@@ -2,7 +2,7 @@ use Rattle.std.proofs.Common.{◌∙◌, ap, arith, length, map, rules, of_calls
 use Rattle.std.proofs.lemmas.Fn.{always_returns_same}
 use Rattle.css_text.specs.Ranks.{ordered_by}
 use Rattle.css_sheet.specs.SheetLayers.{sheet_layers}
-use Rattle.css_sheet.specs.SheetOrder.{is_before, numbered_rules, ranked, rule_key, texts_in}
+use Rattle.css_sheet.specs.SheetOrder.{is_before, numbered_rules, ranked, rule_key}
 use Rattle.css_sheet.specs.SheetRuleViews.{sheet_of, sheet_rule_of}
 use Rattle.css_sheet.proofs.SheetRuleLemmas.{ranked-declarations, sorted-rules}
 use Rattle.css_sheet.proofs.sheet_order.read_sheets.Goals as goal
@@ -26,8 +26,7 @@ returns-clause-within g c = λ answers k.
     let read = c.in_ok-read.ensures.gathers answers k in
     let left = read.3 in
     let sheets = map sheet_of c.args.sheets.now in
-    let same = ranked-declarations (sheet_layers answers (texts_in sheets)) sheets
-    (numbered_rules answers (texts_in sheets)) in
+    let same = ranked-declarations (sheet_layers answers sheets) sheets (numbered_rules answers sheets) in
     omega (arith, left, same)
 
 pub returns-clause-few_layers : goal.returns-clause-few_layers

@@ -8,4 +8,4 @@ returns-in-Some c =
     let value : slice_get items (length items - 1) ≡ Some c.in-Some.number.now =
     ap (λ (l : List ℕ). slice_get l (length l - 1)) (sym c.deref.ensures.value)
     ∙ sym c.in-Some.ensures.value in
-    sym (innermost-last 0 items c.in-Some.number.now value)
+    sym (innermost-last c.args.self.now.outermost items c.in-Some.number.now value)

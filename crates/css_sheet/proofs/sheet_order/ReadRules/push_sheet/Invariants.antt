@@ -1,7 +1,9 @@
-use Rattle.std.proofs.Common.{◌++◌, ℕ, List, Bool, length}
+use Rattle.std.proofs.Common.{◌≡◌, ◌++◌, ℕ, List, Bool, length}
 use Rattle.css_sheet.specs.internal.OpenViews.{known_in, AreFew}
 use Rattle.css_sheet.specs.internal.PartViews.{left_in}
 use Rattle.css_sheet.specs.SheetLayers.{with_layers}
+use Rattle.css_cascade.specs.Layers.{outermost_number}
+use Rattle.css_sheet.specs.Sheets.{SheetText, outermost_at}
 use Rattle.css_sheet.specs.SheetParts.{PlacedPart, sheet_parts}
 use Rattle.css_sheet.specs.SheetRuleViews.{Answers}
 use Rattle.css_sheet.specs.internal.GatherViews.{Awaits}
@@ -12,9 +14,10 @@ use Rattle.css_sheet.proofs.sheet_order.ReadRules.push_sheet.Given as goal
 abbrev pub invariant-parts : goal.invariant-parts
 invariant-parts g l = record {
   reads : (answers : List ℕ → List ℕ → Bool) → Answers (goal.C-post g l.holds) answers
-      → (texts : List (List ℕ)) (most : ℕ) (more : List PlacedPart)
-      → Awaits answers texts most l.fn.self (sheet_parts (with_layers answers) l.sheet l.text ++ more)
-      → Reads answers texts most l.self l.reader more;
+      → (sheets : List SheetText) (most : ℕ) (more : List PlacedPart)
+      → outermost_number l.fn.origin ≡ outermost_at sheets l.sheet
+      → Awaits answers sheets most l.fn.self (sheet_parts (with_layers answers) l.sheet l.text ++ more)
+      → Reads answers sheets most l.self l.reader more;
   few : AreFew (known_in l.fn.self.opened) → AreFew (known_in l.self.opened);
 }
 
