@@ -560,7 +560,7 @@ waits-opens limit properties all begun c path n w u closed =
 pub path-ends : (limit : ℕ) (properties : List Property) (all : List Slot) (begun : ℕ) (c : Circle)
     (path : List Circle) (v : Option StoredValue) → EndsCurrent limit properties all begun c path
     → c.closed ≡ false
-    → kept (get_or properties c.current.number no_property).name c.current.reading.so_far ≡ option_map value_of v
+    → kept (get_or properties c.current.number no_property) c.current.reading.so_far ≡ option_map value_of v
     → GoesOn limit properties all (c ∷ path) (set all c.current.number (slots.Computed v)) begun path
 path-ends limit properties all begun c path v e closed value =
     let s = stage_of all in
@@ -574,9 +574,9 @@ path-ends limit properties all begun c path v e closed value =
       hidden = λ m h. absurd (not-both h (ap (λ (b : Bool). b && has c m) closed));
     } in
     let comes = e.comes s given in
-    let becomes : Becomes s (n ∷ []) (kept (get_or properties n no_property).name (comes_to limit properties s n)) (stage_of after) =
+    let becomes : Becomes s (n ∷ []) (kept (get_or properties n no_property) (comes_to limit properties s n)) (stage_of after) =
     subst (λ (w : Option Value). Becomes s (n ∷ []) w (stage_of after))
-    (sym value ∙ ap (kept (get_or properties n no_property).name) (sym comes))
+    (sym value ∙ ap (kept (get_or properties n no_property)) (sym comes))
     (only-becomes all after (n ∷ []) v only) in
     let none = p.good.0.alone closed in
     cut limit properties all after begun c path (n ∷ []) v p (λ m. same m c.others c.ended none.0 none.1) only

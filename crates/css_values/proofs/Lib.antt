@@ -9,5 +9,7 @@ pub mod MergeLemmas
 pub mod ResolvingLemmas
 pub mod StepLemmas
 pub mod UniqueLemmas
+pub mod RegisteredLemmas
+pub mod RegisteringLemmas
 pub mod NameLemmas
 pub mod LineLemmas

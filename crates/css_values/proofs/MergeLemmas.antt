@@ -1,6 +1,7 @@
 -- Circles of a path are made one.
 use Rattle.std.proofs.Common.{◌≡◌, ◌∙◌, ℕ, ◌<◌, ◌≤◌, ◌+◌, ◌++◌, ◌==◌, ◌||◌, ◌&&◌, ◌⊎◌, inl, inr, Bool, true, false, List, [], ◌∷◌, length, arith, refl, sym, ap, subst, if◌then◌else◌}
 use Rattle.std.proofs.lemmas.List.{length-append}
+use Rattle.std.proofs.Math.Bool.{or_comm}
 use Rattle.css_values.specs.Resolution.{Property, Known, is_among}
 use Rattle.css_values.specs.declared.table.Slot.{Slot}
 use Rattle.css_values.specs.Views.{stage_of, stage_from}
@@ -87,26 +88,14 @@ both-numbers one two all n (inl e) =
     ap (λ (es : List Entry). is_among (numbers_of es) n) e ∙ numbers-append one two n
 both-numbers one two all n (inr e) =
     ap (λ (es : List Entry). is_among (numbers_of es) n) e ∙ numbers-append two one n
-    ∙ turned (is_among (numbers_of two) n) (is_among (numbers_of one) n)
-  where
-    turned : (a b : Bool) → (a || b) ≡ (b || a)
-    turned true true = refl
-    turned true false = refl
-    turned false true = refl
-    turned false false = refl
+    ∙ or_comm (is_among (numbers_of two) n) (is_among (numbers_of one) n)
 
 both-among : (one two all : List ℕ) (n : ℕ) → AreBoth one two all
     → is_among all n ≡ (is_among one n || is_among two n)
 both-among one two all n (inl e) = ap (λ (ns : List ℕ). is_among ns n) e ∙ among-append one two n
 both-among one two all n (inr e) =
     ap (λ (ns : List ℕ). is_among ns n) e ∙ among-append two one n
-    ∙ turned (is_among two n) (is_among one n)
-  where
-    turned : (a b : Bool) → (a || b) ≡ (b || a)
-    turned true true = refl
-    turned true false = refl
-    turned false true = refl
-    turned false false = refl
+    ∙ or_comm (is_among two n) (is_among one n)
 
 both-length : (one two all : List Entry) → AreBoth one two all
     → length all ≡ length one + length two

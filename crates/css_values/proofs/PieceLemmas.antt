@@ -6,7 +6,7 @@ use Rattle.css_text.specs.Bytes.{past_one, past_byte, starts, starts_by, is_asci
 use Rattle.css_text.proofs.reading.EachLemmas.{Takes, not_empty}
 use Rattle.css_text.proofs.reading.TakesLemmas.{length-past_byte}
 use Rattle.css_syntax.specs.Qualities.{is_whole}
-use Rattle.css_syntax.specs.Tokens.{past_gap, past_word, spells, token}
+use Rattle.css_syntax.specs.Tokens.{past_string_parts, past_gap, past_word, spells, token}
 use Rattle.css_syntax.specs.declared.parts.Stops.{Stops}
 use Rattle.css_syntax.specs.ComponentValues.{is_opener, component_value, deepest}
 use Rattle.css_syntax.specs.Parts.{Stated, ends_at, part, parts, with_gap}
@@ -14,11 +14,14 @@ use Rattle.css_syntax.proofs.PartLemmas.{past_gap-within, parts-within}
 use Rattle.css_text.proofs.reading.EndsLemmas.{length-ends}
 use Rattle.css_syntax.proofs.PartTexts.{end-well, word_ends as word_ends_of}
 use Rattle.css_syntax.proofs.Shorter.{token-takes, past_word_within}
-use Rattle.css_syntax.proofs.Utf8Ends.{token-well}
+use Rattle.css_syntax.proofs.Utf8Ends.{string_parts_ends, token-well}
 use Rattle.css_values.specs.Pieces.{Piece, plain, broken, reference, after_var, in_fallback, closed_here, with_fallback, reference_from, past_piece, piece_by, piece}
 
 pub word_ends : (text : List ℕ) → Ends text (past_word text)
 word_ends text = word_ends_of text
+
+pub string_ends : (quote : ℕ) (text : List ℕ) → Ends text (past_string_parts quote text)
+string_ends quote text = string_parts_ends quote text
 
 pub opener_ascii : (text : List ℕ) → starts_by is_opener text ≡ true
     → starts_by is_ascii text ≡ true

@@ -4,7 +4,7 @@ use Rattle.css_text.proofs.reading.EachLemmas.{took}
 use Rattle.css_syntax.specs.Escapes.{decoded}
 use Rattle.css_values.specs.Pieces.{Piece, plain, reference, broken, piece, pieces}
 use Rattle.css_values.specs.Substitution.{Value, Outcome, invalid, is, waits, Target, bad, absent, unknown, found, nothing, outcome_in_place, is_custom_name, then_value, fallback_value, reference_value, piece_value, substituted}
-use Rattle.css_values.specs.Resolution.{Property, Known, not_yet, computed, known_at, known_target, value_target, number_from, number_target, named, IsDone}
+use Rattle.css_values.specs.Resolution.{Property, Known, not_yet, computed, known_at, known_target, value_target, given_value, property_at, number_from, number_target, named, IsDone}
 use Rattle.css_values.specs.declared.readings.Outer.{Outer}
 use Rattle.css_values.specs.declared.readings.Turn.{Turn}
 use Rattle.css_values.specs.declared.readings.Turn.TheVariants as turns
@@ -27,19 +27,20 @@ unfolding Kept
 kept-value t u None e = e
 kept-value t u (Some v) e = e
 
-kept-known : (t : List Known) (n : ℕ) (k : Known)
+kept-known : (p : Property) (t : List Known) (n : ℕ) (k : Known)
     → ((v : Option Value) → k ≡ computed v → known_at t n ≡ computed v)
-    → Kept t (known_target n k) (known_target n (known_at t n))
+    → Kept t (known_target p n k) (known_target p n (known_at t n))
 unfolding Kept
-kept-known t n not_yet h = λ e. ap (known_target n) e
-kept-known t n (computed v) h =
-    kept-value t (known_target n (known_at t n)) v (ap (known_target n) (h v refl))
+kept-known p t n not_yet h = λ e. ap (known_target p n) e
+kept-known p t n (computed v) h =
+    kept-value t (known_target p n (known_at t n)) (given_value p v) (ap (known_target p n) (h v refl))
 
-kept-number : (s t : List Known) (o : Option ℕ) → Extends s t
-    → Kept t (number_target s o) (number_target t o)
+kept-number : (properties : List Property) (s t : List Known) (o : Option ℕ) → Extends s t
+    → Kept t (number_target properties s o) (number_target properties t o)
 unfolding Kept
-kept-number s t None h = refl
-kept-number s t (Some n) h = kept-known t n (known_at s n) (h n)
+kept-number properties s t None h = refl
+kept-number properties s t (Some n) h =
+    kept-known (property_at properties n) t n (known_at s n) (h n)
 
 pub kept-named : (properties : List Property) (s t : List Known) (name : List ℕ) → Extends s t
     → Kept t (named properties s name) (named properties t name)
@@ -47,18 +48,18 @@ unfolding Kept
 kept-named properties s t name h = by (is_custom_name (decoded name))
   where
     by : (b : Bool) → Kept t
-        (if b then number_target s (number_from 0 properties (decoded name)) else bad)
-        (if b then number_target t (number_from 0 properties (decoded name)) else bad)
-    by true = kept-number s t (number_from 0 properties (decoded name)) h
+        (if b then number_target properties s (number_from 0 properties (decoded name)) else bad)
+        (if b then number_target properties t (number_from 0 properties (decoded name)) else bad)
+    by true = kept-number properties s t (number_from 0 properties (decoded name)) h
     by false = refl
 
 -- ---- numbers of names
 
-SomeBelow : ℕ → Option ℕ → Type 0
+unfoldable pub SomeBelow : ℕ → Option ℕ → Type 0
 SomeBelow n None = Unit {0}
 SomeBelow n (Some m) = m < n
 
-number-below : (m : ℕ) (properties : List Property) (name : List ℕ)
+pub number-below : (m : ℕ) (properties : List Property) (name : List ℕ)
     → SomeBelow (m + length properties) (number_from m properties name)
 unfolding SomeBelow
 number-below m [] name = tt
@@ -78,28 +79,32 @@ number_in_target m absent = m
 number_in_target m (unknown n) = n
 number_in_target m (found v) = m
 
-known-unknown : (properties : List Property) (s : List Known) (n m : ℕ) (k : Known)
-    → known_at s m ≡ k → m < length properties → known_target m k ≡ unknown n
+value-known : (v : Option Value) (n : ℕ) → value_target v ≡ unknown n → ⊥
+value-known None n h = absurd (cc)
+value-known (Some v) n h = absurd (cc)
+
+known-unknown : (properties : List Property) (s : List Known) (n m : ℕ) (p : Property) (k : Known)
+    → known_at s m ≡ k → m < length properties → known_target p m k ≡ unknown n
     → IsUnknown properties s n
 unfolding number_in_target
-known-unknown properties s n m not_yet e l h =
+known-unknown properties s n m p not_yet e l h =
     let same : m ≡ n = ap (λ (t : Target). number_in_target m t) h in
     subst (IsUnknown properties s) same (e, l)
-known-unknown properties s n m (computed None) e l h = absurd (cc)
-known-unknown properties s n m (computed (Some v)) e l h = absurd (cc)
+known-unknown properties s n m p (computed v) e l h = absurd (value-known (given_value p v) n h)
 
 number-unknown : (properties : List Property) (s : List Known) (n : ℕ) (o : Option ℕ)
-    → SomeBelow (length properties) o → number_target s o ≡ unknown n → IsUnknown properties s n
+    → SomeBelow (length properties) o → number_target properties s o ≡ unknown n → IsUnknown properties s n
 unfolding SomeBelow
 number-unknown properties s n None l h = absurd (cc)
-number-unknown properties s n (Some m) l h = known-unknown properties s n m (known_at s m) refl l h
+number-unknown properties s n (Some m) l h =
+    known-unknown properties s n m (property_at properties m) (known_at s m) refl l h
 
 pub named-unknown : (properties : List Property) (s : List Known) (name : List ℕ) (n : ℕ)
     → named properties s name ≡ unknown n → IsUnknown properties s n
 named-unknown properties s name n h = by (is_custom_name (decoded name)) h
   where
     by : (b : Bool)
-        → (if b then number_target s (number_from 0 properties (decoded name)) else bad) ≡ unknown n
+        → (if b then number_target properties s (number_from 0 properties (decoded name)) else bad) ≡ unknown n
         → IsUnknown properties s n
     by true e =
         let z : 0 + length properties ≡ length properties = omega arith in

@@ -4,7 +4,7 @@ use Rattle.std.proofs.lemmas.List.{length-map, get_or-set_same}
 use Rattle.css_values.specs.Resolution.{Property, Known, not_yet, none_known, Reaches, begins, IsComputed, Resolved}
 use Rattle.css_values.specs.declared.table.Slot.{Slot}
 use Rattle.css_values.specs.declared.table.Slot.TheVariants as slots
-use Rattle.css_values.specs.declared.table.Property.{Property as StoredProperty}
+use Rattle.css_values.specs.declared.table.Declared.{Declared}
 use Rattle.css_values.specs.Views.{property_of, stage_of}
 use Rattle.css_values.specs.internal.Paths.{is_open, is_unread, slot_at, unread, Circle, has_any, IsPath, Grows, GoesOn, HasLast, Resolving, with_last, unread_circle}
 use Rattle.css_values.proofs.SlotLemmas.{eq_true, stage-at, unread-not_yet, extends-then, closed-computed}
@@ -143,7 +143,7 @@ resolving-ends limit properties wanted n all past r = (
       (closed-computed (slot_at all m) (r.none_open m) (r.are_read m l w)),
 )
 
-pub unread-of : (properties : List StoredProperty)
+pub unread-of : (properties : List Declared)
     → map (λ p. slots.Unread) (map property_of properties) ≡ map (λ p. slots.Unread) properties
 unread-of [] = refl
 unread-of (p ∷ properties) = ap (λ (ss : List Slot). slots.Unread ∷ ss) (unread-of properties)

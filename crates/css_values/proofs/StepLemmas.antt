@@ -1,14 +1,14 @@
 -- How a path goes on, by what one step of reading leads to.
 use Rattle.std.proofs.Common.{◌≡◌, ◌∙◌, ℕ, zero, suc, ◌<◌, ◌≤◌, ◌+◌, ◌*◌, ◌++◌, ◌==◌, ◌||◌, inl, inr, Bool, true, false, List, [], ◌∷◌, Option, Some, None, length, set, get_or, drop, arith, refl, sym, ap, subst, if◌then◌else◌}
 use Rattle.std.proofs.lemmas.List.{append-nil, append_assoc, length-set, drop_more}
-use Rattle.css_values.specs.Resolution.{Property, not_yet, is_among}
+use Rattle.css_values.specs.Resolution.{Property, not_yet, is_among, IsDone}
 use Rattle.css_values.specs.declared.table.Slot.{Slot}
 use Rattle.css_values.specs.declared.table.Slot.TheVariants as slots
 use Rattle.css_values.specs.Views.{slot_of, stage_from}
-use Rattle.css_values.specs.internal.Readings.{Reading, IsUnknown}
-use Rattle.css_values.specs.internal.Paths.{is_open, place_of, open_place, slot_at, unread, numbers_of, Circle, IsPath, GoesOn, Cleared, AreWithin, HasLast, with_last, weights, left_of, read_to, Waits, EndsCurrent, Ends, ended_to}
+use Rattle.css_values.specs.internal.Readings.{Reading, IsUnknown, ReadsTo}
+use Rattle.css_values.specs.internal.Paths.{is_open, place_of, open_place, slot_at, unread, numbers_of, Circle, IsPath, GoesOn, Cleared, AreWithin, HasLast, hidden_from, with_last, weights, left_of, read_to, Waits, EndsCurrent, Ends, ended_to}
 use Rattle.css_values.proofs.SlotLemmas.{not_yet-unread, unread-less, unread-seen, seen-at, set-at, open-within}
-use Rattle.css_values.proofs.CircleLemmas.{among-append, grows-same, path-moves, path-clears, first-any}
+use Rattle.css_values.proofs.CircleLemmas.{among-append, grows-same, path-comes, path-moves, path-clears, path-waits, first-any}
 
 -- ---- slots
 
@@ -182,14 +182,14 @@ numbered c n r = record {
   ended = c.ended;
 }
 
-pub ends-numbered : (limit : ℕ) (properties : List Property) (all : List Slot) (begun n : ℕ)
+ends-numbered : (limit : ℕ) (properties : List Property) (all : List Slot) (begun n : ℕ)
     (c : Circle) (r : Reading) (path : List Circle) → n ≡ c.current.number
     → EndsCurrent limit properties all begun (read_to c r) path
     → EndsCurrent limit properties all begun (numbered c n r) path
 ends-numbered limit properties all begun n c r path e h =
     subst (λ (k : ℕ). EndsCurrent limit properties all begun (numbered c k r) path) (sym e) h
 
-pub waits-numbered : (limit : ℕ) (properties : List Property) (all : List Slot) (begun n other : ℕ)
+waits-numbered : (limit : ℕ) (properties : List Property) (all : List Slot) (begun n other : ℕ)
     (c : Circle) (r : Reading) (path : List Circle) → n ≡ c.current.number
     → Waits limit properties all begun (read_to c r) path other
     → Waits limit properties all begun (numbered c n r) path other
@@ -205,3 +205,42 @@ goes_on-from limit properties all after begun path other left e g = record {
   grows = g.grows;
   less = subst (λ (w : ℕ). left_of after left < 4 * unread all + w) e g.less;
 }
+
+-- ---- one value is read on
+
+reads-from : (limit : ℕ) (properties : List Property) (all : List Slot) (from place : ℕ)
+    (old new : Reading) (found due : Option ℕ) → place ≡ from → found ≡ due
+    → ReadsTo limit properties (stage_from place all) old found new
+    → ReadsTo limit properties (stage_from from all) old due new
+reads-from limit properties all from place old new found due e f r =
+    subst (λ (o : Option ℕ). ReadsTo limit properties (stage_from from all) old o new) f
+    (subst (λ (k : ℕ). ReadsTo limit properties (stage_from k all) old found new) e r)
+
+pub reads-unknown : (limit : ℕ) (properties : List Property) (all : List Slot) (from place : ℕ)
+    (old new : Reading) (found : Option ℕ) (other : ℕ) → place ≡ from → found ≡ Some other
+    → ReadsTo limit properties (stage_from place all) old found new
+    → IsUnknown properties (stage_from from all) other
+reads-unknown limit properties all from place old new found other e f r =
+    (reads-from limit properties all from place old new found (Some other) e f r).1
+
+pub reads-ends : (limit : ℕ) (properties : List Property) (all : List Slot) (begun place n : ℕ)
+    (last : Circle) (path : List Circle) (new : Reading) (found : Option ℕ)
+    → place ≡ hidden_from last begun → found ≡ None → n ≡ last.current.number
+    → IsPath limit properties all begun (last ∷ path)
+    → ReadsTo limit properties (stage_from place all) last.current.reading found new
+    → IsDone new.so_far → EndsCurrent limit properties all begun (numbered last n new) path
+reads-ends limit properties all begun place n last path new found e f same p r d =
+    ends-numbered limit properties all begun n last new path same
+    (path-comes limit properties all begun last path new p
+    (reads-from limit properties all (hidden_from last begun) place last.current.reading new found None e f r) d)
+
+pub reads-waits : (limit : ℕ) (properties : List Property) (all : List Slot) (begun place n other : ℕ)
+    (last : Circle) (path : List Circle) (new : Reading) (found : Option ℕ)
+    → place ≡ hidden_from last begun → found ≡ Some other → n ≡ last.current.number
+    → IsPath limit properties all begun (last ∷ path)
+    → ReadsTo limit properties (stage_from place all) last.current.reading found new
+    → Waits limit properties all begun (numbered last n new) path other
+reads-waits limit properties all begun place n other last path new found e f same p r =
+    waits-numbered limit properties all begun n other last new path same
+    (path-waits limit properties all begun last path new other p
+    (reads-from limit properties all (hidden_from last begun) place last.current.reading new found (Some other) e f r))

@@ -448,7 +448,7 @@ circle-same limit properties s t ds cs n m a d c ut us p q (then_reads b o l r) 
 -- one step
 data Step (limit : ℕ) (properties : List Property) (s t : List Known) : Type 0 where
   one : (n : ℕ) → known_at s n ≡ not_yet → IsDone (comes_to limit properties s n)
-      → Becomes s (n ∷ []) (kept (get_or properties n no_property).name (comes_to limit properties s n)) t
+      → Becomes s (n ∷ []) (kept (get_or properties n no_property) (comes_to limit properties s n)) t
       → Step limit properties s t
   all : (circle : List ℕ) → IsCircle limit properties s circle → Becomes s circle None t
       → Step limit properties s t
@@ -504,10 +504,10 @@ step-keeps : (limit : ℕ) (properties : List Property) (s t after : List Known)
     → IsCircle limit properties s circle → AllOrNone after circle
 unfolding AllOrNone
 step-keeps limit properties s t after p (one n u d b) circle c = λ m o x y e.
-    let before = still-unknown t after (n ∷ []) (kept (get_or properties n no_property).name (comes_to limit properties t n)) m b e in
+    let before = still-unknown t after (n ∷ []) (kept (get_or properties n no_property) (comes_to limit properties t n)) m b e in
     let none : (k : ℕ) → is_among circle k ≡ true → known_at t k ≡ not_yet = λ k h.
     p.right circle c m k x h before.1 in
-    stays-unknown t after (n ∷ []) (kept (get_or properties n no_property).name (comes_to limit properties t n)) o b
+    stays-unknown t after (n ∷ []) (kept (get_or properties n no_property) (comes_to limit properties t n)) o b
     (none o y) (λ q.
     circle-waits limit properties t s circle o (agree-swap s t p.agree) c none y
     (subst (λ (k : ℕ). IsDone (comes_to limit properties t k)) (sym (only-one n o q)) d))
@@ -539,26 +539,26 @@ new-agree : (limit : ℕ) (properties : List Property) (s after t beyond : List 
     → known_at after n ≡ computed v → known_at beyond n ≡ computed w → v ≡ w
 unfolding AllOrNone
 new-agree limit properties s after t beyond n v w p (one k u d b) (one l x e c) us ut q r =
-    let first = new-value s after (k ∷ []) (kept (get_or properties k no_property).name (comes_to limit properties s k)) v n b us q in
-    let second = new-value t beyond (l ∷ []) (kept (get_or properties l no_property).name (comes_to limit properties t l)) w n c ut r in
+    let first = new-value s after (k ∷ []) (kept (get_or properties k no_property) (comes_to limit properties s k)) v n b us q in
+    let second = new-value t beyond (l ∷ []) (kept (get_or properties l no_property) (comes_to limit properties t l)) w n c ut r in
     let fk : n ≡ k = only-one k n first.0 in
     let fl : n ≡ l = only-one l n second.0 in
     let kl : k ≡ l = sym fk ∙ fl in
     sym first.1
-    ∙ ap (kept (get_or properties k no_property).name)
+    ∙ ap (kept (get_or properties k no_property))
     (done-same limit properties s t k p.agree d
     (subst (λ (j : ℕ). IsDone (comes_to limit properties t j)) (sym kl) e))
-    ∙ ap (λ (j : ℕ). kept (get_or properties j no_property).name (comes_to limit properties t j)) kl
+    ∙ ap (λ (j : ℕ). kept (get_or properties j no_property) (comes_to limit properties t j)) kl
     ∙ second.1
 new-agree limit properties s after t beyond n v w p (one k u d b) (all cs c g) us ut q r =
-    let first = new-value s after (k ∷ []) (kept (get_or properties k no_property).name (comes_to limit properties s k)) v n b us q in
+    let first = new-value s after (k ∷ []) (kept (get_or properties k no_property) (comes_to limit properties s k)) v n b us q in
     let second = new-value t beyond cs None w n g ut r in
     absurd (circle-waits limit properties s t cs n p.agree c
     (λ m h. p.left cs c n m second.0 h us) second.0
     (subst (λ (j : ℕ). IsDone (comes_to limit properties s j)) (sym (only-one k n first.0)) d))
 new-agree limit properties s after t beyond n v w p (all cs c g) (one l x e b) us ut q r =
     let first = new-value s after cs None v n g us q in
-    let second = new-value t beyond (l ∷ []) (kept (get_or properties l no_property).name (comes_to limit properties t l)) w n b ut r in
+    let second = new-value t beyond (l ∷ []) (kept (get_or properties l no_property) (comes_to limit properties t l)) w n b ut r in
     absurd (circle-waits limit properties t s cs n (agree-swap s t p.agree) c
     (λ m h. p.right cs c n m first.0 h ut) first.0
     (subst (λ (j : ℕ). IsDone (comes_to limit properties t j)) (sym (only-one l n second.0)) e))
@@ -568,7 +568,7 @@ new-agree limit properties s after t beyond n v w p (all cs c g) (all ds d h) us
 step-extends : (limit : ℕ) (properties : List Property) (s t : List Known)
     → Step limit properties s t → Extends s t
 step-extends limit properties s t (one n u d b) =
-    extends-becomes s t (n ∷ []) (kept (get_or properties n no_property).name (comes_to limit properties s n)) b
+    extends-becomes s t (n ∷ []) (kept (get_or properties n no_property) (comes_to limit properties s n)) b
     (λ m e. ap (known_at s) (only-one n m e) ∙ u)
 step-extends limit properties s t (all cs c b) = extends-becomes s t cs None b c.unknown
 

@@ -2,7 +2,9 @@ pub mod Pieces
 pub mod Seams
 pub mod Substitution
 pub mod Validity
+pub mod Registrations
 pub mod Resolution
+pub mod Registered
 pub mod Names
 pub mod Lines
 pub mod Views

@@ -1,15 +1,23 @@
 -- The computed values of the properties of an element, whose references read one another (CSS Custom
 -- Properties for Cascading Variables 1, sections 2 and 3).
-use Rattle.std.specs.Prelude.{◌≡◌, ℕ, suc, ◌<◌, Bool, false, true, ◌&&◌, ◌||◌, ◌==◌, if◌then◌else◌, List, [], ◌∷◌, map, length, codes, get_or, set, bytes_eq, Option, Some, None}
-use Rattle.css_text.specs.Reading.{before}
-use Rattle.css_syntax.specs.Tokens.{past_gap, past_word, spells}
+use Rattle.std.specs.Prelude.{◌≡◌, ℕ, suc, ◌<◌, Bool, false, true, ◌||◌, ◌==◌, if◌then◌else◌, List, [], ◌∷◌, map, length, codes, get_or, set, bytes_eq, Option, Some, None}
 use Rattle.css_syntax.specs.Escapes.{decoded}
+use Rattle.css_values.specs.Registrations.{is_keyword}
 use Rattle.css_values.specs.Substitution.{Value, Outcome, invalid, is, waits, Target, bad, absent, unknown, found, is_custom_name, substituted}
 
--- a property: its name as written, and its value, in which references may be
+-- What a custom property has in place of its value, if it has any value then: where the value comes to the
+-- keyword `initial`, `inherit` or `unset` alone, and where it is invalid at computed-value time.
+pub record Meanings : Type 0 where
+  pub initial : Option Value
+  pub inherited : Option Value
+  pub unset : Option Value
+  pub otherwise : Option Value
+
+-- a property: its name as written, its value, in which references may be, and what replaces that
 pub record Property : Type 0 where
   pub name : List ℕ
   pub text : List ℕ
+  pub instead : Meanings
 
 -- what is known of a property: nothing yet, or its computed value, of which there is none if it is
 -- invalid
@@ -31,32 +39,46 @@ abbrev pub value_target : Option Value → Target
 value_target None = absent
 value_target (Some value) = found value
 
-abbrev pub known_target : ℕ → Known → Target
-known_target n not_yet = unknown n
-known_target n (computed value) = value_target value
+-- the value of a property, by its computed value: an invalid one has what replaces that
+abbrev pub given_value : Property → Option Value → Option Value
+given_value property None = property.instead.otherwise
+given_value property (Some value) = Some value
+
+abbrev pub known_target : Property → ℕ → Known → Target
+known_target property n not_yet = unknown n
+known_target property n (computed value) = value_target (given_value property value)
 
 -- what is known of the property of this number
 abbrev pub known_at : List Known → ℕ → Known
 known_at stage n = get_or stage n not_yet
 
-abbrev pub number_target : List Known → Option ℕ → Target
-number_target stage None = absent
-number_target stage (Some n) = known_target n (known_at stage n)
+-- nothing replaces a value
+abbrev pub no_meanings : Meanings
+no_meanings = record { initial = None; inherited = None; unset = None; otherwise = None }
+
+-- no property, as that of a number that none has
+abbrev pub no_property : Property
+no_property = record { name = []; text = []; instead = no_meanings }
+
+-- the property of this number
+abbrev pub property_at : List Property → ℕ → Property
+property_at properties n = get_or properties n no_property
+
+abbrev pub number_target : List Property → List Known → Option ℕ → Target
+number_target properties stage None = absent
+number_target properties stage (Some n) =
+    known_target (property_at properties n) n (known_at stage n)
 
 -- what a name as written names
 abbrev pub named : List Property → List Known → List ℕ → Target
 named properties stage name =
-    if is_custom_name (decoded name) then number_target stage (number_from 0 properties (decoded name))
+    if is_custom_name (decoded name) then number_target properties stage (number_from 0 properties (decoded name))
     else bad
-
--- no property, as that of a number that none has
-abbrev pub no_property : Property
-no_property = record { name = []; text = [] }
 
 -- what the value of the property of this number comes to, by what is known
 abbrev pub comes_to : ℕ → List Property → List Known → ℕ → Outcome
 comes_to limit properties stage n =
-    substituted deepest_fallback limit (named properties stage) (get_or properties n no_property).text
+    substituted deepest_fallback limit (named properties stage) (property_at properties n).text
 
 -- it waits for another: the first that it reads and that is not known
 abbrev pub WaitsFor : ℕ → List Property → List Known → ℕ → ℕ → Type 0
@@ -107,19 +129,20 @@ pub record IsCircle (limit : ℕ) (properties : List Property) (stage : List Kno
   pub no_others : (n : ℕ) → is_among circle n ≡ true
       → IsDone (comes_to limit properties (supposing stage circle) n)
 
--- the keyword `initial` alone, which gives a custom property no value
-abbrev pub is_initial : List ℕ → Bool
-is_initial text =
-    let from = past_gap text in
-    let rest = past_word from in
-    spells (codes "initial") (before from rest) && length (past_gap rest) == 0
+-- what replaces a value, if it is one of the keywords
+abbrev pub value_instead : Meanings → Value → Option Value
+value_instead instead value =
+    if is_keyword (codes "initial") value.text then instead.initial
+    else (if is_keyword (codes "inherit") value.text then instead.inherited
+    else (if is_keyword (codes "unset") value.text then instead.unset else Some value))
 
--- the computed value of a property of this name, by what its value comes to
-abbrev pub kept : List ℕ → Outcome → Option Value
-kept name invalid = None
-kept name (waits n) = None
-kept name (is value) =
-    if is_custom_name (decoded name) && is_initial value.text then None else Some value
+-- the computed value of a property, by what its value comes to
+abbrev pub kept : Property → Outcome → Option Value
+kept property invalid = None
+kept property (waits n) = None
+kept property (is value) =
+    if is_custom_name (decoded property.name) then value_instead property.instead value
+    else Some value
 
 -- How more becomes known. A property whose value reads nothing unknown gets its computed value. All
 -- properties of a circle are invalid at computed-value time.
@@ -127,7 +150,7 @@ pub data Reaches (limit : ℕ) (properties : List Property) (start : List Known)
   begins : Reaches limit properties start start
   computes : (stage after : List Known) (n : ℕ) → Reaches limit properties start stage
       → known_at stage n ≡ not_yet → IsDone (comes_to limit properties stage n)
-      → Becomes stage (n ∷ []) (kept (get_or properties n no_property).name (comes_to limit properties stage n)) after
+      → Becomes stage (n ∷ []) (kept (property_at properties n) (comes_to limit properties stage n)) after
       → Reaches limit properties start after
   circles : (stage after : List Known) (circle : List ℕ) → Reaches limit properties start stage
       → IsCircle limit properties stage circle
@@ -142,7 +165,7 @@ abbrev pub IsComputed : Known → Type 0
 IsComputed not_yet = ⊥
 IsComputed (computed value) = Unit {0}
 
--- what is known once the first so many properties have computed values
+-- what is known once the first this many properties have computed values
 abbrev pub Resolved : ℕ → List Property → ℕ → List Known → Type 0
 Resolved limit properties wanted stage =
     Reaches limit properties (none_known properties) stage

@@ -1,13 +1,18 @@
 -- What contracts see of pieces, values and properties.
-use Rattle.std.specs.Prelude.{ℕ, List, map, None, if◌then◌else◌, nat_le}
+use Rattle.std.specs.Prelude.{ℕ, List, map, Option, None, if◌then◌else◌, nat_le}
 use Rattle.std.specs.Option.{option_map}
 use Rattle.std.specs.String.{string_bytes}
+use Rattle.std.specs.Borrow.{Bor}
 use Rattle.css_values.specs.declared.pieces.Piece.{Piece as ReadPiece}
 use Rattle.css_values.specs.declared.pieces.Piece.TheVariants as reads
 use Rattle.css_values.specs.declared.pieces.PieceAndRest.{PieceAndRest}
 use Rattle.css_values.specs.declared.drafts.Draft.{Draft}
 use Rattle.css_values.specs.declared.drafts.Value.{Value as StoredValue}
 use Rattle.css_values.specs.declared.table.Property.{Property as StoredProperty}
+use Rattle.css_values.specs.declared.registering.Registration.{Registration as StoredRegistration}
+use Rattle.css_values.specs.declared.registering.Descriptors.{Descriptors as StoredDescriptors}
+use Rattle.css_values.specs.declared.table.Meanings.{Meanings as StoredMeanings}
+use Rattle.css_values.specs.declared.table.Declared.{Declared}
 use Rattle.css_values.specs.declared.table.Named.{Named}
 use Rattle.css_values.specs.declared.table.Named.TheVariants as names
 use Rattle.css_values.specs.declared.table.Slot.{Slot}
@@ -15,7 +20,8 @@ use Rattle.css_values.specs.declared.table.Seen.{Seen}
 use Rattle.css_values.specs.declared.table.Slot.TheVariants as slots
 use Rattle.css_values.specs.Pieces.{Piece, plain, reference, broken}
 use Rattle.css_values.specs.Substitution.{Value, Outcome, invalid, is, Target, bad, absent, unknown, found}
-use Rattle.css_values.specs.Resolution.{Property, Known, not_yet, computed}
+use Rattle.css_values.specs.Registrations.{Stated, Registration, Descriptors}
+use Rattle.css_values.specs.Resolution.{Meanings, Property, Known, not_yet, computed}
 
 abbrev pub piece_of : ReadPiece → Piece
 piece_of (reads.Plain text) = plain text.now
@@ -32,8 +38,37 @@ value_of v = record { text = string_bytes v.text; last = v.last; replaced = v.re
 abbrev pub draft_of : Draft → Outcome
 draft_of d = if d.valid then is (value_of d.value) else invalid
 
-abbrev pub property_of : StoredProperty → Property
-property_of p = record { name = p.name.now; text = p.text.now }
+abbrev pub stated_of : StoredProperty → Stated
+stated_of p = record { name = p.name.now; text = p.text.now }
+
+abbrev pub registration_of : StoredRegistration → Registration
+registration_of r = record {
+  name = r.name.now;
+  universal = r.universal;
+  inherits = r.inherits;
+  initial = option_map (λ text. text.now) r.initial;
+}
+
+abbrev pub descriptors_text : StoredDescriptors → Descriptors
+descriptors_text d = record {
+  universal = d.universal;
+  inherits = d.inherits;
+  initial = option_map (λ text. text.now) d.initial;
+}
+
+abbrev pub borrowed_value : Option (Bor StoredValue) → Option Value
+borrowed_value v = option_map (λ b. value_of b.now) v
+
+abbrev pub meanings_of : StoredMeanings → Meanings
+meanings_of m = record {
+  initial = borrowed_value m.initial;
+  inherited = borrowed_value m.inherited;
+  unset = borrowed_value m.unset;
+  otherwise = borrowed_value m.otherwise;
+}
+
+abbrev pub property_of : Declared → Property
+property_of p = record { name = p.name.now; text = p.text.now; instead = meanings_of p.instead }
 
 abbrev pub slot_of : Slot → Known
 slot_of slots.Unread = not_yet

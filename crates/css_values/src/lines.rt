@@ -1,10 +1,11 @@
 //! Properties and values as texts, in which a program hands them over.
-ghost use Rattle.std.specs.Prelude.{◌≡◌, ◌++◌, OnOk, IfOk, take, map, option_map, string_bytes};
+ghost use Rattle.std.specs.Prelude.{◌≡◌, ◌++◌, OnOk, IfOk, map, option_map, string_bytes};
 ghost use Rattle.css_values.specs.Lines.{name_lines as name_lines_of, properties_in as properties_in_of};
 ghost use Rattle.css_values.specs.Lines.{value_line, value_lines as value_lines_of};
-ghost use Rattle.css_values.specs.Views.{property_of, slot_of, stage_of};
+ghost use Rattle.css_values.specs.Views.{stated_of, value_of};
 
-use crate::table::{Property, Slot};
+use crate::drafts::Value;
+use crate::table::Property;
 use std::alloc::{AllocError, Global};
 use std::fmt::Write as _;
 
@@ -14,7 +15,7 @@ pub fn properties_in<'t>(
     texts: &[&'t str],
 ) -> Result<Option<Vec<Property<'t>>>, AllocError>
     ensures { IfOk result (λ found. properties_in_of (map (λ text. text.now) texts.now)
-        ≡ option_map (λ properties. map property_of properties.items) found) }
+        ≡ option_map (λ properties. map stated_of properties.items) found) }
 {
     let mut found = Vec::new(alloc);
     let mut left = texts;
@@ -28,30 +29,28 @@ pub fn properties_in<'t>(
     Ok(Some(found))
 }
 
-/// Appends what is known of a property: the length of its value, a newline and the value, or only a
-/// newline where it has none.
-fn push_value(out: &mut String, slot: &Slot) -> Result<(), AllocError>
-    ensures { OnOk result
-        (string_bytes out.new ≡ string_bytes out.old ++ value_line (slot_of slot.now)) }
+/// Appends a value: its length, a newline and the value, or only a newline where there is none.
+fn push_value(out: &mut String, value: &Option<Value>) -> Result<(), AllocError>
+    ensures { OnOk result (string_bytes out.new
+        ≡ string_bytes out.old ++ value_line (option_map value_of value.now)) }
 {
-    if let Slot::Computed(Some(value)) = slot {
+    if let Some(value) = value {
         write!(out, "{}\n{}", value.text.len(), value.text)
     } else {
         out.push('\n')
     }
 }
 
-/// Returns what is known of the first `wanted` properties: of each the length of its value, a newline and
-/// the value, or only a newline where it has none.
-pub fn value_lines(alloc: Global, slots: &[Slot], wanted: usize) -> Result<String, AllocError>
-    ensures { IfOk result (λ out. string_bytes out ≡ value_lines_of (take wanted (stage_of slots.now))) }
+/// Returns values: of each its length, a newline and the value, or only a newline where there is none.
+pub fn value_lines(alloc: Global, values: &[Option<Value>]) -> Result<String, AllocError>
+    ensures { IfOk result (λ out. string_bytes out
+        ≡ value_lines_of (map (option_map value_of) values.now)) }
 {
     let mut out = String::new(alloc);
-    let count = wanted.min(slots.len());
-    let mut number = 0;
-    'slots: while number < count {
-        push_value(&mut out, &slots[number])?;
-        number += 1;
+    let mut left = values;
+    'values: while let [value, others @ ..] = left {
+        push_value(&mut out, value)?;
+        left = others;
     }
     Ok(out)
 }

@@ -1,8 +1,8 @@
 //! The computed values of the properties of an element.
 ghost use Rattle.std.specs.Prelude.{◌≡◌, ◌<◌, ◌≤◌, ◌+◌, ◌++◌, ◌∷◌, ℕ, List, [], true, false, IfOk, OnOk, Option, Some, None, length, map, option_map, get_or, set};
-ghost use Rattle.css_values.specs.Resolution.{Known, Resolved, is_initial as is_initial_of, known_at};
-ghost use Rattle.css_values.specs.Resolution.{kept as kept_of, no_property};
-ghost use Rattle.css_values.specs.Views.{draft_of, property_of, stage_from, stage_of, value_of};
+ghost use Rattle.css_values.specs.Resolution.{Resolved, property_at};
+ghost use Rattle.css_values.specs.Resolution.{kept as kept_of, value_instead as value_instead_of};
+ghost use Rattle.css_values.specs.Views.{borrowed_value, draft_of, meanings_of, property_of, stage_from, stage_of, value_of};
 ghost use Rattle.css_values.specs.declared.drafts.Value.{Value as StoredValue};
 ghost use Rattle.css_values.specs.declared.table.Slot.TheVariants.{Computed, Open, Unread};
 ghost use Rattle.css_values.specs.internal.Readings.{IsUnknown};
@@ -13,33 +13,60 @@ ghost use Rattle.css_values.specs.internal.Paths.{is_unread as is_unread_of, ope
 use crate::circles::{Circle, merged, push_last, take_last};
 use crate::drafts::{Draft, Value};
 use crate::readings::Reading;
-use crate::table::{Property, Seen, Slot, Table, is_custom_name};
+use crate::registering::is_keyword;
+use crate::table::{Declared, Meanings, Seen, Slot, Table, is_custom_name};
 use css_syntax::decode;
-use css_syntax::texts::{front, past_gap, past_word, spells};
 use std::alloc::{AllocError, Global};
 
-/// Whether the value is the keyword `initial` alone.
-#[tactic(auto, using(crate::proofs::PieceLemmas::word_ends))]
-fn is_initial(text: &str) -> bool
-    ensures { result ≡ is_initial_of text.now }
+/// Returns the same value once more, if there is one.
+pub(crate) fn copied(alloc: Global, value: Option<&Value>) -> Result<Option<Value>, AllocError>
+    ensures { IfOk result (λ copy. borrowed_value value.entry ≡ option_map value_of copy) }
 {
-    let from = past_gap(text);
-    let rest = past_word(from);
-    spells("initial", front(from, rest)) && past_gap(rest).is_empty()
+    let Some(value) = value else {
+        return Ok(None);
+    };
+    Ok(Some(Value {
+        text: value.text.to_string(alloc)?,
+        last: value.last,
+        replaced: value.replaced,
+    }))
 }
 
-/// Returns the computed value of a property with this name, by what its value comes to.
-fn kept(alloc: Global, name: &str, draft: Draft) -> Result<Option<Value>, AllocError>
-    ensures { IfOk result (λ value. kept_of name.now (draft_of draft) ≡ option_map value_of value) }
+/// Returns what stands for a value, if it is one of the keywords.
+fn value_instead(
+    alloc: Global,
+    instead: Meanings<'_>,
+    value: Value,
+) -> Result<Option<Value>, AllocError>
+    ensures { IfOk result (λ found. value_instead_of (meanings_of instead.entry) (value_of value)
+        ≡ option_map value_of found) }
+{
+    if is_keyword("initial", &value.text) {
+        return copied(alloc, instead.initial);
+    }
+    if is_keyword("inherit", &value.text) {
+        return copied(alloc, instead.inherited);
+    }
+    if is_keyword("unset", &value.text) {
+        return copied(alloc, instead.unset);
+    }
+    Ok(Some(value))
+}
+
+/// Returns the computed value of a property, by what its value comes to.
+fn kept(alloc: Global, property: Declared<'_>, draft: Draft) -> Result<Option<Value>, AllocError>
+    ensures { IfOk result (λ value. kept_of (property_of property.entry) (draft_of draft)
+        ≡ option_map value_of value) }
 {
     if !draft.valid {
         return Ok(None);
     }
-    let decoded = decode(alloc, name)?;
-    if is_custom_name(decoded.as_bytes()) && is_initial(&draft.value.text) {
-        return Ok(None);
+    let decoded = decode(alloc, property.name)?;
+    if is_custom_name(decoded.as_bytes()) {
+        value_instead(alloc, property.instead, draft.value)
+    } else {
+        Ok(Some(draft.value))
     }
-    Ok(Some(draft.value))
 }
 
 /// Returns at which place the property of this number was begun, if its value is being read.
@@ -103,7 +130,7 @@ fn open<'a>(
     Circle {
         start,
         closed: false,
-        current: Reading::new(alloc, number, table.text(number)),
+        current: Reading::new(alloc, number, table.property(number).text),
         others: Vec::new(alloc),
         ended: Vec::new(alloc),
     }
@@ -120,13 +147,13 @@ fn end_value<'a>(
     requires within { last.number < length slots.old }
     ensures settled { IfOk result (λ next. (value : Option StoredValue)
         × (slots.new ≡ set slots.old last.entry.number (Computed value))
-        × (kept_of (get_or table.now last.entry.number no_property).name (draft_of last.entry.draft) ≡ option_map value_of value)) }
+        × (kept_of (property_at table.now last.entry.number) (draft_of last.entry.draft) ≡ option_map value_of value)) }
     ensures begun { IfOk result (λ next. path.new.begun ≡ path.old.begun) }
     ensures parts { IfOk result (λ next. circles_of path.old.circles.items
         ≡ with_last (option_map circle_of next) (circles_of path.new.circles.items)) }
     ensures ends { IfOk result (λ next. HasLast (circles_of path.new.circles.items) (option_map circle_of next)) }
 {
-    let value = kept(alloc, table.name(last.number), last.draft)?;
+    let value = kept(alloc, table.property(last.number), last.draft)?;
     settle(slots, last.number, value);
     Ok(take_last(&mut path.circles))
 }
@@ -257,37 +284,8 @@ fn advance<'a>(
     }
 }
 
-/// Computes the value of the property of this number, of which nothing is read, and of those that it
-/// reads.
-fn compute(
-    alloc: Global,
-    limit: usize,
-    table: &Table<'_>,
-    slots: &mut [Slot],
-    number: usize,
-) -> Result<(), AllocError>
-    requires same_length { length slots.old ≡ length table.now }
-    requires within { number < length table.now }
-    requires unread { is_unread_of (slot_at slots.old number) ≡ true }
-    requires none_open { (n : ℕ) → is_open_of (slot_at slots.old n) ≡ false }
-    ensures grows { OnOk result (Grows limit table.now slots.old slots.new) }
-    ensures none_open { OnOk result ((n : ℕ) → is_open_of (slot_at slots.new n) ≡ false) }
-    ensures read { OnOk result (is_unread_of (slot_at slots.new number) ≡ false) }
-    ensures same_length { OnOk result (length slots.new ≡ length table.now) }
-{
-    let mut path = Path {
-        circles: Vec::new(alloc),
-        begun: 0,
-    };
-    let mut last = Some(open(alloc, table, slots, &mut path.begun, number));
-    'path: while let Some(circle) = last {
-        last = advance(alloc, limit, table, slots, &mut path, circle)?;
-    }
-    Ok(())
-}
-
 /// Returns this many slots, of which nothing is known.
-fn unread_slots(alloc: Global, properties: &[Property<'_>]) -> Result<Vec<Slot>, AllocError>
+fn unread_slots(alloc: Global, properties: &[Declared<'_>]) -> Result<Vec<Slot>, AllocError>
     ensures { IfOk result (λ slots. slots.items ≡ map (λ p. Unread) properties.now) }
 {
     let mut slots = Vec::new(alloc);
@@ -309,8 +307,8 @@ fn is_unread(slots: &[Slot], number: usize) -> bool
     }
 }
 
-/// Computes the value of the property of this number, unless it is computed.
-fn compute_next(
+/// Computes the value of the property of this number, and those that it reads, unless it is computed.
+fn compute(
     alloc: Global,
     limit: usize,
     table: &Table<'_>,
@@ -324,7 +322,14 @@ fn compute_next(
     if !is_unread(slots, number) {
         return Ok(());
     }
-    compute(alloc, limit, table, slots, number)?;
+    let mut path = Path {
+        circles: Vec::new(alloc),
+        begun: 0,
+    };
+    let mut last = Some(open(alloc, table, slots, &mut path.begun, number));
+    'path: while let Some(circle) = last {
+        last = advance(alloc, limit, table, slots, &mut path, circle)?;
+    }
     Ok(())
 }
 
@@ -342,17 +347,17 @@ fn compute_first(
     let count = wanted.min(slots.len());
     let mut number = 0;
     'numbers: while number < count {
-        compute_next(alloc, limit, table, slots, number)?;
+        compute(alloc, limit, table, slots, number)?;
         number += 1;
     }
     Ok(())
 }
 
 /// Computes the values of the first `wanted` of an element's properties.
-fn computed_slots(
+pub(crate) fn computed_slots(
     alloc: Global,
     limit: usize,
-    properties: &[Property<'_>],
+    properties: &[Declared<'_>],
     wanted: usize,
 ) -> Result<Vec<Slot>, AllocError>
     ensures { IfOk result (λ slots. Resolved limit (map property_of properties.now) wanted
@@ -361,28 +366,5 @@ fn computed_slots(
     let table = Table::new(alloc, properties)?;
     let mut slots = unread_slots(alloc, properties)?;
     compute_first(alloc, limit, &table, &mut slots, wanted)?;
-    Ok(slots)
-}
-
-/// Computes the values of the first `wanted` of an element's properties, and of those that they read.
-///
-/// Each reference `var(..)` is replaced by the value of the first property of its name, or else by its
-/// fallback, which is only then read. Properties that lead to one another in a circle are invalid, as is
-/// a value longer than `limit`, and one whose references are not valid. Fails only if an allocation fails.
-///
-/// To hand values down, put those that the parent has after the element's own.
-pub fn resolve(
-    alloc: Global,
-    limit: usize,
-    properties: &[Property<'_>],
-    wanted: usize,
-) -> Result<Vec<Slot>, AllocError>
-    ensures resolved { IfOk result (λ slots. Resolved limit (map property_of properties.now) wanted
-        (stage_of slots.items)) }
-    ensures only { (other : List Known) → Resolved limit (map property_of properties.now) wanted other
-        → (n : ℕ) → n < wanted → n < length properties.now
-        → IfOk result (λ slots. known_at other n ≡ known_at (stage_of slots.items) n) }
-{
-    let slots = computed_slots(alloc, limit, properties, wanted)?;
     Ok(slots)
 }

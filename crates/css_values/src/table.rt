@@ -1,11 +1,11 @@
 //! The properties of an element by their names, and what is known of each.
-ghost use Rattle.std.specs.Prelude.{◌≡◌, ℕ, List, Some, IfOk, OnOk, map, get_or, bytes_eq, if◌then◌else◌};
+ghost use Rattle.std.specs.Prelude.{◌≡◌, ℕ, List, Some, IfOk, OnOk, map, bytes_eq, if◌then◌else◌};
 ghost use Rattle.std.specs.BTreeMap.{get_by_text};
 ghost use Rattle.css_syntax.specs.Escapes.{decoded};
-ghost use Rattle.css_values.specs.Resolution.{known_at, known_target, named, no_property, number_from};
-ghost use Rattle.css_values.specs.Resolution.{number_target};
+ghost use Rattle.css_values.specs.Resolution.{known_at, known_target, named, number_from, property_at};
+ghost use Rattle.css_values.specs.Resolution.{number_target, value_target};
 ghost use Rattle.css_values.specs.Substitution.{is_custom_name as is_custom_name_of};
-ghost use Rattle.css_values.specs.Views.{property_of, seen_of, slot_from, target_of};
+ghost use Rattle.css_values.specs.Views.{borrowed_value, property_of, seen_of, slot_from, target_of};
 
 use crate::drafts::Value;
 use css_syntax::decode;
@@ -22,12 +22,44 @@ pub struct Property<'a> {
     pub text: &'a str,
 }
 
+/// What a custom property has in place of its value, if it has any value then.
+#[derive(Clone, Copy)]
+pub(crate) struct Meanings<'a> {
+    /// Where its value comes to `initial`.
+    pub initial: Option<&'a Value>,
+    /// Where it comes to `inherit`.
+    pub inherited: Option<&'a Value>,
+    /// Where it comes to `unset`.
+    pub unset: Option<&'a Value>,
+    /// Where it is invalid at computed-value time.
+    pub otherwise: Option<&'a Value>,
+}
+
+/// Nothing replaces a value.
+pub(crate) const NO_MEANINGS: Meanings<'static> = Meanings {
+    initial: None,
+    inherited: None,
+    unset: None,
+    otherwise: None,
+};
+
+/// A property, and what replaces its value.
+#[derive(Clone, Copy)]
+pub(crate) struct Declared<'a> {
+    /// Its name, as written.
+    pub name: &'a str,
+    /// Its value, in which references may be.
+    pub text: &'a str,
+    /// What replaces its value.
+    pub instead: Meanings<'a>,
+}
+
 /// What is known of a property.
 #[derive(Debug, Drop)]
 pub enum Slot {
     /// Nothing yet.
     Unread,
-    /// Nothing yet, but its value was begun, after so many others.
+    /// Nothing yet, but its value was begun, after this many others.
     Open(usize),
     /// Its computed value. There is none if it is invalid at computed-value time.
     Computed(Option<Value>),
@@ -79,9 +111,9 @@ fn give_number(
 }
 
 /// Returns the numbers of properties by their names without escapes. The first of a name has it.
-fn numbers_of(
+pub(crate) fn numbers_of(
     alloc: Global,
-    properties: &[Property<'_>],
+    properties: &[Declared<'_>],
 ) -> Result<BTreeMap<String, usize>, AllocError>
     ensures { (name : List ℕ) → IfOk result (λ numbers. get_by_text numbers name
         ≡ number_from 0 (map property_of properties.now) name) }
@@ -99,7 +131,7 @@ fn numbers_of(
 #[derive(Drop)]
 pub(crate) struct Table<'a> {
     /// The properties, in order.
-    properties: &'a [Property<'a>],
+    properties: &'a [Declared<'a>],
     /// Their numbers by their names. The first of a name has it.
     numbers: BTreeMap<String, usize>,
 }
@@ -122,7 +154,7 @@ impl<'a> Table<'a> {
     /// Returns a table of the properties.
     pub(crate) fn new(
         alloc: Global,
-        properties: &'a [Property<'a>],
+        properties: &'a [Declared<'a>],
     ) -> Result<Table<'a>, AllocError>
         ensures { IfOk result (λ table. table ≡ map property_of properties.now) }
     {
@@ -133,23 +165,17 @@ impl<'a> Table<'a> {
         })
     }
 
-    /// Returns the value of the property of this number, as written.
-    pub(crate) fn text(&self, number: usize) -> &'a str
-        ensures { result.now ≡ (get_or self.now number no_property).text }
+    /// Returns the property of this number.
+    pub(crate) fn property(&self, number: usize) -> Declared<'a>
+        ensures { property_of result ≡ property_at self.now number }
     {
         match self.properties.get(number) {
-            None => "",
-            Some(property) => property.text,
-        }
-    }
-
-    /// Returns the name of the property of this number, as written.
-    pub(crate) fn name(&self, number: usize) -> &'a str
-        ensures { result.now ≡ (get_or self.now number no_property).name }
-    {
-        match self.properties.get(number) {
-            None => "",
-            Some(property) => property.name,
+            None => Declared {
+                name: "",
+                text: "",
+                instead: NO_MEANINGS,
+            },
+            Some(property) => *property,
         }
     }
 
@@ -161,16 +187,27 @@ impl<'a> Table<'a> {
     }
 }
 
+/// Returns what has this value, or none.
+fn named_value(value: Option<&Value>) -> Named<'_>
+    ensures { value_target (borrowed_value value.entry) ≡ target_of result }
+{
+    match value {
+        None => Named::Absent,
+        Some(value) => Named::Found(value),
+    }
+}
+
 /// Returns what is seen of the property of this number.
-fn known(seen: Seen<'_>, number: usize) -> Named<'_>
-    ensures { known_target number (known_at (seen_of seen.entry) number) ≡ target_of result }
+fn known<'s>(property: Declared<'s>, seen: Seen<'s>, number: usize) -> Named<'s>
+    ensures { known_target (property_of property.entry) number (known_at (seen_of seen.entry) number)
+        ≡ target_of result }
 {
     match seen.slots.get(number) {
-        Some(Slot::Computed(None)) => Named::Absent,
+        Some(Slot::Computed(None)) => named_value(property.instead.otherwise),
         Some(Slot::Computed(Some(value))) => Named::Found(value),
         Some(Slot::Open(place)) => {
             if seen.from <= *place {
-                Named::Absent
+                named_value(property.instead.otherwise)
             } else {
                 Named::Unknown(number)
             }
@@ -182,7 +219,7 @@ fn known(seen: Seen<'_>, number: usize) -> Named<'_>
 /// Returns what a name as written names.
 pub(crate) fn find_named<'s>(
     alloc: Global,
-    table: &Table<'_>,
+    table: &Table<'s>,
     seen: Seen<'s>,
     name: &str,
 ) -> Result<Named<'s>, AllocError>
@@ -194,6 +231,6 @@ pub(crate) fn find_named<'s>(
     }
     match table.find(&decoded) {
         None => Ok(Named::Absent),
-        Some(number) => Ok(known(seen, number)),
+        Some(number) => Ok(known(table.property(number), seen, number)),
     }
 }

@@ -1,7 +1,7 @@
 -- Circles of properties whose values are being read, on a path on which each waits for the next.
 use Rattle.std.specs.Prelude.{◌≡◌, ℕ, ◌<◌, ◌≤◌, ◌+◌, ◌*◌, ◌++◌, suc, Bool, true, false, ◌&&◌, ◌||◌, ◌==◌, ◌⊎◌, if◌then◌else◌, List, [], ◌∷◌, length, map, get_or, Option, Some, None}
 use Rattle.css_values.specs.Substitution.{is, nothing, waits}
-use Rattle.css_values.specs.Resolution.{Property, Known, not_yet, computed, known_at, named, comes_to, no_property, none_known, is_among, IsDone, Reaches}
+use Rattle.css_values.specs.Resolution.{Property, Known, not_yet, computed, known_at, named, comes_to, property_at, none_known, is_among, IsDone, Reaches}
 use Rattle.css_values.specs.declared.table.Slot.{Slot}
 use Rattle.css_values.specs.declared.table.Slot.TheVariants as slots
 use Rattle.css_values.specs.declared.readings.Reading.{Reading as StoredReading}
@@ -278,7 +278,7 @@ pub record IsMerging (limit : ℕ) (properties : List Property) (all : List Slot
 abbrev pub unread_entry : List Property → ℕ → Entry
 unread_entry properties n = record {
   number = n;
-  reading = record { so_far = is nothing; rest = (get_or properties n no_property).text; outer = [] };
+  reading = record { so_far = is nothing; rest = (property_at properties n).text; outer = [] };
 }
 
 -- the same as a circle

@@ -1,6 +1,6 @@
-use Rattle.std.proofs.Common.{[], Some, option_map, subst, sym}
-use Rattle.css_values.specs.internal.Paths.{circle_of, circles_of, unread_circle}
-use Rattle.css_values.proofs.ResolvingLemmas.{Follows, follows-begins, follows-goes_on}
+use Rattle.std.proofs.Common.{◌≡◌, [], false, Some, option_map, rules, subst, sym}
+use Rattle.css_values.specs.internal.Paths.{circle_of, circles_of, is_unread, slot_at, unread_circle}
+use Rattle.css_values.proofs.ResolvingLemmas.{Follows, follows-begins, follows-goes_on, resolving-skips}
 use Rattle.css_values.proofs.resolution.compute.Goals as goal
 
 pub path-init : goal.path-init
@@ -17,8 +17,8 @@ path-init c =
     (sym c.open.ensures.circle)
     (subst (λ after. Follows limit table slots after number 1 [] (Some (unread_circle table 0 number)))
     (sym c.open.ensures.slots)
-    (follows-begins limit table slots number c.requires.same_length c.requires.within
-    c.requires.unread c.requires.none_open))))
+    (follows-begins limit table slots number c.requires.before.same_length c.requires.within
+    (search rules) c.requires.before.none_open))))
 
 pub path-preserved : goal.path-preserved
 path-preserved c =
@@ -30,3 +30,9 @@ path-preserved c =
     c.path.path.begun (circles_of c.path.path.circles.items) (option_map circle_of o))
     c.in-Some.is c.path.invariant)
     c.in_ok-last.ensures.goes_on c.in_ok-last.ensures.ends
+
+pub returns-then-not-is_unread : goal.returns-then-not-is_unread
+returns-then-not-is_unread c =
+    let read : is_unread (slot_at c.args.slots.now c.args.number) ≡ false = search rules in
+    resolving-skips c.args.limit c.args.table.now c.args.slots.now c.args.number c.requires.before
+    read

@@ -5,17 +5,17 @@ use Rattle.css_values.proofs.resolution.compute_first.Goals as goal
 pub numbers-init : goal.numbers-init
 numbers-init c = (omega arith, c.requires)
 
-pub compute_next-requires-clause-within : goal.compute_next-requires-clause-within
-compute_next-requires-clause-within c =
+pub compute-requires-clause-within : goal.compute-requires-clause-within
+compute-requires-clause-within c =
     let same = c.numbers.invariant.1.same_length in
     let first = c.requires.same_length in
     omega (arith, c.numbers-test.true, c.min-count.ensures)
 
-pub compute_next-requires-clause-before : goal.compute_next-requires-clause-before
-compute_next-requires-clause-before c = c.numbers.invariant.1
+pub compute-requires-clause-before : goal.compute-requires-clause-before
+compute-requires-clause-before c = c.numbers.invariant.1
 
 pub numbers-preserved : goal.numbers-preserved
-numbers-preserved c = (omega (arith, c.numbers-test.true), c.in_ok-compute_next.ensures)
+numbers-preserved c = (omega (arith, c.numbers-test.true), c.in_ok-compute.ensures)
 
 pub returns : goal.returns
 returns c =
