@@ -96,6 +96,9 @@ typedef struct simplecss_element {
 /* No state: the element has a text of its own that is not empty. White space is a text, but a comment is not.
  * `:empty` of modern selectors tests it. */
 #define SIMPLECSS_HAS_TEXT 32u
+/* No state: modern `:scope` matches the element, if it is the first one with this number. If none has it, `:scope`
+ * matches the root. */
+#define SIMPLECSS_SCOPE 64u
 
 /* A tree: its elements in document order, the bytes of all its strings, and where each ends. */
 typedef struct simplecss_tree {
@@ -267,15 +270,19 @@ uint32_t simplecss_supports(const uint8_t *text, size_t text_len,
                             const size_t *ends, size_t ends_count,
                             uint8_t *out, size_t out_size, size_t *len);
 
-/* Writes the computed values of the first `wanted` of an element's properties (CSS Custom Properties for Cascading
- * Variables 1), whose names and values are the texts of a buffer in turn: of each the length of its value in digits,
- * a newline and the value, or only a newline where it has none. Each `var()` is replaced by the value of the first
- * property of its name, or by its fallback. To hand values down, pass those that the parent has after the element's
- * own. Custom properties that lead to one another in a circle have no value, nor has a value with a `var()` that
- * is none, one longer than `limit`, or that of a custom property that comes to `initial`. Refused if the texts are
- * not pairs. The time grows as the texts that are read and the values. */
+/* Writes the computed values of the properties that an element declares (CSS Custom Properties for Cascading
+ * Variables 1): of each the length of its value in digits, a newline and the value, or only a newline where it has
+ * none. The texts of a buffer are pairs: first the name and the value of each of these properties, `wanted` in number;
+ * then `registered` rules `@property` (CSS Properties and Values API 1), of each what is before its block and what is
+ * in it; then the name and the value of each that the parent has. Each `var()` is replaced by the value of the first
+ * property of its name, or by its fallback; one that the element does not declare has that of the parent, or its
+ * initial value, as its registration says. Custom properties that lead to one another in a circle have no value, nor
+ * has a value with a `var()` that is none, or one longer than `limit`: but a registered one whose syntax is not `*`
+ * has then what it has undeclared. A custom property may come to `initial`, `inherit` or `unset`. Of rules of one name
+ * the last counts that is valid; a value is not compared with its syntax. Refused if the texts are not pairs. The time
+ * grows as the texts that are read and the values. */
 uint32_t simplecss_values(const uint8_t *texts, size_t texts_len, const size_t *ends, size_t ends_count,
-                          size_t wanted, size_t limit, size_t most,
+                          size_t wanted, size_t registered, size_t limit, size_t most,
                           uint8_t *out, size_t out_size, size_t *len);
 
 /* Writes whether each `var()` of a value has the name of a custom property, and nothing else but a fallback in which
@@ -299,8 +306,8 @@ uint32_t simplecss_inherited(const uint8_t *name, size_t name_len,
 
 /* Style sheets that are read together, one after another, with their origins, and the group rules that hold: two
  * texts for each, its keyword in lower case, as `media`, and its prelude as it is written. An `@layer` holds without
- * being named. The origin of a sheet is SIMPLECSS_AUTHOR if it is another number, or if there are fewer. A layer that
- * sheets of several origins name is one. */
+ * being named. The origin of a sheet is SIMPLECSS_AUTHOR if it is another number, or if there are fewer. Each origin
+ * has its own layers. */
 typedef struct simplecss_sheets {
     const uint8_t *texts;
     size_t texts_len;
@@ -347,8 +354,8 @@ typedef struct simplecss_asked {
  * and then, for each of its `count` declarations,
  *   name name_len value value_len important closed
  * `sheet` is the number of the text, from 0; `start`, where the rule's declarations begin there, and `name` and
- * `value` are offsets into this text; `layer` is how many layers are before that of the rule; `important` and
- * `closed` are 0 or 1. A style rule may be in another (CSS Nesting 1). Declarations between two rules in a rule are a
+ * `value` are offsets into this text; `layer` is greater the later the layer of the rule is in its origin, and of the
+ * author's how many layers are before; `important` and `closed` are 0 or 1. A style rule may be in another (CSS Nesting 1). Declarations between two rules in a rule are a
  * rule of their own. `out_size` and `*len` count numbers. The time grows as n log n of the texts and of the group
  * rules that are passed, if each is passed once. */
 uint32_t simplecss_rules(const simplecss_sheets *sheets, size_t limit,
@@ -368,10 +375,14 @@ uint32_t simplecss_rule_texts(const simplecss_sheets *sheets, size_t limit, size
  * shorthands are not expanded. Important declarations win, of an earlier origin over those of a later one, and in an
  * earlier layer over those in a later one; of others those of a later origin and in a later layer; then the greater
  * specificity decides, and then the order. Presentation declarations are of an origin between the user's and the
- * author's; the author's declarations in the attribute win over those in rules that are as important. A rule with a
+ * author's; the author's declarations in the attribute win over those in rules that are as important. As long as one
+ * that wins for a property is `revert` or `revert-layer` (CSS Cascading 5, section 7.3), it is rolled back: what is of
+ * its origin, or in its layer, and what is after that do not count for the property. An attribute is a layer after all
+ * others, and in it an important `revert-layer` leaves important declarations of rules, as in browsers; `revert` of
+ * the user agent wins as it is; if nothing is left, nothing wins. A rule with a
  * pseudo-element applies to no element. `grammar` is one of modern selectors; the port is refused. `most`, `out_size`
  * and `*len` count numbers. For each element the time grows as the declarations of all rules that match it, of which
- * `limit` is the most, and of its own.
+ * `limit` is the most, and of its own, and once more for each layer or origin that is rolled back.
  *
  * Each list of selectors of a style rule with rules in it is tested once on each element. These tests are at most
  * `most`, too: elements times lists, with one for each list and one for each of its selectors. */

@@ -5,6 +5,7 @@ use css_sheet::{SheetRule, read_sheet};
 use css_styles::{Own, winning};
 use css_tree::NumberedTree;
 use simplecss_tree::Tree;
+use std::alloc::Global;
 use std::io;
 
 /// The sheet.
@@ -14,7 +15,8 @@ const SHEET: &str = "p { color: black; margin: 1em }
     @media print { p { color: gray !important } }
     @layer reset, theme;
     @layer theme { p { margin: 3em !important; cursor: help } }
-    @layer reset { p { margin: 4em !important; cursor: wait } }";
+    @layer reset { p { margin: 4em !important; cursor: wait } }
+    p { cursor: revert-layer }";
 
 /// The properties that are shown.
 const PROPERTIES: [&str; 3] = ["color", "margin", "cursor"];
@@ -25,6 +27,7 @@ const MOST: usize = 10_000;
 /// Prints what wins on the element with this number.
 fn show(
     rt: &impl io::Print,
+    alloc: Global,
     rules: &[SheetRule<'_>],
     page: &NumberedTree<'_, '_>,
     number: usize,
@@ -35,7 +38,7 @@ fn show(
     };
     if let Some(element) = page.node(number) {
         for property in PROPERTIES {
-            if let Some(winner) = winning(rules, &element, own, property) {
+            if let Some(winner) = winning(alloc, rules, &element, own, property)? {
                 println!(rt; "{number}: {}", winner.declaration)?;
             }
         }
@@ -54,7 +57,7 @@ fn main(rt: HostRuntime) -> io::Result<()> {
     }
     let page = NumberedTree::new(rt.alloc(), &tree)?;
     for number in 0..page.len() {
-        show(&rt, sheet.rules.as_slice(), &page, number)?;
+        show(&rt, rt.alloc(), sheet.rules.as_slice(), &page, number)?;
     }
     Ok(())
 }

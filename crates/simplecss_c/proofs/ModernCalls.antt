@@ -2,10 +2,10 @@
 -- Serves `modern::{list, refusal, page_lines, match_selectors, select}`.
 use Rattle.std.proofs.Common.{◌≡◌, ℕ, List, length, map, Option, None, Some, inl, inr, sym, ap, subst, ◌∙◌}
 use Rattle.std.specs.Prelude.{Result, Ok, Err, MatchResult, string_bytes}
+use Rattle.std.specs.Option.{option_map}
 use Rattle.std.specs.Result.{IsErrAnd}
 use Rattle.std.specs.declared.string.String.{String}
 use Rattle.std.specs.Str.{IsUtf8}
-use Rattle.css_syntax.specs.PlacedSelectors.{placed_selectors}
 use Rattle.css_sheet.specs.RuleSelectors.{selector_of}
 use Rattle.css_selectors.specs.Components.{Selector}
 use Rattle.css_selectors.specs.Supported.{supported_list}
@@ -19,8 +19,8 @@ use Rattle.simplecss_c.specs.declared.pages.LineContent.TheVariants.{Numbers, Se
 use Rattle.simplecss_c.specs.Outcomes.{outcome_of}
 use Rattle.simplecss_c.specs.Calls.{FailsFor, FailsWithin, FailsLonger, HasTexts, HasNoSelector, AreSelectorsIn, HasBadEnds, IsBrokenUtf8, Passed, passed_tree}
 use Rattle.simplecss_c.specs.ModernCalls.{AreReadLines, IsModernListCall, IsModernRefusalCall, IsModernMatchCall, IsModernSelectCall}
-use Rattle.simplecss_c.specs.ModernLines.{AreListedLines, listed_texts, IsRefusalLine, page_with, AreModernLines}
-use Rattle.simplecss_c.specs.Readings.{selector_as, selectors_of}
+use Rattle.simplecss_c.specs.ModernLines.{listed_lines, IsRefusalLine, page_with, AreModernLines}
+use Rattle.simplecss_c.specs.Readings.{listed_in, selector_as, selectors_of}
 use Rattle.simplecss_c.proofs.ModernPages.{fails_wider}
 use Rattle.simplecss_c.proofs.Limits.{fails_within, within_wider, longer_wider}
 
@@ -78,16 +78,16 @@ lines-due most content kind selectors passed rows page utf8 tree same (Err error
 pub listed-due : {Z : Type 0} (text read : List ℕ) → read ≡ text → IsUtf8 text
     → (r : Result (String Z) CallError)
     → MatchResult r
-    (λ lines. AreListedLines (length read) (placed_selectors read) (string_bytes lines))
-    (λ error. FailsFor (HasNoSelector selector_of (listed_texts read)) (λ fault. ⊥) ⊥ error)
+    (λ lines. option_map (listed_lines (length read)) (listed_in read) ≡ Some (string_bytes lines))
+    (λ error. FailsFor (listed_in read ≡ None) (λ fault. ⊥) ⊥ error)
     → IsModernListCall text (outcome_of r)
 listed-due text read same utf8 (Ok lines) due = (
   utf8,
-  subst (λ t. AreListedLines (length t) (placed_selectors t) (string_bytes lines)) same due,
+  ap (λ t. option_map (listed_lines (length t)) (listed_in t)) (sym same) ∙ due,
 )
 listed-due text read same utf8 (Err error) due =
-    fails_wider (λ none. subst (λ t. HasNoSelector selector_of (listed_texts t)) same none)
-    (λ fault is. absurd is) (λ is. absurd is) error due
+    fails_wider (λ none. ap listed_in (sym same) ∙ none) (λ fault is. absurd is)
+    (λ is. absurd is) error due
 
 -- the line of a refusal, of a text that was read
 pub refusal-due : {Z : Type 0} (text read : List ℕ) → read ≡ text → IsUtf8 text

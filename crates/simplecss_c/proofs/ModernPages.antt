@@ -13,7 +13,7 @@ use Rattle.simplecss_c.specs.declared.elements.TreeElement.{TreeElement}
 use Rattle.simplecss_c.specs.declared.modern.document_kind.DocumentKind.TheVariants.{AsWritten, Html}
 use Rattle.css_tree.specs.declared.html.HtmlMode.{HtmlMode}
 use Rattle.simplecss_c.specs.Calls.{FailsFor}
-use Rattle.simplecss_c.specs.Elements.{Strings, has_text, fault_in, limit_after, strings_of, tree_from, tree_of, with_element}
+use Rattle.simplecss_c.specs.Elements.{Strings, has_text, scope_in, fault_in, limit_after, strings_of, tree_from, tree_of, with_element}
 use Rattle.simplecss_c.specs.ModernLines.{page_with}
 use Rattle.simplecss_c.proofs.Building.{length_with}
 
@@ -78,21 +78,21 @@ pub record TextsSoFar (elements : List TreeElement) (rows : List Row) (index : �
   pub all : length page.texts ≡ length elements
   pub known : take index page.texts ≡ map has_text (take index elements)
   pub later : (i : ℕ) → index ≤ i → get_or page.texts i false ≡ false
-  pub unscoped : page.scope ≡ None
+  pub scoped : page.scope ≡ scope_in elements
   pub unmarked : page.marks ≡ []
   pub plain : page.is_html ≡ false
 
 -- no element has a text yet
 pub texts-none : (elements : List TreeElement) (rows : List Row) (page : Page) → page.rows ≡ rows
     → length page.texts ≡ length rows → ((i : ℕ) → get_or page.texts i false ≡ false)
-    → length elements ≡ length rows → page.scope ≡ None → page.marks ≡ []
+    → length elements ≡ length rows → page.scope ≡ scope_in elements → page.marks ≡ []
     → page.is_html ≡ false → TextsSoFar elements rows 0 page
-texts-none elements rows page same all none many unscoped unmarked plain = record {
+texts-none elements rows page same all none many scoped unmarked plain = record {
   same = same;
   all = all ∙ sym many;
   known = refl;
   later = λ i _. none i;
-  unscoped = unscoped;
+  scoped = scoped;
   unmarked = unmarked;
   plain = plain;
 }
@@ -115,7 +115,7 @@ module _ {elements : List TreeElement} {rows : List Row} {index : ℕ} {page : P
           ∙ sym (map_more has_text elements index d within);
       later = λ i less. ap (λ ts. get_or ts i false) texts
           ∙ grind (arith, common_steps, so_far.later i (omega (arith, less)), less);
-      unscoped = scope ∙ so_far.unscoped;
+      scoped = scope ∙ so_far.scoped;
       unmarked = marks ∙ so_far.unmarked;
       plain = html ∙ so_far.plain;
     }
@@ -132,7 +132,7 @@ module _ {elements : List TreeElement} {rows : List Row} {index : ℕ} {page : P
           (so_far.later index (omega arith) ∙ sym is)
           ∙ sym (map_more has_text elements index d within);
       later = λ i less. so_far.later i (omega (arith, less));
-      unscoped = so_far.unscoped;
+      scoped = so_far.scoped;
       unmarked = so_far.unmarked;
       plain = so_far.plain;
     }
@@ -145,7 +145,7 @@ texts-known elements rows index page so_far all =
     pages-same page (page_with AsWritten elements rows) so_far.same
     (sym (take_all index page.texts (omega (arith, all, so_far.all)))
     ∙ so_far.known ∙ ap (map has_text) (take_all index elements (omega (arith, all))))
-    so_far.unscoped so_far.unmarked so_far.plain
+    so_far.scoped so_far.unmarked so_far.plain
 
 -- and the document is HTML
 pub page-html : (mode : HtmlMode) (elements : List TreeElement) (rows : List Row) (old new : Page)

@@ -1,5 +1,5 @@
--- Items and selectors that are read one after another, and their numbers.
--- Serves `items::item_numbers` and `sheets::selector_numbers`.
+-- Items that are read one after another, and their numbers.
+-- Serves `items::item_numbers`.
 use Rattle.std.proofs.Common.{◌≡◌, ℕ, Bool, List, ◌∷◌, ◌++◌, Some, None, sym, ap, ◌∙◌, append_assoc, append-nil}
 use Rattle.std.specs.List.{flat_map}
 use Rattle.css_syntax.specs.Contents.{item_contents}
@@ -9,7 +9,7 @@ use Rattle.css_syntax.proofs.PlacedSteps.{placed-items-some, placed-items-none}
 use Rattle.simplecss_c.specs.ItemNumbers.{item_row, placed_row, item_numbers}
 
 -- the numbers of one more
-pub rows-some : {A : Type 0} (row : A → List ℕ) (x : A) (xs : List A) (out all : List ℕ)
+rows-some : {A : Type 0} (row : A → List ℕ) (x : A) (xs : List A) (out all : List ℕ)
     → all ≡ out ++ row x → all ++ flat_map row xs ≡ out ++ flat_map row (x ∷ xs)
 rows-some row x xs out all wrote =
     ap (λ t. t ++ flat_map row xs) wrote ∙ append_assoc out (row x) (flat_map row xs)

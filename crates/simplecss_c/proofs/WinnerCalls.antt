@@ -6,7 +6,8 @@ use Rattle.std.specs.Result.{IsErrAnd}
 use Rattle.std.specs.Str.{IsUtf8}
 use Rattle.css_cascade.specs.Layers.{most_layers}
 use Rattle.css_selectors.specs.Components.{Selector}
-use Rattle.css_sheet.specs.SheetOrder.{SheetRuleText, SheetText}
+use Rattle.css_sheet.specs.SheetOrder.{SheetRuleText}
+use Rattle.css_sheet.specs.Sheets.{SheetText}
 use Rattle.css_sheet.specs.declared.sheet_error.SheetError.{SheetError}
 use Rattle.css_sheet.specs.declared.sheet_error.SheetError.TheVariants as sheet
 use Rattle.css_tree.specs.Pages.{Page}

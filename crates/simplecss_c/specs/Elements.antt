@@ -2,7 +2,7 @@
 -- buffer, by where each ends. An element's strings are its name, and a key and a value for each
 -- attribute.
 use Rattle.std.specs.Prelude.{◌≡◌, ℕ, zero, suc, ◌+◌, ◌*◌, ◌/◌, ◌%◌, ◌<◌, Bool, false, ◌&&◌, ◌||◌, ◌==◌, nat_le, nat_lt, if◌then◌else◌, bytes_eq, List, [], ◌∷◌, ◌++◌, length, map, drop, slice_index, Option, None, Some, Result, Ok, Err}
-use Rattle.std.specs.List.{slice_range, slice_index_or, list_any, range_with_len}
+use Rattle.std.specs.List.{slice_range, slice_index_or, list_any, position, range_with_len}
 use Rattle.simplecss_tree.specs.Rows.{Row, last_child, no_states, row_in}
 use Rattle.simplecss_tree.specs.declared.tree.States.{States}
 use Rattle.simplecss_c.specs.declared.elements.TreeElement.{TreeElement}
@@ -127,6 +127,14 @@ states_in sum = record {
 -- whether an element has a text of its own that is not empty
 abbrev pub has_text : TreeElement → Bool
 has_text element = has_bit element.states 32
+
+-- whether an element is the one that `:scope` matches
+abbrev pub is_scope : TreeElement → Bool
+is_scope element = has_bit element.states 64
+
+-- the index of the first of these, if there is one
+abbrev pub scope_in : List TreeElement → Option ℕ
+scope_in = position is_scope
 
 -- the element of a tree, where it is the last child of its parent, in no state
 abbrev pub element_row : List Row → Option ℕ → List ℕ → List (List ℕ) → ℕ → Row

@@ -1,7 +1,7 @@
 -- What each call for modern selectors must write, and when it fails.
 use Rattle.std.specs.Prelude.{◌≡◌, ◌⊎◌, ℕ, List, map, length, Option, None, Some, Result, Ok, Err}
+use Rattle.std.specs.Option.{option_map}
 use Rattle.std.specs.Str.{IsUtf8}
-use Rattle.css_syntax.specs.PlacedSelectors.{placed_selectors}
 use Rattle.css_sheet.specs.RuleSelectors.{selector_of}
 use Rattle.css_selectors.specs.Components.{Selector}
 use Rattle.css_selectors.specs.Supported.{supported_list}
@@ -11,15 +11,15 @@ use Rattle.simplecss_c.specs.declared.modern.document_kind.DocumentKind.{Documen
 use Rattle.simplecss_c.specs.declared.pages.LineContent.{LineContent}
 use Rattle.simplecss_c.specs.declared.pages.LineContent.TheVariants.{Numbers, Selected}
 use Rattle.simplecss_c.specs.Calls.{FailsFor, FailsWithin, HasTexts, HasBadEnds, IsBrokenUtf8, HasNoSelector, HasRefusedText, AreSelectorsIn, Passed, passed_tree}
-use Rattle.simplecss_c.specs.ModernLines.{AreListedLines, listed_texts, IsRefusalLine, page_with, AreModernLines}
-use Rattle.simplecss_c.specs.Readings.{selector_as, selectors_of}
+use Rattle.simplecss_c.specs.ModernLines.{listed_lines, IsRefusalLine, page_with, AreModernLines}
+use Rattle.simplecss_c.specs.Readings.{listed_in, selector_as, selectors_of}
 
 -- a line in JSON for each selector of the list, or why there is none
 abbrev pub IsModernListCall : List ℕ → Result (List ℕ) CallError → Type 0
 IsModernListCall text (Ok bytes) =
-    IsUtf8 text × AreListedLines (length text) (placed_selectors text) bytes
+    IsUtf8 text × (option_map (listed_lines (length text)) (listed_in text) ≡ Some bytes)
 IsModernListCall text (Err error) =
-    FailsFor (HasNoSelector selector_of (listed_texts text)) (λ fault. ⊥) (¬ (IsUtf8 text)) error
+    FailsFor (listed_in text ≡ None) (λ fault. ⊥) (¬ (IsUtf8 text)) error
 
 -- the line of why a text is no list of selectors, or nothing where it is one
 abbrev pub IsModernRefusalCall : List ℕ → Result (List ℕ) CallError → Type 0

@@ -1,13 +1,12 @@
 -- What is written of modern selectors, and of the elements that they match.
 use Rattle.std.specs.Prelude.{◌≡◌, ℕ, Bool, true, false, ◌+◌, ◌-◌, List, [], ◌∷◌, ◌++◌, codes, length, map, Option, None, Some, if◌then◌else◌, ◌==◌}
+use Rattle.std.specs.List.{flat_map}
 use Rattle.std.specs.Str.{IsCharBoundary}
 use Rattle.css_text.specs.Errors.{position_of}
 use Rattle.css_text.specs.Reading.{rest_offset}
 use Rattle.css_text.specs.declared.TextPos.{TextPos}
-use Rattle.css_syntax.specs.PlacedSelectors.{PlacedSelector, placed_selectors}
-use Rattle.css_sheet.specs.RuleSelectors.{selector_of}
 use Rattle.std.specs.Option.{option_map}
-use Rattle.css_selectors.specs.Components.{PseudoElement, Selector}
+use Rattle.css_selectors.specs.Components.{Placed, PseudoElement, Selector}
 use Rattle.css_selectors.specs.Printing.{selector_text}
 use Rattle.css_selectors.specs.Readings.{Reading as Reads, got, refused}
 use Rattle.css_selectors.specs.RefusalWords.{quote, why_words}
@@ -22,7 +21,7 @@ use Rattle.simplecss_c.specs.declared.modern.document_kind.DocumentKind.{Documen
 use Rattle.simplecss_c.specs.declared.modern.document_kind.DocumentKind.TheVariants.{AsWritten, Html}
 use Rattle.simplecss_c.specs.declared.pages.LineContent.{LineContent}
 use Rattle.simplecss_c.specs.AnswerLines.{indices_line, AreLinesWithin}
-use Rattle.simplecss_c.specs.Elements.{has_text}
+use Rattle.simplecss_c.specs.Elements.{has_text, scope_in}
 use Rattle.simplecss_c.specs.Json.{string, member, object}
 use Rattle.simplecss_c.specs.JsonLines.{line, counts_array, position_line}
 use Rattle.simplecss_c.specs.Ranges.{extent}
@@ -39,25 +38,18 @@ abbrev pub element_name : Option PseudoElement → Option (List ℕ)
 element_name element = option_map (λ e. e.name) element
 
 -- the line of a selector of a list whose text ends at this offset
-abbrev pub listed_line : (end : ℕ) → PlacedSelector → Selector → List ℕ
-listed_line end placed s =
+unfoldable pub listed_line : (end : ℕ) → Placed → List ℕ
+listed_line end p =
     line (object
-    (member (codes "text") (extent (end - length placed.from) (length placed.listed.text))
-    ∷ member (codes "selector") (string (selector_text s))
-    ∷ member (codes "specificity") (counts_array (specificity s))
-    ∷ member (codes "pseudo_element") (string_or_null (element_name s.pseudo_element))
+    (member (codes "text") (extent (end - length p.from) (length p.from - length p.to))
+    ∷ member (codes "selector") (string (selector_text p.selector))
+    ∷ member (codes "specificity") (counts_array (specificity p.selector))
+    ∷ member (codes "pseudo_element") (string_or_null (element_name p.selector.pseudo_element))
     ∷ []))
 
--- the lines of selectors, in order, each of which is read
-abbrev pub AreListedLines : (end : ℕ) → List PlacedSelector → List ℕ → Type 0
-AreListedLines end [] bytes = bytes ≡ []
-AreListedLines end (placed ∷ more) bytes =
-    (s : Selector) × (rest : List ℕ) × (selector_of placed.listed.text ≡ Some s)
-    × AreListedLines end more rest × (bytes ≡ listed_line end placed s ++ rest)
-
--- the texts of the selectors of a list
-abbrev pub listed_texts : List ℕ → List (List ℕ)
-listed_texts text = map (λ placed. placed.listed.text) (placed_selectors text)
+-- the lines of the selectors of a list whose text ends at this offset
+abbrev pub listed_lines : (end : ℕ) → List Placed → List ℕ
+listed_lines end all = flat_map (listed_line end) all
 
 -- ---- refusals
 
@@ -88,7 +80,7 @@ abbrev pub page_with : DocumentKind → List TreeElement → List Row → Page
 page_with kind elements rows = record {
   rows = rows;
   texts = map has_text elements;
-  scope = None;
+  scope = scope_in elements;
   marks = [];
   is_html = is_html kind;
 }

@@ -1,7 +1,8 @@
 -- How a document reads the names of selectors, and which modern selectors texts are.
-use Rattle.std.specs.Prelude.{ℕ, Bool, true, false, List, Option, None, Some}
-use Rattle.css_selectors.specs.Components.{Selector}
-use Rattle.css_selectors.specs.Supported.{supported_list}
+use Rattle.std.specs.Prelude.{ℕ, Bool, true, false, if◌then◌else◌, List, Option, None, Some, is_none}
+use Rattle.css_selectors.specs.Components.{Placed, Selector}
+use Rattle.css_selectors.specs.Grammar.{placed_list}
+use Rattle.css_selectors.specs.Supported.{first_unsupported, supported_list}
 use Rattle.css_selectors.specs.Readings.{Reading as Reads, got, refused}
 use Rattle.css_selectors.specs.declared.refusal.Why.{Why}
 use Rattle.css_selectors.specs.declared.refusal.Why.TheVariants.{Memory as NoMemory}
@@ -24,6 +25,18 @@ if_read (refused why rest) = None
 -- the selectors that the text is a list of, if it is one
 abbrev pub selectors_of : List ℕ → Option (List Selector)
 selectors_of text = if_read (supported_list text)
+
+-- these, if all have a meaning
+abbrev pub if_all_supported : List Placed → Option (List Placed)
+if_all_supported all = if is_none (first_unsupported all) then Some all else None
+
+abbrev pub if_listed : Reads (List Placed) → Option (List Placed)
+if_listed (got all rest) = if_all_supported all
+if_listed (refused why rest) = None
+
+-- the selectors that the text is a list of, with where they are, if it is one and all have a meaning
+abbrev pub listed_in : List ℕ → Option (List Placed)
+listed_in text = if_listed (placed_list text)
 
 -- an allocation failed
 abbrev pub is_memory : Why → Bool

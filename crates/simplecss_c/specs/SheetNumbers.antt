@@ -2,19 +2,17 @@
 -- pieces.
 use Rattle.std.specs.Prelude.{◌≡◌, ◌<◌, ◌≤◌, ℕ, ◌+◌, ◌-◌, true, List, [], ◌∷◌, ◌++◌, length, min, Option, None, Some, Result, Ok, Err}
 use Rattle.std.specs.List.{flat_map}
+use Rattle.std.specs.Option.{is_some}
 use Rattle.std.specs.Str.{IsUtf8}
 use Rattle.css_syntax.specs.declared.quality.Fault.{Fault}
 use Rattle.css_syntax.specs.Parts.{Stated}
 use Rattle.css_syntax.specs.Statements.{BlockText, AtRuleText, StatementText, rule_set, at_rule_statement, skipped_statement}
-use Rattle.css_syntax.specs.SelectorGrammar.{SelectorText, plain, with_element, other_valid, invalid}
-use Rattle.css_syntax.specs.SelectorLists.{prelude_fault}
-use Rattle.css_syntax.specs.PlacedSelectors.{PlacedSelector, placed_selectors}
 use Rattle.css_sheet.specs.Places.{PlacesText}
-use Rattle.css_sheet.specs.RuleSelectors.{SelectorRead, selector_read}
-use Rattle.css_sheet.specs.NestedSelectors.{with_element as with_name}
+use Rattle.css_sheet.specs.RuleSelectors.{SelectorRead, selector_read, listed_under}
+use Rattle.css_sheet.specs.NestedSelectors.{read_counts}
 use Rattle.css_sheet.specs.SheetItems.{ConditionText, SheetItemText, sheet_items}
-use Rattle.css_selectors.specs.Components.{Selector}
-use Rattle.css_selectors.specs.Specificities.{Counts, specificity}
+use Rattle.css_selectors.specs.Components.{Placed}
+use Rattle.css_selectors.specs.Specificities.{Counts}
 use Rattle.simplecss_c.specs.declared.answer.CallError.{CallError}
 use Rattle.simplecss_c.specs.Calls.{FailsWithin}
 use Rattle.simplecss_c.specs.ItemNumbers.{at_rule_row, fault_row, item_numbers}
@@ -36,50 +34,47 @@ level_numbers conditions = flat_map level_row conditions
 
 -- ---- selectors
 
--- of the pseudo-element at the end of a selector, from its first colon on, its offset and its length, or 0 and 0
-abbrev pub element_numbers : SelectorText → (start count : ℕ) → List ℕ
-element_numbers plain start count = 0 ∷ 0 ∷ []
-element_numbers (with_element front name) start count = (start + length front) ∷ (count - length front) ∷ []
-element_numbers other_valid start count = 0 ∷ 0 ∷ []
-element_numbers invalid start count = 0 ∷ 0 ∷ []
+-- whether a selector is supported, and its specificity with its pseudo-element, or three times 0
+abbrev pub read_numbers : SelectorRead → List ℕ
+read_numbers read =
+    (λ (c : Counts). number_if (is_some read.selector) ∷ c.ids ∷ c.classes ∷ c.names ∷ [])
+    (read_counts read)
 
--- whether a selector is read, and its specificity with its pseudo-element, or three times 0
-abbrev pub read_numbers : Option Selector → (pseudo_element : Option (List ℕ)) → List ℕ
-read_numbers None pseudo_element = 0 ∷ 0 ∷ 0 ∷ 0 ∷ []
-read_numbers (Some s) pseudo_element =
-    (λ (c : Counts). 1 ∷ c.ids ∷ c.classes ∷ c.names ∷ []) (with_name (specificity s) pseudo_element)
+-- of the pseudo-element at its end, if it has one, from its first colon on, the offset and the length, or 0 and
+-- 0
+abbrev pub element_numbers : (end : ℕ) → (element to : List ℕ) → (pseudo_element : Option (List ℕ))
+    → List ℕ
+element_numbers end element to None = 0 ∷ 0 ∷ []
+element_numbers end element to (Some name) = offset end element ∷ (length element - length to) ∷ []
 
--- Eight numbers of a selector of this form, as it is read: its offset and its length; whether it is a modern
--- one without its pseudo-element, and its specificity; and the offset and the length of its pseudo-element.
-abbrev pub selector_with : (start count : ℕ) → SelectorText → SelectorRead → List ℕ
-selector_with start count form read =
-    start ∷ count ∷ (read_numbers read.selector read.pseudo_element ++ element_numbers form start count)
-
--- those of a selector of a list whose text ends at this offset
-abbrev pub selector_row : (end : ℕ) → PlacedSelector → List ℕ
-selector_row end placed =
-    selector_with (offset end placed.from) (length placed.listed.text) placed.listed.form
-    (selector_read placed.listed)
+-- Eight numbers of a selector of a list whose text ends at this offset: its offset and its length; whether it
+-- is a modern one without its pseudo-element, and its specificity; and the offset and the length of its
+-- pseudo-element.
+abbrev pub selector_row : (end : ℕ) → Placed → List ℕ
+selector_row end p =
+    offset end p.from ∷ (length p.from - length p.to)
+    ∷ (read_numbers (selector_read p)
+    ++ element_numbers end p.element p.to (selector_read p).pseudo_element)
 
 -- those of the selectors of a list whose text ends at this offset
-abbrev pub selector_numbers : (end : ℕ) → List ℕ → List ℕ
-selector_numbers end text = flat_map (selector_row end) (placed_selectors text)
+abbrev pub selector_numbers : (end : ℕ) → List Placed → List ℕ
+selector_numbers end all = flat_map (selector_row end) all
 
 -- ---- statements
 
--- What a statement is: a rule set, an at-rule, or something that is skipped.
+-- What a statement is: a rule set with these selectors, an at-rule, or something that is skipped.
 pub data ShownText : Type 0 where
-  shown_rule : (prelude : Stated) (block : BlockText) → ShownText
+  shown_rule : (prelude : Stated) (block : BlockText) (selectors : List Placed) → ShownText
   shown_at_rule : AtRuleText → ShownText
   shown_skipped : Fault → ShownText
 
-abbrev pub unless_faulty : Stated → BlockText → Option Fault → ShownText
-unless_faulty prelude block None = shown_rule prelude block
-unless_faulty prelude block (Some fault) = shown_skipped fault
+abbrev pub unless_faulty : Stated → BlockText → Result (List Placed) Fault → ShownText
+unless_faulty prelude block (Ok selectors) = shown_rule prelude block selectors
+unless_faulty prelude block (Err fault) = shown_skipped fault
 
 -- a rule set with a bad prelude, or with one part that is no selector, is skipped
 abbrev pub shown_of : StatementText → ShownText
-shown_of (rule_set prelude block) = unless_faulty prelude block (prelude_fault prelude)
+shown_of (rule_set prelude block) = unless_faulty prelude block (listed_under None prelude)
 shown_of (at_rule_statement rule) = shown_at_rule rule
 shown_of (skipped_statement fault) = shown_skipped fault
 
@@ -92,7 +87,7 @@ rule_row places count prelude block =
 
 -- ten of a statement of this length
 abbrev pub shown_row : PlacesText → (count : ℕ) → ShownText → List ℕ
-shown_row places count (shown_rule prelude block) = rule_row places count prelude block
+shown_row places count (shown_rule prelude block selectors) = rule_row places count prelude block
 shown_row places count (shown_at_rule rule) =
     at_rule_row places.start count places.prelude places.block rule
 shown_row places count (shown_skipped fault) = fault_row places.start count fault
@@ -103,14 +98,14 @@ prelude_end places prelude = min (places.prelude + length prelude.text) places.b
 
 -- the numbers of the selectors of a rule set; of anything else none
 abbrev pub shown_selectors : PlacesText → ShownText → List ℕ
-shown_selectors places (shown_rule prelude block) =
-    selector_numbers (prelude_end places prelude) prelude.text
+shown_selectors places (shown_rule prelude block selectors) =
+    selector_numbers (prelude_end places prelude) selectors
 shown_selectors places (shown_at_rule rule) = []
 shown_selectors places (shown_skipped fault) = []
 
 -- those of the items of its block
 abbrev pub shown_items : PlacesText → ShownText → List ℕ
-shown_items places (shown_rule prelude block) = item_numbers places.block_end true block.text
+shown_items places (shown_rule prelude block selectors) = item_numbers places.block_end true block.text
 shown_items places (shown_at_rule rule) = []
 shown_items places (shown_skipped fault) = []
 

@@ -1,11 +1,14 @@
 -- What is written of values as far as names go: computed values, shorthands, and what is inherited.
-use Rattle.std.specs.Prelude.{◌≡◌, ◌<◌, ◌≤◌, ◌⊎◌, ◌||◌, ℕ, Bool, true, false, List, length, take, None, Some, Result, Ok, Err}
+use Rattle.std.specs.Prelude.{◌≡◌, ◌<◌, ◌≤◌, ◌⊎◌, ◌||◌, ℕ, Bool, true, false, List, length, take, drop, Option, None, Some, Result, Ok, Err}
 use Rattle.std.specs.Str.{IsUtf8}
 use Rattle.css_conditions.specs.declared.truth.Truth.{Truth}
 use Rattle.css_conditions.specs.declared.truth.Truth.TheVariants.{True, False}
 use Rattle.css_text.specs.AsciiBytes.{hyphen}
 use Rattle.css_text.specs.Bytes.{starts_two}
-use Rattle.css_values.specs.Resolution.{Property, Known, Resolved, deepest_fallback}
+use Rattle.css_values.specs.Substitution.{Value}
+use Rattle.css_values.specs.Registrations.{Stated, registrations_of}
+use Rattle.css_values.specs.Registered.{AreValues as AreValuesOf}
+use Rattle.css_values.specs.Resolution.{deepest_fallback}
 use Rattle.css_values.specs.Validity.{is_valid}
 use Rattle.css_values.specs.Lines.{name_lines, properties_in, value_lines}
 use Rattle.css_values.specs.Names.{is_named_in, longhands_in, shorthands_in}
@@ -24,23 +27,29 @@ FailsPairs buffer ends IsLonger =
     FailsWithin (HasBadEnds buffer ends ⊎ HasNoPairs buffer ends) (λ fault. ⊥)
     (IsBrokenUtf8 buffer ends) ⊥ IsLonger
 
--- the lines of the computed values of the first of the properties of a buffer
-pub record AreValues (wanted limit : ℕ) (buffer ends bytes : List ℕ) : Type 0 where
+-- The lines of the values of the properties that an element declares: of these pairs so many are these, so many
+-- after them are `@property` rules, and the others are what the parent has.
+pub record AreLinesOf (wanted registered limit : ℕ) (stated : List Stated) (bytes : List ℕ) : Type 0 where
+  pub values : List (Option Value)
+  pub are : AreValuesOf limit (registrations_of (take registered (drop wanted stated))) (take wanted stated)
+      (drop registered (drop wanted stated)) values
+  pub lines : bytes ≡ value_lines values
+
+-- the same of the pairs of a buffer
+pub record AreValues (wanted registered limit : ℕ) (buffer ends bytes : List ℕ) : Type 0 where
   pub texts : List (List ℕ)
   pub has_texts : HasTexts buffer ends texts
-  pub properties : List Property
-  pub pairs : properties_in texts ≡ Some properties
-  pub stage : List Known
-  pub resolved : Resolved limit properties wanted stage
-  pub lines : bytes ≡ value_lines (take wanted stage)
+  pub stated : List Stated
+  pub pairs : properties_in texts ≡ Some stated
+  pub are : AreLinesOf wanted registered limit stated bytes
 
 -- these lines, or why nothing is written
-abbrev pub IsResolveCall : (wanted limit most : ℕ) → List ℕ → List ℕ → Result (List ℕ) CallError → Type 0
-IsResolveCall wanted limit most buffer ends (Ok bytes) =
-    AreValues wanted limit buffer ends bytes × (length bytes ≤ most)
-IsResolveCall wanted limit most buffer ends (Err failure) =
+abbrev pub IsResolveCall : (wanted registered limit most : ℕ) → List ℕ → List ℕ → Result (List ℕ) CallError → Type 0
+IsResolveCall wanted registered limit most buffer ends (Ok bytes) =
+    AreValues wanted registered limit buffer ends bytes × (length bytes ≤ most)
+IsResolveCall wanted registered limit most buffer ends (Err failure) =
     FailsPairs buffer ends
-    ((bytes : List ℕ) × (AreValues wanted limit buffer ends bytes × (most < length bytes))) failure
+    ((bytes : List ℕ) × (AreValues wanted registered limit buffer ends bytes × (most < length bytes))) failure
 
 abbrev pub truth_of : Bool → Truth
 truth_of true = True

@@ -13,7 +13,8 @@ use Rattle.css_cascade.specs.declared.weights.Origin.{Origin}
 use Rattle.css_cascade.specs.declared.weights.Origin.TheVariants as origins
 use Rattle.css_index.specs.Found.{AreMatches}
 use Rattle.css_sheet.specs.SheetLayers.{layer_count}
-use Rattle.css_sheet.specs.SheetOrder.{SheetRuleText, SheetText, cascade_rules, nested_lists, source_rules, declarations_in, texts_in}
+use Rattle.css_sheet.specs.SheetOrder.{SheetRuleText, cascade_rules, nested_lists, source_rules, declarations_in}
+use Rattle.css_sheet.specs.Sheets.{SheetText, texts_in}
 use Rattle.css_styles.specs.Contenders.{OwnText, contenders}
 use Rattle.css_styles.specs.Winners.{WinnerText, AreWinners, Decides, winners}
 use Rattle.css_styles.specs.declared.winner.Source.{Source}
@@ -275,7 +276,7 @@ held_declarations sheets groups = declarations_in (source_rules (is_held groups)
 
 -- and how many layers there are
 abbrev pub held_layers : List SheetText → (groups : List (List ℕ)) → ℕ
-held_layers sheets groups = layer_count (is_held groups) (texts_in sheets)
+held_layers sheets groups = layer_count (is_held groups) sheets
 
 -- the sheets are these, and these are the texts of group rules
 abbrev pub AreSheets : PassedSheets → List SheetText → (groups : List (List ℕ)) → Type 0

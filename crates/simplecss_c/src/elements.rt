@@ -8,7 +8,7 @@ ghost use Rattle.std.specs.Str.{IsCharBoundary, IsUtf8};
 ghost use Rattle.simplecss_c.specs.Elements.{Strings, may_end, strings_in, IsPath, limit_after};
 ghost use Rattle.simplecss_c.specs.Elements.{parent_after, element_row, repeats_key, strings_of};
 ghost use Rattle.simplecss_c.specs.Elements.{fault_in, with_element, tree_from, tree_of};
-ghost use Rattle.simplecss_c.specs.Elements.{fault_number, fault_element, has_bit, has_text, states_in};
+ghost use Rattle.simplecss_c.specs.Elements.{fault_number, fault_element, has_bit, has_text, is_scope, scope_in, states_in};
 ghost use Rattle.simplecss_c.specs.Calls.{FailsFor};
 
 use crate::answer::CallError;
@@ -25,8 +25,8 @@ pub struct TreeElement {
     pub depth: usize,
     /// How many attributes it has.
     pub attributes: usize,
-    /// The sum of its states: 1 is `:link`, 2 `:visited`, 4 `:hover`, 8 `:active`, 16 `:focus`, and 32
-    /// that it has a text of its own that is not empty.
+    /// The sum of its states: 1 is `:link`, 2 `:visited`, 4 `:hover`, 8 `:active`, 16 `:focus`, 32 that it
+    /// has a text of its own that is not empty, and 64 that `:scope` matches it, as no later one.
     pub states: usize,
 }
 
@@ -214,6 +214,20 @@ pub fn has_text(element: TreeElement) -> bool
     ensures { result ≡ has_text element }
 {
     has_bit(element.states, 32)
+}
+
+/// Whether `:scope` matches the element.
+fn is_scope(element: &TreeElement) -> bool
+    ensures { result ≡ is_scope element.now }
+{
+    has_bit(element.states, 64)
+}
+
+/// Returns the index of the first element that `:scope` matches, if one is named.
+pub fn scope_in(elements: &[TreeElement]) -> Option<usize>
+    ensures { result ≡ scope_in elements.now }
+{
+    elements.iter().position(is_scope)
 }
 
 /// Adds the next element, and returns how many of the strings that are left it has.

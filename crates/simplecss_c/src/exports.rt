@@ -370,25 +370,26 @@ pub extern "C" fn simplecss_supports(
     hand_over_truth(outcome, out, len)
 }
 
-/// Writes the computed values of the first `wanted` of an element's properties, whose names and values
-/// lie one after another in a buffer: of each the length, a newline and the value, or only a newline where
-/// it has none.
+/// Writes the values of properties, whose names and values lie one after another in a buffer: of the first
+/// `wanted`, which an element declares, each the length, a newline and the value, or only a newline where it
+/// has none. So many after them are `@property` rules.
 #[unsafe(no_mangle)]
 pub extern "C" fn simplecss_values(
     alloc: Global,
     texts: &[u8],
     ends: &[usize],
     wanted: usize,
+    registered: usize,
     limit: usize,
     most: usize,
     out: &mut [u8],
     len: &mut usize,
 ) -> u32
-    ensures { IsAnswered (IsResolveCall wanted limit most texts.now ends.now)
+    ensures { IsAnswered (IsResolveCall wanted registered limit most texts.now ends.now)
         result out.old out.new len.new }
 {
     hand_over(
-        values::values(alloc, texts, ends, wanted, limit, most),
+        values::values(alloc, texts, ends, wanted, registered, limit, most),
         out,
         len,
     )

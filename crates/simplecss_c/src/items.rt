@@ -44,6 +44,14 @@ pub fn offset_of(end: usize, rest: &str) -> usize
     end.saturating_sub(rest.len())
 }
 
+/// Returns how many bytes are from one place of a text to another, by what is left of it at each.
+pub fn count_between(from: &str, to: &str) -> usize
+    ensures is { result ≡ length from.now - length to.now }
+    ensures short { result < 2 ^ 63 }
+{
+    from.len().saturating_sub(to.len())
+}
+
 /// Returns the numbers of a declaration of this length. It begins at `start`, and its value at `value`.
 fn declaration_row(one: &Declaration<'_>, start: usize, count: usize, value: usize) -> [usize; 10]
     ensures { result ≡ declaration_row_of start count value (declaration_of one.now) }

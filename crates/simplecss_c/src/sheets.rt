@@ -3,13 +3,10 @@
 ghost use Rattle.std.specs.Prelude.{◌≡◌, ◌<◌, ◌^◌, ◌-◌, ◌+◌, ◌++◌, ◌≤◌, OnOk, IfOk, MatchResult};
 ghost use Rattle.std.specs.Prelude.{length, map, option_map};
 ghost use Rattle.css_syntax.specs.Views.{prelude_of, block_of, statement_of, sheet_part_of};
-ghost use Rattle.css_syntax.specs.SelectorLists.{listed_of};
-ghost use Rattle.css_syntax.specs.SelectorViews.{form_of};
 ghost use Rattle.css_sheet.specs.Places.{places_of};
 ghost use Rattle.css_sheet.specs.ReaderViews.{level_of, condition_at};
 ghost use Rattle.css_sheet.specs.RuleViews.{rule_selector_of};
-ghost use Rattle.css_sheet.specs.NestedSelectors.{with_element};
-ghost use Rattle.css_selectors.specs.SpecificityViews.{counts_of};
+ghost use Rattle.css_selectors.specs.ReadViews.{placed_of};
 ghost use Rattle.simplecss_c.specs.Calls.{FailsLonger};
 ghost use Rattle.simplecss_c.specs.SheetNumbers.{level_row as level_row_of, level_numbers as level_numbers_of};
 ghost use Rattle.simplecss_c.specs.SheetNumbers.{element_numbers as element_numbers_of};
@@ -23,10 +20,9 @@ ghost use Rattle.simplecss_c.specs.SheetNumbers.{statement_numbers, sheet_number
 ghost use Rattle.simplecss_c.specs.internal.Shown.{shown_text};
 
 use crate::answer::{CallError, check_count};
-use crate::items::{at_rule_row, fault_row, item_numbers, offset_of};
-use css_selectors::Specificity;
-use css_sheet::{Level, Places, RuleSelector, SheetReader, read_listed};
-use css_syntax::selectors::{FoundSelector, SelectorForm, next_part, prelude_fault, read_part};
+use crate::items::{at_rule_row, count_between, fault_row, item_numbers, offset_of};
+use css_selectors::Listed;
+use css_sheet::{Level, Places, RuleSelector, SheetReader, read_listed, rule_selector};
 use css_syntax::{AtRule, Fault, RuleSet, SheetPart, Statement};
 use std::alloc::{AllocError, Global};
 
@@ -63,96 +59,68 @@ fn level_numbers(alloc: Global, levels: &[Level<'_>]) -> Result<Vec<usize>, Allo
     Ok(out)
 }
 
+/// Returns whether a selector is supported, and its specificity with its pseudo-element.
+fn read_numbers(read: &RuleSelector<'_>) -> [usize; 4]
+    ensures { result ≡ read_numbers_of (rule_selector_of read.now) }
+{
+    let counts = read.specificity();
+    [
+        usize::from(read.selector.is_some()),
+        counts.ids as usize,
+        counts.classes as usize,
+        counts.names as usize,
+    ]
+}
+
 /// Returns the offset and the length of the pseudo-element at the end of a selector, from its first colon on,
 /// or 0 and 0.
-fn element_numbers(form: &SelectorForm<'_>, start: usize, count: usize) -> [usize; 2]
-    requires { start < 2 ^ 63 }
-    ensures { result ≡ element_numbers_of (form_of form.now) start count }
-{
-    match form {
-        SelectorForm::WithElement(element) => {
-            let front = element.front.len();
-            [start + front, count.saturating_sub(front)]
-        }
-        _ => [0, 0],
-    }
-}
-
-/// Returns the specificity with a pseudo-element, if there is one.
-fn with_element(counts: Specificity, pseudo_element: Option<&str>) -> Specificity
-    ensures { counts_of result
-        ≡ with_element (counts_of counts) (option_map (λ name. name.now) pseudo_element.entry) }
+fn element_numbers(end: usize, element: &str, to: &str, pseudo_element: Option<&str>) -> [usize; 2]
+    requires { end < 2 ^ 63 }
+    ensures { result ≡ element_numbers_of end element.now to.now
+        (option_map (λ name. name.now) pseudo_element.entry) }
 {
     match pseudo_element {
-        Some(_) => Specificity {
-            names: counts.names.saturating_add(1),
-            ..counts
-        },
-        None => counts,
+        Some(_) => [offset_of(end, element), count_between(element, to)],
+        None => [0, 0],
     }
 }
 
-/// Returns whether a selector is read, and its specificity with its pseudo-element.
-fn read_numbers(read: &RuleSelector<'_>) -> [usize; 4]
-    ensures { result
-        ≡ read_numbers_of read.now.selector (rule_selector_of read.now).pseudo_element }
-{
-    match &read.selector {
-        Some(selector) => {
-            let counts = with_element(selector.specificity(), read.pseudo_element);
-            [
-                1,
-                counts.ids as usize,
-                counts.classes as usize,
-                counts.names as usize,
-            ]
-        }
-        None => [0, 0, 0, 0],
-    }
-}
-
-/// Appends the numbers of a selector of a list whose text ends at this offset.
-fn push_selector(
-    out: &mut Vec<usize>,
-    alloc: Global,
-    found: &FoundSelector<'_>,
-    end: usize,
-) -> Result<(), AllocError>
+/// Returns the numbers of a selector of a list whose text ends at this offset.
+fn selector_row(alloc: Global, listed: Listed<'_>, end: usize) -> Result<[usize; 8], AllocError>
     requires { end < 2 ^ 63 }
-    ensures { OnOk result (out.new.items ≡ out.old.items ++ selector_row_of end (record {
-      listed = listed_of found.now.selector;
-      from = found.now.from.now;
-    })) }
+    ensures { IfOk result (λ row. row ≡ selector_row_of end (placed_of listed.entry)) }
 {
-    let start = offset_of(end, found.from);
-    let count = found.selector.text.len();
-    let read = read_listed(alloc, &found.selector)?;
-    out.push(start)?;
-    out.push(count)?;
-    out.extend_from_slice(&read_numbers(&read))?;
-    out.extend_from_slice(&element_numbers(&found.selector.form, start, count))
+    let start = offset_of(end, listed.from);
+    let count = count_between(listed.from, listed.to);
+    let (element, to) = (listed.element, listed.to);
+    let read = rule_selector(alloc, listed)?;
+    let [is_read, ids, classes, names] = read_numbers(&read);
+    let [at, len] = element_numbers(end, element, to, read.pseudo_element);
+    Ok([start, count, is_read, ids, classes, names, at, len])
 }
 
 /// Returns the numbers of the selectors of a list whose text ends at this offset.
-fn selector_numbers(alloc: Global, text: &str, end: usize) -> Result<Vec<usize>, AllocError>
+fn selector_numbers(
+    alloc: Global,
+    all: Vec<Listed<'_>>,
+    end: usize,
+) -> Result<Vec<usize>, AllocError>
     requires { end < 2 ^ 63 }
-    ensures { IfOk result (λ out. out.items ≡ selector_numbers_of end text.now) }
+    ensures { IfOk result (λ out. out.items
+        ≡ selector_numbers_of end (map placed_of all.entry.items)) }
 {
     let mut out = Vec::new(alloc);
-    let mut part = read_part(text);
-    push_selector(&mut out, alloc, &part, end)?;
-    'parts: while let Some(next) = next_part(part.rest) {
-        push_selector(&mut out, alloc, &next, end)?;
-        part = next;
+    'selectors: for listed in all {
+        out.extend_from_slice(&selector_row(alloc, listed, end)?)?;
     }
     Ok(out)
 }
 
 /// What a statement is in an answer.
-#[derive(Clone, Copy)]
+#[derive(Drop)]
 enum Shown<'s, 'a> {
-    /// A rule set.
-    Rule(&'s RuleSet<'a>),
+    /// A rule set, with its selectors.
+    Rule(&'s RuleSet<'a>, Vec<Listed<'a>>),
     /// An at-rule.
     AtRule(&'s AtRule<'a>),
     /// Something that is skipped.
@@ -160,16 +128,16 @@ enum Shown<'s, 'a> {
 }
 
 /// Returns what a statement is in an answer: a rule set with an invalid prelude is skipped.
-fn show<'s, 'a>(statement: &'s Statement<'a>) -> Shown<'s, 'a>
-    ensures { shown_text result ≡ shown_of (statement_of statement.now) }
+fn show<'s, 'a>(alloc: Global, statement: &'s Statement<'a>) -> Result<Shown<'s, 'a>, AllocError>
+    ensures { IfOk result (λ shown. shown_text shown ≡ shown_of (statement_of statement.now)) }
 {
     match statement {
-        Statement::RuleSet(rule) => match prelude_fault(&rule.prelude) {
-            Some(fault) => Shown::Skipped(fault),
-            None => Shown::Rule(rule),
+        Statement::RuleSet(rule) => match read_listed(alloc, None, &rule.prelude)? {
+            Ok(selectors) => Ok(Shown::Rule(rule, selectors)),
+            Err(fault) => Ok(Shown::Skipped(fault)),
         },
-        Statement::AtRule(rule) => Shown::AtRule(rule),
-        Statement::Skipped(fault) => Shown::Skipped(*fault),
+        Statement::AtRule(rule) => Ok(Shown::AtRule(rule)),
+        Statement::Skipped(fault) => Ok(Shown::Skipped(*fault)),
     }
 }
 
@@ -197,7 +165,7 @@ fn shown_row(shown: &Shown<'_, '_>, places: Places, count: usize) -> [usize; 10]
     ensures { result ≡ shown_row_of (places_of places) count (shown_text shown.now) }
 {
     match shown {
-        Shown::Rule(rule) => rule_row(rule, places, count),
+        Shown::Rule(rule, _) => rule_row(rule, places, count),
         Shown::AtRule(rule) => {
             at_rule_row(rule, places.start, count, places.prelude, places.block)
         }
@@ -208,18 +176,17 @@ fn shown_row(shown: &Shown<'_, '_>, places: Places, count: usize) -> [usize; 10]
 /// Returns the numbers of the selectors of a rule set. Anything else has none.
 fn shown_selectors(
     alloc: Global,
-    shown: &Shown<'_, '_>,
+    shown: Shown<'_, '_>,
     places: Places,
 ) -> Result<Vec<usize>, AllocError>
     ensures { IfOk result (λ out. out.items
-        ≡ shown_selectors_of (places_of places) (shown_text shown.now)) }
+        ≡ shown_selectors_of (places_of places) (shown_text shown.entry)) }
 {
-    let Shown::Rule(rule) = shown else {
+    let Shown::Rule(rule, selectors) = shown else {
         return Ok(Vec::new(alloc));
     };
-    let prelude = rule.prelude.text;
-    let end = (places.prelude + prelude.len()).min(places.block);
-    selector_numbers(alloc, prelude, end)
+    let end = (places.prelude + rule.prelude.text.len()).min(places.block);
+    selector_numbers(alloc, selectors, end)
 }
 
 /// Returns the numbers of the items of a rule set. Anything else has none.
@@ -231,7 +198,7 @@ fn shown_items(
     ensures { IfOk result (λ out. out.items
         ≡ shown_items_of (places_of places) (shown_text shown.now)) }
 {
-    let Shown::Rule(rule) = shown else {
+    let Shown::Rule(rule, _) = shown else {
         return Ok(Vec::new(alloc));
     };
     item_numbers(alloc, rule.block.text, places.block_end, true)
@@ -276,11 +243,11 @@ fn push_part(
       places = places_of places;
     })) }
 {
-    let shown = show(&part.statement);
+    let shown = show(alloc, &part.statement)?;
     let row = shown_row(&shown, places, part.text.len());
     let levels = level_numbers(alloc, levels)?;
-    let selectors = shown_selectors(alloc, &shown, places)?;
     let items = shown_items(alloc, &shown, places)?;
+    let selectors = shown_selectors(alloc, shown, places)?;
     push_counted(out, &row, &levels, &selectors, &items)
 }
 

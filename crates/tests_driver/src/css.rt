@@ -15,8 +15,7 @@
 //! list.
 
 use css_selectors::{Condition, Selector, Simple};
-use css_sheet::{RuleSelector, SheetError, SheetReader, read_selectors, read_sheet};
-use css_syntax::selectors::prelude_fault;
+use css_sheet::{RuleSelector, SheetError, SheetReader, read_listed, read_selectors, read_sheet};
 use css_syntax::{
     AtRule, Declaration, DeclarationList, Declarations, Item, RuleSet, Statement, Statements,
     closed_value, decode,
@@ -131,10 +130,10 @@ fn write_levels<W: Write>(out: &mut W, reader: &SheetReader<'_>) -> io::Result<(
 }
 
 /// The word for why a rule set is dropped, if it is.
-fn drop_word(rule: &RuleSet<'_>) -> &'static str {
-    match prelude_fault(&rule.prelude) {
-        Some(fault) => fault.words(),
-        None => "",
+fn drop_word(alloc: Global, rule: &RuleSet<'_>) -> io::Result<&'static str> {
+    match read_listed(alloc, None, &rule.prelude)? {
+        Ok(_) => Ok(""),
+        Err(fault) => Ok(fault.words()),
     }
 }
 
@@ -148,7 +147,7 @@ fn write_rules<W: Write>(alloc: Global, out: &mut W, text: &str) -> io::Result<(
         };
         if let Statement::RuleSet(rule) = part.statement {
             write_levels(out, &reader)?;
-            write_field(out, drop_word(&rule))?;
+            write_field(out, drop_word(alloc, &rule)?)?;
             write_field(out, rule.prelude.text)?;
             write_field(out, rule.block.text)?;
         }
@@ -168,7 +167,7 @@ fn write_selector<W: Write>(alloc: Global, out: &mut W, one: &RuleSelector<'_>) 
 
 /// Writes the selectors of a rule set, or why it is dropped.
 fn write_selectors_of<W: Write>(alloc: Global, out: &mut W, rule: &RuleSet<'_>) -> io::Result<()> {
-    match read_selectors(alloc, &rule.prelude) {
+    match read_selectors(alloc, None, &rule.prelude) {
         Ok(Ok(selectors)) => {
             for one in &selectors {
                 write_selector(alloc, out, one)?;

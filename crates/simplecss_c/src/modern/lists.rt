@@ -1,26 +1,22 @@
 //! Lists of selectors, and texts that are selectors.
 
 ghost use Rattle.std.specs.Prelude.{◌≡◌, ◌<◌, ◌^◌, ◌++◌, IfOk, OnOk, MatchResult, ℕ, List};
-ghost use Rattle.std.specs.Prelude.{None, Some, length, map, option_map, string_bytes};
-ghost use Rattle.css_syntax.specs.SelectorLists.{listed_of};
-ghost use Rattle.css_syntax.specs.PlacedSelectors.{PlacedSelector, placed_selectors};
+ghost use Rattle.std.specs.Prelude.{◌-◌, None, Some, is_none, length, map, option_map, string_bytes};
 ghost use Rattle.css_sheet.specs.RuleSelectors.{selector_of};
-ghost use Rattle.css_selectors.specs.Components.{Selector};
-ghost use Rattle.css_selectors.specs.Supported.{supported_list};
+ghost use Rattle.css_selectors.specs.ReadViews.{placed_of};
+ghost use Rattle.css_selectors.specs.Supported.{first_unsupported, supported_list};
 ghost use Rattle.simplecss_c.specs.Calls.{FailsFor, HasNoSelector, AreSelectorsIn};
-ghost use Rattle.simplecss_c.specs.ModernLines.{string_or_null, element_name, listed_line};
+ghost use Rattle.simplecss_c.specs.ModernLines.{string_or_null, element_name, listed_line, listed_lines as listed_lines_of};
 ghost use Rattle.css_selectors.specs.Views.{pseudo_element_of};
-ghost use Rattle.simplecss_c.specs.ModernLines.{AreListedLines, listed_texts};
 ghost use Rattle.simplecss_c.specs.ModernLines.{refusal_text, IsRefusalLine};
-ghost use Rattle.simplecss_c.specs.Readings.{is_memory, selectors_of};
+ghost use Rattle.simplecss_c.specs.Readings.{is_memory, listed_in, selectors_of};
 ghost use Rattle.simplecss_c.specs.declared.answer.CallError.TheVariants.{Memory};
 
 use crate::answer::CallError;
-use crate::items::offset_of;
+use crate::items::{count_between, offset_of};
 use crate::json::{position_line, push_specificity, push_string};
 use crate::ranges::push_range;
-use css_selectors::{PseudoElement, Refusal, Selector, Why};
-use css_syntax::selectors::{FoundSelector, next_part, read_part};
+use css_selectors::{Listed, PseudoElement, Refusal, Selector, Why};
 use std::alloc::{AllocError, Global};
 
 impl From<Refusal<'_>> for CallError {
@@ -83,21 +79,19 @@ fn push_name(out: &mut String, element: Option<&PseudoElement<'_>>) -> Result<()
 fn push_listed(
     out: &mut String,
     alloc: Global,
-    found: &FoundSelector<'_>,
+    listed: &Listed<'_>,
     end: usize,
-    selector: &Selector<'_>,
 ) -> Result<(), AllocError>
     requires { end < 2 ^ 63 }
     ensures { OnOk result (string_bytes out.new ≡ string_bytes out.old
-        ++ listed_line end (record {
-          listed = listed_of found.now.selector;
-          from = found.now.from.now;
-        }) selector.now) }
+        ++ listed_line end (placed_of listed.now)) }
 {
-    let start = offset_of(end, found.from);
+    let selector = &listed.selector;
+    let start = offset_of(end, listed.from);
+    let count = count_between(listed.from, listed.to);
     let text = format!(in alloc; "{selector}")?;
     out.push_str("{\"text\":")?;
-    push_range(out, start, start + found.selector.text.len())?;
+    push_range(out, start, start + count)?;
     out.push_str(",\"selector\":")?;
     push_string(out, text.as_str())?;
     out.push_str(",\"specificity\":")?;
@@ -107,42 +101,57 @@ fn push_listed(
     out.push_str("}\n")
 }
 
-/// Reads a selector of a list whose text ends at this offset, and appends its line.
-fn push_read(
-    out: &mut String,
-    alloc: Global,
-    found: &FoundSelector<'_>,
-    end: usize,
-) -> Result<(), CallError>
+/// Returns the lines of the selectors of a list whose text ends at this offset.
+fn listed_lines(alloc: Global, all: &[Listed<'_>], end: usize) -> Result<String, AllocError>
     requires { end < 2 ^ 63 }
-    ensures { let placed : PlacedSelector = record {
-      listed = listed_of found.now.selector;
-      from = found.now.from.now;
-    } in
-        MatchResult result (λ _. (s : Selector) × (selector_of placed.listed.text ≡ Some s)
-        × (string_bytes out.new ≡ string_bytes out.old ++ listed_line end placed s))
-        (λ error. FailsFor (selector_of placed.listed.text ≡ None) (λ fault. ⊥) ⊥ error) }
+    ensures { IfOk result (λ lines. string_bytes lines ≡ listed_lines_of end (map placed_of all.now)) }
 {
-    let selector = read_selector(alloc, found.selector.text)?;
-    push_listed(out, alloc, found, end, &selector)?;
-    Ok(())
+    let mut out = String::new(alloc);
+    let mut left = all;
+    'selectors: while let [listed, others @ ..] = left {
+        push_listed(&mut out, alloc, listed, end)?;
+        left = others;
+    }
+    Ok(out)
+}
+
+/// Whether all selectors of a list are supported.
+fn are_supported(all: &[Listed<'_>]) -> bool
+    ensures { result ≡ is_none (first_unsupported (map placed_of all.now)) }
+{
+    let mut left = all;
+    'selectors: while let [listed, others @ ..] = left {
+        if !listed.selector.is_supported() {
+            return false;
+        }
+        left = others;
+    }
+    true
+}
+
+/// The selectors of a list with where they are, or the refusal.
+fn read_listed(alloc: Global, text: &str) -> Result<Vec<Listed<'_>>, CallError>
+    ensures { MatchResult result
+        (λ all. listed_in text.now ≡ Some (map placed_of all.items))
+        (λ error. FailsFor (listed_in text.now ≡ None) (λ fault. ⊥) ⊥ error) }
+{
+    let all = Selector::read_list(alloc, text)?;
+    if are_supported(&all) {
+        Ok(all)
+    } else {
+        Err(CallError::Refused)
+    }
 }
 
 /// The lines of the selectors of a list.
 pub fn list_lines(alloc: Global, text: &str) -> Result<String, CallError>
     ensures { MatchResult result
-        (λ lines. AreListedLines (length text.now) (placed_selectors text.now) (string_bytes lines))
-        (λ error. FailsFor (HasNoSelector selector_of (listed_texts text.now)) (λ fault. ⊥) ⊥
-        error) }
+        (λ lines. option_map (listed_lines_of (length text.now)) (listed_in text.now)
+        ≡ Some (string_bytes lines))
+        (λ error. FailsFor (listed_in text.now ≡ None) (λ fault. ⊥) ⊥ error) }
 {
-    let mut out = String::new(alloc);
-    let mut part = read_part(text);
-    push_read(&mut out, alloc, &part, text.len())?;
-    'parts: while let Some(next) = next_part(part.rest) {
-        push_read(&mut out, alloc, &next, text.len())?;
-        part = next;
-    }
-    Ok(out)
+    let all = read_listed(alloc, text)?;
+    Ok(listed_lines(alloc, &all, text.len())?)
 }
 
 /// Returns what is quoted of the rest of a refused text, and the reason in words.

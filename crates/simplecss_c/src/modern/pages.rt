@@ -11,7 +11,7 @@ ghost use Rattle.simplecss_c.specs.declared.modern.document_kind.DocumentKind.Th
 
 use super::document_kind::{DocumentKind, html_selectors};
 use crate::answer::{CallError, check_length};
-use crate::elements::{TreeElement, has_text};
+use crate::elements::{TreeElement, has_text, scope_in};
 use crate::pages::{LineContent, push_indices};
 use css_selectors::{Selector, Tests};
 use css_tree::{NumberedTree, NumberingError, TreeWalk};
@@ -30,7 +30,7 @@ impl From<NumberingError> for CallError {
     }
 }
 
-/// The tree whose siblings are counted, and which of its elements have a text.
+/// The tree whose siblings are counted, which of its elements have a text, and which one `:scope` matches.
 fn counted_page<'p, 't>(
     alloc: Global,
     tree: &'p Tree<'t>,
@@ -41,6 +41,7 @@ fn counted_page<'p, 't>(
         (λ error. error ≡ Memory) }
 {
     let mut page = NumberedTree::new(alloc, tree)?;
+    page.set_scope(scope_in(elements));
     for index in 0..elements.len() {
         if has_text(elements[index]) {
             page.set_text(index);

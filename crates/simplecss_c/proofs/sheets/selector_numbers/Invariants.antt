@@ -1,14 +1,11 @@
-use Rattle.std.proofs.Common.{◌≡◌, ◌++◌, length}
-use Rattle.std.specs.List.{flat_map}
-use Rattle.css_syntax.specs.PlacedSelectors.{more_placed_selectors}
-use Rattle.simplecss_c.specs.SheetNumbers.{selector_row, selector_numbers}
+use Rattle.std.proofs.Common.{◌≡◌, ◌++◌, map}
+use Rattle.std.specs.Vec.Iter.{into_iter_items}
+use Rattle.css_selectors.specs.ReadViews.{placed_of}
+use Rattle.simplecss_c.specs.SheetNumbers.{selector_numbers}
 use Rattle.simplecss_c.proofs.sheets.selector_numbers.Given as goal
 
 -- the numbers of the selectors so far, and of those that are left
-abbrev pub invariant-parts : goal.invariant-parts
-invariant-parts l =
-    l.out.items ++ flat_map (selector_row l.end) (more_placed_selectors l.part.rest.now)
-    ≡ selector_numbers l.end l.text
-
-abbrev pub decreases-parts : goal.decreases-parts
-decreases-parts l = length l.part.rest.now
+abbrev pub invariant-selectors : goal.invariant-selectors
+invariant-selectors l =
+    l.out.items ++ selector_numbers l.end (map placed_of (into_iter_items l.listed-iterator))
+    ≡ selector_numbers l.end (map placed_of l.fn.all.items)

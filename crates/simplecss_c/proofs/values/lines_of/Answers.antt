@@ -1,17 +1,16 @@
-use Rattle.std.proofs.Common.{Bor, List, ℕ, ◌≡◌, ◌∙◌, Some, None, map, take, ap, subst}
+use Rattle.std.proofs.Common.{Bor, List, ℕ, ◌≡◌, Some, None, map, subst}
 use Rattle.std.specs.String.{string_bytes}
-use Rattle.css_values.specs.Lines.{properties_in, value_lines}
-use Rattle.css_values.specs.Resolution.{Resolved}
-use Rattle.css_values.specs.Views.{property_of, stage_of}
+use Rattle.css_values.specs.Lines.{properties_in}
+use Rattle.css_values.specs.Views.{stated_of}
 use Rattle.simplecss_c.specs.Calls.{FailsFor}
-use Rattle.simplecss_c.specs.Values.{AreValues, FailsPairs}
+use Rattle.simplecss_c.specs.Values.{AreLinesOf, AreValues, FailsPairs}
 use Rattle.simplecss_c.proofs.ModernCalls.{handed-match}
 use Rattle.simplecss_c.proofs.ValueCalls.{texts-fail, pairs-fail}
 use Rattle.simplecss_c.proofs.values.lines_of.Goals as goal
 
 pub returns-in_err-pairs : goal.returns-in_err-pairs
 returns-in_err-pairs c =
-    handed-match (λ out. AreValues c.args.wanted c.args.limit c.args.texts.now c.args.ends.now (string_bytes out))
+    handed-match (λ out. AreValues c.args.wanted c.args.registered c.args.limit c.args.texts.now c.args.ends.now (string_bytes out))
     (FailsPairs c.args.texts.now c.args.ends.now ⊥) c.from_residual.result c.in_err-pairs.field-0.0
     c.from_residual.ensures.1
     (texts-fail c.args.texts.now c.args.ends.now ⊥ c.in_err-pairs.field-0.0 c.in_err-pairs.ensures)
@@ -19,7 +18,7 @@ returns-in_err-pairs c =
 pub returns-in_err-properties : goal.returns-in_err-properties
 returns-in_err-properties c =
     let texts = map (λ (text : Bor (List ℕ)). text.now) c.in_ok-pairs.pairs.items in
-    handed-match (λ out. AreValues c.args.wanted c.args.limit c.args.texts.now c.args.ends.now (string_bytes out))
+    handed-match (λ out. AreValues c.args.wanted c.args.registered c.args.limit c.args.texts.now c.args.ends.now (string_bytes out))
     (FailsPairs c.args.texts.now c.args.ends.now ⊥) c.from_residual-in_err-properties.result
     c.in_err-properties.field-0.0 c.from_residual-in_err-properties.ensures.1
     (pairs-fail c.args.texts.now c.args.ends.now ⊥ texts c.in_err-properties.field-0.0
@@ -30,15 +29,12 @@ returns-in_err-properties c =
 pub returns : goal.returns
 returns c =
     let texts = map (λ (text : Bor (List ℕ)). text.now) c.in_ok-pairs.pairs.items in
-    let properties = map property_of c.in_ok-properties.properties.items in record {
+    let stated = map stated_of c.in_ok-properties.properties.items in record {
       texts = texts;
       has_texts = c.in_ok-pairs.ensures;
-      properties = properties;
-      pairs = subst (λ (ts : List (Bor (List ℕ))). properties_in (map (λ t. t.now) ts) ≡ Some properties)
+      stated = stated;
+      pairs = subst (λ (ts : List (Bor (List ℕ))). properties_in (map (λ t. t.now) ts) ≡ Some stated)
           c.deref.ensures.value c.in_ok-properties.ensures;
-      stage = stage_of c.in_ok-slots.slots.items;
-      resolved = subst (λ ps. Resolved c.args.limit (map property_of ps) c.args.wanted (stage_of c.in_ok-slots.slots.items))
-          c.deref-2.ensures.value c.in_ok-slots.ensures.resolved;
-      lines = c.in_ok-out.ensures
-          ∙ ap (λ slots. value_lines (take c.args.wanted (stage_of slots))) c.deref-3.ensures.value;
+      are = subst (λ ps. AreLinesOf c.args.wanted c.args.registered c.args.limit (map stated_of ps) (string_bytes c.in_ok-out.out))
+          c.deref-2.ensures.value c.in_ok-out.ensures;
     }

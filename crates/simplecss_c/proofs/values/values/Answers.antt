@@ -6,8 +6,8 @@ use Rattle.simplecss_c.proofs.values.values.Goals as goal
 
 pub returns-in_err-out : goal.returns-in_err-out
 returns-in_err-out c =
-    handed-on (IsResolveCall c.args.wanted c.args.limit c.args.most c.args.texts.now c.args.ends.now)
+    handed-on (IsResolveCall c.args.wanted c.args.registered c.args.limit c.args.most c.args.texts.now c.args.ends.now)
     c.from_residual.result c.in_err-out.field-0.0 c.from_residual.ensures.1
     (fails-longer c.args.texts.now c.args.ends.now
-    ((bytes : List ℕ) × (AreValues c.args.wanted c.args.limit c.args.texts.now c.args.ends.now bytes
+    ((bytes : List ℕ) × (AreValues c.args.wanted c.args.registered c.args.limit c.args.texts.now c.args.ends.now bytes
     × (c.args.most < length bytes))) c.in_err-out.field-0.0 c.in_err-out.ensures)

@@ -2,7 +2,8 @@ use Rattle.std.proofs.Common.{Bor, List, ℕ, ◌≡◌, ◌<◌, ◌≤◌, ◌
 use Rattle.css_sheet.specs.declared.sheet_error.SheetError.TheVariants.{TooManyDeclarations, TooManyLayers}
 use Rattle.css_sheet.specs.declared.sheet_rules.Sheet.{Sheet}
 use Rattle.css_cascade.specs.Layers.{most_layers}
-use Rattle.css_sheet.specs.SheetOrder.{cascade_rules, nested_lists, texts_in}
+use Rattle.css_sheet.specs.SheetOrder.{cascade_rules, nested_lists}
+use Rattle.css_sheet.specs.Sheets.{texts_in}
 use Rattle.css_sheet.specs.SheetRuleViews.{sheet_of}
 use Rattle.simplecss_c.specs.WinnerNumbers.{AreRules, AreSheets, FailsBeside, HasSheets, held_declarations, held_layers, is_held, sheets_of, sheets_with}
 use Rattle.simplecss_c.proofs.ModernCalls.{handed-match}

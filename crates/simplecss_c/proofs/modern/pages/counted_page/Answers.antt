@@ -1,4 +1,4 @@
-use Rattle.std.proofs.Common.{◌+◌, length, ap, sym, subst, ◌∙◌, arith}
+use Rattle.std.proofs.Common.{◌+◌, false, length, get_or, ap, sym, subst, ◌∙◌, arith}
 use Rattle.css_tree.specs.Pages.{Page}
 use Rattle.simplecss_c.proofs.ModernPages.{TextsSoFar, texts-none, text-known, no-text-known, texts-known}
 use Rattle.simplecss_c.proofs.modern.pages.counted_page.Goals.{then-has_text, else-has_text}
@@ -7,8 +7,10 @@ use Rattle.simplecss_c.proofs.modern.pages.counted_page.Goals as goal
 pub loop-index-init : goal.loop-index-init
 loop-index-init c =
     let new = c.in_ok-page.ensures in
-    texts-none c.args.elements.now c.args.tree.now c.in_ok-page.page new.rows new.all new.texts
-    c.requires new.scope new.marks new.html
+    let set = c.set_scope.ensures in
+    texts-none c.args.elements.now c.args.tree.now _ (set.rows ∙ new.rows)
+    (ap length set.texts ∙ new.all) (λ i. ap (λ texts. get_or texts i false) set.texts ∙ new.texts i)
+    c.requires (set.scope ∙ c.scope_in.ensures) (set.marks ∙ new.marks) (set.html ∙ new.html)
 
 pub set_text-requires : goal.set_text-requires
 set_text-requires c =
