@@ -5,10 +5,12 @@ The expected values are those of CSS Custom Properties for Cascading Variables 1
 
 from __future__ import annotations
 
+import contextlib
 import os
 import sys
 import unittest
 from typing import Dict, List
+from unittest import mock
 
 sys.path.insert(0, os.path.join(os.path.dirname(os.path.abspath(__file__)), "..", "src"))
 
@@ -19,6 +21,7 @@ from simplecss import (  # noqa: E402
     is_inherited,
     is_valid_value,
     longhands,
+    resolve,
     shorthands,
 )
 from simplecss._families import family_of  # noqa: E402
@@ -128,7 +131,7 @@ class Resolved(unittest.TestCase):
         div, first, bold, second = by_name(":root{--x:red} p,b{color:var(--x)}")
         self.assertEqual(div, {"--x": "blue"})
         self.assertEqual(first, {"color": "blue"})
-        self.assertEqual(bold, {"color": "blue"})
+        self.assertEqual(bold, {"--x": "blue", "color": "blue"})
         self.assertEqual(second, {"color": "red"})
 
     def test_invalid(self) -> None:
@@ -145,6 +148,36 @@ class Resolved(unittest.TestCase):
         self.assertEqual(computed(alone), [None, None])
         # A fallback that is not needed is not read.
         self.assertEqual(computed([("--a", "var(--x, var(--a))"), ("--x", "1")]), ["1", "1"])
+
+    def test_registered(self) -> None:
+        """A registered property has its initial value, and parents hand it down if it says so (CSS
+        Properties and Values API 1, section 2)."""
+        rules = (
+            '@property --y{syntax:"<length>";inherits:false;initial-value:3px}'
+            "@property --z{syntax:'*';inherits:true;initial-value: a}"
+            '@media print{@property --z{syntax:"*";inherits:true}}'
+            '@property --y{syntax:"<length>";inherits:false}b{@property --y{}}'
+            "div{--y:1px}p{--x:var(--y);width:var(--y);top:var(--z)}"
+        )
+        div, first, bold, second = by_name(rules + "b{left:var(--x);right:var(--y,0);--y:var(--q)}")
+        self.assertEqual(div, {"--x": "blue", "--y": "1px"})
+        self.assertEqual(first, {"--x": "3px", "width": "3px", "top": "a"})
+        self.assertEqual(bold, {"--x": "3px", "left": "3px", "right": "3px", "--y": "3px"})
+        self.assertEqual(second, first)
+        # What has no value hands none down.
+        found = by_name(rules + "div{--z:initial}p{--z:var(--q)}b{left:var(--z,none)}")
+        self.assertEqual([each.get("--z") for each in found], ["a", None, None, None])
+        self.assertEqual(found[2]["left"], "none")
+
+    def test_keywords(self) -> None:
+        """A keyword may be what a value comes to."""
+        rule = '@property --r{syntax:"<n>";inherits:false;initial-value:1}'
+        rules = [(rule[10:13], rule[14:-1])]
+        for value, due in (("inherit", "2"), ("unset", "1"), ("initial", "1"), ("var(--q)", "1")):
+            for text in (value, f"var(--q, {value})"):
+                self.assertEqual(computed([("--r", text)], [("--r", "2")], rules), [due], text)
+        for value, plain in (("inherit", "2"), ("unset", "2"), ("initial", None)):
+            self.assertEqual(computed([("--s", f"var(--q,{value})")], [("--s", "2")]), [plain])
 
     def test_names(self) -> None:
         """Names compare as they are, but for escapes."""
@@ -165,6 +198,18 @@ class Resolved(unittest.TestCase):
         self.assertEqual([len(each or "") for each in values[-4:]], [15, 7, 3, 1])
         with self.assertRaises(LimitError):
             computed([("--a", "long")], most=2)
+
+    def test_read(self) -> None:
+        """What is read again for each element has a limit."""
+        rules = '@property --a{syntax:"*";inherits:true;initial-value:' + "x" * 99 + "}"
+        page = "".join(f'<p style="--b{n}:1">' for n in range(9))
+        for sheet in (rules, ":root{--a:" + "x" * 150 + "}"):
+            for most, is_refused in ((5000, False), (999, True)):
+                with mock.patch("simplecss._resolving.MOST_READ", most):
+                    with contextlib.ExitStack() as stack:
+                        if is_refused:
+                            stack.enter_context(self.assertRaises(LimitError))
+                        self.assertEqual(len(by_name(sheet, page)), 9)
 
 
 class Names(unittest.TestCase):
@@ -190,6 +235,20 @@ class Names(unittest.TestCase):
             self.assertTrue(is_inherited(name), name)
         for name in ("margin", "width", "border", "x-color"):
             self.assertFalse(is_inherited(name), name)
+
+    def test_resolve(self) -> None:
+        """What the other packages return (CSS Variables 1, sections 2.3 and 3)."""
+        own = [
+            ("color", "var(--m, red)"),
+            ("--a", "var(--b)"),
+            ("--b", "var(--a)"),
+            ("x", "[var(--é)]"),
+        ]
+        own.append(("--é", "é"))
+        self.assertEqual(resolve(own, [("--m", "blue")]), ["blue", None, None, "[é]", "é"])
+        self.assertEqual(resolve(own, limit=2), [None, None, None, None, "é"])
+        rules = [("--m", 'syntax: "*"; inherits: false; initial-value: green')]
+        self.assertEqual(resolve(iter(own), [("--m", "blue")], registered=rules)[0], "green")
 
     def test_valid(self) -> None:
         for value in ("red", "var(--a)", "f(var( --a , ))", "var(--a,var(--b))"):

@@ -317,6 +317,17 @@ class Modern(unittest.TestCase):
         )
         self.assertEqual(str(simplecss.StyleSheet(str(sheet))), str(sheet))
 
+    def test_of_any_element(self):
+        sheet = simplecss.StyleSheet(
+            "a > ::b, c/**/ ::d, e\\ ::f, g:/**/:h { i: j } k { > ::l { m: n } }"
+        )
+        self.assertEqual(
+            sorted(
+                (rule.selector, rule.pseudo_element) for rule in sheet.rules if rule.declarations
+            ),
+            [("> *", "l"), ("a > *", "b"), ("c/**/ *", "d"), ("e\\ ", "f"), ("g", "h")],
+        )
+
     def test_pseudo_elements(self):
         sheet = simplecss.StyleSheet("p::before, .a:After, p { n: 1 } ::marker { m: 2 }")
         self.assertEqual(
@@ -807,6 +818,21 @@ class Elements(unittest.TestCase):
         self.assertEqual(self.tree.select_one("li").select("li"), [])
         self.assertEqual(list(self.tree.iselect("li")), self.tree.select("li"))
         self.assertIsNone(self.tree.select_one("table"))
+
+    def test_scope(self):
+        """`:scope` is the element that is asked, and of a tree the root (DOM, section 4.2.6)."""
+        top, first = self.tree.select_one("ul"), self.tree.select_one("li")
+        for selectors in (":scope > li", "& > li", ":SC\\6fPE > li"):
+            with self.subTest(selectors=selectors):
+                self.assertEqual(top.select(selectors), self.tree.select("li"))
+                self.assertEqual(first.select(selectors), [])
+        self.assertEqual(first.select(":scope > *, li"), self.tree.select("i"))
+        self.assertEqual(first.select("ul > :scope i"), self.tree.select("i"))
+        self.assertTrue(first.matches("ul > :scope"))
+        self.assertFalse(first.matches(":scope + li"))
+        self.assertEqual(first.closest(":scope, ul"), first)
+        self.assertEqual(first.closest(":not(:scope)"), top)
+        self.assertEqual([each.name for each in self.tree.select(":scope")], ["html"])
 
     def test_values_can_be_pickled(self):
         first = pickle.loads(pickle.dumps(self.tree.select_one("li")))

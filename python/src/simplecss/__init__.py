@@ -22,6 +22,7 @@ if TYPE_CHECKING:
     from ._minify import minify
     from ._properties import is_inherited, is_valid_value, longhands, shorthands
     from ._reading import AtRule, Condition, declarations
+    from ._resolving import resolve
     from ._selectors import Selector, SelectorError
     from ._sheet import Rule, Skipped, StyleSheet, Unsupported
     from ._split import NotWritten
@@ -67,6 +68,7 @@ __all__ = [
     "longhands",
     "minify",
     "quote",
+    "resolve",
     "shorthands",
     "tokens",
 ]
@@ -85,6 +87,7 @@ if not TYPE_CHECKING:
         "_minify": "minify",
         "_properties": "is_inherited is_valid_value longhands shorthands",
         "_reading": "AtRule Condition declarations",
+        "_resolving": "resolve",
         "_selectors": "Selector SelectorError",
         "_sheet": "Rule Skipped StyleSheet Unsupported",
         "_split": "NotWritten",

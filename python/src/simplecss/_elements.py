@@ -361,8 +361,32 @@ class Elements:
             found = answers[grammar, selectors] = self._find(selectors, grammar)
         return found
 
+    def found_from(self, index: int, selectors: str, grammar: str) -> List[int]:
+        """Returns what `found` returns where `:scope` matches the element at an index."""
+        scoped = self._scoped(index, selectors, grammar)
+        if scoped is None:
+            return self.found(selectors, grammar)
+        return self._find_in(scoped, selectors, MODERN)
+
+    def found_set_from(self, index: int, selectors: str, grammar: str) -> FrozenSet[int]:
+        """Returns what `found_set` returns where `:scope` matches the element at an index."""
+        scoped = self._scoped(index, selectors, grammar)
+        if scoped is None:
+            return self.found_set(selectors, grammar)
+        return frozenset(self._find_in(scoped, selectors, MODERN))
+
+    def _scoped(self, index: int, selectors: str, grammar: str) -> Optional[library.TreeArrays]:
+        """Returns the arrays of the tree where `:scope` matches the element at an index, or `None` if
+        no selector asks for it."""
+        library.expect_text(selectors)
+        if grammar_of(grammar) == PORT or not _may_name_scope(selectors):
+            return None
+        return self._arrays(MODERN).with_scope(index)
+
     def _find(self, selectors: str, grammar: str) -> List[int]:
-        arrays = self._arrays(grammar)
+        return self._find_in(self._arrays(grammar), selectors, grammar)
+
+    def _find_in(self, arrays: library.TreeArrays, selectors: str, grammar: str) -> List[int]:
         words = [library.encode(selectors), self._number_of(grammar), arrays]
         name = "simplecss_select"
         # Each element is written once at most.
@@ -451,6 +475,11 @@ class Elements:
         for index, states in self.states.items():
             numbers[index] += sum(map(STATES.__getitem__, states))
         return numbers
+
+
+def _may_name_scope(selectors: str) -> bool:
+    """Whether a text may have `:scope` in it, or `&`, which denotes it outside of style sheets."""
+    return "\\" in selectors or "&" in selectors or "scope" in lower(selectors)
 
 
 def _is_link(node: Node) -> bool:

@@ -58,11 +58,10 @@ from ._split import (
     Rule,
     SplitSheet,
     SplitStatement,
-    ended,
     selectors_of,
     statements_of,
 )
-from ._staying import Block, LeftBlock, Place, StayingRule, marked, rules_of
+from ._staying import Block, LeftBlock, Place, StayingRule, ended_in, marked, rules_of
 from ._urls import joined
 from ._values import color_in, has_ident, is_known, one_of, size_in
 from ._words import BLANKS, lower, words_of
@@ -544,7 +543,7 @@ class _PageInliner:
         """Returns the declarations of an attribute `style`, or `None` if it has something else."""
         if text not in self.owned:
             source, items = read_block(text)
-            found = [ended(each, source) for each in items if isinstance(each, ReadDeclaration)]
+            found = list(ended_in(items, source))
             self.owned[text] = found if len(found) == len(items) else None
         return self.owned[text]
 

@@ -3,6 +3,7 @@
 from __future__ import annotations
 
 import array
+import copy
 import ctypes
 import functools
 import itertools
@@ -35,6 +36,9 @@ _MOST_NUMBERS, _MOST_NUMBERS_FOR_BYTE = 2**23, 8
 _NAME = {"win32": "simplecss.dll", "darwin": "libsimplecss.dylib"}.get(
     sys.platform, "libsimplecss.so"
 )
+# Pointers to numbers, and what has one of an array without a type for its length.
+_SIZES = ctypes.POINTER(ctypes.c_size_t)
+_NO_SIZES = ctypes.c_size_t * 0
 # The type code of arrays whose items are as wide as a `size_t`.
 SIZE = next(c for c in "QLI" if array.array(c).itemsize == ctypes.sizeof(ctypes.c_size_t))
 
@@ -96,6 +100,10 @@ class Answer(NamedTuple):
     fault: Optional[TreeFault]
 
 
+# The state of the element that `:scope` matches.
+_SCOPE = 64
+
+
 class _TreeFault(ctypes.Structure):
     _fields_ = [("fault", ctypes.c_uint32), ("element", ctypes.c_size_t)]
 
@@ -114,7 +122,7 @@ class _Tree(ctypes.Structure):
         ("elements_count", ctypes.c_size_t),
         ("strings", ctypes.c_char_p),
         ("strings_len", ctypes.c_size_t),
-        ("string_ends", ctypes.POINTER(ctypes.c_size_t)),
+        ("string_ends", _SIZES),
         ("string_ends_count", ctypes.c_size_t),
     ]
 
@@ -123,13 +131,13 @@ class _Sheets(ctypes.Structure):
     _fields_ = [
         ("texts", ctypes.c_char_p),
         ("texts_len", ctypes.c_size_t),
-        ("ends", ctypes.POINTER(ctypes.c_size_t)),
+        ("ends", _SIZES),
         ("ends_count", ctypes.c_size_t),
-        ("origins", ctypes.POINTER(ctypes.c_size_t)),
+        ("origins", _SIZES),
         ("origins_count", ctypes.c_size_t),
         ("groups", ctypes.c_char_p),
         ("groups_len", ctypes.c_size_t),
-        ("group_ends", ctypes.POINTER(ctypes.c_size_t)),
+        ("group_ends", _SIZES),
         ("group_ends_count", ctypes.c_size_t),
     ]
 
@@ -144,18 +152,18 @@ class SheetArrays:
         """Takes the texts of sheets, the keyword and the prelude of each group rule, and the numbers of
         the origins of the sheets."""
         ends, group_ends = ends_of(map(len, texts)), ends_of(map(len, groups))
-        numbers = array_of(origins)
+        numbers = _sizes(origins)
         joined, joined_groups = b"".join(texts), b"".join(groups)
         self.structure = _Sheets(
             joined,
             len(joined),
-            ctypes.cast(ends, ctypes.POINTER(ctypes.c_size_t)),
+            pointer_to(ends),
             len(ends),
-            ctypes.cast(numbers, ctypes.POINTER(ctypes.c_size_t)),
+            pointer_to(numbers),
             len(numbers),
             joined_groups,
             len(joined_groups),
-            ctypes.cast(group_ends, ctypes.POINTER(ctypes.c_size_t)),
+            pointer_to(group_ends),
             len(group_ends),
         )
 
@@ -164,7 +172,7 @@ class _Own(ctypes.Structure):
     _fields_ = [
         ("texts", ctypes.c_char_p),
         ("texts_len", ctypes.c_size_t),
-        ("ends", ctypes.POINTER(ctypes.c_size_t)),
+        ("ends", _SIZES),
         ("ends_count", ctypes.c_size_t),
     ]
 
@@ -179,7 +187,7 @@ class OwnArrays:
         self.structure = _Own(
             joined,
             len(joined),
-            ctypes.cast(ends, ctypes.POINTER(ctypes.c_size_t)),
+            pointer_to(ends),
             len(ends),
         )
 
@@ -188,9 +196,9 @@ class _Asked(ctypes.Structure):
     _fields_ = [
         ("names", ctypes.c_char_p),
         ("names_len", ctypes.c_size_t),
-        ("ends", ctypes.POINTER(ctypes.c_size_t)),
+        ("ends", _SIZES),
         ("ends_count", ctypes.c_size_t),
-        ("counts", ctypes.POINTER(ctypes.c_size_t)),
+        ("counts", _SIZES),
         ("counts_count", ctypes.c_size_t),
     ]
 
@@ -202,13 +210,13 @@ class AskedArrays:
         """Takes the names of each property."""
         names = list(itertools.chain.from_iterable(properties))
         ends, joined = ends_of(map(len, names)), b"".join(names)
-        counts = array_of(map(len, properties))
+        counts = _sizes(map(len, properties))
         self.structure = _Asked(
             joined,
             len(joined),
-            ctypes.cast(ends, ctypes.POINTER(ctypes.c_size_t)),
+            pointer_to(ends),
             len(ends),
-            ctypes.cast(counts, ctypes.POINTER(ctypes.c_size_t)),
+            pointer_to(counts),
             len(counts),
         )
 
@@ -224,20 +232,32 @@ class TreeArrays:
         surrogate raises `UnicodeEncodeError`.
         """
         self.count = len(shapes) // 3
-        elements = (_Element * self.count).from_buffer_copy(_sizes(shapes))
+        self._whole: Optional[TreeArrays] = None
+        self._elements = (_Element * self.count).from_buffer_copy(_sizes(shapes))
         joined = "".join(strings).encode("utf-8")
         is_ascii = len(joined) == sum(map(len, strings))
         ends = ends_of(
             map(len, strings) if is_ascii else (len(each.encode("utf-8")) for each in strings)
         )
         self.structure = _Tree(
-            ctypes.cast(elements, ctypes.POINTER(_Element)),
+            ctypes.cast(self._elements, ctypes.POINTER(_Element)),
             self.count,
             joined,
             len(joined),
-            ctypes.cast(ends, ctypes.POINTER(ctypes.c_size_t)),
+            pointer_to(ends),
             len(ends),
         )
+
+    def with_scope(self, index: int) -> "TreeArrays":
+        """Returns the same tree in which `:scope` matches the element at an index."""
+        scoped = copy.copy(self)
+        # The strings are those of this one.
+        scoped._whole = self
+        scoped._elements = type(self._elements).from_buffer_copy(self._elements)
+        scoped._elements[index].states += _SCOPE
+        scoped.structure = _Tree.from_buffer_copy(self.structure)
+        scoped.structure.elements = ctypes.cast(scoped._elements, ctypes.POINTER(_Element))
+        return scoped
 
 
 # What has a structure that a call takes.
@@ -333,16 +353,21 @@ def encode(text: str) -> bytes:
     return text.encode("utf-8")
 
 
-def array_of(numbers: Iterable[int]) -> "ctypes.Array[ctypes.c_size_t]":
-    """Returns an array of numbers, as C has it."""
-    sizes = _sizes(numbers)
-    return (ctypes.c_size_t * len(sizes)).from_buffer_copy(sizes)
+def pointer_to(numbers: "array.array[int]") -> Any:
+    """Returns a pointer to the first of numbers, which are there as long as it."""
+    return ctypes.cast(_NO_SIZES.from_buffer(numbers), _SIZES)
 
 
-def ends_of(lengths: Iterable[int]) -> "ctypes.Array[ctypes.c_size_t]":
+def ends_of(lengths: Iterable[int]) -> "array.array[int]":
     """Returns where each text ends in the buffer that has texts of these lengths one after
     another."""
-    return array_of(itertools.accumulate(lengths))
+    return _sizes(itertools.accumulate(lengths))
+
+
+@functools.lru_cache(maxsize=None)
+def _buffer_type(bits: int) -> Any:
+    """Returns the type of a buffer of 2**bits bytes. To make a type takes longer than to make a buffer."""
+    return ctypes.c_char * 2**bits
 
 
 def call(
@@ -369,7 +394,7 @@ def call(
             structure = argument if isinstance(argument, ctypes.Structure) else argument.structure
             words.append(ctypes.byref(structure))
             continue
-        words.append(argument)
+        words.append(pointer_to(argument) if isinstance(argument, array.array) else argument)
         words.append(ctypes.c_size_t(len(argument)))
     if most is not None:
         words.append(ctypes.c_size_t(most))
@@ -377,7 +402,7 @@ def call(
     length = ctypes.c_size_t(0)
     tail: Tuple[Any, ...] = (ctypes.byref(found),) if with_fault else ()
     while True:
-        buffer = ctypes.create_string_buffer(room * width)
+        buffer = _buffer_type((room * width).bit_length())()
         status = function(*words, buffer, ctypes.c_size_t(room), ctypes.byref(length), *tail)
         if status != TOO_SMALL:
             break

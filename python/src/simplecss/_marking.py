@@ -277,11 +277,13 @@ class _Problem:
         )
         if len(self._names) == 1 and is_settled:
             return
-        self._weigh_important()
+        if self._important:
+            self._weigh_important()
         if self.demoted or any(goes_back(each.declarations) for each in self._bases + self._urgent):
             self._clauses.forbidden.update(each.unit for each in self._normal)
-        self._weigh_normal()
-        self._keep_order()
+        if self._normal:
+            self._weigh_normal()
+            self._keep_order()
 
     def _weigh_important(self) -> None:
         """What is important and stays is below what is important and written, which need not be
@@ -436,12 +438,14 @@ class Marking:
         for each in view.own or ():
             own.setdefault(family_of(each.name), []).append(each)
         found: Dict[str, _Problem] = {}
-        for family in families:
+        rivals = view.rivals
+        # Of others nothing stays that could be important.
+        for family in families if rivals.whole else families & rivals.by_family.keys():
             problem = _Problem(mine.get(family, []), own.get(family, []), self._clauses)
             is_animated = family in self._animated or EVERYTHING in self._animated
-            for rival in view.rivals.by_family.get(family, ()):
+            for rival in rivals.by_family.get(family, ()):
                 problem.add(rival, family, is_animated)
-            for rival in view.rivals.whole if family != EVERYTHING else ():
+            for rival in rivals.whole if family != EVERYTHING else ():
                 problem.add(rival, EVERYTHING, is_animated)
             found[family] = problem
         return found

@@ -80,7 +80,7 @@ class LayeredText:
 def layers_of(source: Source, levels: Iterable[Level]) -> Layers:
     """Returns the layers that group rules of a sheet begin with."""
     layers = itertools.takewhile(lambda level: level.condition.name == LAYER, levels)
-    return tuple((source, level) for level in layers)
+    return tuple([(source, level) for level in layers])
 
 
 def count_layers(text: str) -> int:

@@ -266,7 +266,8 @@ class Page:
         self.elements = Elements()
         # The sheets of `style` elements of SVG.
         self._drawn: Dict[int, str] = {}
-        self._edits: List[Tuple[Span, str]] = []
+        # What is written in place of what: from where, up to where, and the text.
+        self._edits: List[Tuple[int, int, str]] = []
         self._declared: Dict[int, Tuple[str, ...]] = {}
         # The elements whose own declarations are among those.
         self._with_own: Set[int] = set()
@@ -558,7 +559,7 @@ class Page:
         self._changes.setdefault(index, {})[name] = value
 
     def _edit(self, span: Span, text: str) -> None:
-        self._edits.append((span, text))
+        self._edits.append((*span, text))
 
     def edited(self) -> str:
         """Returns the text with all edits."""
@@ -566,15 +567,18 @@ class Page:
         parts: List[str] = []
         last = 0
         # Of two that replace the same, the first.
-        for (start, end), text in sorted(self._edits, key=operator.itemgetter(0)):
+        self._edits.sort(key=operator.itemgetter(1))
+        self._edits.sort(key=operator.itemgetter(0))
+        page = self.text
+        for start, end, text in self._edits:
             if start >= last:
-                parts += (self.text[last:start], text)
+                parts += page[last:start], text
                 last = end
-        parts.append(self.text[last:])
+        parts.append(page[last:])
         text = "".join(parts)
         return text[: self._front[0]] + text[self._front[1] :]
 
-    def _edited_tags(self) -> Iterator[Tuple[Span, str]]:
+    def _edited_tags(self) -> Iterator[Tuple[int, int, str]]:
         """Yields where tags are written anew, and their texts."""
         # Many elements have the same tag, and get the same: elements of a kind have the same tuple.
         added: Dict[int, str] = {}
@@ -590,9 +594,10 @@ class Page:
                 key = id(declared)
                 if key not in added:
                     added[key] = _new_style(declared)
-                yield (last, last), added[key]
+                yield last, last, added[key]
             else:
-                yield tag, self._edited_tag(index, page[tag[0] : tag[1]], declared, made)
+                text = self._edited_tag(index, page[tag[0] : tag[1]], declared, made)
+                yield (*tag, text)
 
     def _edited_tag(
         self, index: int, text: str, declared: Tuple[str, ...], made: Dict[Tuple[object, ...], str]

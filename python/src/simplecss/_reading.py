@@ -17,6 +17,7 @@ from typing import (
     Optional,
     Sequence,
     Tuple,
+    TypeVar,
     Union,
     overload,
 )
@@ -25,7 +26,7 @@ from . import _library as library
 from ._declaration import Declaration
 from ._found_names import names_in
 from ._selectors import Specificity
-from ._tokens import without_colons
+from ._tokens import originating, without_colons
 from ._words import lower
 
 Span = Tuple[int, int]
@@ -124,8 +125,9 @@ class Source:
 
 
 class ReadSelector(NamedTuple):
-    """A selector of a list: its `text`, what of it is before a pseudo-element at its end, the name
-    of that one, and the specificity of the whole, if what is before it is supported."""
+    """A selector of a list: its `text`, the selector of the elements that the pseudo-element at its end
+    is of, the name of that one, and the specificity of the whole, if what is before it is supported.
+    """
 
     text: str
     front: str
@@ -174,43 +176,80 @@ class Fault(NamedTuple):
 BlockItem = Union[ReadDeclaration, ReadAtRule, Fault]
 
 
-class Items(Sequence[BlockItem]):
-    """What a block has. It is made when it is asked for: of most rules nobody does."""
+_Part = TypeVar("_Part")
 
-    __slots__ = ("_reader", "_numbers", "_levels", "_made", "are_whole")
 
-    def __init__(
-        self, reader: "_Reader", numbers: "array.array[int]", levels: Tuple[Level, ...]
-    ) -> None:
-        """Takes the numbers of the items, what makes these of them, and their group rules."""
+class _Parts(Sequence[_Part]):
+    """What the library writes numbers of. It is made when it is asked for: of most rules nobody does."""
+
+    __slots__ = ("_reader", "_numbers", "_place", "_made")
+    # How many numbers each has.
+    _width: int
+
+    def __init__(self, reader: "_Reader", numbers: "array.array[int]", place: Span) -> None:
+        """Takes what makes them of numbers, and where among these their own are."""
         self._reader = reader
         self._numbers = numbers
-        self._levels = levels
-        self._made: Optional[Tuple[BlockItem, ...]] = None
-        # Whether all are declarations that the end of the text does not close.
-        self.are_whole = not any(numbers[::_OF_ITEM]) and all(numbers[3::_OF_ITEM])
+        self._place = place
+        self._made: Optional[Tuple[_Part, ...]] = None
 
-    def _all(self) -> Tuple[BlockItem, ...]:
+    def _make(self, numbers: "array.array[int]") -> Iterable[_Part]:
+        """Makes them of their numbers."""
+        raise NotImplementedError
+
+    def _all(self) -> Tuple[_Part, ...]:
         if self._made is None:
-            self._made = tuple(self._reader.items(self._numbers, self._levels))
+            self._made = tuple(self._make(self._numbers[slice(*self._place)]))
         return self._made
 
     def __len__(self) -> int:
-        return len(self._numbers) // _OF_ITEM
+        start, end = self._place
+        return (end - start) // self._width
 
     @overload
-    def __getitem__(self, at: int) -> BlockItem:
+    def __getitem__(self, at: int) -> _Part:
         ...
 
     @overload
-    def __getitem__(self, at: slice) -> Sequence[BlockItem]:
+    def __getitem__(self, at: slice) -> Sequence[_Part]:
         ...
 
-    def __getitem__(self, at: Union[int, slice]) -> Union[BlockItem, Sequence[BlockItem]]:
+    def __getitem__(self, at: Union[int, slice]) -> Union[_Part, Sequence[_Part]]:
         return self._all()[at]
 
-    def __iter__(self) -> Iterator[BlockItem]:
-        return iter(self._all())
+    def __iter__(self) -> Iterator[_Part]:
+        return iter(self._made or self._all())
+
+
+class Selectors(_Parts[ReadSelector]):
+    """The selectors of a rule set."""
+
+    __slots__ = ()
+    _width = _OF_SELECTOR
+
+    def _make(self, numbers: "array.array[int]") -> Iterable[ReadSelector]:
+        return self._reader.selectors(numbers)
+
+
+class Items(_Parts[BlockItem]):
+    """What a block has."""
+
+    __slots__ = ("_levels", "are_whole")
+    _width = _OF_ITEM
+
+    def __init__(
+        self, reader: "_Reader", numbers: "array.array[int]", place: Span, levels: Tuple[Level, ...]
+    ) -> None:
+        """Takes their group rules, too."""
+        super().__init__(reader, numbers, place)
+        self._levels = levels
+        start, end = place
+        # Whether all are declarations that the end of the text does not close.
+        kinds, are_closed = numbers[start:end:_OF_ITEM], numbers[start + 3 : end : _OF_ITEM]
+        self.are_whole = not any(kinds) and all(are_closed)
+
+    def _make(self, numbers: "array.array[int]") -> Iterable[BlockItem]:
+        return self._reader.items(numbers, self._levels)
 
 
 class RuleSet(NamedTuple):
@@ -218,7 +257,7 @@ class RuleSet(NamedTuple):
 
     `head` ends where its block begins."""
 
-    selectors: Tuple[ReadSelector, ...]
+    selectors: Selectors
     items: Items
     levels: Tuple[Level, ...]
     head: Span
@@ -239,12 +278,12 @@ Statement = Union[RuleSet, ReadAtRule, Fault]
 
 def conditions_of(levels: Iterable[Level]) -> Tuple[Condition, ...]:
     """Returns the conditions of group rules."""
-    return tuple(level.condition for level in levels)
+    return tuple([level.condition for level in levels])
 
 
 def declarations_in(items: Iterable[BlockItem]) -> Tuple[Declaration, ...]:
     """Returns the declarations of a block."""
-    return tuple(item.declaration for item in items if isinstance(item, ReadDeclaration))
+    return tuple([item.declaration for item in items if isinstance(item, ReadDeclaration)])
 
 
 class _Names(Dict[str, str]):
@@ -277,6 +316,8 @@ class _Reader(DeclarationReader):
     def __init__(self, text: str) -> None:
         super().__init__(Source(text))
         self._levels: Dict[bytes, Tuple[Level, ...]] = {}
+        # Most selectors have one of few.
+        self._specificities: Dict[Specificity, Specificity] = {}
 
     def statements(self) -> Iterator[Statement]:
         """Yields the statements of the text, and the group rules that have none, which the library
@@ -300,24 +341,31 @@ class _Reader(DeclarationReader):
             row = numbers[at : at + _OF_STATEMENT]
             at_selectors = at + _OF_STATEMENT + row[10]
             at_items = at_selectors + row[11]
-            levels = self._levels_of(numbers[at + _OF_STATEMENT : at_selectors])
+            levels = self._levels_of(numbers[at + _OF_STATEMENT : at_selectors]) if row[10] else ()
             at = at_items + row[12]
             if row[0] == _RULE:
-                yield self._rule(row, numbers[at_selectors:at_items], numbers[at_items:at], levels)
+                selectors = Selectors(self, numbers, (at_selectors, at_items))
+                yield self._rule(
+                    row, selectors, Items(self, numbers, (at_items, at), levels), levels
+                )
             else:
                 yield self._other(row, levels)
 
-    def block_items(self) -> Iterator[BlockItem]:
-        """Yields what the text has as a style attribute."""
+    def block_items(self) -> List[BlockItem]:
+        """Returns what the text has as a style attribute."""
         data = self.source.data
         numbers = library.numbers_of("simplecss_declarations", data, room=256 + 2 * len(data))
         return self.items(numbers, ())
 
-    def items(self, numbers: "array.array[int]", levels: Tuple[Level, ...]) -> Iterator[BlockItem]:
-        """Yields the items of these numbers."""
-        for at in range(0, len(numbers), _OF_ITEM):
-            row = numbers[at : at + _OF_ITEM]
-            yield self._other(row, levels) if row[0] else self._declaration(row)
+    def selectors(self, numbers: "array.array[int]") -> List[ReadSelector]:
+        """Returns the selectors of these numbers."""
+        firsts = range(0, len(numbers), _OF_SELECTOR)
+        return [self._selector(numbers[at : at + _OF_SELECTOR]) for at in firsts]
+
+    def items(self, numbers: "array.array[int]", levels: Tuple[Level, ...]) -> List[BlockItem]:
+        """Returns the items of these numbers."""
+        rows = [numbers[at : at + _OF_ITEM] for at in range(0, len(numbers), _OF_ITEM)]
+        return [self._other(row, levels) if row[0] else self._declaration(row) for row in rows]
 
     def _groups_between(self, start: int, end: int) -> Iterator[ReadAtRule]:
         """Yields the group rules between two statements."""
@@ -349,15 +397,14 @@ class _Reader(DeclarationReader):
     def _rule(
         self,
         row: Sequence[int],
-        selectors: "array.array[int]",
-        items: "array.array[int]",
+        selectors: Selectors,
+        items: Items,
         levels: Tuple[Level, ...],
     ) -> RuleSet:
         _, start, length, is_closed, prelude, prelude_length = row[:6]
-        firsts = range(0, len(selectors), _OF_SELECTOR)
         return RuleSet(
-            tuple([self._selector(selectors[at : at + _OF_SELECTOR]) for at in firsts]),
-            Items(self, items, levels),
+            selectors,
+            items,
             levels,
             (prelude, prelude + prelude_length),
             is_closed == 1,
@@ -371,8 +418,10 @@ class _Reader(DeclarationReader):
         name = None
         if element_length:
             name = without_colons(self.source.at((element, element + element_length)))
-            front = self.source.at((start, element))
-        return ReadSelector(text, front, name, (ids, classes, types) if is_read else None, span)
+            front = originating(self.source.at((start, element)))
+        specificity = (ids, classes, types)
+        specificity = self._specificities.setdefault(specificity, specificity)
+        return ReadSelector(text, front, name, specificity if is_read else None, span)
 
     def _declaration(self, row: Sequence[int]) -> ReadDeclaration:
         _, start, length, is_closed, name, name_length, value, value_length, is_important, _ = row
@@ -402,8 +451,8 @@ class _Reader(DeclarationReader):
 
 
 def before_element(text: str, at: int) -> str:
-    """Returns what of a selector is before the pseudo-element whose name is from an index on."""
-    return text[: max(each.start for each in names_in(text) if each.start <= at)]
+    """Returns the selector of the elements that a pseudo-element is of, whose name is from an index on."""
+    return originating(text[: max(each.start for each in names_in(text) if each.start <= at)])
 
 
 def _closed(value: str) -> str:
@@ -445,7 +494,7 @@ def read_sheet(text: str) -> Tuple[Source, List[Statement]]:
 def read_block(text: str) -> Tuple[Source, List[BlockItem]]:
     """Returns what a style attribute or the block of a rule has."""
     reader = _Reader(text)
-    return reader.source, list(reader.block_items())
+    return reader.source, reader.block_items()
 
 
 def declarations(text: str) -> List[Declaration]:

@@ -2,18 +2,23 @@
 
 from __future__ import annotations
 
-from typing import Dict, Iterable, List, Mapping, Optional, Sequence, Tuple
+import itertools
+from typing import Callable, Dict, Iterable, Iterator, List, Mapping, Optional, Sequence, Tuple
 
 from . import _library as library
 from ._declaration import Declaration
 from ._properties import denoted, is_custom
+from ._reading import Condition, ReadAtRule, Statement
 from ._tree import Tree, elements_of
 from ._words import lower
 
 # How many bytes a value may have whose references are replaced. A longer one is invalid.
 LONGEST_VALUE = 2**20
-# What a custom property may have in place of a value, and then has from its parent.
-_HANDED_DOWN = frozenset(("inherit", "unset", "revert", "revert-layer"))
+# How many bytes the library reads of what parents hand down and of `@property` rules, for all elements.
+MOST_READ = 2**30
+# What a custom property of the user agent may have in place of a value, and is then as one that is not declared.
+_UNDECLARED = "revert"
+_UNSET, _NO_VALUE = "unset", "initial"
 
 # A property's name and its value, as they are written.
 Pair = Tuple[str, str]
@@ -26,21 +31,46 @@ Computed = List[Optional[str]]
 def computed(
     pairs: Sequence[Pair],
     inherited: Iterable[Pair] = (),
+    registered: Sequence[Pair] = (),
     longest: int = LONGEST_VALUE,
     most: int = library.NO_LIMIT,
 ) -> Computed:
     """Returns what each value comes to, by its property's name: its references are replaced by custom
-    properties among the pairs, and else by those inherited. `None` is a value that is invalid at
-    computed-value time. A longer one than `longest` is, and more bytes than `most` raise
-    `LimitError`."""
-    words = [library.encode(word) for pair in (*pairs, *inherited) for word in pair]
+    properties among the pairs, and else by those inherited, or as registered by `@property` rules, of
+    which the prelude and the block are given. `None` is a value that is invalid at computed-value time. A
+    longer one than `longest` is, and more bytes than `most` raise `LimitError`."""
+    words = [library.encode(word) for pair in (*pairs, *registered, *inherited) for word in pair]
     name = "simplecss_values"
     ends = library.ends_of(map(len, words))
     room = 1024 + sum(map(len, words[: 2 * len(pairs)]))
     found = library.call(
-        name, b"".join(words), ends, len(pairs), longest, room=min(room, most), most=most
+        *(name, b"".join(words), ends, len(pairs), len(registered), longest),
+        room=min(room, most),
+        most=most,
     )
     return _values_in(library.output_of(name, found), len(pairs))
+
+
+def resolve(
+    properties: Iterable[Pair],
+    inherited: Iterable[Pair] = (),
+    *,
+    registered: Iterable[Pair] = (),
+    limit: int = LONGEST_VALUE,
+) -> Computed:
+    """Returns the computed value of each property, as far as names decide it, or `None` if it is
+    invalid (CSS Variables 1, section 3).
+
+    The properties are names and values, such as `("color", "var(--a)")`. `inherited` are the custom
+    properties of the parent, and `registered` of each `@property` rule what is before the block and
+    what is in it. A value with more bytes than `limit` is invalid.
+
+        >>> simplecss.resolve([("color", "var(--a, red)"), ("--b", "var(--b)")], [("--a", "blue")])
+        ['blue', None]
+    """
+    own, handed, rules = list(properties), list(inherited), list(registered)
+    length = sum(map(len, itertools.chain(*own, *handed, *rules)))
+    return computed(own, handed, rules, limit, library.most_written(length))
 
 
 def _values_in(output: bytes, count: int) -> Computed:
@@ -66,9 +96,13 @@ class _Element:
 class _Resolver:
     """Replaces the references of the elements of a tree."""
 
-    def __init__(self, limit: int) -> None:
+    def __init__(self, registered: Sequence[Pair], limit: int) -> None:
+        self._registered = registered
+        # What is registered, and its name as it is written.
+        self._names = {denoted(name): name for name, _ in registered}
         self._room = library.Room(library.most_written(0), "bytes of values")
         self._handed = library.Room(limit, "values that parents hand down")
+        self._read = library.Room(MOST_READ, "bytes of values that parents hand down")
         # What was found, by the custom properties of the parent and the declarations.
         self._found: Dict[Tuple[int, Tuple[Declaration, ...]], _Element] = {}
 
@@ -81,45 +115,76 @@ class _Resolver:
         return found
 
     def _resolved(self, declared: Sequence[Declaration], inherited: Custom) -> _Element:
-        kept = [
-            each
-            for each in declared
-            if not (is_custom(each.name) and lower(each.value) in _HANDED_DOWN)
-        ]
         # A reference has a parenthesis, and no other value changes.
-        asked = [each for each in kept if is_custom(each.name) or "(" in each.value]
-        if not asked:
-            return _Element(kept, inherited)
-        self._handed.take(len(inherited))
-        pairs = [(each.name, each.value) for each in asked]
-        values = computed(pairs, inherited.values(), most=self._room.left)
+        asked = [each for each in declared if is_custom(each.name) or "(" in each.value]
+        if not asked and not self._names:
+            return _Element(list(declared), inherited)
+        pairs = [(each.name, _asked_for(each)) for each in asked]
+        pairs += self._undeclared(denoted(each.name) for each in asked)
+        self._handed.take(len(inherited) + len(self._names))
+        self._read.take(sum(map(len, itertools.chain(*inherited.values(), *self._registered))))
+        values = computed(pairs, inherited.values(), self._registered, most=self._room.left)
         self._room.take(sum(map(len, filter(None, values))))
-        return self._with_values(kept, dict(zip(asked, values)), inherited)
+        custom = self._custom(inherited, zip((name for name, _ in pairs), values))
+        return _Element(_with_values(declared, dict(zip(asked, values))), custom)
 
-    @staticmethod
-    def _with_values(
-        kept: Sequence[Declaration], values: Dict[Declaration, Optional[str]], inherited: Custom
-    ) -> _Element:
-        """Returns an element with these declarations, whose values are these where they have one."""
-        declarations: List[Declaration] = []
+    def _undeclared(self, declared: Iterable[str]) -> List[Pair]:
+        """Returns the properties that are registered and not among these."""
+        names = {**self._names}
+        for name in declared:
+            names.pop(name, None)
+        return [(name, _UNSET) for name in names.values()]
+
+    def _custom(self, inherited: Custom, values: Iterable[Tuple[str, Optional[str]]]) -> Custom:
+        """Returns the custom properties of an element, which has these values."""
         custom = dict(inherited)
-        for each in kept:
-            value = values.get(each, each.value)
-            if value is not None:
-                declarations.append(each._replace(value=value))
-            if is_custom(each.name):
-                custom.pop(denoted(each.name), None)
+        for name, value in values:
+            if is_custom(name):
+                custom.pop(denoted(name), None)
                 if value is not None:
-                    custom[denoted(each.name)] = (each.name, value)
+                    custom[denoted(name)] = (name, value)
+                elif denoted(name) in self._names:
+                    custom[denoted(name)] = (name, _NO_VALUE)
         # Those who have the same custom properties share them.
-        return _Element(declarations, inherited if custom == inherited else custom)
+        return inherited if custom == inherited else custom
 
 
-def resolved(tree: Tree, styles: List[List[Declaration]], limit: int) -> List[List[Declaration]]:
-    """Returns the declarations of each element with their references replaced. One that is invalid at
-    computed-value time is left out. A parent hands its custom properties down: more of them than
-    `limit`, each time that they are read, raise `LimitError`."""
-    resolver = _Resolver(limit)
+def _asked_for(declaration: Declaration) -> str:
+    """Returns a value as the library is asked for it, which knows of no earlier declarations."""
+    is_undeclared = lower(declaration.value) == _UNDECLARED and is_custom(declaration.name)
+    return _UNSET if is_undeclared else declaration.value
+
+
+def _with_values(
+    declared: Sequence[Declaration], values: Mapping[Declaration, Optional[str]]
+) -> List[Declaration]:
+    """Returns declarations with these values, without those that have none then."""
+    pairs = [(each, values.get(each, each.value)) for each in declared]
+    return [each._replace(value=value) for each, value in pairs if value is not None]
+
+
+def registered_in(
+    statements: Iterable[Statement],
+    outer: Sequence[Condition],
+    applies: Callable[[Condition], bool],
+) -> Iterator[Pair]:
+    """Yields the prelude and the block of each `@property` of a sheet whose conditions hold, as those of
+    the whole sheet do."""
+    for each in statements:
+        if isinstance(each, ReadAtRule) and lower(denoted(each.rule.name)) == "property":
+            conditions = (*outer, *each.rule.conditions)
+            if each.rule.block is not None and all(map(applies, conditions)):
+                yield each.rule.prelude, each.rule.block
+
+
+def resolved(
+    tree: Tree, styles: List[List[Declaration]], registered: Sequence[Pair], limit: int
+) -> List[List[Declaration]]:
+    """Returns the declarations of each element with their references replaced, where these `@property`
+    rules are. One that is invalid at computed-value time is left out. A parent hands its custom properties
+    down: more of them than `limit`, each time that they are read, raise `LimitError`.
+    """
+    resolver = _Resolver(registered, limit)
     none: Custom = {}
     custom: List[Custom] = []
     found: List[List[Declaration]] = []

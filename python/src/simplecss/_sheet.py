@@ -50,6 +50,7 @@ from ._selectors import (
     lines_of,
     specificity_of,
 )
+from ._resolving import Pair, registered_in
 from ._resolving import resolved as with_values
 from ._specified import (
     NO_OWN,
@@ -160,7 +161,7 @@ class StyleSheet:
 
     `origins` says of each text where it comes from: "author", "user" or "user-agent"; further texts are
     the author's. Of declarations that are not important the author's win, and of important ones those of
-    the user agent. A layer that texts of several origins name is one.
+    the user agent. Each origin has its own layers. `revert` and `revert-layer` roll back what wins.
     """
 
     def __init__(
@@ -480,9 +481,9 @@ class StyleSheet:
         presentational hints; by default the presentation attributes of SVG. `inherit` names the
         properties that an element without a declaration has from its parent; `True` is those of CSS 2.1
         and of SVG. With `resolved`, references `var()` are replaced by custom properties, which parents
-        hand down, and a declaration that is then invalid is left out. With `ua`, the rules take part that
-        HTML and SVG suggest to browsers: their origin is "user-agent", and the limits count them, too. The
-        grammar "simplecss" has no `ua`. `media` is that of `match`.
+        hand down or `@property` registers, and a declaration that is then invalid is left out. With `ua`,
+        the rules take part that HTML and SVG suggest to browsers: their origin is "user-agent", and the
+        limits count them, too. The grammar "simplecss" has no `ua`. `media` is that of `match`.
         """
         if self._grammar == PORT:
             _expect_none(ua=ua)
@@ -492,10 +493,18 @@ class StyleSheet:
             own = Own(tree, presentation) if specified else NO_OWN
             found = winning.on(_elements_in(tree), own, self._answer_limit)
         if resolved:
-            found = with_values(tree, found, self._answer_limit)
+            registered = list(self._registered(media))
+            found = with_values(tree, found, registered, self._answer_limit)
         if inherit:
             found = inherited(tree, found, inherit, self._answer_limit)
         return ByElement(found)
+
+    def _registered(self, media: Media) -> Iterator[Pair]:
+        """Yields the prelude and the block of each `@property` that holds."""
+        if self._grammar != PORT:
+            applies = functools.lru_cache(maxsize=None)(functools.partial(holds, media=media))
+            for (_, found), outer in zip(self._statements(), self._outer):
+                yield from registered_in(found, outer, applies)
 
     def _styles_of_port(
         self,
@@ -683,8 +692,8 @@ def _rules_of(
                 unsupported.append(Unsupported(each.text, declarations, conditions))
                 continue
             if has_rules:
-                front = each.front or "*"
-                rule = Rule(front, each.specificity, declarations, conditions, each.pseudo_element)
+                element = each.pseudo_element
+                rule = Rule(each.front, each.specificity, declarations, conditions, element)
                 rules.append((place, rule))
     return rules, unsupported
 
@@ -695,7 +704,7 @@ def _nested_rule(
     """Returns a rule in this block, of whose selector this was found."""
     text, element = found["text"], found["pseudo_element"]
     return Rule(
-        (text if element is None else before_element(text, len(text) - len(element))) or "*",
+        text if element is None else before_element(text, len(text) - len(element)),
         specificity_of(found["specificity"]),
         tuple(placed.declarations),
         outer + block.conditions,
@@ -708,7 +717,7 @@ def _at_rules_of(statement: Statement) -> Iterator[ReadAtRule]:
     """Yields the at-rule that a statement is, or those of its block."""
     if isinstance(statement, ReadAtRule):
         yield statement
-    elif isinstance(statement, RuleSet):
+    elif isinstance(statement, RuleSet) and not statement.items.are_whole:
         yield from (each for each in statement.items if isinstance(each, ReadAtRule))
 
 
@@ -717,7 +726,7 @@ def faults_of(statements: Iterable[Statement]) -> Iterator[Fault]:
     for statement in statements:
         if isinstance(statement, Fault):
             yield statement
-        elif isinstance(statement, RuleSet):
+        elif isinstance(statement, RuleSet) and not statement.items.are_whole:
             yield from (each for each in statement.items if isinstance(each, Fault))
 
 

@@ -4,7 +4,6 @@ from __future__ import annotations
 
 import functools
 import itertools
-from functools import partial
 from typing import (
     Collection,
     Dict,
@@ -42,11 +41,11 @@ from ._reading import (
 )
 from ._selectors import SelectorTexts, states_in
 from ._staying import (
-    Block,
     Marks,
     Place,
+    SetBlock,
     StayingRule,
-    ends_of,
+    ended_in,
     has_declarations,
     has_rules,
     marked,
@@ -134,8 +133,7 @@ class SplitStatement:
     @functools.cached_property
     def declarations(self) -> Tuple[Declaration, ...]:
         """The declarations of a rule set that does not stay whole."""
-        found = (each for each in self.items if isinstance(each, ReadDeclaration))
-        return tuple(ended(each, self.source) for each in found)
+        return ended_in(self.items, self.source)
 
     @functools.cached_property
     def families(self) -> FrozenSet[str]:
@@ -222,8 +220,7 @@ class SplitStatement:
         place = Place(self.number, True, animated, self.knows_layers, self.layers)
         if self.is_whole:
             return list(rules_of(self.source, self.inner, place)), animated
-        ends = partial(ends_of, self.items, self.source)
-        block = Block(lambda: self.declarations, self.number, ends)
+        block = SetBlock(self.items, self.source, self.number)
         return list(rules_with(self.staying, place, block)), animated
 
     @functools.cached_property
@@ -378,9 +375,8 @@ class SplitSheet:
         first = self.statements[0].number if self.statements else 0
         places = (number - first for number in changed)
         found = {at for at in places if 0 <= at < len(self.statements)}
-        return [
-            self.statements[at] for at in sorted(found.union(self._usual)) if at not in self._orders
-        ]
+        every = map(self.statements.__getitem__, sorted(found.union(self._usual)))
+        return [each for each in every if each.number not in self._orders]
 
     @functools.cached_property
     def _usual(self) -> List[int]:
@@ -388,19 +384,19 @@ class SplitSheet:
         return [at for at, each in enumerate(self.statements) if each.has_kept()]
 
     @functools.cached_property
-    def _orders(self) -> Set[int]:
-        """The indices of those that say no more than the order of layers."""
-        return {at for at, each in enumerate(self.statements) if each.is_order}
-
-    @functools.cached_property
     def ordering(self) -> List[SplitStatement]:
         """The statements that say something of the order of layers."""
         return [each for each in self.statements if each.has_layer or each.is_order]
 
     @functools.cached_property
+    def _orders(self) -> Set[int]:
+        """The numbers of those that say no more than the order of layers."""
+        return {each.number for each in self.ordering if each.is_order}
+
+    @functools.cached_property
     def _layered(self) -> List[SplitStatement]:
         """The statements in layers, and the layers that stay as they are."""
-        return [each for each in self.statements if each.has_layer and not each.is_order]
+        return [each for each in self.ordering if each.has_layer and not each.is_order]
 
     def has_layers(self, leftover: Leftover) -> bool:
         """Whether something in a layer stays."""
@@ -578,16 +574,3 @@ def _is_open(found: RuleSet) -> bool:
     return not found.items.are_whole and any(
         isinstance(each, ReadDeclaration) and not each.is_closed for each in found.items
     )
-
-
-def ended(found: ReadDeclaration, source: Source) -> Declaration:
-    """Returns a declaration after which others may be written: no backslash at the end of its value
-    takes them in."""
-    declaration = found.declaration
-    value = declaration.value
-    if not is_escaping(value):
-        return declaration
-    # The end of the text makes it an escape of U+FFFD; a newline, which is all else that ends a
-    # value after it, none.
-    is_last = source.data[found.span[1] - 1 :] == b"\\"
-    return declaration._replace(value=value + ("\ufffd" if is_last else "\n"))

@@ -37,6 +37,7 @@ from ._reading import (
     read_sheet,
 )
 from ._selectors import SelectorError, listed
+from ._tokens import is_escaping
 from ._traits import traits_of
 from ._values import has_ident
 
@@ -61,25 +62,19 @@ Marks = Dict[int, Set[int]]
 
 
 class Block:
-    """The block of a rule set that stays: its declarations by family, and where they end, if they
-    can be made important there."""
+    """A block that stays: its declarations by family, and where they end, if they can be made important
+    there."""
 
-    def __init__(
-        self,
-        declared: Callable[[], Sequence[Declaration]],
-        owner: Optional[int] = None,
-        ends: Callable[[], Dict[str, List[int]]] = dict,
-    ) -> None:
-        """Takes what finds the declarations, the number of the statement that may be marked, and what
-        finds the ends in it by family."""
-        self._find_declared = declared
-        self._owner = owner
-        self._find_ends = ends
+    def __init__(self, declared: Sequence[Declaration]) -> None:
+        self._declared = declared
 
     @functools.cached_property
     def declared(self) -> Sequence[Declaration]:
         """The declarations."""
         return self._find_declared()
+
+    def _find_declared(self) -> Sequence[Declaration]:
+        return self._declared
 
     @functools.cached_property
     def families(self) -> Dict[str, List[Declaration]]:
@@ -88,10 +83,6 @@ class Block:
         for each in self.declared:
             found.setdefault(family_of(each.name), []).append(each)
         return found
-
-    @functools.cached_property
-    def _ends(self) -> Dict[str, List[int]]:
-        return self._find_ends()
 
     def has_plain(self, family: str) -> bool:
         """Whether something of a family, or all, is not important."""
@@ -108,6 +99,35 @@ class Block:
         return not is_back and self._has_ends(family)
 
     def _has_ends(self, family: str) -> bool:
+        return False
+
+    def mark(self, family: str, marks: Marks) -> None:
+        """Notes that all of the family is important."""
+
+
+class SetBlock(Block):
+    """The block of a rule set that stays. What it has is found when it is asked for: of most nobody
+    does."""
+
+    def __init__(
+        self, items: Sequence[BlockItem], source: Source, owner: Optional[int], offset: int = 0
+    ) -> None:
+        """Takes what it has, and the number of the statement that may be marked, in whose text the
+        source begins at an offset."""
+        super().__init__(())
+        self._items = items
+        self._source = source
+        self._owner = owner
+        self._offset = offset
+
+    def _find_declared(self) -> Sequence[Declaration]:
+        return ended_in(self._items, self._source)
+
+    @functools.cached_property
+    def _ends(self) -> Dict[str, List[int]]:
+        return ends_of(self._items, self._source, self._offset)
+
+    def _has_ends(self, family: str) -> bool:
         return self._owner is not None and family in self._ends
 
     def mark(self, family: str, marks: Marks) -> None:
@@ -121,7 +141,7 @@ class LeftBlock(Block):
 
     def __init__(self, declared: Sequence[Declaration], marked: Set[str]) -> None:
         """Takes the declarations that are left, and the families of these that are important."""
-        super().__init__(lambda: declared)
+        super().__init__(declared)
         self._marked = marked
 
     def _has_ends(self, family: str) -> bool:
@@ -170,7 +190,7 @@ class Place(NamedTuple):
 
     def of_any(self, declared: List[Declaration]) -> "StayingRule":
         """Returns a rule that may say these declarations of any element."""
-        ordered, block = Ordered(self.layers, EVERY, False), Block(lambda: declared)
+        ordered, block = Ordered(self.layers, EVERY, False), Block(declared)
         return StayingRule(EVERY, ordered, self.number, self.is_layered, False, block)
 
 
@@ -195,6 +215,25 @@ def ends_of(items: Iterable[BlockItem], source: Source, offset: int = 0) -> Dict
                 is_open.add(family)
             found.setdefault(family, []).append(offset + each.end)
     return {family: ends for family, ends in found.items() if family not in is_open}
+
+
+def ended(found: ReadDeclaration, source: Source) -> Declaration:
+    """Returns a declaration after which others may be written: no backslash at the end of its value
+    takes them in."""
+    declaration = found.declaration
+    value = declaration.value
+    if not is_escaping(value):
+        return declaration
+    # The end of the text makes it an escape of U+FFFD; a newline, which is all else that ends a
+    # value after it, none.
+    is_last = source.data[found.span[1] - 1 :] == b"\\"
+    return declaration._replace(value=value + ("\ufffd" if is_last else "\n"))
+
+
+def ended_in(items: Iterable[BlockItem], source: Source) -> Tuple[Declaration, ...]:
+    """Returns the declarations of a block, after which others may be written."""
+    found = (each for each in items if isinstance(each, ReadDeclaration))
+    return tuple([ended(each, source) for each in found])
 
 
 def has_declarations(items: Sequence[BlockItem]) -> bool:
@@ -307,8 +346,7 @@ def _rules_of_set(source: Source, found: RuleSet, place: Place) -> Iterator[Stay
         yield place.of_any([*found.declarations, *_ANYTHING])
         return
     owner = place.number if place.may_mark and not has_rules(found.items) else None
-    ends = functools.partial(ends_of, found.items, source, place.offset)
-    block = Block(functools.partial(declarations_in, found.items), owner, ends)
+    block = SetBlock(found.items, source, owner, place.offset)
     yield from rules_with(found.selectors, place, block)
     if within:
         # Which elements the rules within it match is not looked at.

@@ -18,6 +18,7 @@ _KINDS = (
 _AT_KEYWORD = _KINDS.index("at-keyword")
 # What may be between two tokens.
 GAPS = frozenset(("whitespace", "comment"))
+_COMBINATORS = frozenset((">", "+", "~"))
 _MEASURED = frozenset(("percentage", "dimension"))
 _STRINGS = frozenset(("string", "bad-string"))
 _HAS_VALUE = frozenset(("ident", "function", "at-keyword", "hash", "id", "url", "dimension"))
@@ -96,9 +97,14 @@ def keywords_in(text: str) -> List[str]:
     if b"@" not in data:
         return []
     numbers = library.numbers_of("simplecss_tokens", data, room=64 + len(data))
-    rows = zip(numbers[0::5], numbers[3::5], numbers[4::5])
-    names = (data[start:end].decode() for kind, start, end in rows if kind == _AT_KEYWORD)
-    return [lower(decoded(name) if "\\" in name else name) for name in names]
+    kinds = bytes(numbers[0::5].tolist())
+    found: List[str] = []
+    at = kinds.find(_AT_KEYWORD)
+    while at >= 0:
+        name = data[numbers[5 * at + 3] : numbers[5 * at + 4]].decode()
+        found.append(lower(decoded(name) if "\\" in name else name))
+        at = kinds.find(_AT_KEYWORD, at + 1)
+    return found
 
 
 def without_gaps(text: str) -> List[Token]:
@@ -109,8 +115,18 @@ def without_gaps(text: str) -> List[Token]:
 @functools.lru_cache(maxsize=64)
 def without_colons(text: str) -> str:
     """Returns the text of a pseudo-element after its colons."""
-    colons = itertools.takewhile(lambda token: token.text == ":", tokens(text))
+    colons = itertools.takewhile(
+        lambda each: each.text == ":" or each.kind == "comment", tokens(text)
+    )
     return text[max((token.end for token in colons), default=0) :]
+
+
+def originating(front: str) -> str:
+    """Returns the selector of the elements that a pseudo-element is of, by what is written before it:
+    of any, `*`, where no compound selector is."""
+    last = [each for each in tokens(front) if each.kind != "comment"][-1:]
+    is_any = all(each.kind == "whitespace" or each.text in _COMBINATORS for each in last)
+    return f"{front}*" if is_any else front
 
 
 def decoded(text: str, in_string: bool = False) -> str:

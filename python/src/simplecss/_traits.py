@@ -54,13 +54,15 @@ def traits_of(selector: str) -> Traits:
 
 def _traits(selector: str) -> Traits:
     pseudo = pseudo_names(selector)
-    return Traits(
+    return _traits_as(
         _is_known_selector(selector),
         any(each.is_element or each.name not in OF_TREE for each in pseudo),
         _is_of_client(selector),
     )
 
 
+# Most selectors have the same.
+_traits_as = functools.lru_cache(maxsize=None)(Traits)
 _usual_traits = functools.lru_cache(maxsize=_MOST_KEPT)(_traits)
 
 

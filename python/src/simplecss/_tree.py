@@ -136,12 +136,13 @@ class Element:
         return None if nodes is None else nodes[self.index]
 
     def matches(self, selectors: str, *, grammar: str = MODERN) -> bool:
-        """Whether one of the selectors matches the element."""
-        return self.index in self.tree._elements.found_set(selectors, grammar)
+        """Whether one of the selectors matches the element, which is also what `:scope` matches."""
+        return self.index in self.tree._elements.found_set_from(self.index, selectors, grammar)
 
     def closest(self, selectors: str, *, grammar: str = MODERN) -> Optional["Element"]:
-        """Returns the closest of the element and its ancestors that matches, or `None`."""
-        found = self.tree._elements.found_set(selectors, grammar)
+        """Returns the closest of the element and its ancestors that matches, or `None`. `:scope`
+        matches the element itself."""
+        found = self.tree._elements.found_set_from(self.index, selectors, grammar)
         index = self.index
         while index >= 0:
             if index in found:
@@ -150,8 +151,9 @@ class Element:
         return None
 
     def select(self, selectors: str, *, grammar: str = MODERN) -> List["Element"]:
-        """Returns the elements within the element that match, in order."""
-        found = self.tree._elements.found(selectors, grammar)
+        """Returns the elements within the element that match, in order. `:scope` matches the element
+        itself: `element.select(":scope > p")` returns its children."""
+        found = self.tree._elements.found_from(self.index, selectors, grammar)
         first = bisect.bisect_right(found, self.index)
         last = bisect.bisect_left(found, self.tree._elements.end_of(self.index))
         return [Element(self.tree, index) for index in found[first:last]]

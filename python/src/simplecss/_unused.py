@@ -104,7 +104,7 @@ def _link_of(states: FrozenSet[str]) -> FrozenSet[str]:
 
 def _asked(selector: ReadSelector) -> Optional[str]:
     """Returns what is asked of elements in place of a selector, or `None` if that is not known."""
-    return _asked_of(selector.front or "*") if selector.specificity is not None else None
+    return _asked_of(selector.front) if selector.specificity is not None else None
 
 
 @functools.lru_cache(maxsize=4096)
