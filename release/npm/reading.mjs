@@ -1,6 +1,6 @@
 // What the library reads of style sheets and style attributes, by the modern grammar.
 import { call, decode, encode, mostNumbers } from './library.mjs';
-import { withoutColons } from './tokens.mjs';
+import { originating, withoutColons } from './tokens.mjs';
 
 // How many bytes are counted at once.
 const BLOCK = 256;
@@ -202,7 +202,7 @@ class Reader {
     const at = (from, to) => this.source.at([from, to]), end = start + length;
     return {
       text: at(start, end),
-      front: at(start, elementLength ? element : end),
+      front: elementLength ? originating(at(start, element)) : at(start, end),
       pseudoElement: elementLength ? withoutColons(at(element, element + elementLength)) : null,
       specificity: isRead ? [ids, classes, types] : null,
       span: [start, end],

@@ -54,9 +54,10 @@ function valuesIn(bytes, count) {
   return values;
 }
 
-/** Returns the computed value of each property, of pairs of a name and a value, where the parent has these others. */
-export function resolve(properties, inherited = [], { limit = LONGEST } = {}) {
-  const own = [...properties], [texts, ends] = joined([...own, ...inherited].flat());
-  const words = [texts, ends, BigInt(own.length), limited(limit)];
+/** Returns the computed value of each property, of pairs of a name and a value, where the parent has these others, and of the
+ * `@property` rules that are registered there are what is before the block and what is in it. */
+export function resolve(properties, inherited = [], { registered = [], limit = LONGEST } = {}) {
+  const own = [...properties], rules = [...registered], [texts, ends] = joined([...own, ...rules, ...inherited].flat());
+  const words = [texts, ends, BigInt(own.length), BigInt(rules.length), limited(limit)];
   return valuesIn(encode(call('values', words, { most: mostWritten(texts.length) })), own.length);
 }

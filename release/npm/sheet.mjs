@@ -224,7 +224,7 @@ function rulesOf(sets) {
     const conditions = conditionsOf(levels);
     for (const { text, front, specificity, pseudoElement } of selectors) {
       if (specificity === null) unsupported.push({ selector: text, declarations, conditions });
-      else rules.push({ selector: front || '*', specificity, declarations, conditions, pseudoElement });
+      else rules.push({ selector: front, specificity, declarations, conditions, pseudoElement });
     }
   }
   rules.sort((a, b) => a.specificity[0] - b.specificity[0] || a.specificity[1] - b.specificity[1]

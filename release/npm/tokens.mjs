@@ -7,6 +7,7 @@ const KINDS = ['whitespace', 'comment', 'ident', 'function', 'at-keyword', 'hash
   'number', 'percentage', 'dimension', 'cdo', 'cdc', 'delim'];
 const MEASURED = new Set(['percentage', 'dimension']), STRINGS = new Set(['string', 'bad-string']);
 const NAMED = new Set(['ident', 'function', 'at-keyword', 'hash', 'id', 'url', 'dimension']);
+const COMBINATORS = new Set(['>', '+', '~']);
 // The kinds of names that are of pseudo-classes and of pseudo-elements: each without parentheses and with them.
 const PSEUDO_CLASSES = [4, 5], PSEUDO_ELEMENTS = [6, 7];
 // How many numbers the library writes of a token, and of a name.
@@ -82,10 +83,20 @@ export function pseudoNames(text) {
 export function withoutColons(text) {
   let end = 0;
   for (const token of tokens(text)) {
-    if (token.text !== ':') break;
+    if (token.text !== ':' && token.kind !== 'comment') break;
     end = token.end;
   }
   return text.slice(end);
+}
+
+/**
+ * Returns the selector of the elements that a pseudo-element is of, by what is written before it: of any, `*`, where no
+ * compound selector is.
+ */
+export function originating(front) {
+  const last = [...tokens(front)].filter(token => token.kind !== 'comment').pop();
+  const isAny = !last || last.kind === 'whitespace' || COMBINATORS.has(last.text);
+  return isAny ? `${front}*` : front;
 }
 
 /** Returns an identifier that denotes the name, as `CSS.escape` does. */

@@ -7,7 +7,7 @@ export const MODERN = 'modern';
 export const PORT = 'simplecss';
 // The states of an element that selectors test, as numbers of the library, and that of one with a text of its own.
 const STATES = { link: 1, visited: 2, hover: 4, active: 8, focus: 16 };
-const HAS_TEXT = 32;
+const HAS_TEXT = 32, SCOPE = 64;
 // How names and values of modern selectors are compared, as the library numbers it among its grammars, and the grammars
 // where no document is read.
 const AS_WRITTEN = 0n, HTML = 1n, QUIRKS = 2n;
@@ -74,23 +74,26 @@ export class Element {
   get parent() { return this.tree.elements[this.#elements.parents[this.index]] ?? null; }
   get children() { return this.#elements.childrenOf(this.index).map(index => this.tree.elements[index]); }
 
-  /** Whether one of the selectors matches it. */
+  /** Whether one of the selectors matches it, which is also what `:scope` matches. */
   matches(selectors, options) {
-    return this.#elements.foundSet(selectors, grammarOf(options)).has(this.index);
+    return this.#elements.foundSet(selectors, grammarOf(options), this.index).has(this.index);
   }
 
-  /** Returns it or its nearest ancestor that one of the selectors matches. */
+  /** Returns it or its nearest ancestor that one of the selectors matches. `:scope` matches the element itself. */
   closest(selectors, options) {
-    const found = this.#elements.foundSet(selectors, grammarOf(options));
+    const found = this.#elements.foundSet(selectors, grammarOf(options), this.index);
     let index = this.index;
     while (index >= 0 && !found.has(index)) index = this.#elements.parents[index];
     return this.tree.elements[index] ?? null;
   }
 
-  /** Returns the elements within it that one of the selectors matches, in order. */
+  /**
+   * Returns the elements within it that one of the selectors matches, in order. `:scope` matches the element itself:
+   * `select(':scope > p')` returns its children.
+   */
   select(selectors, options) {
-    const end = this.#elements.endOf(this.index);
-    return this.tree.select(selectors, options).filter(each => each.index > this.index && each.index < end);
+    const end = this.#elements.endOf(this.index), found = this.#elements.foundSet(selectors, grammarOf(options), this.index);
+    return [...found].filter(index => index > this.index && index < end).map(index => this.tree.elements[index]);
   }
 }
 
@@ -148,16 +151,24 @@ class Elements {
     return [...this.foundSet(selectors, grammar)];
   }
 
-  foundSet(selectors, grammar) {
+  /** Returns the same as a set. If a `scope` is given, `:scope` matches the element at this index. */
+  foundSet(selectors, grammar, scope) {
+    const bytes = encode(selectors), [number, tree] = this.words(grammar);
+    if (scope !== undefined && grammar === MODERN && mayNameScope(selectors)) {
+      return this.#find(selectors, grammar, [bytes, number, withScope(tree, scope)]);
+    }
     const key = `${grammar} ${selectors}`;
     if (!this.#answers.has(key)) {
       if (this.#answers.size >= MOST_ANSWERS) this.#answers.clear();
-      const words = [encode(selectors), ...this.words(grammar), NO_LIMIT];
-      const options = { room: 1024 + 8 * this.names.length, hasTree: true };
-      const numbers = selected('select', selectors, grammar, words, options).split('\n').slice(0, -1);
-      this.#answers.set(key, new Set(numbers.map(number => number - 1)));
+      this.#answers.set(key, this.#find(selectors, grammar, [bytes, number, tree]));
     }
     return this.#answers.get(key);
+  }
+
+  #find(selectors, grammar, words) {
+    const options = { room: 1024 + 8 * this.names.length, hasTree: true };
+    const numbers = selected('select', selectors, grammar, [...words, NO_LIMIT], options).split('\n').slice(0, -1);
+    return new Set(numbers.map(number => number - 1));
   }
 
   /**
@@ -218,6 +229,18 @@ class Elements {
     }
     return found;
   }
+}
+
+/** Whether a text may have `:scope` in it, or `&`, which denotes it outside of style sheets. */
+function mayNameScope(selectors) {
+  return ['\\', '&'].some(each => selectors.includes(each)) || lower(selectors).includes('scope');
+}
+
+/** Returns the arrays of the same tree in which `:scope` matches the element at an index. */
+function withScope({ arrays: [elements, ...strings] }, index) {
+  const scoped = Object.assign(elements.slice(), { count: elements.count });
+  scoped[3 * index + 2] += SCOPE;
+  return { arrays: [scoped, ...strings] };
 }
 
 /** Elements in the order of the document, which selectors are matched against. */

@@ -201,7 +201,8 @@ impl<'a> Sheet<'a> {
     /// Returns the declaration of a property that wins on the element: by importance, by layers, by
     /// specificity, and by where it stands. Shorthands are not expanded.
     pub fn winning<E: Element>(&self, element: &E, property: &str) -> Option<Declaration<'a>> {
-        css_styles::winning(self.0.as_slice(), element, "".into(), property).map(|it| it.declaration)
+        let winner = css_styles::winning(Global, self.0.as_slice(), element, "".into(), property);
+        done(winner).map(|it| it.declaration)
     }
 
     /// Makes an index of the rules, for single elements.
