@@ -511,6 +511,27 @@ PYTHON: Sequence[Tuple[str, int, str, str]] = [
         "simplecss.Tree.from_html(text)",
     ),
     (
+        "formatting elements with 31 attributes",
+        2_000,
+        "n * ('<b ' + ' '.join(f'a{i}' for i in range(31)) + '>')",
+        "simplecss.Tree.from_html(text)",
+    ),
+    (
+        "the same with one of 40 ids",
+        2_000,
+        "''.join('<b ' + ' '.join(f'a{i}' for i in range(31)) + f' id={i % 40}>' for i in range(n))",
+        "simplecss.Tree.from_html(text)",
+    ),
+    (
+        "the same, each four times, a product",
+        2_000,
+        (
+            "''.join('<b ' + ' '.join(f'a{i}' for i in range(31)) + f' id={i % (n // 4)}>' for i in"
+            " range(n))"
+        ),
+        "simplecss.Tree.from_html(text)",
+    ),
+    (
         "siblings, ~, a product",
         2_000,
         "n * '<p>'",

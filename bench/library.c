@@ -1,5 +1,6 @@
-/* The C library as a program, for bench/speed.py: `read SHEET` writes what simplecss_read does, and `match SELECTORS TREE`, with
- * a selector a line and a tree as `cssq` takes it, what simplecss_match_selectors does. */
+/* The C library as a program, for bench/speed.py: `read SHEET` writes what simplecss_read does, `match SELECTORS TREE`, with
+ * a selector a line and a tree as `cssq` takes it, what simplecss_match_selectors does, and `winners SHEET TREE` what
+ * simplecss_winners does. */
 #include <stdio.h>
 #include <stdlib.h>
 #include <string.h>
@@ -88,13 +89,30 @@ static int write_answer(uint32_t status, const uint8_t *out, size_t len) {
     return (int)status;
 }
 
-static int match(text selectors, text tree, uint8_t *out) {
-    size_t lines = count_of(tree, '\n'), len = 0;
+static simplecss_tree tree_of(text source) {
+    size_t lines = count_of(source, '\n');
     simplecss_element *elements = room(lines, sizeof *elements);
-    strings rules = lines_of(selectors), found = strings_for(tree, lines + 2 * count_of(tree, '\t'));
-    size_t count = read_tree(tree, elements, &found);
+    strings found = strings_for(source, lines + 2 * count_of(source, '\t'));
+    size_t count = read_tree(source, elements, &found);
+    return (simplecss_tree){elements, count, found.all.data, found.all.len, found.ends, found.count};
+}
+
+static int winners(text sheet, text tree, size_t *out) {
+    simplecss_sheets sheets = {sheet.data, sheet.len, &sheet.len, 1};
+    simplecss_own own = {0};
+    simplecss_tree page = tree_of(tree);
     simplecss_tree_fault fault;
-    simplecss_tree page = {elements, count, found.all.data, found.all.len, found.ends, found.count};
+    size_t len = 0;
+    uint32_t status = simplecss_winners(
+        &sheets, SIMPLECSS_MODERN, SIMPLECSS_NO_LIMIT, &page, &own, SIMPLECSS_NO_LIMIT, out, ROOM / sizeof len, &len, &fault);
+    return write_answer(status, (uint8_t *)out, len * sizeof len);
+}
+
+static int match(text selectors, text tree, uint8_t *out) {
+    size_t len = 0;
+    strings rules = lines_of(selectors);
+    simplecss_tree_fault fault;
+    simplecss_tree page = tree_of(tree);
     uint32_t status = simplecss_match_selectors(
         rules.all.data, rules.all.len, rules.ends, rules.count, SIMPLECSS_MODERN, &page, SIMPLECSS_NO_LIMIT, out, ROOM, &len,
         &fault);
@@ -105,6 +123,7 @@ int main(int argc, char **words) {
     void *out = room(ROOM, 1);
     size_t len = 0;
     if (argc == 4 && !strcmp(words[1], "match")) return match(read_file(words[2]), read_file(words[3]), out);
+    if (argc == 4 && !strcmp(words[1], "winners")) return winners(read_file(words[2]), read_file(words[3]), out);
     if (argc != 3 || strcmp(words[1], "read")) return 2;
     text sheet = read_file(words[2]);
     uint32_t status = simplecss_read(sheet.data, sheet.len, SIMPLECSS_NO_LIMIT, out, ROOM / sizeof len, &len);

@@ -2,13 +2,14 @@
 programs of the same commands.
 
     speed.py PROGRAM [OTHER] [--matcher MATCHER] [--out FOLDER] [--runs N] [--quick]
-    speed.py --libraries [--modern MODERN] [--out FOLDER] [--runs N] [--quick]
-    speed.py --python [--out FOLDER]
+    speed.py --libraries [--archive ARCHIVE] [--modern MODERN] [--out FOLDER] [--runs N] [--quick]
+    speed.py --python [--modern MODERN] [--out FOLDER] [--quick]
     speed.py --all PROGRAM ..    all three, in one run
 
 PROGRAM is the built `cssq`. OTHER and MATCHER, if given, are run on the same files, one run of each
 after another. OTHER is called the Rust crate, and MATCHER Servo's crates. Their standard output
-must be the same, but MATCHER's of `sheet`, since Servo's crates keep other rules. The style sheet
+must be the same, but MATCHER's of `sheet` and of sheets of other packages, since Servo's crates keep
+other rules. The style sheet
 is bootstrap.css of Debian's libjs-bootstrap4 and the page that of developers-reference, fetched by
 `apt-get download` into FOLDER (cssq-speed in the temporary folder) once; if that fails, both are
 made here, and the table says so. FOLDER is outside the repository: packages have links, which the
@@ -19,13 +20,15 @@ least of N runs of the whole process, in milliseconds of processor time. The mos
 in megabytes, is that of one more run below GNU `time`, if it is there: of a process that Python
 starts the system reports no less than Python's own.
 
---libraries measures the C library in out/ and the module `modern` of the Rust crate, as the programs
-bench/library.c and bench/library.rs, which gcc and cargo make in FOLDER. MODERN, if given, is the
-same over Servo's crates: its `match` must print the same, and its `json` what sheets have.
+--libraries measures the C library in ARCHIVE (out/libsimplecss.a) and the module `modern` of the Rust
+crate, as the programs bench/library.c and bench/library.rs, which gcc and cargo make in FOLDER.
+MODERN, if given, is the same over Servo's crates: its `match` must print the same, and its `json` what
+sheets have. What wins of flat rules stands beside what it matches of them.
 
---python measures the Python package beside other packages on the same sheet and page, and prints a
-table. What is not installed is left out. Each call is made five times in a process of its own, one
-package after another, and the least processor time counts.
+--python measures the Python package beside other packages on the same sheets and pages, and prints
+tables. What is not installed or takes too long is left out, and MODERN is a whole process. Each call
+is made five times in a process of its own, one package after another, and the least processor time
+counts. Run it by the Python that has the packages.
 """
 from __future__ import annotations
 
@@ -58,10 +61,22 @@ ENVIRONMENT = {
     "PYTHONDONTWRITEBYTECODE": "",
 }
 # What takes the Rust crate a minute and more.
-SLOW = ("20,000 rule sets", "children of", "a chain")
+SLOW = ("20,000 rule sets", "30,000 children", "a chain")
+# Sheets of other packages of Debian, with the names of their files.
+SHEETS = {
+    "bootstrap 3": ("libjs-bootstrap", "bootstrap.css"),
+    "bootstrap 4": ("libjs-bootstrap4", "bootstrap.css"),
+    "Read the Docs": ("sphinx-rtd-theme-common", "theme.css"),
+    "Font Awesome": ("fonts-font-awesome", "font-awesome.css"),
+    "jQuery UI": ("libjs-jquery-ui", "jquery-ui.css"),
+}
 # After this many seconds a row has no more than three runs.
 PATIENCE = 8.0
 TOP = os.path.dirname(os.path.dirname(os.path.abspath(__file__)))
+sys.path.insert(0, TOP)
+
+from bench import packages  # noqa: E402
+
 PACKAGE = os.path.join(TOP, "python", "src")
 # The program over the Rust crate.
 PROJECT = """[package]
@@ -79,19 +94,19 @@ codegen-units = 1
 
 @dataclass(frozen=True)
 class Program:
-    """A program, of which commands its output must be that of the first, and commands that it names
-    otherwise."""
+    """A program, its commands, of which of them its output must be that of the first, and the words that
+    it takes in place of those of others."""
 
     name: str
     colour: str
     path: str
     commands: Tuple[str, ...]
     compared: Tuple[str, ...]
-    named: Mapping[str, str] = field(default_factory=dict)
+    taken: Mapping[str, Callable[[Sequence[str]], List[str]]] = field(default_factory=dict)
 
     def words_for(self, words: Sequence[str]) -> List[str]:
         """Returns the words of a command as it takes them."""
-        return [self.named.get(words[0], words[0]), *words[1:]]
+        return self.taken.get(words[0], list)(words)
 
 
 @dataclass(frozen=True)
@@ -127,13 +142,21 @@ class Bench:
             file.write(text)
         return path
 
-    def run(self, what: str, size: int, words: Sequence[str], leave_out: Sequence[str] = ()) -> Row:
-        """Runs a command by each program that has it and is not left out, and adds a row."""
+    def run(
+        self,
+        what: str,
+        size: int,
+        words: Sequence[str],
+        leave_out: Sequence[str] = (),
+        is_compared: bool = True,
+    ) -> Row:
+        """Runs a command by each program that has it and is not left out, and adds a row. The output is
+        not compared if programs may keep other rules."""
         chosen = [
             it if words[0] in it.commands and it.name not in leave_out else None
             for it in self.programs
         ]
-        row = Row(what, size, least(chosen, words, self.runs))
+        row = Row(what, size, least(chosen, words, self.runs, is_compared))
         self.rows.append(row)
         print(
             f"{what:52}"
@@ -319,10 +342,10 @@ def memory_of(path: str, words: Sequence[str]) -> str:
 
 
 def least(
-    programs: Sequence[Optional[Program]], words: Sequence[str], runs: int
+    programs: Sequence[Optional[Program]], words: Sequence[str], runs: int, is_compared: bool
 ) -> List[Optional[Cost]]:
     """Returns the least cost by each program, one run of each after another. Their output must be
-    the same."""
+    the same if it is compared."""
     times = [float("inf")] * len(programs)
     begun = time.monotonic()
     for number in range(runs):
@@ -332,7 +355,8 @@ def least(
                 continue
             spent, output = measured(program.path, program.words_for(words))
             times[place] = min(times[place], spent)
-            if first is not None and words[0] in program.compared and output != first:
+            is_known = is_compared and first is not None and words[0] in program.compared
+            if is_known and output != first:
                 sys.exit(f"{program.path} answers otherwise to {words}")
             first = output if place == 0 else first
         if number >= 2 and time.monotonic() - begun > PATIENCE:
@@ -381,14 +405,31 @@ def made_pages(tree: List[str]) -> Iterator[Tuple[str, str, Callable[[], str]]]:
     yield "utility classes, 1,800 rules on 8,000 elements", utility_sheet(1_800), lambda: utilities(
         8_000
     )
-    yield "children of a parent of 1,000 words", rules(20, ".x{0} > *"), lambda: children(
-        1_000, 300_000
+    yield "30,000 children of a parent of 1,000 words", rules(20, ".x{0} > *"), lambda: children(
+        1_000, 30_000
     )
     yield "1,000 classes on 20,000 elements", rules(1_000, ".k{0}"), lambda: classed(20_000)
     yield "40 chains of 500 elements", deep, lambda: chains(40, 500)
     yield "a chain of 20,000 elements", deep, lambda: chains(1, 20_000)
     yield "a drawing of 18,401 elements", states, lambda: drawing(17_952)
     yield "values of 1,000 bytes, 2,000 elements", states, lambda: long_values(2_000)
+
+
+def other_sheets(folder: str) -> Iterator[Tuple[str, str]]:
+    """Returns sheets of other packages that can be fetched, and what they are."""
+    for what, (package, name) in SHEETS.items():
+        css = fetched(folder, package, name)
+        if css:
+            yield what, css
+
+
+def match_sheets(bench: Bench, tree: List[str]) -> None:
+    """Reads sheets of other packages, and matches them on the page."""
+    for what, css in other_sheets(bench.folder):
+        sheet, path = bench.put("sheet.css", css), bench.put("page.tree", tree_of(tree))
+        bench.run(f"sheet: {what}", 0, ["sheet", sheet])
+        words = ["match", sheet, path]
+        bench.run(f"match: {what} on the page", 0, words, is_compared=False)
 
 
 def match_made(bench: Bench, css: str, tree: List[str]) -> None:
@@ -407,13 +448,13 @@ def match_made(bench: Bench, css: str, tree: List[str]) -> None:
 # ---- the libraries
 
 
-def program_in_c(folder: str) -> Optional[str]:
+def program_in_c(folder: str, archive: str) -> Optional[str]:
     """Makes the program over the C library. Returns its path, or none if a part is missing."""
-    made, archive = os.path.join(folder, "library_c"), os.path.join(TOP, "out", "libsimplecss.a")
+    made = os.path.join(folder, "library_c")
     if not shutil.which("gcc") or not os.path.exists(archive):
         return None
     words = ["gcc", "-O2", "-I", os.path.join(TOP, "include"), os.path.join(TOP, "bench/library.c")]
-    subprocess.run([*words, archive, "-o", made], check=True)
+    subprocess.run([*words, archive, "-lm", "-lpthread", "-ldl", "-o", made], check=True)
     return made
 
 
@@ -434,17 +475,25 @@ def program_in_rust(folder: str) -> Optional[str]:
     return os.path.join(project, "target/release/library")
 
 
-def libraries(folder: str, modern: Optional[str]) -> List[Program]:
+def libraries(folder: str, archive: str, modern: Optional[str]) -> List[Program]:
     """Returns the programs over the libraries, and the one over Servo's crates."""
-    every, match = ("read", "match"), ("match",)
+    every, match = ("read", "match", "winners"), ("match",)
     modern = modern and os.path.abspath(modern)
+    # What wins is a command with a sheet, the selectors of the sheet, and a tree.
+    of_library: Dict[str, Callable[[Sequence[str]], List[str]]] = {
+        "winners": lambda words: ["winners", words[1], words[3]]
+    }
+    of_peer: Dict[str, Callable[[Sequence[str]], List[str]]] = {
+        "read": lambda words: ["json", *words[1:]],
+        "winners": lambda words: ["match", *words[2:]],
+    }
     named = [
-        ("C", "#1764c0", program_in_c(folder), every),
+        ("C", "#1764c0", program_in_c(folder, archive), every),
         ("Rust", "#c04a17", program_in_rust(folder), match),
         ("Servo's crates", "#2c8a3a", modern, every),
     ]
     return [
-        Program(name, colour, path, commands, match, {"read": "json"} if path == modern else {})
+        Program(name, colour, path, commands, match, of_peer if path == modern else of_library)
         for name, colour, path, commands in named
         if path
     ]
@@ -482,6 +531,17 @@ def show_libraries(bench: Bench, css: str, tree: List[str], is_quick: bool) -> N
     for what, text, page in () if is_quick else modern_pages(tree):
         selectors, path = bench.put("made", selectors_of(text)), bench.put("made.tree", page())
         bench.run(f"match: {what}", 0, ["match", selectors, path])
+    for what, text in other_sheets(bench.folder):
+        show_sheet(bench, what, text, bench.put("page.tree", tree_of(tree)))
+
+
+def show_sheet(bench: Bench, what: str, css: str, page: str) -> None:
+    """Reads a sheet, matches its selectors on a page, and says which of its flat rules win there."""
+    bench.run(f"read: {what}", 0, ["read", bench.put("sheet.css", css)])
+    flat = "".join(f"{line} {{ b:c; d:e }}\n" for line in selectors_of(css).splitlines())
+    selectors, sheet = bench.put("selectors", selectors_of(css)), bench.put("flat.css", flat)
+    bench.run(f"match: {what} on the page", 0, ["match", selectors, page])
+    bench.run(f"winners: {what} on the page", 0, ["winners", sheet, selectors, page])
 
 
 @dataclass(frozen=True)
@@ -631,6 +691,10 @@ import gc, sys, time
 page, css = (open(name, encoding="utf-8").read() for name in sys.argv[1:3])
 selectors = (f"div > p a[href]:not(.x{{number}})" for number in range(99))
 wide = (f"*:not(.x{{number}})" for number in range(99))
+# Texts of which nothing is kept, a mail, and its sheet.
+fresh = (f"{{css}}/*{{number}}*/" for number in range(99))
+mail = "<html><body>" + 10 * "<table class=t><tr><td class=b><a href=x class=l>t</a><p>x"
+mail_css = "p{{a:b}}.b{{a:c}}a:hover{{d:e}}td>a{{d:f}}@media print{{a{{d:g}}}}"
 unclosed = f"<b {{' '.join(f'a{{i}}' for i in range(31))}} id={{{{}}}}>"
 unclosed = "".join(unclosed.format(number % 40) for number in range(2000))
 {prepare}
@@ -730,10 +794,16 @@ CALLS: Dict[str, Dict[str, Tuple[str, str]]] = {
             "from simplecss import StyleSheet, Tree",
             "StyleSheet(css).styles(Tree.from_html(page))",
         ),
+        "the tree": ("import simplecss", "simplecss.Tree.from_html(page)"),
         "cssselect2": (CSSSELECT2, "styles()"),
     },
     "`inline`": {
-        "simplecss": ("import simplecss", "simplecss.inline(page, css)"),
+        "simplecss": ("import simplecss", "simplecss.inline(page, next(fresh))"),
+        "with a sheet that is read": (
+            "import simplecss; sheet = simplecss.StyleSheet(css); simplecss.inline('<p>', sheet)",
+            "simplecss.inline(page, sheet)",
+        ),
+        "the tree": ("import simplecss", "simplecss.Tree.from_html(page)"),
         "premailer": ("import premailer", "premailer.transform(page, css_text=css)"),
         "css-inline": ("import css_inline", "css_inline.inline(page, extra_css=css)"),
     },
@@ -758,14 +828,18 @@ CALLS: Dict[str, Dict[str, Tuple[str, str]]] = {
         "simplecss": ("import simplecss", "list(simplecss.tokens(css))"),
         "tinycss2": ("import tinycss2", "tinycss2.parse_component_value_list(css)"),
     },
-    "`inline` of 20 short pages": {
+    "`inline` of 1,000 mails": {
         "simplecss": (
-            "import simplecss; inliner = simplecss.Inliner(css)",
-            "[inliner.inline(f'<p class=btn>{each}') for each in range(20)]",
+            "import simplecss; inliner = simplecss.Inliner(mail_css)",
+            "[inliner.inline(f'{mail}{each}') for each in range(1000)]",
         ),
-        "the sheet as a text": (
+        "with the sheet as a text": (
             "import simplecss",
-            "[simplecss.inline(f'<p class=btn>{each}', css) for each in range(20)]",
+            "[simplecss.inline(f'{mail}{each}', mail_css) for each in range(1000)]",
+        ),
+        "the trees": (
+            "import simplecss",
+            "[simplecss.Tree.from_html(f'{mail}{each}') for each in range(1000)]",
         ),
     },
 }
@@ -792,9 +866,8 @@ def started(code: str) -> float:
     return min(measured(sys.executable, words)[0] for _ in range(15))
 
 
-def python_rows(bench: Bench, css: str, page: str) -> Iterator[str]:
+def python_rows(files: Sequence[str]) -> Iterator[str]:
     """Yields the table of the Python package."""
-    files = [bench.put("page.html", page), bench.put("sheet.css", css)]
     yield "||simplecss, ms|others, in times of it|\n|---|---|---|"
     plain = started("pass")
     for code in ("import simplecss", "from simplecss import Tree", "from simplecss import inline"):
@@ -805,6 +878,47 @@ def python_rows(bench: Bench, css: str, page: str) -> Iterator[str]:
         if own is not None:
             others = ", ".join(f"{name} {time / own:.2f}" for name, time in times.items() if time)
             yield f"|{what}|{own:.1f}|{others}|"
+
+
+def pages_of(folder: str, tree: List[str]) -> Iterator[Tuple[str, str, Iterable[str]]]:
+    """Returns what pages are, the selectors for each, a line each, and its lines."""
+    for what, css in other_sheets(folder):
+        yield f"{what} on the page", selectors_of(css), tree
+        if what == "bootstrap 4":
+            yield f"{what} on the page 4 times", selectors_of(css), tree * 4
+    for what, css, page in made_pages(tree):
+        yield what, selectors_of(css), page().splitlines()
+
+
+def ready_rows(bench: Bench, tree: List[str], modern: Optional[str]) -> Iterator[str]:
+    """Yields the table of what packages match on trees that are there."""
+    yield "|a sheet on a ready tree|simplecss, ms|of the library|others, in times of it|"
+    yield "|---|---|---|---|"
+    for what, selectors, lines in pages_of(bench.folder, tree):
+        files = [bench.put("page.xml", packages.xml_of(lines)), bench.put("selectors", selectors)]
+        calls = packages.MATCHING.items()
+        found = {
+            name: packages.spent(*call, files, {"PYTHONPATH": PACKAGE}) for name, call in calls
+        }
+        own = found.pop("simplecss")
+        if own is None:
+            continue
+        others = packages.times_of(found, own)
+        if modern:
+            words = ["match", files[1], bench.put("page.tree", tree_of(lines))]
+            times = min(measured(modern, words)[0] for _ in range(3)) / own.total
+            others = ", ".join(filter(None, [others, f"Servo's crates, a process {times:.2f}"]))
+        yield f"|{what}|{own.total:.1f}|{own.total / max(own.inside, 1e-9):.2f}|{others}|"
+
+
+def shared_rows(files: Sequence[str]) -> Iterator[str]:
+    """Yields the table of calls beside the time of the library in them."""
+    yield "|a call on a ready tree|ms|in times of the library's own|\n|---|---|---|"
+    for what, (prepare, expression) in packages.SHARED.items():
+        prepare = f"{packages.TIMED}\nimport simplecss\n{prepare}"
+        found = packages.spent(prepare, expression, files, {"PYTHONPATH": PACKAGE})
+        if found:
+            yield f"|{what}|{found.total:.1f}|{found.total / max(found.inside, 1e-9):.2f}|"
 
 
 def programs_of(words: argparse.Namespace) -> List[Program]:
@@ -829,6 +943,7 @@ def words_of() -> argparse.Namespace:
     parser.add_argument("other", nargs="?")
     parser.add_argument("--matcher")
     parser.add_argument("--modern")
+    parser.add_argument("--archive", default=os.path.join(TOP, "out", "libsimplecss.a"))
     parser.add_argument("--out", default=os.path.join(tempfile.gettempdir(), "cssq-speed"))
     parser.add_argument("--runs", type=int, default=9)
     parser.add_argument("--quick", action="store_true", help="only small inputs")
@@ -858,6 +973,7 @@ def measure_programs(
     match_parts(bench, css, tree, words.quick)
     if not words.quick:
         match_made(bench, css, tree)
+        match_sheets(bench, tree)
     bench.put("speed.svg", picture(bench))
     yield table(bench, source) + "\n"
 
@@ -866,20 +982,30 @@ def measure_libraries(
     words: argparse.Namespace, css: str, tree: List[str], source: str
 ) -> Iterator[str]:
     """Measures the libraries for C and Rust, and yields the table."""
-    bench = Bench(libraries(words.out, words.modern), words.out, words.runs)
+    programs = libraries(words.out, os.path.abspath(words.archive), words.modern)
+    bench = Bench(programs, words.out, words.runs)
     if not bench.programs or bench.programs[0].name != "C":
-        sys.exit("the C library is not measured: there is no gcc, or no out/libsimplecss.a")
+        sys.exit(f"the C library is not measured: there is no gcc, or no {words.archive}")
     show_libraries(bench, css, tree, words.quick)
     yield table(bench, source) + "\n"
 
 
-def measure_python(words: argparse.Namespace, css: str, page: Optional[str]) -> Iterator[str]:
-    """Measures the Python package, prints the table, and yields its lines."""
+def measure_python(
+    words: argparse.Namespace, css: str, page: Optional[str], tree: List[str]
+) -> Iterator[str]:
+    """Measures the Python package, prints its tables, and yields their lines."""
     if not page:
         sys.exit("the sheet and the page cannot be fetched")
-    for line in python_rows(Bench([], words.out, words.runs), css, page):
-        print(line, flush=True)
-        yield line + "\n"
+    bench = Bench([], words.out, words.runs)
+    files = [bench.put("page.html", page), bench.put("sheet.css", css)]
+    rows = [python_rows(files), shared_rows(files)]
+    if not words.quick:
+        rows.append(ready_rows(bench, tree, words.modern and os.path.abspath(words.modern)))
+    for table_of_rows in rows:
+        for line in table_of_rows:
+            print(line, flush=True)
+            yield line + "\n"
+        yield "\n"
 
 
 def main() -> None:
@@ -904,7 +1030,7 @@ def main() -> None:
     if words.libraries:
         parts += measure_libraries(words, css, elements.lines, source)
     if words.python:
-        parts += measure_python(words, css, page)
+        parts += measure_python(words, css, page, elements.lines)
     path = os.path.join(words.out, "speed.md")
     with open(path, "w", encoding="utf-8") as file:
         file.writelines(parts)

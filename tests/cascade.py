@@ -16,6 +16,7 @@ COLORS = ("flood-color", "stop-color", "lighting-color")
 INITIAL = {"flood-color": "rgb(0, 0, 0)", "stop-color": "rgb(0, 0, 0)"}
 INITIAL["lighting-color"] = "rgb(255, 255, 255)"
 MARGINS = ("margin-top", "margin")
+BACK = ("revert-layer", "revert-layer", " Revert-Layer/**/", "revert", "/**/ REVERT ", "r\\65vert")
 SELECTORS = (".a", ".b", "#d", "rect", "g", "*", "g .b", "rect.a", ":is(#d, .b)", "g > rect")
 GROUPS = ("@layer x", "@layer y", "@layer x.z", "@layer", "@media all", "@layer y")
 
@@ -55,6 +56,8 @@ class Source:
         for _ in range(self._random.randrange(1, 5)):
             name = self._random.choice((*COLORS, *MARGINS))
             value = self._color() if name in COLORS else self._length()
+            if self._random.random() < 0.2:
+                value = self._random.choice(BACK)
             important = self._random.choice(("", "", " !important"))
             found.append(f"{name}: {value}{important}")
         return "; ".join(found)
@@ -149,6 +152,54 @@ class Cascade(Case):
         )
         hinted = no_author.style(tree, "fill", specified=True)[index]
         self.assertEqual(hinted and hinted.value, "hint")
+
+    def test_layers_of_origins(self) -> None:
+        """By CSS Cascading 5, section 6.4.3: each origin has its own order of layers."""
+        os.environ.setdefault("SIMPLECSS_LIBRARY", library_path())
+        package()
+        from simplecss import StyleSheet, Tree
+
+        text = "@layer {0}; @layer a {{ p {{ x: {1}-a; y: {1}-a !important }} }} @layer b {{ p {{ x: {1}-b; y: {1}-b !important }} }}"
+        sheet = StyleSheet(
+            text.format("a, b", "program"), text.format("b, a", "author"), origins=("user-agent",)
+        )
+        found = sheet.styles(Tree.from_html("<p>"), specified=True)[-1]
+        self.assertEqual(
+            {each.name: each.value for each in found}, {"x": "author-a", "y": "program-a"}
+        )
+
+    def test_reverting(self) -> None:
+        """By CSS Cascading 5, sections 7.3.4 and 7.3.5: to the origin before, of which hints are the
+        author's, or to the layer before."""
+        os.environ.setdefault("SIMPLECSS_LIBRARY", library_path())
+        package()
+        from simplecss import StyleSheet, Tree
+
+        tree = Tree.from_html(
+            "<svg><rect style='e: revert; f: revert-layer' fill='hint' stroke='hint'/></svg>"
+        )
+        sheet = StyleSheet(
+            "rect { a: program; b: program; c: revert; --d: program; e: program; fill: program; stroke: program }",
+            "rect { a: user; b: revert; --d: user; e: user; g: revert-layer }",
+            "rect { a: revert; b: revert; --d: Revert; e: author; f: author; fill: revert; stroke: revert-layer }",
+            origins=("user-agent", "user"),
+        )
+        index = [each.name for each in tree].index("rect")
+        won = {each.name: each.value for each in sheet.styles(tree, specified=True)[index]}
+        due = {
+            "a": "user",
+            "b": "program",
+            "c": "revert",
+            "--d": "user",
+            "e": "user",
+            "f": "author",
+        }
+        self.assertEqual(won, {**due, "fill": "program", "stroke": "hint"})
+        short = StyleSheet(
+            "@layer { p { margin: 1px } } p { margin-top: 2px; margin: revert-layer }"
+        )
+        found = short.style(Tree.from_html("<p>"), "margin-top", shorthands=True)[-1]
+        self.assertEqual(str(found), "margin: 1px")
 
     def test_named(self) -> None:
         """Of an important declaration of a longhand and one of its shorthand, that in the earlier layer wins."""

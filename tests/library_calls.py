@@ -219,6 +219,8 @@ TREE3 = tree_of(
     (1, b"li", b"class", b"new"),
     (2, b"a"),
 )
+# Of two elements that are named, `:scope` matches the first.
+SCOPED = tree_of((0, b"ul"), ((1, 64), b"li"), (2, b"a"), ((1, 64 + 32), b"li"), (2, b"a"))
 MODERN, HTML, QUIRKS, PORT = range(4)
 SELECTORS3 = buffer_of(
     (
@@ -252,6 +254,14 @@ _PAIRS = (
     *(b"y", b"var(--q)", b"--b", b"2"),
 )
 PAIRS = buffer_of(_PAIRS)
+# The same of two that are declared, two rules, and two that the parent has.
+_REGISTERED = (
+    *(b"x", b"var(--a) var(--b)", b"--b", b"var(--q)"),
+    *(b"--a", b'syntax:"*";inherits:false;initial-value:1'),
+    *(b"--b", b"Syntax: '<n>'; INHERITS: true; initial-value: 2"),
+    *(b"--a", b"3", b"--b", b"4"),
+)
+REGISTERED = buffer_of(_REGISTERED)
 SUPPORTS = (
     (b"(DISPLAY: grid)", b"true"),
     (b"(width: 1px)", b"false"),
@@ -469,6 +479,8 @@ ANSWERS: Sequence[Tuple[str, Tuple[Any, ...], bytes]] = (
         b"1:\n2: 1 2\n3: 2 3 4\n4: 1 5\n5: 3 7\n6: 7\n",
     ),
     ("simplecss_select", (b"LI, a", MODERN, TREE3), b"6\n"),
+    ("simplecss_select", (b":scope, & > a", MODERN, SCOPED), b"2\n3\n"),
+    ("simplecss_select", (b":scope > li", HTML, TREE3), b"2\n3\n4\n5\n"),
     ("simplecss_select", (b"LI, a", HTML, TREE3), b"2\n3\n4\n5\n6\n"),
     ("simplecss_select", (b":any-link, :HOVER", MODERN, STATES), b"1\n2\n3\n5\n"),
     *(
@@ -477,10 +489,13 @@ ANSWERS: Sequence[Tuple[str, Tuple[Any, ...], bytes]] = (
         for device, answer in zip((SCREEN, PAPER), answers)
     ),
     *(("simplecss_supports", (text, *NAMES), answer) for text, answer in SUPPORTS),
-    ("simplecss_values", (*PAIRS, 4, NO_LIMIT), b"1\n11\n15\n1 1 1\n"),
-    ("simplecss_values", (*PAIRS, 9, NO_LIMIT), b"1\n11\n15\n1 1 1\n1\n2"),
-    ("simplecss_values", (*PAIRS, 9, 4), b"1\n11\n1\n\n1\n2"),
-    ("simplecss_values", (b"", sizes([]), 1, 1), b""),
+    ("simplecss_values", (*PAIRS, 4, 0, NO_LIMIT), b"1\n11\n15\n1 1 1\n"),
+    ("simplecss_values", (*PAIRS, 9, 0, NO_LIMIT), b"1\n11\n15\n1 1 1\n1\n2"),
+    ("simplecss_values", (*PAIRS, 9, 9, 4), b"1\n11\n1\n\n1\n2"),
+    ("simplecss_values", (b"", sizes([]), 1, 1, 1), b""),
+    ("simplecss_values", (*REGISTERED, 2, 2, NO_LIMIT), b"3\n1 41\n4"),
+    ("simplecss_values", (*REGISTERED, 2, 9, NO_LIMIT), b"3\n1 21\n2"),
+    ("simplecss_values", (*REGISTERED, 2, 1, NO_LIMIT), b"\n\n"),
     ("simplecss_valid_value", (b"var(--a, var(--b))",), b"true"),
     ("simplecss_valid_value", (b"var(--a, var(b))",), b"false"),
     ("simplecss_longhands", (b"margin",), b"margin-top margin-right margin-bottom margin-left"),
@@ -536,9 +551,9 @@ FAILURES += [
     ("simplecss_supports", (BROKEN, *NAMES), NOT_UTF8),
     ("simplecss_supports", (b"(a:b)", b"ab", sizes([1])), REFUSED),
     ("simplecss_supports", (b"(a:b)", BROKEN, sizes([1])), NOT_UTF8),
-    ("simplecss_values", (b"--a", sizes([3]), 1, 1), REFUSED),
-    ("simplecss_values", (b"--a", sizes([3, 1]), 1, 1), REFUSED),
-    ("simplecss_values", (BROKEN, sizes([1]), 1, 1), NOT_UTF8),
+    ("simplecss_values", (b"--a", sizes([3]), 1, 1, 1), REFUSED),
+    ("simplecss_values", (b"--a", sizes([3, 1]), 1, 1, 1), REFUSED),
+    ("simplecss_values", (BROKEN, sizes([1]), 1, 1, 1), NOT_UTF8),
     ("simplecss_longhands", (b"color",), REFUSED),
 ]
 # Of two faults of texts the first is reported.

@@ -19,7 +19,7 @@ static const size_t sheet_ends[] = {22, sizeof(sheet) - 1};
 static const size_t selector_ends[] = {2, 6};
 static const simplecss_element elements[] = {{0, 0, 0}, {1, 1, 0}, {1, 1, 0}};
 static const size_t name_ends[] = {5};
-static const size_t pair_ends[] = {3, 11, 14, 17};
+static const size_t pair_ends[] = {3, 11, 14, 54};
 static const simplecss_device device = {1280, 800, 2000, SIMPLECSS_SCREEN, SIMPLECSS_FINE, 1, 0, 0};
 static const char strings[] = "ullicl\tssnewlititlea\nb";
 static const size_t string_ends[] = {2, 4, 9, 12, 14, 19, 22};
@@ -88,7 +88,7 @@ int main(int count, char **words) {
     case 30: status = simplecss_matches(&nested, SIMPLECSS_MODERN, 9, TREE, MOST, NUMBERS, &fault); break;
     case 31: status = simplecss_matches(&nested, SIMPLECSS_HTML, 9, TREE, MOST, NUMBERS, &fault); break;
     case 32: status = simplecss_rule_texts(&nested, 9, MOST, OUT); break;
-    case 33: status = simplecss_values(TEXT("--avar(--b)--b\\61"), pair_ends, 4, 2, 99, MOST, OUT); break;
+    case 33: status = simplecss_values(TEXT("--avar(--b)--bsyntax:'*';inherits:true;initial-value:1"), pair_ends, 4, 1, 1, 99, MOST, OUT); break;
     case 34: status = simplecss_valid_value(TEXT("var(--\\61 , b)"), OUT); break;
     case 35: status = simplecss_longhands(TEXT("margin"), OUT); break;
     case 36: status = simplecss_shorthands(TEXT("margin-left"), OUT); break;

@@ -391,12 +391,12 @@ def browser_texts(texts: Sequence[str]) -> Optional[List[Optional[str]]]:
     return browser_answers(SHEET, list(texts))
 
 
-# Differences that docs/DIFFERENCES.md names, by the words of a refusal and by a list that is read
-# before its place.
-REFUSED_HERE = re.compile(r": `\|")
+# Differences that docs/DIFFERENCES.md names, by a list that is read before the place of a refusal, by
+# lists, and by a namespace.
 INNER = re.compile(r":(is|where|not)\([^()]*(\([^()]*)*$", re.IGNORECASE)
 FORGIVING = re.compile(r":(is|where)\(", re.IGNORECASE)
 NESTED = re.compile(r":(is|where|not)\(.*:(is|where|not)\(", re.IGNORECASE | re.DOTALL)
+NAMESPACE = re.compile(r"\|(?!=)")
 # A browser knows no flag `s`, and takes a large number for another; it refuses pseudo-classes that
 # it does not know, and reads `:is()` and a further pseudo-element after one.
 ODD_IN_BROWSERS = re.compile(
@@ -485,9 +485,9 @@ class Judge:
         if self.name == "soupsieve" and is_open(text):
             return True
         if reply.endswith(" is unsupported"):
-            return any(each.search(plain(text)) for each in (FORGIVING, NESTED))
+            return any(each.search(plain(text)) for each in (FORGIVING, NESTED, NAMESPACE))
         if found_of(reply) is None:
-            return bool(REFUSED_HERE.search(reply) or INNER.search(front_of(text, reply)))
+            return bool(INNER.search(front_of(text, reply)))
         is_forgiving = bool(FORGIVING.search(plain(text)))
         if self.name == "soupsieve" and theirs is None and is_forgiving:
             return True
@@ -813,6 +813,57 @@ FUNCTIONS = (
     "a:is(:has(b))",
     "a, :host(b), c",
     "a:state(x):hover",
+    ":nth-child(2n of a)",
+    ":nth-last-child(even of .b, c > d)",
+    "a:nth-child(n + 1/**/of/**/a:has(b)):hover",
+    ":not(:nth-child(-n- 1 o\\66 .c))",
+    ":nth-child(2 of :nth-last-child(n of *|b))",
+)
+# Namespaces that need no `@namespace`.
+NAMESPACES = (
+    "*|a",
+    "*|*",
+    "|a",
+    "|*.c",
+    "*/**/|/**/a",
+    "a > |b",
+    "a |b",
+    ":not(*|a, |*)",
+    "*|\\61::before",
+    "[*|a]",
+    "[/**/|/**/a]",
+    '[ *|a |= "b" i ]',
+    "[|a~=b]",
+    "[*|a|=b]",
+)
+# What is neither.
+NEVER = (
+    "*| a",
+    "* | a",
+    "*|",
+    "|",
+    "*|a|b",
+    "a||b",
+    "a*|b",
+    ".c|b",
+    "[*]",
+    "[*|*]",
+    "[* |a]",
+    "[*| a]",
+    "[|*=b]",
+    "[a| =b]",
+    "[|a| =b]",
+    ":nth-of-type(2n of a)",
+    ":nth-last-of-type(n of a)",
+    ":nth-child(2n of )",
+    ":nth-child(2n of ,a)",
+    ":nth-child(2n of > a)",
+    ":nth-child(2n of a, %)",
+    ":nth-child(2n a)",
+    ":nth-child(2n+1of a)",
+    ":nth-child(n+ 1of a)",
+    ":nth-child(n+1e3 of a)",
+    ":nth-child(of a)",
 )
 
 
@@ -834,17 +885,21 @@ class Unsupported(Case):
                 *((element, "") for element in BROKEN_ELEMENTS),
             ]
         ]
-        theirs = browser_texts([*texts, *FUNCTIONS, *refused])
+        refused += NEVER
+        texts += [*FUNCTIONS, *NAMESPACES]
+        theirs = browser_texts([*texts, *refused])
         if theirs is None:
             self.skipTest("pseudo-elements beside chromium, which is missing or does not answer")
         self.assertGreater(len([other for other in theirs if other]), 300)
         failures = []
-        replies = ours(("a", {}, []), [*texts, *FUNCTIONS, *refused])
-        for text, reply, other in zip([*texts, *FUNCTIONS, *refused], replies, theirs):
+        replies = ours(("a", {}, []), [*texts, *refused])
+        for text, reply, other in zip([*texts, *refused], replies, theirs):
             is_read = not reply.startswith("refused") or reply.endswith(" is unsupported")
             if other and not is_read or text in refused and (other or is_read):
                 failures.append(f"{text!r}: chromium has {other!r}, and not {reply!r}")
-        print(f"{len(replies)} texts with pseudo-elements and functions beside chromium")
+        print(
+            f"{len(replies)} texts with pseudo-elements, functions and namespaces beside chromium"
+        )
         self.sweep(len(replies), failures)
 
 

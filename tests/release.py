@@ -1005,6 +1005,8 @@ SELECTORS = [
     "p ~ ul > li:not(.note, :empty)",
     "p + p",
     ":root > *",
+    ":scope > *",
+    "ul > :scope, & b",
     ":is(ul, p) :where(a, li)",
     "[href^='#' i]",
     "[lang|=en]",
@@ -1057,10 +1059,13 @@ console.log(longhands('GAP').join(' '), longhands('color').length, shorthands('m
 console.log(isInherited('Color'), isInherited('--X'), isInherited('margin'), isValidValue('var(--a, var(b))'));
 const own = [['color', 'var(--m, red)'], ['--a', 'var(--b)'], ['--b', 'var(--a)'], ['--é', 'é'], ['x', '[var(--é)]']];
 console.log(JSON.stringify([resolve(own, [['--m', 'blue']]), resolve(own, [], { limit: 2 })]));
+const registered = [['--m', 'syntax: "*"; inherits: false; initial-value: green']];
+console.log(resolve(own, [['--m', 'blue']], { registered })[0]);
 """
 VALUES_PRINTED = """row-gap column-gap 0 all margin
 true true false false
 [["blue",null,null,"é","[é]"],[null,null,null,"é",null]]
+green
 """
 LOADING = """
 import { createRequire } from 'node:module';

@@ -394,9 +394,13 @@ READ = (
     ),
     (
         "a:not(b)::after, c ::before",
-        [("a:not(b)::after", True, "after"), ("c ::before", False, "")],
+        [("a:not(b)::after", True, "after"), ("c ::before", True, "before")],
     ),
     ("a::before:hover", [("a::before:hover", False, "")]),
+    (
+        "a > ::b, c:/**/:d/**/, & > e",
+        [("a > ::b", True, "b"), ("c:/**/:d", True, "d"), ("& > e", True, "")],
+    ),
     (
         ":lang(en), :lang('en'), :lang(en, fr), :lang( en )",
         [

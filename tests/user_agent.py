@@ -21,6 +21,7 @@ INITIAL = {
     "white-space": "normal", "list-style-type": "disc", "visibility": "visible",
     "font-style": "normal", "text-transform": "none", "direction": "ltr", "unicode-bidi": "normal",
     "clear": "none", "caption-side": "top", "border-collapse": "separate", "cursor": "auto",
+    "contain": "none",
 }
 # Where a browser's value is another one: the element, the property, and why.
 FORMS = "HTML leaves it to browsers how form controls look"
@@ -88,6 +89,14 @@ def pages() -> Iterator[str]:
         yield f"<!DOCTYPE html><body>{inside}<a href=x{attribute}>c</a><svg><g{attribute}/></svg>"
     yield "<!DOCTYPE html>" + "".join(
         f'<input type=hidden style="display: flex{each}">' for each in ("", " !important")
+    )
+    important = ' style="display: block !important; contain: none !important"'
+    yield f"<!DOCTYPE html><table><form{important}></form><tbody><form{important}></form><tr><form{important}></table>"
+    sizes = ("auto", "AUTO, 1px", "automatic", "1px")
+    yield "<!DOCTYPE html>" + "".join(
+        f'<img loading=lazy sizes="{each}" style="contain: {value}">'
+        for each in sizes
+        for value in ("layout", "layout !important")
     )
     lists = "<ul><li>a<ol type=I><li type=a>b<ul><li>c<dir><li type=square>d</dir></ul></ol><menu></menu></ul>"
     cells = "<caption align=bottom>a<thead><tr><td nowrap>b<tbody align=right><tr><td align=center>c<td>d"

@@ -24,17 +24,63 @@ BROKEN = (
     *("var(--a", "var()", "var(a)", "var(--)", "var(--a,!)", "var(--a b)", "var(--a,var(x))", "x)"),
     *("url(a b)", "[var(--b]", "var(--a,(!))", "{!}", "var(-a)", "var(--1)", "x!y"),
 )
+# Rules that register `--a`, or do not.
+_SAYS = 'syntax:"*";inherits:false;initial-value:1'
+RULES = (
+    *(f"@property --a{{{_SAYS}}}", f"@property --a b{{{_SAYS}}}", f"@property --{{{_SAYS}}}"),
+    *(
+        f"@property /**/--a/**/{{{_SAYS}}}",
+        f"@property --\\61{{{_SAYS}}}",
+        f"@property a{{{_SAYS}}}",
+    ),
+    *(
+        f"@PROPERTY --a{{{_SAYS.upper()}}}",
+        f"@pr\\6fperty --a{{{_SAYS}}}",
+        f"@property --a{{{_SAYS}",
+    ),
+    *(f"@property --a{{{_SAYS}!important}}", f"@media screen{{@property --a{{{_SAYS}}}}}"),
+    *(
+        f"div{{@property --a{{{_SAYS}}}}}",
+        "@property --a;",
+        '@property --a{syntax:"*;inherits:true',
+    ),
+    '@property --a{syntax:" * ";inherits:false}div{--a:2}div div{--a:unset}',
+    '@property --a{syntax:"";inherits:false;initial-value:1}',
+    '@property --a{syntax:"*"!important;inherits:false;initial-value:1}',
+    "@property --a{syntax:*;inherits:false;initial-value:1}",
+    '@property --a{syntax:"*";inherits:false;initial-value:initial}',
+    '@property --a{syntax:"*";inherits:false;initial-value:var(--b,1)}',
+    '@property --a{syntax:"*";inherits:false true;initial-value:1}',
+    '@property --a{syntax:"*" "x";inherits:false;initial-value:1}',
+    '@property --a{syntax:"*";inherits:false;initial-value:[1',
+)
+GROUPS = ("@layer a", "@media screen", "@media print", "@supports (nothing: y)")
 PAGE = """
 <!DOCTYPE html><meta charset=utf-8><body><script id=input type="application/json">%s</script>
 <script>
 const input = JSON.parse(document.getElementById("input").textContent);
-function computed(set) {
+function styled(set, above) {
     const element = document.createElement("div");
     element.setAttribute("style", set.map(([name, value]) => name + ":" + value).join(";"));
-    document.body.append(element);
+    above.append(element);
+    return element;
+}
+function computed(set) {
+    const element = styled(set, document.body);
     const style = getComputedStyle(element);
     const found = input.names.map(name => style.getPropertyValue(name));
     element.remove();
+    return found;
+}
+function registered([sheet, upper, lower]) {
+    const style = document.createElement("style");
+    style.textContent = sheet;
+    document.head.append(style);
+    const above = styled(upper, document.body), element = styled(lower, above);
+    const found = [above, element].map(each =>
+        input.names.map(name => getComputedStyle(each).getPropertyValue(name)));
+    above.remove();
+    style.remove();
     return found;
 }
 function longhands(name) {
@@ -42,7 +88,8 @@ function longhands(name) {
     style.cssText = name + ": inherit";
     return [...style];
 }
-const answers = {sets: input.sets.map(computed), longhands: input.shorthands.map(longhands)};
+const answers = {sets: input.sets.map(computed), longhands: input.shorthands.map(longhands),
+    registered: input.registered.map(registered)};
 document.documentElement.textContent = "ANSWER" + JSON.stringify(answers) + "END";
 </script>
 """
@@ -124,6 +171,49 @@ class Source:
             reference = (self._random.choice([*names, "--u"]), fallback)
             found.append(reference if self._random.random() < 0.75 else self._random.choice("xyz"))
         return found
+
+    def registered(self) -> Tuple[str, List[Pair], List[Pair]]:
+        """Returns a sheet that registers some properties, and what an element and one in it declare. Values
+        of those that are registered as numbers are numbers."""
+        rules = "".join(self._rule(name) for name in self._random.sample(NAMES[:5], 3))
+        if self._random.random() < 0.3:
+            # One in a layer would not be the one that counts.
+            rules += self._rule(self._random.choice(NAMES[:5]), GROUPS[1:])
+        declared = [
+            [(name, self._numbered()) for name in self._random.sample(NAMES[:5], count)]
+            for count in self._random.choices([0, 1, 2, 3, 4], k=2)
+        ]
+        for each in declared:
+            inside = " ".join(f"[var({name},NO)]" for name in NAMES[:5])
+            each.append((RESULT, inside))
+        return rules, declared[0], declared[1]
+
+    def _rule(self, name: str, groups: Sequence[str] = GROUPS) -> str:
+        pick = self._random.choice
+        says = [
+            pick(["syntax:'*'", 'syntax: "<number>"', 'Syntax:"<number>"', "syntax: '\\2a'"]),
+            f"inherits: {pick(['true', 'false', 'TRUE', 'false'])}",
+            f"initial-value:{pick('1234')}",
+        ]
+        if self._random.random() < 0.25:
+            says.remove(pick(says))
+        if self._random.random() < 0.15:
+            says.insert(
+                0, pick(["inherits: maybe", "syntax: number", "initial-value: var(--a)", "x: y"])
+            )
+        self._random.shuffle(says)
+        rule = f"@property {name} {{ {'; '.join(says)} }}"
+        group = pick([*[""] * 6, *groups])
+        return f"{group} {{ {rule} }}" if group else rule
+
+    def _numbered(self) -> str:
+        """Returns a number, a keyword, or a reference that comes to one of these or to nothing."""
+        pick, chance = self._random.choice, self._random.random()
+        plain = pick([*"56789", "initial", "inherit", "unset", *"05"])
+        if chance < 0.35:
+            return str(plain)
+        name = pick([*NAMES[:5], *NAMES[:5], "--u"])
+        return f"var({name})" if chance < 0.75 else f"var({name},{plain})"
 
     def _value(self, chance: float) -> str:
         if self._random.random() < chance:
@@ -210,9 +300,15 @@ class Values(Case):
         self.simplecss = importlib.import_module("simplecss")
         self.tokens_of = importlib.import_module("simplecss._tokens")
 
-    def answers(self, sets: Sequence[List[Pair]], shorthands: Sequence[str]) -> Any:
+    def answers(
+        self,
+        sets: Sequence[List[Pair]],
+        shorthands: Sequence[str] = (),
+        registered: Sequence[Tuple[str, List[Pair], List[Pair]]] = (),
+    ) -> Any:
         names = [*NAMES, RESULT]
-        found = browser_answers(PAGE, {"sets": sets, "names": names, "shorthands": shorthands})
+        asked = {"sets": sets, "names": names, "shorthands": shorthands, "registered": registered}
+        found = browser_answers(PAGE, asked)
         if found is None:
             self.skipTest("no browser answers")
         return found
@@ -237,7 +333,7 @@ class Values(Case):
         if not importlib.util.find_spec("tinycss2"):
             return by_debian(self, "tinycss2", "values beside a browser")
         failures = []
-        for pairs, values in zip(sets, self.answers(sets, [])["sets"]):
+        for pairs, values in zip(sets, self.answers(sets)["sets"]):
             found = self.computed(pairs)
             for name, value in zip([*NAMES, RESULT], values):
                 if self.tokens(found.get(name)) != self.tokens(value):
@@ -257,7 +353,7 @@ class Values(Case):
         asked = [[(name, written(value)) for name, value in each.items()] for each in sets]
         failures = []
         differing = 0
-        for values, pairs, shown in zip(sets, asked, self.answers(asked, [])["sets"]):
+        for values, pairs, shown in zip(sets, asked, self.answers(asked)["sets"]):
             browser = dict(zip([*NAMES, RESULT], shown))
             found, due = self.computed(pairs), by_the_standard(values)
             for name in values:
@@ -268,6 +364,32 @@ class Values(Case):
         # They differ on one in a hundred.
         self.assertLess(differing, 1 + len(sets) / 10)
         self.sweep(len(sets), failures)
+
+    def values(self, sheet: str, upper: List[Pair], lower: List[Pair]) -> List[Dict[str, str]]:
+        """Returns the values of an element and of one in it, by the names without escapes."""
+        styles = [";".join(f"{name}:{value}" for name, value in each) for each in (upper, lower)]
+        tree = self.simplecss.Tree.from_html(
+            "<!DOCTYPE html>" + "".join(f'<div style="{each}">' for each in styles)
+        )
+        found = self.simplecss.StyleSheet(sheet).styles(tree, specified=True, resolved=True)
+        return [{each.name: each.value for each in those} for those in found[-2:]]
+
+    def test_registered(self) -> None:
+        """What `@property` says, in a browser too."""
+        if not importlib.util.find_spec("tinycss2"):
+            return by_debian(self, "tinycss2", "registered properties beside a browser")
+        source = Source(9)
+        shown_by: List[Pair] = [(RESULT, "[var(--a,NO)]")]
+        asked = [(rule, shown_by, shown_by) for rule in RULES]
+        asked += [source.registered() for _ in range(count(1000))]
+        failures = []
+        for one, shown in zip(asked, self.answers([], registered=asked)["registered"]):
+            for found, values in zip(self.values(*one), shown):
+                # The names that are not declared are in the value of this one.
+                value = dict(zip([*NAMES, RESULT], values))[RESULT]
+                if self.tokens(found.get(RESULT)) != self.tokens(value):
+                    failures.append(f"{one}: {found.get(RESULT)!r}, not {value!r}")
+        self.sweep(len(asked), failures)
 
     def test_shorthands(self) -> None:
         """Each shorthand sets what it does in a browser, and each longhand is in its shorthands."""
