@@ -1,6 +1,6 @@
 -- What items and statements consume, and that what is left is an end of the text.
 -- Serves the loops and the iterators of `statements` and `declarations`.
-use Rattle.std.proofs.Common.{◌≡◌, ℕ, ◌≤◌, ◌||◌, ◌&&◌, not, nat_le, codes, eqb-true, Bool, true, false, List, [], ◌∷◌, length, Option, Some, None, Ok, Err, arith, refl, if◌then◌else◌, ◌==◌, drop, length-drop}
+use Rattle.std.proofs.Common.{◌≡◌, ℕ, ◌≤◌, ◌||◌, ◌&&◌, not, codes, eqb-true, Bool, true, false, List, [], ◌∷◌, length, Option, Some, None, Ok, Err, arith, refl, if◌then◌else◌, ◌==◌, drop, length-drop}
 use Rattle.std.proofs.lemmas.Bool.Decides.{nat_tests}
 use Rattle.css_text.specs.AsciiBytes.{colon, comma, exclamation_mark, open_brace, close_brace, semicolon, at_sign, hyphen, underscore}
 use Rattle.css_text.specs.Reading.{before, Ends}
@@ -12,7 +12,7 @@ use Rattle.css_text.proofs.reading.EndsLemmas.{ends-drop}
 use Rattle.css_text.proofs.reading.WellLemmas.{EndsWell, WellFound, each-well, well-after, well-nil, well-same, well-tail, well-then, well-past_byte}
 use Rattle.css_syntax.specs.declared.quality.Fault.{Fault}
 use Rattle.css_syntax.specs.declared.quality.Fault.TheVariants.{NestedRule}
-use Rattle.css_syntax.specs.Tokens.{gap_part, past_gap, past_word, spells, is_name_byte, begins_escape, begins_cdo}
+use Rattle.css_syntax.specs.Tokens.{gap_part, past_gap, past_word, spells, is_wide_byte, is_name_byte, begins_escape, begins_cdo}
 use Rattle.css_syntax.specs.Parts.{Stated, ends_at, parts}
 use Rattle.css_syntax.specs.Statements.{starts_ident, begins_at_rule, block_ends, block, at_rule_ends, at_rule_ended, at_rule, rule_set_ends, rule_set_ended, statement, begins_cdc, between_part, past_between, ends_block, with_text, statement_from, next_statement}
 use Rattle.css_syntax.specs.DeclarationLists.{declaration_ends, is_custom, value, important_word, importance, past_broken, is_stated, Declared, stated_as, named, declaration, begins_custom, rule_ended, or_rule, skipped_item, item, separator_part, past_separators, value_ends, item_from, next_item, with_text as list_with_text}
@@ -262,10 +262,10 @@ ident-word b text h = by (b == hyphen) refl
   where
     by : (t : Bool) → (b == hyphen) ≡ t → (is_name_byte b || begins_escape (b ∷ text)) ≡ true
     by true e = hyphen-word (is_letter b) (is_digit b) (b == underscore) (b == hyphen)
-        (nat_le 128 b)
+        (is_wide_byte b)
         (begins_escape (b ∷ text)) e
     by false e =
-        plain-word (is_letter b) (is_digit b) (b == underscore) (b == hyphen) (nat_le 128 b)
+        plain-word (is_letter b) (is_digit b) (b == underscore) (b == hyphen) (is_wide_byte b)
         (begins_escape (b ∷ text)) (rw e at h)
 
 pub declaration-less : (in_block : Bool) (b : ℕ) (text : List ℕ)

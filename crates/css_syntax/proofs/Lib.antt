@@ -15,6 +15,7 @@ pub mod AllCutUp
 pub mod PartsCutUp
 pub mod Vectors
 pub mod Decoding
+pub mod WithoutNul
 pub mod PlacedSteps
 pub mod PlaceBounds
 pub mod Parting

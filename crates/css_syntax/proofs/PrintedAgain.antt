@@ -1,6 +1,6 @@
 -- A declaration that was read, printed and read again.
 -- Serves `laws::printed_declarations_read_back`.
-use Rattle.std.proofs.Common.{◌≡◌, ℕ, zero, suc, ◌<◌, ◌≤◌, ◌==◌, ◌||◌, ◌&&◌, not, codes, nat_le, Bool, true, false, List, [], ◌∷◌, ◌++◌, append_assoc, length, Option, Some, None, Ok, Err, arith, refl, sym, ap, subst, ◌∙◌, if◌then◌else◌, eqb-true, ◌⊎◌, inl, inr}
+use Rattle.std.proofs.Common.{◌≡◌, ℕ, zero, suc, ◌<◌, ◌≤◌, ◌==◌, ◌||◌, ◌&&◌, not, codes, Bool, true, false, List, [], ◌∷◌, ◌++◌, append_assoc, length, Option, Some, None, Ok, Err, arith, refl, sym, ap, subst, ◌∙◌, if◌then◌else◌, eqb-true, ◌⊎◌, inl, inr}
 use Rattle.std.specs.List.{All}
 use Rattle.std.proofs.lemmas.Bool.{and_parts}
 use Rattle.std.proofs.lemmas.List.Elements.{All-cons, All-nil}
@@ -15,7 +15,7 @@ use Rattle.css_syntax.specs.declared.quality.Quality.TheVariants.{Whole, Open, B
 use Rattle.css_syntax.specs.declared.quality.Fault.{Fault}
 use Rattle.css_syntax.specs.declared.quality.Fault.TheVariants.{NestedRule}
 use Rattle.css_syntax.specs.Qualities.{is_good, is_whole}
-use Rattle.css_syntax.specs.Tokens.{past_one_space, past_hex, past_escape, begins_escape, hex_number, is_either, past_letter, spells, is_name_byte, name_part, past_word, gap_part, past_gap}
+use Rattle.css_syntax.specs.Tokens.{past_one_space, past_hex, past_escape, begins_escape, hex_number, is_either, past_letter, spells, is_wide_byte, is_name_byte, name_part, past_word, gap_part, past_gap}
 use Rattle.css_syntax.specs.Parts.{Stated, ends_at, parts}
 use Rattle.css_syntax.specs.Statements.{begins_plain_ident, starts_ident, begins_at_rule, ends_block, block, at_rule, at_rule_ends}
 use Rattle.css_syntax.specs.DeclarationLists.{DeclarationText, ItemText, declared, at_rule_item, skipped_item, declaration_ends, value_ends, value, important_word, importance, is_custom, is_empty, is_stated, Declared, stated_as, valued, named, declaration, past_broken, begins_custom, or_rule, item, separator_part, past_separators, ListText, with_text, item_from, next_item, items}
@@ -424,7 +424,7 @@ after-word (b ∷ text) e = by (is_name_byte b) (begins_escape (b ∷ text)) ref
     by false true f g e = absurd (cc)
     by false false f g e =
         let none =
-        letters (is_letter b) (is_digit b) (b == underscore) (b == hyphen) (nat_le 128 b) f in
+        letters (is_letter b) (is_digit b) (b == underscore) (b == hyphen) (is_wide_byte b) f in
         (none.0, rw (none.1, g) refl)
 
 -- what follows the name

@@ -13,12 +13,12 @@ use Rattle.css_text.proofs.bytes.Utf8Lemmas.{utf8-before_byte, utf8-second}
 use Rattle.css_text.proofs.reading.EachLemmas.{each-stops}
 use Rattle.css_text.proofs.reading.EndsLemmas.{EndsFound, each-ends, ends-by, ends-drop, ends-ends, ends-past, ends-past_byte, ends-same, ends-tail, ends-nil}
 use Rattle.css_text.proofs.reading.GotLemmas.{IfAfter, after_close-after}
-use Rattle.css_text.proofs.reading.WellLemmas.{EndsWell, WellFound, each-well, well-after, well-nil, well-past_byte, well-same, well-tail, well-then}
+use Rattle.css_text.proofs.reading.WellLemmas.{EndsWell, WellFound, each-well, well-after, well-nil, well-past, well-past_byte, well-same, well-tail, well-then}
 use Rattle.css_syntax.specs.declared.quality.Quality.{Quality}
 use Rattle.css_syntax.specs.declared.quality.Quality.TheVariants.{Whole, BadString, TooDeep}
-use Rattle.css_syntax.specs.Tokens.{is_either, escaped_char, past_letter, then_letter, then_open, after_url, is_newline, past_newline, past_one_space, past_hex, past_escape, begins_escape, from_close, past_comment, gap_part, past_gap, string_part, past_string_parts, string_end, past_string, is_name_byte, name_part, past_word, begins_url, is_never_bare, url_part, remnant_part, url_end, past_url, begins_cdo, is_closer, other_token, token}
+use Rattle.css_syntax.specs.Tokens.{is_either, escaped_char, past_letter, then_letter, then_open, after_url, is_newline, past_newline, past_one_space, past_hex, past_escape, begins_escape, from_close, past_comment, gap_part, past_gap, string_part, past_string_parts, string_end, past_string, is_name_byte, name_part, past_word, begins_url, is_never_bare, url_part, past_url_parts, remnant_part, url_end, past_url, begins_cdo, is_closer, other_token, token}
 use Rattle.css_syntax.specs.ComponentValues.{is_opener, mirror, value_inside, block_of, value_by, past_open, past_deep, component_value}
-use Rattle.css_syntax.proofs.Shorter.{string_part-takes, name_part-takes, remnant_part-takes}
+use Rattle.css_syntax.proofs.Shorter.{string_part-takes, name_part-takes, url_part-takes, remnant_part-takes}
 
 -- ---- ends
 
@@ -242,6 +242,34 @@ url-well text rest e =
     (ends-ends text after (past is_space after)
     (ends-ends text inside after (ends-ends text rest inside e (ends-past is_space rest))
     (each-ends url_part url_part-ends inside)) (ends-past is_space after))
+
+-- a byte that a url does not have as it is is ASCII
+bare-ascii : (b : ℕ) → (b == close_parenthesis || is_space b || is_never_bare b) ≡ true → b < 128
+bare-ascii b e = grind (arith, nat_tests)
+
+-- where what is in a url stops
+url-stop : (b : ℕ) (text : List ℕ) → url_part (b ∷ text) ≡ None → b < 128
+unfolding url_part
+url-stop b text e =
+    by (begins_escape (b ∷ text)) (b == close_parenthesis || is_space b || is_never_bare b) refl refl
+  where
+    by : (s t : Bool) → begins_escape (b ∷ text) ≡ s
+        → (b == close_parenthesis || is_space b || is_never_bare b) ≡ t → b < 128
+    by true t f g = absurd (let wrong = rw f at e in cc)
+    by false true f g = bare-ascii b g
+    by false false f g = absurd (let wrong = rw (f, g) at e in cc)
+
+url-rest : (rest : List ℕ) → url_part rest ≡ None → AsciiNext rest
+url-rest [] e = tt
+url-rest (b ∷ text) e = url-stop b text e
+
+pub url_parts-well : (text : List ℕ) → EndsWell text (past_url_parts text)
+url_parts-well text =
+    well-ascii text (past_url_parts text) (each-ends url_part url_part-ends text)
+    (url-rest (past_url_parts text) (each-stops url_part url_part-takes text))
+
+pub spaces-well : (text : List ℕ) → EndsWell text (past is_space text)
+spaces-well text = well-past is_space space-ascii text
 
 -- `url(`
 EndsMaybe : List ℕ → Option (List ℕ) → Type 0

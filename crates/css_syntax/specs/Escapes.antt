@@ -1,6 +1,6 @@
 -- The text that a name, a value or a string denotes: its escapes are decoded (CSS Syntax 3, sections
--- 4.3.5 and 4.3.7).
-use Rattle.std.specs.Prelude.{ℕ, Bool, true, false, ◌||◌, ◌&&◌, ◌==◌, nat_lt, if◌then◌else◌, List, [], ◌∷◌, Option, Some, None, encode_utf8}
+-- 4.3.5 and 4.3.7), and U+0000 is U+FFFD (section 3.3).
+use Rattle.std.specs.Prelude.{ℕ, Bool, true, false, not, ◌||◌, ◌&&◌, ◌==◌, nat_lt, if◌then◌else◌, List, [], ◌∷◌, Option, Some, None, encode_utf8}
 use Rattle.std.specs.List.{flat_map}
 use Rattle.css_text.specs.AsciiBytes.{backslash}
 use Rattle.css_text.specs.Reading.{each}
@@ -33,9 +33,24 @@ decoded_part in_string (b ∷ text) =
     if begins_escape (b ∷ text) then Some (escaped_text text, past_escape text)
     else (if in_string && b == backslash then Some ([], past_escape text) else Some (b ∷ [], text))
 
--- the text, with its escapes decoded as in a string or as elsewhere
-unfoldable pub decoded_in : Bool → List ℕ → List ℕ
-decoded_in in_string text = flat_map (λ part. part) (each (decoded_part in_string) text).0
+-- what the text spells by its bytes and escapes, as in a string or as elsewhere
+unfoldable pub unescaped_in : Bool → List ℕ → List ℕ
+unescaped_in in_string text = flat_map (λ part. part) (each (decoded_part in_string) text).0
+
+-- a byte; U+FFFD in place of U+0000, which no text of CSS has
+abbrev pub without_nul_byte : ℕ → List ℕ
+without_nul_byte b = if b == 0 then encode_utf8 replacement else b ∷ []
+
+abbrev pub without_nul : List ℕ → List ℕ
+without_nul text = flat_map without_nul_byte text
+
+-- a byte that denotes itself wherever it is
+abbrev pub is_itself : ℕ → Bool
+is_itself b = not (b == backslash || b == 0)
+
+-- the text, with its escapes decoded as in a string or as elsewhere, and without U+0000
+abbrev pub decoded_in : Bool → List ℕ → List ℕ
+decoded_in in_string text = without_nul (unescaped_in in_string text)
 
 -- the text, with its escapes decoded
 abbrev pub decoded : List ℕ → List ℕ

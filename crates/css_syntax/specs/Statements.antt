@@ -1,6 +1,6 @@
 -- The statements of a sheet, or of the block of an at-rule such as `@media`: rule sets and at-rules
 -- (CSS Syntax 3, sections 5.4.1 to 5.4.3).
-use Rattle.std.specs.Prelude.{ℕ, Bool, true, false, not, ◌||◌, ◌&&◌, ◌==◌, nat_le, if◌then◌else◌, List, [], ◌∷◌, drop, Option, Some, None}
+use Rattle.std.specs.Prelude.{ℕ, Bool, true, false, not, ◌||◌, ◌&&◌, ◌==◌, if◌then◌else◌, List, [], ◌∷◌, drop, Option, Some, None}
 use Rattle.css_text.specs.AsciiBytes.{hyphen, semicolon, open_brace, close_brace, at_sign, underscore}
 use Rattle.css_text.specs.Reading.{each, before}
 use Rattle.css_text.specs.Bytes.{past_byte, starts, starts_by, starts_two}
@@ -8,14 +8,14 @@ use Rattle.css_text.specs.Characters.{is_letter}
 use Rattle.css_syntax.specs.declared.parts.Stops.{Stops}
 use Rattle.css_syntax.specs.declared.quality.Fault.{Fault}
 use Rattle.css_syntax.specs.declared.quality.Fault.TheVariants.{NoBlock}
-use Rattle.css_syntax.specs.Tokens.{begins_cdo, begins_escape, gap_part, past_gap, past_word}
+use Rattle.css_syntax.specs.Tokens.{begins_cdo, begins_escape, gap_part, is_wide_byte, past_gap, past_word}
 use Rattle.css_syntax.specs.Parts.{Stated, parts}
 
 -- ---- names (section 4.3.9)
 
 -- a byte that begins a name
 abbrev pub begins_name_byte : ℕ → Bool
-begins_name_byte b = is_letter b || b == underscore || nat_le 128 b
+begins_name_byte b = is_letter b || b == underscore || is_wide_byte b
 
 -- such a byte or an escape
 abbrev pub begins_plain_ident : List ℕ → Bool

@@ -1,11 +1,13 @@
-//! Decodes escapes (CSS Syntax 3, sections 4.3.5 and 4.3.7).
+//! Decodes escapes (CSS Syntax 3, sections 4.3.5 and 4.3.7) and U+0000 (section 3.3).
 ghost use Rattle.std.specs.Prelude.{◌≡◌, ◌≤◌, ◌++◌, ◌∷◌, true, length, IfOk};
+ghost use Rattle.std.specs.List.{prefix_len};
 ghost use Rattle.std.specs.String.{string_bytes};
 ghost use Rattle.std.specs.Cow.{cow_str_bytes};
 ghost use Rattle.css_text.specs.Bytes.{is_ascii, starts_by};
 ghost use Rattle.css_text.specs.AsciiBytes.{backslash};
 ghost use Rattle.css_syntax.specs.Tokens.{past_escape as past_escape_of};
 ghost use Rattle.css_syntax.specs.Escapes.{character_of as character_of_number, decoded, decoded_in, decoded_string};
+ghost use Rattle.css_syntax.specs.Escapes.{unescaped_in, is_itself as is_itself_byte, without_nul as without_nul_of};
 
 use crate::texts::past_ascii;
 use crate::tokens::{hex_number, is_hex_digit, is_newline, past_escape, split};
@@ -35,8 +37,8 @@ fn past_escaped(text: &str) -> &str
 /// Appends what a backslash denotes with what follows it, in a string or elsewhere, and returns the
 /// rest after it.
 fn push_escape<'a>(out: &mut String, in_string: bool, after: &'a str) -> Result<&'a str, AllocError>
-    ensures pushed { IfOk result (λ rest. string_bytes out.new ++ decoded_in in_string rest.now
-        ≡ string_bytes out.old ++ decoded_in in_string (backslash ∷ after.now)) }
+    ensures pushed { IfOk result (λ rest. string_bytes out.new ++ unescaped_in in_string rest.now
+        ≡ string_bytes out.old ++ unescaped_in in_string (backslash ∷ after.now)) }
     ensures within { IfOk result (λ rest. length rest.now ≤ length after.now) }
 {
     let bytes = after.as_bytes();
@@ -66,14 +68,14 @@ fn push_escape<'a>(out: &mut String, in_string: bool, after: &'a str) -> Result<
 }
 
 /// Returns a text whose first backslash is after `front`, with its escapes decoded.
-fn decode_from<'a>(
+fn unescape_from<'a>(
     alloc: Global,
     in_string: bool,
     front: &'a str,
     after: &'a str,
 ) -> Result<String, AllocError>
     ensures { IfOk result (λ out. string_bytes out
-        ≡ front.now ++ decoded_in in_string (backslash ∷ after.now)) }
+        ≡ front.now ++ unescaped_in in_string (backslash ∷ after.now)) }
 {
     let mut out = String::new(alloc);
     out.push_str(front)?;
@@ -88,21 +90,66 @@ fn decode_from<'a>(
 
 /// Returns the text with its escapes decoded, as in a string or as elsewhere. A text without a backslash
 /// is returned as it is.
-fn decode_in<'a>(alloc: Global, in_string: bool, text: &'a str) -> Result<CowStr<'a>, AllocError>
-    ensures { IfOk result (λ found. cow_str_bytes found ≡ decoded_in in_string text.now) }
+fn unescape_in<'a>(alloc: Global, in_string: bool, text: &'a str) -> Result<CowStr<'a>, AllocError>
+    ensures { IfOk result (λ found. cow_str_bytes found ≡ unescaped_in in_string text.now) }
 {
     match text.split_once('\\') {
         None => Ok(CowStr::Borrowed(text)),
-        Some((front, after)) => { Ok(CowStr::Owned(decode_from(alloc, in_string, front, after)?)) }
+        Some((front, after)) => {
+            Ok(CowStr::Owned(unescape_from(alloc, in_string, front, after)?))
+        }
     }
 }
 
+/// Returns the text with U+FFFD in place of each U+0000.
+fn without_nul(alloc: Global, text: &str) -> Result<String, AllocError>
+    ensures { IfOk result (λ out. string_bytes out ≡ without_nul_of text.now) }
+{
+    let mut out = String::new(alloc);
+    let mut rest = text;
+    'parts: while let Some((plain, next)) = rest.split_once('\0') {
+        out.push_str(plain)?;
+        out.push('\u{FFFD}')?;
+        rest = next;
+    }
+    out.push_str(rest)?;
+    Ok(out)
+}
+
+/// Whether the byte denotes itself wherever it is.
+fn is_itself(byte: u8) -> bool
+    ensures { result ≡ is_itself_byte byte }
+{
+    !(byte == b'\\' || byte == 0)
+}
+
+/// Returns the number of bytes at the start that denote themselves.
+fn plain_len(bytes: &[u8]) -> usize
+    ensures { result ≡ prefix_len is_itself_byte bytes.now }
+{
+    bytes.iter().take_while(|byte| is_itself(**byte)).count()
+}
+
+/// Returns the text with its escapes decoded, as in a string or as elsewhere, and without U+0000.
+fn decode_in<'a>(alloc: Global, in_string: bool, text: &'a str) -> Result<CowStr<'a>, AllocError>
+    ensures { IfOk result (λ found. cow_str_bytes found ≡ decoded_in in_string text.now) }
+{
+    if plain_len(text.as_bytes()) == text.len() {
+        return Ok(CowStr::Borrowed(text));
+    }
+    let unescaped = unescape_in(alloc, in_string, text)?;
+    if unescaped.as_str().contains('\0') {
+        return Ok(CowStr::Owned(without_nul(alloc, unescaped.as_str())?));
+    }
+    Ok(unescaped)
+}
+
 /// Returns the text that a name or a value denotes: its escapes are decoded. A text without a
-/// backslash is returned as it is; else the decoded text is allocated. Fails only if an allocation
-/// fails.
+/// backslash and U+0000 is returned as it is; else the decoded text is allocated. Fails only if an
+/// allocation fails.
 ///
-/// Hexadecimal digits of zero, of a surrogate or of more than U+10FFFF denote U+FFFD, and so does
-/// a backslash at the end. A backslash before a newline is no escape, and is kept.
+/// U+0000 denotes U+FFFD, and so do hexadecimal digits of zero, of a surrogate or of more than
+/// U+10FFFF, and a backslash at the end. A backslash before a newline is no escape, and is kept.
 pub fn decode<'a>(alloc: Global, text: &'a str) -> Result<CowStr<'a>, AllocError>
     ensures { IfOk result (λ found. cow_str_bytes found ≡ decoded text.now) }
 {

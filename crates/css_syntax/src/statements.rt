@@ -134,7 +134,7 @@ pub struct FoundPart<'a> {
 fn begins_name_byte(byte: u8) -> bool
     ensures { result ≡ begins_name_byte_of byte }
 {
-    byte.is_ascii_alphabetic() || byte == b'_' || byte >= 128
+    byte.is_ascii_alphabetic() || byte == b'_' || byte >= 128 || byte == 0
 }
 
 /// Whether a name begins here that does not begin with a hyphen.

@@ -2,9 +2,11 @@
 ghost use Rattle.std.specs.Prelude.{◌≡◌, ◌<◌, true};
 ghost use Rattle.css_text.specs.Reading.{before, Ends};
 ghost use Rattle.css_text.specs.Bytes.{past_byte as past_byte_of, past_one as past_one_of, starts_by};
-ghost use Rattle.css_text.specs.Bytes.{is_ascii};
+ghost use Rattle.css_text.specs.Bytes.{is_ascii, past};
+ghost use Rattle.css_text.specs.Characters.{is_space};
 ghost use Rattle.css_syntax.specs.Tokens.{past_gap as past_gap_of, past_word as past_word_of};
 ghost use Rattle.css_syntax.specs.Tokens.{past_string_parts as past_string_parts_of};
+ghost use Rattle.css_syntax.specs.Tokens.{past_url_parts as past_url_parts_of};
 ghost use Rattle.css_syntax.specs.Tokens.{spells as spells_of, token};
 ghost use Rattle.css_syntax.specs.ComponentValues.{component_value, deepest};
 
@@ -53,6 +55,23 @@ pub fn past_string_parts(text: &str, quote: u8) -> &str
     ensures { result.now ≡ past_string_parts_of quote text.now }
 {
     let rest = tokens::past_string_parts(text.as_bytes(), quote);
+    &text[text.len() - rest.len()..]
+}
+
+/// Returns the rest after space bytes.
+pub fn past_spaces(text: &str) -> &str
+    ensures { result.now ≡ past is_space text.now }
+{
+    let rest = tokens::past_spaces(text.as_bytes());
+    &text[text.len() - rest.len()..]
+}
+
+/// Returns the rest after what is in a url without quotes, from after the blanks after its parenthesis:
+/// a blank, the parenthesis that closes it, or what makes it bad.
+pub fn past_url_parts(text: &str) -> &str
+    ensures { result.now ≡ past_url_parts_of text.now }
+{
+    let rest = tokens::past_url_parts(text.as_bytes());
     &text[text.len() - rest.len()..]
 }
 

@@ -76,7 +76,7 @@ const PLAIN: u8 = 5;
 
 /// The flags above for each byte, as the low three bits of a digit.
 static BYTES: [u8; 256] = *b"\
-    00000000022022000000000000000000\
+    10000000022022000000000000000000\
     20044440004441401111111111400444\
     41111111111111111111111111100041\
     41111111111111111111111111104040\
@@ -320,7 +320,8 @@ fn read_string(bytes: &[u8], quote: u8) -> ReadBytes<'_>
     read_string_end(past_string_parts(bytes, quote), quote)
 }
 
-/// Whether the byte is one of a name, or of a character past ASCII.
+/// Whether the byte is one of a name, or of a character past ASCII, as U+0000 is, which stands for
+/// U+FFFD.
 #[inline(always)]
 pub fn is_name_byte(byte: u8) -> bool
     ensures { result ≡ is_name_byte_of byte }
@@ -533,7 +534,7 @@ pub(crate) fn past_url_name(bytes: &[u8]) -> &[u8]
 fn is_never_bare(byte: u8) -> bool
     ensures { result ≡ is_never_bare_of byte }
 {
-    matches!(byte, b'\'' | b'"' | b'(' | b'\\' | 0..=8 | 11 | 14..=31 | 127)
+    matches!(byte, b'\'' | b'"' | b'(' | b'\\' | 1..=8 | 11 | 14..=31 | 127)
 }
 
 /// Returns the rest after an escape or a byte in a url, if one is next.

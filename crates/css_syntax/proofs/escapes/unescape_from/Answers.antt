@@ -2,9 +2,9 @@ use Rattle.std.proofs.Common.{◌∙◌, ◌++◌, ◌∷◌, List, ℕ, ap, sym
 use Rattle.std.specs.String.{string_bytes}
 use Rattle.std.proofs.lemmas.Str.Pattern.{split_parts}
 use Rattle.css_text.specs.AsciiBytes.{backslash}
-use Rattle.css_syntax.specs.Escapes.{decoded_in}
+use Rattle.css_syntax.specs.Escapes.{unescaped_in}
 use Rattle.css_syntax.proofs.Decoding.{ran, decoded-whole}
-use Rattle.css_syntax.proofs.escapes.decode_from.Goals as goal
+use Rattle.css_syntax.proofs.escapes.unescape_from.Goals as goal
 
 pub parts-smaller : goal.parts-smaller
 parts-smaller c =
@@ -28,7 +28,7 @@ parts-preserved c =
     let out = string_bytes c.parts.out in (
       search rules,
       c.in_ok-rest-2.ensures.pushed ∙ ran c.args.in_string out _ run next some.1 c.in_ok-push_str-2.ensures.bytes
-          ∙ ap (λ (l : List ℕ). out ++ decoded_in c.args.in_string l) (sym some.0)
+          ∙ ap (λ (l : List ℕ). out ++ unescaped_in c.args.in_string l) (sym some.0)
           ∙ c.parts.invariant.1,
     )
 
