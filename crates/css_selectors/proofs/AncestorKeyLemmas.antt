@@ -65,6 +65,18 @@ alone_has p (own ∷ []) key h c =
     subst (λ k. IsTrue (p k)) (only_there own key c) (or_none (p own) h)
 alone_has p (own ∷ other ∷ keys) key h c = absurd (none_there key c)
 
+-- the nodes of a placement are related as the next combinator says
+next_related : {Node : Type 0} (d : Document Node) (parts : List Part) (last : ℕ) (end : Node)
+    (place : ℕ → Node)
+    → IsPlacement (shape d) (combinator_at (parts_from parts)) (MeetsPart d (parts_from parts)) last
+    end place
+    → (i : ℕ) → i < last
+    → Relates (shape d) (combinator_at (parts_from parts) (suc i)) (place i) (place (suc i))
+next_related d parts last end place placed i lt =
+    let next : i + 1 ≡ suc i = omega arith in
+    subst (λ j. Relates (shape d) (combinator_at (parts_from parts) j) (place i) (place j)) next
+    (placed.relates i lt)
+
 module _ {Node : Type 0} (d : Document Node) where
   -- a node that meets conditions has one of their keys
   met_has : (conditions : List Condition) (n : Node) → AreMet d (conditions_from conditions) n
@@ -113,10 +125,7 @@ module _ {Node : Type 0} (d : Document Node) where
       before_has (suc i) le key c =
           let lt : i < last = omega (arith, le) in
           let within : i ≤ last = omega (arith, le) in
-          let next : i + 1 ≡ suc i = omega arith in
-          let r : Relates (shape d) (combinator_at (parts_from parts) (suc i)) (place i) (place (suc i)) =
-          subst (λ j. Relates (shape d) (combinator_at (parts_from parts) j) (place i) (place j)) next
-          (placed.relates i lt) in
+          let r = next_related d parts last end place placed i lt in
           elim (Contains-append_cases (keys_before parts i)
           (step_keys (combinator_at (parts_from parts) (suc i)) (conditions_at parts i)) key c) [
             | inl h ↦ (let a = before_has i within key h in
@@ -151,12 +160,9 @@ module _ {Node : Type 0} (d : Document Node) where
     parent_has (suc i) le key c =
         let lt : i < last = omega (arith, le) in
         let within : i ≤ last = omega (arith, le) in
-        let next : i + 1 ≡ suc i = omega arith in
-        let r : Relates (shape d) (combinator_at (parts_from parts) (suc i)) (place i) (place (suc i)) =
-        subst (λ j. Relates (shape d) (combinator_at (parts_from parts) j) (place i) (place j)) next
-        (placed.relates i lt) in
         parent_step_has (combinator_at (parts_from parts) (suc i)) (conditions_at parts i) (place i)
-        (place (suc i)) key r (met_at d (place i) parts i (placed.meets i within)) c
+        (place (suc i)) key (next_related d parts last end place placed i lt)
+        (met_at d (place i) parts i (placed.meets i within)) c
 
   pub matched_parent : (s : Selector) (n : Node) → Matches d s n → (key : Key)
       → Contains (parent_keys s) key → ParentHas d n key

@@ -616,13 +616,13 @@ module _ (n : ℕ) (list : ListReader) (reads : ReadsLists n list)
       → ends rest ≡ true → condition_by list (condition_text c ++ rest) ≡ item c rest
   condition_by-again (simple s) rest w h = further-again list n checks s rest w h
   condition_by-again (negation selectors) rest w h =
-      list-again (codes "not") rest Not selectors (omega arith) refl w
+      list-again (codes "not") rest Not selectors (omega arith, refl) refl w
       ∙ ap (λ cs. item (negation cs) rest) (selectors_from-in selectors)
   condition_by-again (any_of selectors) rest w h =
-      list-again (codes "is") rest Is selectors (omega arith) refl w
+      list-again (codes "is") rest Is selectors (omega arith, refl) refl w
       ∙ ap (λ cs. item (any_of cs) rest) (selectors_from-in selectors)
   condition_by-again (where_any selectors) rest w h =
-      list-again (codes "where") rest Where selectors (omega arith) refl w
+      list-again (codes "where") rest Where selectors (omega arith, refl) refl w
       ∙ ap (λ cs. item (where_any cs) rest) (selectors_from-in selectors)
 
 complex_list-again : (n : ℕ) → ReadsFurther n → ReadsLists (suc n) (list_by (next_condition n))

@@ -11,6 +11,7 @@ pub mod KeptLemmas
 pub mod GapLemmas
 pub mod PrintLemmas
 pub mod KeyLemmas
+mod KnownLemmas
 pub mod AncestorKeyLemmas
 pub mod AfterKeyLemmas
 pub mod ListTexts
@@ -32,6 +33,10 @@ mod NestedCosts
 mod NestedReads
 mod Vectors
 mod NestedVectors
-mod NestingLaws
+pub mod NestingLaws
 mod NestedTexts
 mod EscapedAgain
+pub mod ReadEnds
+pub mod AlikeSelectors
+mod CutLemmas
+mod OwnLemmas

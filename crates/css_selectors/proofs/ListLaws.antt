@@ -1,6 +1,6 @@
 -- A list matches what one of its selectors matches.
 -- Serves `matching_laws::list_law`.
-use Rattle.std.proofs.Common.{ℕ, zero, suc, ◌≤◌, ◌↔◌, inl, inr, List, [], ◌∷◌, refl, sym, subst, arith}
+use Rattle.std.proofs.Common.{zero, suc, ◌↔◌, inl, inr, List, [], ◌∷◌, refl, sym, subst, arith}
 use Rattle.std.specs.List.{Contains}
 use Rattle.css_matching.specs.declared.Combinator.{Combinator}
 use Rattle.css_selectors.specs.Documents.{Document}
@@ -10,24 +10,13 @@ use Rattle.css_selectors.specs.Components.Condition.{negation, any_of, where_any
 use Rattle.css_selectors.specs.Components.Conditions.{end_of_compound, with_condition}
 use Rattle.css_selectors.specs.Components.Parts.{end_of_selector, with_part}
 use Rattle.css_selectors.specs.Meanings.{IsMet, MeetsPart, MatchesAny, IsPlaced, Matches}
+use Rattle.css_selectors.proofs.AncestorKeyLemmas.{lone_placed}
 
 module _ {Node : Type 0} (d : Document Node) (n : Node) where
   -- one condition is placed where it is met
   met_placed : (k : Combinator) (c : Condition) → IsMet d c n
       → IsPlaced d (with_part k (with_condition c end_of_compound) end_of_selector) n
-  met_placed k c h = (
-    (λ i. n),
-    record {
-      meets = met;
-      relates = λ i lt. absurd (omega (arith, lt));
-      ends = refl;
-    },
-  )
-    where
-      met : (i : ℕ) → i ≤ 0
-          → MeetsPart d (with_part k (with_condition c end_of_compound) end_of_selector) i n
-      met zero le = (h, tt)
-      met (suc i) le = absurd (omega (arith, le))
+  met_placed k c h = lone_placed d n k (with_condition c end_of_compound) (h, tt)
 
   placed_met : (k : Combinator) (c : Condition)
       → IsPlaced d (with_part k (with_condition c end_of_compound) end_of_selector) n → IsMet d c n

@@ -3,7 +3,7 @@ use Rattle.std.specs.Prelude.{◌≡◌, refl, ℕ, [], ◌∷◌, List, codes, 
 use Rattle.css_text.specs.Comments.{blank, comment, gap as gap_before}
 use Rattle.css_text.specs.Reading.{each}
 use Rattle.css_syntax.specs.Tokens.{past_escape, past_comment, name_part, string_part}
-use Rattle.css_syntax.specs.Escapes.{decoded_part, decoded_in}
+use Rattle.css_syntax.specs.Escapes.{decoded_part, unescaped_in}
 use Rattle.css_selectors.specs.declared.components.Nesting.{Nesting}
 use Rattle.css_selectors.specs.declared.refusal.Why.TheVariants.{NoSelector, Unexpected}
 use Rattle.css_selectors.specs.Components.{Placed}
@@ -35,7 +35,7 @@ pub joined :
     × (read (codes "::before") ≡ prints (codes "& ::before"))
     × (read (codes "&::before") ≡ prints (codes "&::before"))
     × (read (codes "[a='&']") ≡ prints (codes "& [a=\"&\"]"))
-unfolding each past_escape past_comment name_part string_part decoded_part decoded_in blank comment gap_before gap
+unfolding each past_escape past_comment name_part string_part decoded_part unescaped_in blank comment gap_before gap
     ident_sequence name string value comparison flag compared namespace at_bar attribute_from_name
     attribute_selector any_or_name type_selector next_simple
     next_condition conditions next_part element_argument element_name after_element pseudo_element parts
@@ -55,7 +55,7 @@ pub relative :
     × (read (codes "&a") ≡ refused Unexpected (codes "a"))
     × (read (codes "&*") ≡ refused Unexpected (codes "*"))
     × (read (codes "&1") ≡ refused Unexpected (codes "1"))
-unfolding each past_escape past_comment name_part decoded_part decoded_in blank comment gap_before gap
+unfolding each past_escape past_comment name_part decoded_part unescaped_in blank comment gap_before gap
     ident_sequence name namespace at_bar any_or_name type_selector next_simple next_condition conditions next_part element_argument
     element_name after_element pseudo_element parts relative_parts placed_by next_placed placed_list_by lib.Utf8.encode
 relative = (refl, refl, refl, refl, refl, refl, refl, refl, refl, refl, refl, refl)
@@ -66,7 +66,7 @@ pub in_lists :
     × (read (codes ":is(.x, &) y") ≡ prints (codes ":is(.x, &) y"))
     × (read (codes ":is(:is(&))") ≡ prints (codes ":is(:is(&))"))
     × (read (codes ":scope > b") ≡ prints (codes "& :scope > b"))
-unfolding each past_escape past_comment name_part decoded_part decoded_in blank comment gap_before gap
+unfolding each past_escape past_comment name_part decoded_part unescaped_in blank comment gap_before gap
     ident_sequence name namespace at_bar any_or_name type_selector next_simple compound next_part_in complex past_part listed_part
     next_listed complex_list next_condition conditions next_part element_argument
     element_name after_element pseudo_element parts relative_parts placed_by next_placed placed_list_by lib.Utf8.encode

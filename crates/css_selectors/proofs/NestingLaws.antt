@@ -1,13 +1,12 @@
--- `&` is `:is()` of the list that it stands for: it matches the same, counts the same, and is printed
--- as it is read.
+-- `&` is `:is()` of the list that it stands for: it matches the same, counts the same, and is
+-- printed as it is read.
 -- Serves `nesting_laws::nesting_law`.
-use Rattle.std.proofs.Common.{◌≡◌, ℕ, zero, suc, ◌+◌, ◌-◌, ◌↔◌, ◌⊎◌, inl, inr, List, [], ◌∷◌, ◌++◌, map, IsTrue, Option, None, Some, refl, sym, ap, ◌∙◌, subst}
+use Rattle.std.proofs.Common.{◌≡◌, ◌↔◌, List, [], ◌∷◌, ◌++◌, map, IsTrue, Option, None, Some, refl, sym, ap, ◌∙◌, subst}
 use Rattle.std.specs.Prelude.{codes}
 use Rattle.std.specs.List.{flat_map}
 use Rattle.std.specs.Option.{option_map}
 use Rattle.css_matching.specs.declared.Combinator.{Combinator}
-use Rattle.css_matching.specs.Trees.{Tree}
-use Rattle.css_matching.specs.Placements.{HasPlacement, Relates}
+use Rattle.css_matching.specs.Placements.{Relates}
 use Rattle.css_selectors.specs.declared.components.Nesting.{Nesting}
 use Rattle.css_selectors.specs.Documents.{Document, shape}
 use Rattle.css_selectors.specs.Components.{Simple, Condition, Conditions, Parts, Selectors, Part, PseudoElement, Selector, conditions_from, parts_from}
@@ -16,160 +15,110 @@ use Rattle.css_selectors.specs.Components.Condition.{simple, negation, any_of, w
 use Rattle.css_selectors.specs.Components.Conditions.{end_of_compound, with_condition}
 use Rattle.css_selectors.specs.Components.Parts.{end_of_selector, with_part}
 use Rattle.css_selectors.specs.Components.Selectors.{end_of_list, with_selector}
-use Rattle.css_selectors.specs.Meanings.{combinator_at, part_count, IsMet, AreMet, MeetsPart, MatchesAny, IsPlaced, Matches}
+use Rattle.css_selectors.specs.Meanings.{MatchesAny, IsPlaced, Matches}
 use Rattle.css_selectors.specs.Nested.{simple_under, selector_under}
 use Rattle.css_selectors.specs.Printing.{simple_text, condition_text, compound_text, complex_text, further_parts_text, selectors_text, further_selectors_text, part_text, parts_text, combinator_text, function_text, pseudo_element_text, selector_text}
 use Rattle.css_selectors.specs.Simples.{condition_with, compound_with, complex_with, selectors_with, part_with, pseudo_element_with}
 use Rattle.css_selectors.specs.Specificities.{Counts, nothing, one_name, plus, greater, of_simple, of_condition, of_compound, of_parts, greatest, of_pseudo_element, specificity}
 use Rattle.css_selectors.specs.SpecificityViews.{counts_of}
-use Rattle.css_selectors.specs.SpelledOut.{spelled_simple, spelled_condition, spelled_compound, spelled_complex, spelled_list, spelled_part, spelled_element, spelled_selector}
+use Rattle.css_selectors.specs.SpelledOut.{as_list, spelled_simple, spelled_condition, spelled_compound, spelled_complex, spelled_list, spelled_part, spelled_element, spelled_selector}
+use Rattle.css_selectors.proofs.AlikeSelectors.{Alike, CompoundsAlike, PartsAlike, ListsAlike, AsksSame, complex_alike}
+use Rattle.css_selectors.proofs.AlikeSelectors.Alike.{simples, negations, anys, wheres}
+use Rattle.css_selectors.proofs.AlikeSelectors.CompoundsAlike.{no_condition, one_condition}
+use Rattle.css_selectors.proofs.AlikeSelectors.PartsAlike.{no_part, one_part}
+use Rattle.css_selectors.proofs.AlikeSelectors.ListsAlike.{no_selector, one_selector}
 use Rattle.css_selectors.proofs.NestingLemmas.{compound_with-from, complex_with-from}
 
 -- ---- as lists
 
-spelled_compound-from : (all : Selectors) (cs : List Condition)
-    → spelled_compound all (conditions_from cs) ≡ conditions_from (map (spelled_condition all) cs)
-spelled_compound-from all [] = refl
-spelled_compound-from all (c ∷ cs) =
-    ap (with_condition (spelled_condition all c)) (spelled_compound-from all cs)
+module _ (spell : Nesting → Condition) where
+  spelled_compound-from : (cs : List Condition)
+      → spelled_compound spell (conditions_from cs)
+      ≡ conditions_from (map (spelled_condition spell) cs)
+  spelled_compound-from [] = refl
+  spelled_compound-from (c ∷ cs) =
+      ap (with_condition (spelled_condition spell c)) (spelled_compound-from cs)
 
-spelled_complex-from : (all : Selectors) (ps : List Part)
-    → spelled_complex all (parts_from ps) ≡ parts_from (map (spelled_part all) ps)
-spelled_complex-from all [] = refl
-spelled_complex-from all (p ∷ ps) =
-    ap (λ x. with_part p.combinator x (spelled_complex all (parts_from ps)))
-    (spelled_compound-from all p.conditions)
-    ∙ ap (with_part p.combinator (conditions_from (map (spelled_condition all) p.conditions)))
-    (spelled_complex-from all ps)
+  pub spelled_complex-from : (ps : List Part)
+      → spelled_complex spell (parts_from ps) ≡ parts_from (map (spelled_part spell) ps)
+  spelled_complex-from [] = refl
+  spelled_complex-from (p ∷ ps) =
+      ap (λ x. with_part p.combinator x (spelled_complex spell (parts_from ps)))
+      (spelled_compound-from p.conditions)
+      ∙ ap (with_part p.combinator (conditions_from (map (spelled_condition spell) p.conditions)))
+      (spelled_complex-from ps)
 
 -- ---- matching
 
-either_so : {A B C D : Type 0} → (A → C) → (B → D) → A ⊎ B → C ⊎ D
-either_so f g (inl x) = inl (f x)
-either_so f g (inr x) = inr (g x)
-
-one_more_same : {A B C D : Type 0} → (A ↔ C) → (B ↔ D) → (A ⊎ B) ↔ (C ⊎ D)
-one_more_same k l = (λ h. either_so k.0 l.0 h, λ h. either_so k.1 l.1 h)
-
--- a placement is one of parts that ask less, joined alike
-placed_so : {Node : Type 0} (tree : Tree Node) (c e : ℕ → Combinator) (M N : ℕ → Node → Type 0)
-    (last : ℕ) (n : Node) → ((i : ℕ) → c i ≡ e i) → ((i : ℕ) (m : Node) → M i m → N i m)
-    → HasPlacement tree c M last n → HasPlacement tree e N last n
-placed_so tree c e M N last n joined asks h = (
-  h.0,
-  record {
-    meets = λ k le. asks k (h.0 k) (h.1.meets k le);
-    relates = λ k lt. subst (λ x. Relates tree x (h.0 k) (h.0 (k + 1))) (joined (k + 1))
-        (h.1.relates k lt);
-    ends = h.1.ends;
-  },
-)
-
 module _ (list : Nesting) (all : Selectors) where
-  joined_same : (ps : Parts) (i : ℕ)
-      → combinator_at (complex_with (simple_under list) ps) i
-      ≡ combinator_at (spelled_complex all ps) i
-  joined_same end_of_selector i = refl
-  joined_same (with_part k c ps) zero = refl
-  joined_same (with_part k c ps) (suc i) = joined_same ps i
-
-  counted_same : (ps : Parts)
-      → part_count (complex_with (simple_under list) ps) ≡ part_count (spelled_complex all ps)
-  counted_same end_of_selector = refl
-  counted_same (with_part k c ps) = ap (λ n. n + 1) (counted_same ps)
-
   no_element : (e : Option PseudoElement)
       → (option_map (pseudo_element_with (simple_under list)) e ≡ None)
-      ↔ (option_map (spelled_element all) e ≡ None)
+      ↔ (option_map (spelled_element (as_list all)) e ≡ None)
   no_element None = (λ h. refl, λ h. refl)
   no_element (Some e) = (λ h. absurd (cc), λ h. absurd (cc))
 
-  module _ {Node : Type 0} (d : Document Node)
-      (answers : (n : Node) → IsTrue (d.is_in_list n list.number) ↔ MatchesAny d all n) where
-    placed_same : (ps : Parts) (n : Node)
-        → ((i : ℕ) (m : Node) → MeetsPart d (complex_with (simple_under list) ps) i m
-        ↔ MeetsPart d (spelled_complex all ps) i m)
-        → IsPlaced d (complex_with (simple_under list) ps) n ↔ IsPlaced d (spelled_complex all ps) n
-    placed_same ps n meets = (
-      λ h. subst (λ k. HasPlacement (shape d) (combinator_at (spelled_complex all ps))
-          (MeetsPart d (spelled_complex all ps)) (k - 1) n) (counted_same ps)
-          (placed_so (shape d) (combinator_at (complex_with (simple_under list) ps))
-          (combinator_at (spelled_complex all ps)) (MeetsPart d (complex_with (simple_under list) ps))
-          (MeetsPart d (spelled_complex all ps))
-          (part_count (complex_with (simple_under list) ps) - 1) n (joined_same ps)
-          (λ i m. (meets i m).0) h),
-      λ h. subst (λ k. HasPlacement (shape d) (combinator_at (complex_with (simple_under list) ps))
-          (MeetsPart d (complex_with (simple_under list) ps)) (k - 1) n) (sym (counted_same ps))
-          (placed_so (shape d) (combinator_at (spelled_complex all ps))
-          (combinator_at (complex_with (simple_under list) ps)) (MeetsPart d (spelled_complex all ps))
-          (MeetsPart d (complex_with (simple_under list) ps))
-          (part_count (spelled_complex all ps) - 1) n (λ i. sym (joined_same ps i))
-          (λ i m. (meets i m).1) h),
-    )
-
-    simple_same : (s : Simple) (n : Node)
-        → IsMet d (simple (simple_under list s)) n ↔ IsMet d (spelled_simple all s) n
-    simple_same universal n = (λ h. h, λ h. h)
-    simple_same (type_name name) n = (λ h. h, λ h. h)
-    simple_same (id text) n = (λ h. h, λ h. h)
-    simple_same (class word) n = (λ h. h, λ h. h)
-    simple_same (has_attribute name) n = (λ h. h, λ h. h)
-    simple_same (attribute name c text ignores) n = (λ h. h, λ h. h)
-    simple_same (structure s) n = (λ h. h, λ h. h)
-    simple_same (language ranges) n = (λ h. h, λ h. h)
-    simple_same (state name) n = (λ h. h, λ h. h)
-    simple_same (function name argument) n = (λ h. h, λ h. h)
-    simple_same (named_element name argument) n = (λ h. h, λ h. h)
-    simple_same (nesting other) n = answers n
-    simple_same (namespaced namespace local) n = (λ h. h, λ h. h)
-    simple_same (nth_of last p selectors) n = (λ h. h, λ h. h)
+  module _ {Node : Type 0} (d : Document Node) (Is : Node → Type 0)
+      (answers : (n : Node) → Is n → IsTrue (d.is_in_list n list.number) ↔ MatchesAny d all n) where
+    simple_same : (s : Simple)
+        → AsksSame d Is (simple_under list s) (spelled_simple (as_list all) s)
+    simple_same universal n is = (λ h. h, λ h. h)
+    simple_same (type_name name) n is = (λ h. h, λ h. h)
+    simple_same (id text) n is = (λ h. h, λ h. h)
+    simple_same (class word) n is = (λ h. h, λ h. h)
+    simple_same (has_attribute name) n is = (λ h. h, λ h. h)
+    simple_same (attribute name c text ignores) n is = (λ h. h, λ h. h)
+    simple_same (structure s) n is = (λ h. h, λ h. h)
+    simple_same (language ranges) n is = (λ h. h, λ h. h)
+    simple_same (state name) n is = (λ h. h, λ h. h)
+    simple_same (function name argument) n is = (λ h. h, λ h. h)
+    simple_same (named_element name argument) n is = (λ h. h, λ h. h)
+    simple_same (nesting other) n is = answers n is
+    simple_same (namespaced namespace local) n is = (λ h. h, λ h. h)
+    simple_same (nth_of last p selectors) n is = (λ h. h, λ h. h)
 
     mutual
-      condition_same : (c : Condition) (n : Node)
-          → IsMet d (condition_with (simple_under list) c) n ↔ IsMet d (spelled_condition all c) n
-      condition_same (simple s) n = simple_same s n
-      condition_same (negation ss) n =
-          let k = list_same ss n in (λ f m. f (k.1 m), λ f m. f (k.0 m))
-      condition_same (any_of ss) n = list_same ss n
-      condition_same (where_any ss) n = list_same ss n
+      condition_same : (c : Condition) → Alike (AsksSame d Is)
+          (condition_with (simple_under list) c) (spelled_condition (as_list all) c)
+      condition_same (simple s) = simples (simple_same s)
+      condition_same (negation ss) = negations (list_same ss)
+      condition_same (any_of ss) = anys (list_same ss)
+      condition_same (where_any ss) = wheres (list_same ss)
 
-      compound_same : (cs : Conditions) (n : Node)
-          → AreMet d (compound_with (simple_under list) cs) n ↔ AreMet d (spelled_compound all cs) n
-      compound_same end_of_compound n = (λ h. h, λ h. h)
-      compound_same (with_condition c cs) n =
-          let k = condition_same c n in
-          let l = compound_same cs n in
-          (λ h. (k.0 h.0, l.0 h.1), λ h. (k.1 h.0, l.1 h.1))
+      compound_same : (cs : Conditions) → CompoundsAlike (AsksSame d Is)
+          (compound_with (simple_under list) cs) (spelled_compound (as_list all) cs)
+      compound_same end_of_compound = no_condition
+      compound_same (with_condition c cs) = one_condition (condition_same c) (compound_same cs)
 
-      part_same : (ps : Parts) (i : ℕ) (n : Node)
-          → MeetsPart d (complex_with (simple_under list) ps) i n
-          ↔ MeetsPart d (spelled_complex all ps) i n
-      part_same end_of_selector i n = (λ h. h, λ h. h)
-      part_same (with_part k c ps) zero n = compound_same c n
-      part_same (with_part k c ps) (suc i) n = part_same ps i n
+      complex_same : (ps : Parts) → PartsAlike (AsksSame d Is)
+          (complex_with (simple_under list) ps) (spelled_complex (as_list all) ps)
+      complex_same end_of_selector = no_part
+      complex_same (with_part k c ps) = one_part (compound_same c) (complex_same ps)
 
-      list_same : (ss : Selectors) (n : Node)
-          → MatchesAny d (selectors_with (simple_under list) ss) n
-          ↔ MatchesAny d (spelled_list all ss) n
-      list_same end_of_list n = (λ h. h, λ h. h)
-      list_same (with_selector ps ss) n =
-          one_more_same (placed_same ps n (part_same ps)) (list_same ss n)
+      list_same : (ss : Selectors) → ListsAlike (AsksSame d Is)
+          (selectors_with (simple_under list) ss) (spelled_list (as_list all) ss)
+      list_same end_of_list = no_selector
+      list_same (with_selector ps ss) = one_selector (complex_same ps) (list_same ss)
 
-    pub matches_same : (s : Selector) (n : Node)
+    -- On nodes of a kind, which are related to such nodes alone, `&` matches what the list does.
+    pub matches_same : ((c : Combinator) (a b : Node) → Relates (shape d) c a b → Is b → Is a)
+        → (s : Selector) (n : Node) → Is n
         → Matches d (selector_under list s) n ↔ Matches d (spelled_selector all s) n
-    matches_same s n =
-        let k = placed_same (parts_from s.parts) n (part_same (parts_from s.parts)) in
+    matches_same stays s n is =
+        let k = complex_alike d Is stays (complex_with (simple_under list) (parts_from s.parts))
+        (spelled_complex (as_list all) (parts_from s.parts)) (complex_same (parts_from s.parts)) n is
+        in
         let e = no_element s.pseudo_element in (
           λ h. (
             e.0 h.0,
-            subst (λ p. IsPlaced d p n) (spelled_complex-from all s.parts)
+            subst (λ p. IsPlaced d p n) (spelled_complex-from (as_list all) s.parts)
                 (k.0 (subst (λ p. IsPlaced d p n)
                 (sym (complex_with-from (simple_under list) s.parts)) h.1)),
           ),
           λ h. (
             e.1 h.0,
             subst (λ p. IsPlaced d p n) (complex_with-from (simple_under list) s.parts)
-                (k.1 (subst (λ p. IsPlaced d p n) (sym (spelled_complex-from all s.parts)) h.1)),
+                (k.1 (subst (λ p. IsPlaced d p n)
+                (sym (spelled_complex-from (as_list all) s.parts)) h.1)),
           ),
         )
 
@@ -177,7 +126,7 @@ module _ (list : Nesting) (all : Selectors) where
 
   module _ (counts : counts_of list.specificity ≡ greatest nothing all) where
     simple_counts : (s : Simple)
-        → of_simple (simple_under list s) ≡ of_condition (spelled_simple all s)
+        → of_simple (simple_under list s) ≡ of_condition (spelled_simple (as_list all) s)
     simple_counts universal = refl
     simple_counts (type_name name) = refl
     simple_counts (id text) = refl
@@ -195,7 +144,8 @@ module _ (list : Nesting) (all : Selectors) where
 
     mutual
       condition_counts : (c : Condition)
-          → of_condition (condition_with (simple_under list) c) ≡ of_condition (spelled_condition all c)
+          → of_condition (condition_with (simple_under list) c)
+          ≡ of_condition (spelled_condition (as_list all) c)
       condition_counts (simple s) = simple_counts s
       condition_counts (negation ss) = list_counts ss nothing
       condition_counts (any_of ss) = list_counts ss nothing
@@ -203,38 +153,38 @@ module _ (list : Nesting) (all : Selectors) where
 
       compound_counts : (cs : Conditions) (so_far : Counts)
           → of_compound so_far (compound_with (simple_under list) cs)
-          ≡ of_compound so_far (spelled_compound all cs)
+          ≡ of_compound so_far (spelled_compound (as_list all) cs)
       compound_counts end_of_compound so_far = refl
       compound_counts (with_condition c cs) so_far =
           ap (λ x. of_compound (plus so_far x) (compound_with (simple_under list) cs))
           (condition_counts c)
-          ∙ compound_counts cs (plus so_far (of_condition (spelled_condition all c)))
+          ∙ compound_counts cs (plus so_far (of_condition (spelled_condition (as_list all) c)))
 
       parts_count : (ps : Parts) (so_far : Counts)
           → of_parts so_far (complex_with (simple_under list) ps)
-          ≡ of_parts so_far (spelled_complex all ps)
+          ≡ of_parts so_far (spelled_complex (as_list all) ps)
       parts_count end_of_selector so_far = refl
       parts_count (with_part k c ps) so_far =
           ap (λ x. of_parts x (complex_with (simple_under list) ps)) (compound_counts c so_far)
-          ∙ parts_count ps (of_compound so_far (spelled_compound all c))
+          ∙ parts_count ps (of_compound so_far (spelled_compound (as_list all) c))
 
       list_counts : (ss : Selectors) (so_far : Counts)
           → greatest so_far (selectors_with (simple_under list) ss)
-          ≡ greatest so_far (spelled_list all ss)
+          ≡ greatest so_far (spelled_list (as_list all) ss)
       list_counts end_of_list so_far = refl
       list_counts (with_selector s ss) so_far =
           ap (λ x. greatest (greater so_far x) (selectors_with (simple_under list) ss))
           (parts_count s nothing)
-          ∙ list_counts ss (greater so_far (of_parts nothing (spelled_complex all s)))
+          ∙ list_counts ss (greater so_far (of_parts nothing (spelled_complex (as_list all) s)))
 
     element_counts : (e : Option PseudoElement)
         → of_pseudo_element (option_map (pseudo_element_with (simple_under list)) e)
-        ≡ of_pseudo_element (option_map (spelled_element all) e)
+        ≡ of_pseudo_element (option_map (spelled_element (as_list all)) e)
     element_counts None = refl
     element_counts (Some e) =
         ap (of_compound one_name) (sym (compound_with-from (simple_under list) e.after))
         ∙ compound_counts (conditions_from e.after) one_name
-        ∙ ap (of_compound one_name) (spelled_compound-from all e.after)
+        ∙ ap (of_compound one_name) (spelled_compound-from (as_list all) e.after)
 
     pub specificity_same : (s : Selector)
         → specificity (selector_under list s) ≡ specificity (spelled_selector all s)
@@ -243,8 +193,8 @@ module _ (list : Nesting) (all : Selectors) where
         (option_map (pseudo_element_with (simple_under list)) s.pseudo_element)))
         (ap (of_parts nothing) (sym (complex_with-from (simple_under list) s.parts))
         ∙ parts_count (parts_from s.parts) nothing
-        ∙ ap (of_parts nothing) (spelled_complex-from all s.parts))
-        ∙ ap (plus (of_parts nothing (parts_from (map (spelled_part all) s.parts))))
+        ∙ ap (of_parts nothing) (spelled_complex-from (as_list all) s.parts))
+        ∙ ap (plus (of_parts nothing (parts_from (map (spelled_part (as_list all)) s.parts))))
         (element_counts s.pseudo_element)
 
 -- ---- printing

@@ -12,13 +12,13 @@ use Rattle.css_text.specs.AsciiBytes.{close_parenthesis, hyphen, plus_sign, slas
 use Rattle.css_text.specs.Characters.{is_space}
 use Rattle.css_text.specs.Bytes.{starts_by, is_digit, past_one}
 use Rattle.css_text.proofs.bytes.GapLemmas.{NoGap, no_gap-byte, gap-none, gap-space}
-use Rattle.css_syntax.specs.Tokens.{is_name_byte}
 use Rattle.css_selectors.specs.Components.{Signed, Progression}
 use Rattle.css_selectors.specs.declared.refusal.Why.TheVariants.{NoProgression}
 use Rattle.css_selectors.specs.Readings.{Reading, got, refused, Reader, follow, ◌>>◌, give}
 use Rattle.css_selectors.specs.Grammar.{gap, past_comments, begins_name, closed_gap, digits, with_digit, sign, is_sign, signed, stepping, offset_after, offset_or_none, with_offset, is_number, subtracted, by_tail, n_word, numbered, is_lone_plus, unsigned, progression, ident_sequence, name, word_progression}
 use Rattle.css_selectors.proofs.SpelledAgain.{EndsName, begins-again, ident-again, name-again, all_below, passes, none_passes}
-use Rattle.css_selectors.specs.Printing.{minus_text, signed_text, is_zero, size_text, plus_text, offset_text, progression_text, byte_text, escape_text, start_text, identifier_text}
+use Rattle.css_selectors.specs.Printing.{minus_text, signed_text, is_zero, size_text, plus_text, offset_text, progression_text, is_kept, byte_text, escape_text, start_text, identifier_text}
+use Rattle.css_selectors.specs.WellFormed.{IsDenoted, IsName}
 
 -- ---- gaps
 
@@ -312,9 +312,17 @@ digits_kept : (ds : List ℕ) → AllDigits 10 ds → flat_map (byte_text None) 
 digits_kept [] all = refl
 digits_kept (c ∷ ds) all =
     let r = digit_from_value c all.0 in
-    let kept : is_name_byte c ≡ true = digit_byte c r.0 r.1 is_name_byte refl in
+    let kept : is_kept None c ≡ true = digit_byte c r.0 r.1 (is_kept None) refl in
     ap (λ (t : Bool). (if t then c ∷ [] else escape_text c) ++ flat_map (byte_text None) ds) kept
     ∙ ap (λ l. c ∷ l) (digits_kept ds all.1)
+
+-- and are none of them U+0000
+digits_denoted : (ds : List ℕ) → AllDigits 10 ds → IsDenoted ds
+digits_denoted [] all = refl
+digits_denoted (c ∷ ds) all =
+    let r = digit_from_value c all.0 in
+    let some = none_passes (c == 0) (digit_byte c r.0 r.1 (λ k. not (k == 0)) refl) in
+    rw some (ap (λ l. c ∷ l) (digits_denoted ds all.1))
 
 -- what follows the `n` of a word, in it and after it, is read as the offset
 record Tail (offset : Signed) (end left : List ℕ) : Type 0 where
@@ -322,6 +330,7 @@ record Tail (offset : Signed) (end left : List ℕ) : Type 0 where
   pub after : List ℕ
   pub is : offset_text offset ++ end ≡ tail ++ after
   pub kept : flat_map (byte_text None) tail ≡ tail
+  pub denoted : IsDenoted tail
   pub ends : EndsName after
   pub reads : (start : List ℕ) (step : Signed)
       → gapped (by_tail start step tail after) ≡ got (stepping step offset) left
@@ -363,6 +372,7 @@ tail_of offset end left small e = by offset.is_negative (is_zero offset) refl re
       after = offset_text offset ++ end;
       is = refl;
       kept = refl;
+      denoted = refl;
       ends = ends;
       reads = λ start step. offset-again step offset end left small e;
     }
@@ -385,6 +395,8 @@ tail_of offset end left small e = by offset.is_negative (is_zero offset) refl re
           ∙ ap (λ (t : Bool). (plus_text t ++ (minus_text t ++ decimal offset.size)) ++ end) en;
       kept = ap (λ l. hyphen ∷ l)
           (digits_kept (decimal offset.size) (decimal_is_IsNumeral offset.size (omega arith)).0.1);
+      denoted = ap (λ l. hyphen ∷ l)
+          (digits_denoted (decimal offset.size) (decimal_is_IsNumeral offset.size (omega arith)).0.1);
       ends = e.ends;
       reads = λ start step. ap gapped (subtracted-again start end step offset.size small
           ∙ ap (λ (t : Bool). got (stepping step (signed t offset.size)) end) (sym en))
@@ -412,7 +424,10 @@ step-again negative n offset end left small within e = by negative (n == 1) refl
     written : start_text word ≡ word
     written = ap (λ l. 110 ∷ l) t.kept
 
-    named : (w : List ℕ) → 0 < length w → identifier_text w ≡ w
+    denoted : IsDenoted word
+    denoted = ap (λ l. 110 ∷ l) t.denoted
+
+    named : (w : List ℕ) → IsName w → identifier_text w ≡ w
         → (name (w ++ t.after) ≡ got w t.after) × (begins_name (w ++ t.after) ≡ true)
         × (ident_sequence (w ++ t.after) ≡ got w t.after)
     named w some same = (
@@ -426,12 +441,14 @@ step-again negative n offset end left small within e = by negative (n == 1) refl
         ≡ got (stepping (signed negative n) offset) left
     one true is =
         ap gapped (from_word (hyphen ∷ 110 ∷ after) (hyphen ∷ word) t.after refl refl
-        (named (hyphen ∷ word) (omega arith) (ap (λ l. hyphen ∷ l) written)).0)
+        (named (hyphen ∷ word) (omega arith, ap (λ l. hyphen ∷ l) denoted)
+        (ap (λ l. hyphen ∷ l) written)).0)
         ∙ t.reads (hyphen ∷ 110 ∷ after) (signed true 1)
         ∙ ap (λ m. got (stepping (signed true m) offset) left) (sym is)
     one false is =
         ap gapped
-        (from_word (110 ∷ after) word t.after refl refl (named word (omega arith) written).0)
+        (from_word (110 ∷ after) word t.after refl refl
+        (named word (omega arith, denoted) written).0)
         ∙ t.reads (110 ∷ after) (signed false 1)
         ∙ ap (λ m. got (stepping (signed false m) offset) left) (sym is)
 
@@ -439,7 +456,7 @@ step-again negative n offset end left small within e = by negative (n == 1) refl
         → sign text ≡ (negative, decimal n ++ (110 ∷ after))
         → gapped (progression text) ≡ got (stepping (signed negative n) offset) left
     many negative text alone signs =
-        let w = named word (omega arith) written in
+        let w = named word (omega arith, denoted) written in
         ap gapped (from_number text (decimal n ++ (110 ∷ after)) (110 ∷ after) negative n alone signs
         (number_begins n (110 ∷ after) small) (digits-again n (110 ∷ after) small refl)
         ∙ ap (λ (b : Bool). if b

@@ -17,17 +17,14 @@ use Rattle.css_selectors.specs.Components.{Signed, Progression}
 use Rattle.css_selectors.specs.Views.{condition_of, part_of}
 use Rattle.css_selectors.specs.Printing.{minus_text, signed_text, is_zero, size_text, plus_text, offset_text, progression_text, further_text, list_text, condition_text, part_text, parts_text, is_control, is_kept, code_point_text, escape_text, byte_text, start_text, after_hyphen, identifier_text}
 use Rattle.css_selectors.proofs.TextLemmas.{name_low}
+use Rattle.css_syntax.specs.Tokens.{is_name_byte}
 
 -- the escape of a byte that is no control character
-pub sign_text : (b c : ℕ) → is_control b ≡ false → b < 128 → c ≡ b
+pub sign_text : (b c : ℕ) → (b == 0) ≡ false → is_control b ≡ false → b < 128 → c ≡ b
     → codes "\\" ++ encode_utf8 c ≡ escape_text b
-sign_text b c calm low e =
+sign_text b c some calm low e =
     ap (λ x. backslash ∷ encode_utf8 x) e ∙ ap (λ l. backslash ∷ l) (encode_ascii b low)
-    ∙ sym (rw calm refl)
-
-pub control_text : (b : ℕ) (text : List ℕ) → is_control b ≡ true
-    → (if is_control b then text else backslash ∷ b ∷ []) ≡ text
-control_text b text e = rw e refl
+    ∙ sym (rw (some, calm) refl)
 
 control_low : (b : ℕ) → is_control b ≡ true → b < 128
 control_low b h = by (nat_le 1 b) (nat_le b 31) (b == 127) refl refl h
@@ -42,16 +39,22 @@ control_low b h = by (nat_le 1 b) (nat_le b 31) (b == 127) refl refl h
 -- what is not kept is ASCII
 pub kept_low : (quote : Option ℕ) → ForSome quote (λ q. q < 128) → (b : ℕ)
     → is_kept quote b ≡ false → b < 128
-kept_low None low b h = name_low b h
-kept_low (Some q) low b h = let small : q < 128 = low q refl in
-    by (b == q) (b == backslash) (is_control b) refl refl refl small h
+kept_low None low b h = by (is_name_byte b) (b == 0) refl refl h
   where
-    by : (s k c : Bool) → (b == q) ≡ s → (b == backslash) ≡ k → is_control b ≡ c
-        → q < 128 → not (s || k || c) ≡ false → b < 128
-    by true k c es ek ec small e = omega (arith, eqb-true b q es)
-    by false true c es ek ec small e = omega (arith, eqb-true b backslash ek)
-    by false false true es ek ec small e = control_low b ec
-    by false false false es ek ec small e = absurd (cc)
+    by : (n z : Bool) → is_name_byte b ≡ n → (b == 0) ≡ z → (n && not z) ≡ false → b < 128
+    by true true en ez e = omega (arith, eqb-true b 0 ez)
+    by true false en ez e = absurd (cc)
+    by false z en ez e = name_low b en
+kept_low (Some q) low b h = let small : q < 128 = low q refl in
+    by (b == q) (b == backslash) (is_control b) (b == 0) refl refl refl refl small h
+  where
+    by : (s k c z : Bool) → (b == q) ≡ s → (b == backslash) ≡ k → is_control b ≡ c
+        → (b == 0) ≡ z → q < 128 → not (s || k || c || z) ≡ false → b < 128
+    by true k c z es ek ec ez small e = omega (arith, eqb-true b q es)
+    by false true c z es ek ec ez small e = omega (arith, eqb-true b backslash ek)
+    by false false true z es ek ec ez small e = control_low b ec
+    by false false false true es ek ec ez small e = omega (arith, eqb-true b 0 ez)
+    by false false false false es ek ec ez small e = absurd (cc)
 
 past_step : (test : ℕ → Bool) (b : ℕ) (text : List ℕ) → test b ≡ true
     → past test (b ∷ text) ≡ past test text

@@ -1,17 +1,19 @@
 -- What a text reads as: simple selectors that are well-formed.
 -- Serves `printing_laws::printing_law`.
-use Rattle.std.proofs.Common.{◌≡◌, ℕ, zero, suc, ◌<◌, ◌≤◌, ◌==◌, ◌||◌, ◌&&◌, not, nat_le, eqb-true, Bool, true, false, List, [], ◌∷◌, Option, None, Some, All, length, length-append, arith, refl, ap, subst}
+use Rattle.std.proofs.Common.{◌≡◌, ℕ, zero, suc, ◌<◌, ◌≤◌, ◌==◌, ◌||◌, ◌&&◌, not, eqb-true, Bool, true, false, List, [], ◌∷◌, Option, None, Some, All, length, length-append, arith, refl, ap, subst}
 use Rattle.std.specs.Prelude.{codes, if◌then◌else◌}
 use Rattle.std.specs.Str.{str_eq_ignore_ascii_case}
 use Rattle.std.proofs.lemmas.List.Elements.{All-nil, All-cons}
-use Rattle.css_text.specs.AsciiBytes.{asterisk, full_stop, number_sign, open_bracket, close_bracket, close_parenthesis, hyphen, underscore}
+use Rattle.css_text.specs.AsciiBytes.{asterisk, comma, full_stop, number_sign, open_bracket, close_bracket, close_parenthesis, hyphen, underscore}
 use Rattle.css_text.specs.Bytes.{starts_by, starts, past_one, is_digit}
 use Rattle.css_text.specs.Characters.{is_letter}
 use Rattle.css_text.specs.Reading.{before}
-use Rattle.css_syntax.specs.Tokens.{is_name_byte, begins_escape, past_gap, past_word}
+use Rattle.css_text.specs.Strings.{is_quote}
+use Rattle.css_syntax.specs.Tokens.{is_wide_byte, is_name_byte, begins_escape, past_gap, past_word, past_string_parts}
 use Rattle.css_syntax.specs.Statements.{begins_cdc}
-use Rattle.css_syntax.specs.Escapes.{decoded_in}
+use Rattle.css_syntax.specs.Escapes.{unescaped_in, decoded_in}
 use Rattle.css_syntax.proofs.Decoding.{decoded-some_bytes}
+use Rattle.css_syntax.proofs.WithoutNul.{nul-some, nul-once}
 use Rattle.css_syntax.proofs.PartTexts.{word_ends}
 use Rattle.css_syntax.proofs.Shorter.{word-less}
 use Rattle.css_selectors.specs.declared.components.Numbering.{Numbering}
@@ -25,9 +27,10 @@ use Rattle.css_selectors.specs.Components.Namespace.{absent, any_namespace, of_p
 use Rattle.css_selectors.specs.Components.Local.{any_type, a_type, some_attribute, an_attribute}
 use Rattle.css_selectors.specs.Components.Simple.{universal, type_name, id, class, has_attribute, attribute, structure, language, state, function, named_element, nesting, namespaced, nth_of}
 use Rattle.css_selectors.specs.Readings.{Reading, got, refused, follow, give, ◌>>=◌, ◌>>◌, Step, item, none, stop, step_after, as_item, with_first, go_on, items, items_up_to}
-use Rattle.css_selectors.specs.declared.refusal.Why.TheVariants.{NoName, NoProgression, UnknownFunction, Unexpected}
-use Rattle.css_selectors.specs.Grammar.{gap, past_comments, ident_sequence, name, begins_name, begins_plain_name, begins_word, value, comparison, flag, compared, by_comparison, is_bar, at_bar, prefix, namespace, in_namespace, attribute_from_name, attribute_selector, any_or_name, type_after, closing, progression, digits, with_digit, sign, is_sign, is_n, signed, stepping, offset_after, offset_or_none, with_offset, is_number, subtracted, by_tail, n_word, numbered, is_lone_plus, unsigned, odd_or_even, word_progression, one_more, is_word, plain_structure, plain_pseudo, numbered_by, next_range, language_ranges, list_kind, function_named, argument, takes_none, argument_of, is_list_text, no_list, of_list, after_word, without_list, from_last, after_progression, functional, is_old_element, ListReader, named_pseudo, type_selector, next_simple, ampersand}
-use Rattle.css_selectors.specs.WellFormed.{IsName, IsArgument, IsArgumentOf, IsListText, IsSize, IsProgression, IsStructure, IsNamespace, IsAttribute, IsLocal, IsFurther, IsFirst}
+use Rattle.css_selectors.specs.declared.refusal.Why.TheVariants.{NoName, BrokenString, NoProgression, UnknownName, UnknownFunction, Unexpected}
+use Rattle.css_selectors.specs.Grammar.{gap, past_comments, ident_sequence, name, begins_name, begins_plain_name, begins_word, string, closed_string, value, comparison, flag, compared, by_comparison, is_bar, at_bar, prefix, namespace, in_namespace, attribute_from_name, attribute_selector, any_or_name, type_after, closing, progression, digits, with_digit, sign, is_sign, is_n, signed, stepping, offset_after, offset_or_none, with_offset, is_number, subtracted, by_tail, n_word, numbered, is_lone_plus, unsigned, odd_or_even, word_progression, one_more, is_word, plain_structure, plain_pseudo, numbered_by, next_range, range_after, language_ranges, list_kind, function_named, argument, argument_of, is_list_text, no_list, of_list, after_word, without_list, from_last, after_progression, functional, is_old_element, ListReader, named_pseudo, type_selector, next_simple, ampersand}
+use Rattle.css_selectors.specs.KnownNames.{is_one_of, states, functions}
+use Rattle.css_selectors.specs.WellFormed.{IsDenoted, IsName, IsArgument, IsArgumentOf, IsListText, IsSize, IsProgression, IsStructure, IsNamespace, IsAttribute, IsLocal, IsFurther, IsFirst}
 use Rattle.css_selectors.proofs.ArgumentLemmas.{argument-again}
 use Rattle.css_selectors.proofs.ReadingLemmas.{followed}
 
@@ -139,7 +142,7 @@ name_starts b text h =
         → (is_name_byte b || e) ≡ true
     by true e y ew ey k =
         let is : is_name_byte b ≡ true =
-        name_byte (is_letter b) (b == underscore) (nat_le 128 b) (is_digit b) (b == hyphen) ew in
+        name_byte (is_letter b) (b == underscore) (is_wide_byte b) (is_digit b) (b == hyphen) ew in
         rw is refl
     by false true y ew ey k = or_other (is_name_byte b) true refl
     by false false true ew ey k =
@@ -151,13 +154,22 @@ name_value : (text : List ℕ) → begins_name text ≡ true
 name_value [] h = absurd (cc)
 name_value (b ∷ text) h =
     let rest = past_word (b ∷ text) in
-    decoded-some_bytes false refl (before (b ∷ text) rest)
+    nul-some (unescaped_in false (before (b ∷ text) rest))
+    (decoded-some_bytes false refl (before (b ∷ text) rest)
     (omega (
       arith,
       word-less b text (name_starts b text h),
       ap length (word_ends (b ∷ text)),
       length-append (before (b ∷ text) rest) rest,
-    ))
+    )))
+
+-- what is decoded has no U+0000
+pub decoded_denoted : (in_string : Bool) (text : List ℕ) → IsDenoted (decoded_in in_string text)
+decoded_denoted in_string text = nul-once (unescaped_in in_string text)
+
+spelled_well : (text : List ℕ) → begins_name text ≡ true
+    → IsName (decoded_in false (before text (past_word text)))
+spelled_well text h = (name_value text h, decoded_denoted false (before text (past_word text)))
 
 pub ident_well : (text n rest : List ℕ) → ident_sequence text ≡ got n rest → IsName n
 unfolding ident_sequence
@@ -169,7 +181,7 @@ ident_well text n rest h = by (begins_name text) refl h
     by false e k = absurd (cc)
     by true e k =
         let is : decoded_in false (before text (past_word text)) ≡ n = cc in
-        subst (λ (l : List ℕ). 0 < length l) is (name_value text e)
+        subst IsName is (spelled_well text e)
 
 pub name_well : (text n rest : List ℕ) → name text ≡ got n rest → IsName n
 unfolding name
@@ -179,6 +191,36 @@ name_well text n rest h = by (begins_cdc text) h
         → IsName n
     by true k = absurd (cc)
     by false k = ident_well text n rest k
+
+string_well : (opened : List ℕ) (quote : ℕ) (text v rest : List ℕ)
+    → string opened quote text ≡ got v rest → IsDenoted v
+unfolding string
+string_well opened quote text v rest h = by (past_string_parts quote text) h
+  where
+    inside : List ℕ
+    inside = before text (past_string_parts quote text)
+
+    end : (t : Bool) (after : List ℕ) → (if t then got (decoded_in true inside) after
+        else refused BrokenString opened) ≡ got v rest → IsDenoted v
+    end true after k =
+        let is : decoded_in true inside ≡ v = cc in subst IsDenoted is (decoded_denoted true inside)
+    end false after k = absurd (cc)
+
+    by : (left : List ℕ) → closed_string opened quote (decoded_in true inside) left ≡ got v rest
+        → IsDenoted v
+    by [] k =
+        let is : decoded_in true inside ≡ v = cc in subst IsDenoted is (decoded_denoted true inside)
+    by (b ∷ after) k = end (b == quote) after k
+
+value_well : (text v rest : List ℕ) → value text ≡ got v rest → IsDenoted v
+unfolding value
+value_well [] v rest h = absurd (cc)
+value_well (b ∷ text) v rest h = by (is_quote b) h
+  where
+    by : (t : Bool) → (if t then string (b ∷ text) b text else name (b ∷ text)) ≡ got v rest
+        → IsDenoted v
+    by true k = string_well (b ∷ text) b text v rest k
+    by false k = (name_well (b ∷ text) v rest k).1
 
 -- ---- An+B
 
@@ -352,7 +394,7 @@ prefix_well text = by (starts asterisk text) (begins_name text) refl
         → IsNamespace (if a then any_namespace
         else (if n then of_prefix (decoded_in false (before text (past_word text))) else absent))
     by true n e = tt
-    by false true e = name_value text e
+    by false true e = spelled_well text e
     by false false e = tt
 
 namespace_well : (text : List ℕ) (p : Namespace) (rest : List ℕ)
@@ -384,7 +426,7 @@ by_comparison_well n some (Some c) text l rest k =
     let m = followed (flag j.middle) (λ i. gap >>
     (closing close_bracket >> give (an_attribute n c g.value i))) l rest j.second in
     closed_well IsAttribute close_bracket (an_attribute n c g.value m.value) l m.middle rest
-    m.second some
+    m.second (some, value_well f.middle g.value g.middle g.first)
 
 from_name_well : (text : List ℕ) (l : Local) (rest : List ℕ)
     → attribute_from_name text ≡ got l rest → IsAttribute l
@@ -422,8 +464,25 @@ attribute_well d text s rest h =
 
 -- ---- arguments of pseudo-classes
 
+range_well : (text range rest : List ℕ) → next_range text ≡ item range rest → IsDenoted range
+unfolding next_range
+range_well text range rest h = by (gap text) h
+  where
+    read : (t : Bool) (mid : List ℕ)
+        → (if t then as_item (λ r. r) ((gap >> value) (past_one mid)) else none) ≡ item range rest
+        → IsDenoted range
+    read false mid k = absurd (cc)
+    read true mid k =
+        let m = made (λ r. r) ((gap >> value) (past_one mid)) range rest k in
+        let f = followed (gap (past_one mid)) (λ x. value) m.value rest m.first in
+        subst IsDenoted m.is (value_well f.middle m.value rest f.second)
+
+    by : (r : Reading Bool) → range_after r ≡ item range rest → IsDenoted range
+    by (refused why mid) k = absurd (cc)
+    by (got spaced mid) k = read (starts comma mid) mid k
+
 ranges_well : (text : List ℕ) (ranges : List (List ℕ)) (rest : List ℕ)
-    → language_ranges text ≡ got ranges rest → 0 < length ranges
+    → language_ranges text ≡ got ranges rest → 0 < length ranges × All IsDenoted ranges
 unfolding language_ranges
 ranges_well text ranges rest h =
     let f = followed (gap text) (λ x. value >>= λ first. one_more first
@@ -434,19 +493,24 @@ ranges_well text ranges rest h =
     let i = followed (one_more g.value (items next_range) g.middle) (λ all.
     gap >> (closing close_parenthesis >> give all)) ranges rest g.second in
     let all = first_of_all g.value (items next_range g.middle) i.value i.middle i.first in
-    closed_well (λ (l : List (List ℕ)). 0 < length l) close_parenthesis i.value ranges
-    i.middle rest i.second (some_first g.value (items next_range g.middle) i.value i.middle all)
+    closed_well (λ (l : List (List ℕ)). 0 < length l × All IsDenoted l) close_parenthesis i.value
+    ranges i.middle rest i.second (
+      some_first g.value (items next_range g.middle) i.value i.middle all,
+      subst (All IsDenoted) all.is (All-cons IsDenoted g.value all.others
+          (value_well f.middle g.value g.middle g.first)
+          (all_items next_range IsDenoted range_well g.middle all.others i.middle all.reads)),
+    )
 
 -- an argument that is kept
-pub argument_of_well : (opened n text a rest : List ℕ) → argument_of opened n text ≡ got a rest
-    → IsArgumentOf n a
-argument_of_well opened n text a rest h = by (takes_none n) refl h
+pub argument_of_well : (names : List (List ℕ)) (opened n text a rest : List ℕ)
+    → argument_of names opened n text ≡ got a rest → IsArgumentOf names n a
+argument_of_well names opened n text a rest h = by (is_one_of names n) refl h
   where
-    by : (t : Bool) → takes_none n ≡ t
-        → (if t then refused UnknownFunction opened else argument text) ≡ got a rest
-        → IsArgumentOf n a
-    by true e k = absurd (cc)
-    by false e k = (e, argument-again text a rest k [])
+    by : (t : Bool) → is_one_of names n ≡ t
+        → (if t then argument text else refused UnknownFunction opened) ≡ got a rest
+        → IsArgumentOf names n a
+    by false e k = absurd (cc)
+    by true e k = (e, argument-again text a rest k [])
 
 of_list_well : (d : ℕ) (list : ListReader)
     → ((a : List ℕ) → is_list_text list a ≡ true → IsListText d a) → (last : Bool) (p : Progression)
@@ -501,29 +565,55 @@ after_progression_well d list checks kind p (Some last) text s rest fits h = by 
         word f.value f.middle (is_word (codes "of") f.value) f.second
     by false k = without_list_well d kind p text s rest fits k
 
+-- what was read as `An+B`, and what after it
+pub record NumberedRead (list : ListReader) (kind : Numbering) (s : Simple) (rest : List ℕ)
+    : Type 0 where
+  pub value : Progression
+  pub start : List ℕ
+  pub middle : List ℕ
+  pub after : List ℕ
+  pub first : progression start ≡ got value middle
+  pub last : after_progression list kind value (from_last kind) after ≡ got s rest
+
+pub numbered_read : (list : ListReader) (kind : Numbering) (text : List ℕ) (s : Simple)
+    (rest : List ℕ)
+    → (gap >> (progression >>= λ p. gap >> after_progression list kind p (from_last kind))) text
+    ≡ got s rest
+    → NumberedRead list kind s rest
+numbered_read list kind text s rest h =
+    let f = followed (gap text) (λ x. progression >>= λ p. gap >>
+    after_progression list kind p (from_last kind)) s rest h in
+    let g = followed (progression f.middle) (λ p. gap >>
+    after_progression list kind p (from_last kind)) s rest f.second in
+    let i = followed (gap g.middle) (λ x. after_progression list kind g.value (from_last kind)) s
+    rest g.second in
+    record {
+      value = g.value;
+      start = f.middle;
+      middle = g.middle;
+      after = i.middle;
+      first = g.first;
+      last = i.second;
+    }
+
 pub functional_well : (d : ℕ) (list : ListReader)
     → ((a : List ℕ) → is_list_text list a ≡ true → IsListText d a)
     → (opened n text : List ℕ) (kind : Option Function) (s : Simple)
     (rest : List ℕ) → IsName n → list_kind n ≡ None → function_named n ≡ kind
     → functional list opened n kind text ≡ got s rest → IsFurther d s
 functional_well d list checks opened n text None s rest some no_list no_kind h =
-    let f = followed (argument_of opened n text) (λ a. give (function n a)) s rest h in
+    let f = followed (argument_of functions opened n text) (λ a. give (function n a)) s rest h in
     let is : function n f.value ≡ s = (let e = f.second in cc) in
     subst (IsFurther d) is
-    (some, no_list, no_kind, argument_of_well opened n text f.value f.middle f.first)
+    (some, no_list, no_kind, argument_of_well functions opened n text f.value f.middle f.first)
 functional_well d list checks opened n text (Some Language) s rest some no_list is_kind h =
     let f = followed (language_ranges text) (λ ranges. give (language ranges)) s rest h in
     let is : language f.value ≡ s = (let e = f.second in cc) in
     subst (IsFurther d) is (ranges_well text f.value f.middle f.first)
 functional_well d list checks opened n text (Some (Numbered kind)) s rest some no_list is_kind h =
-    let f = followed (gap text) (λ x. progression >>= λ p. gap >>
-    after_progression list kind p (from_last kind)) s rest h in
-    let g = followed (progression f.middle) (λ p. gap >>
-    after_progression list kind p (from_last kind)) s rest f.second in
-    let i = followed (gap g.middle) (λ x. after_progression list kind g.value (from_last kind)) s rest
-    g.second in
-    after_progression_well d list checks kind g.value (from_last kind) i.middle s rest
-    (progression_well f.middle g.value g.middle g.first) i.second
+    let r = numbered_read list kind text s rest h in
+    after_progression_well d list checks kind r.value (from_last kind) r.after s rest
+    (progression_well r.start r.value r.middle r.first) r.last
 
 -- a pseudo-class that is only a name
 PlainWell : Option Structure → Type 0
@@ -548,27 +638,35 @@ plain_well n =
     (either_plain (is_word (codes "last-of-type") n) (Some last_of_type) _ tt
     (either_plain (is_word (codes "only-of-type") n) (Some only_of_type) None tt tt))))))))
 
-plain_pseudo_well : (d : ℕ) (n : List ℕ) → IsName n → is_old_element n ≡ false
-    → IsFurther d (plain_pseudo n (plain_structure n))
+plain_pseudo_well : (d : ℕ) (opened n text : List ℕ) (s : Simple) (rest : List ℕ) → IsName n
+    → is_old_element n ≡ false → plain_pseudo opened n (plain_structure n) text ≡ got s rest
+    → IsFurther d s
 unfolding PlainWell
-plain_pseudo_well d n some other = by (plain_structure n) refl (plain_well n)
+plain_pseudo_well d opened n text s rest some other h = by (plain_structure n) refl (plain_well n) h
   where
-    by : (o : Option Structure) → plain_structure n ≡ o → PlainWell o
-        → IsFurther d (plain_pseudo n o)
-    by None e w = (some, e, other)
-    by (Some s) e w = w
+    known : plain_structure n ≡ None → (t : Bool) → is_one_of states n ≡ t
+        → (if t then got (state n) text else refused UnknownName opened) ≡ got s rest → IsFurther d s
+    known e true q k =
+        let is : state n ≡ s = cc in subst (IsFurther d) is (some, e, other, q)
+    known e false q k = absurd (cc)
 
-pub named_pseudo_well : (d : ℕ) (n text : List ℕ) (s : Simple) (rest : List ℕ) → IsName n
-    → named_pseudo n text ≡ item s rest → IsFurther d s
-named_pseudo_well d n text s rest some h = by (is_old_element n) refl h
+    by : (o : Option Structure) → plain_structure n ≡ o → PlainWell o
+        → plain_pseudo opened n o text ≡ got s rest → IsFurther d s
+    by None e w k = known e (is_one_of states n) refl k
+    by (Some t) e w k = let is : structure t ≡ s = cc in subst (IsFurther d) is w
+
+pub named_pseudo_well : (d : ℕ) (opened n text : List ℕ) (s : Simple) (rest : List ℕ) → IsName n
+    → named_pseudo opened n text ≡ item s rest → IsFurther d s
+named_pseudo_well d opened n text s rest some h = by (is_old_element n) refl h
   where
     by : (t : Bool) → is_old_element n ≡ t
-        → (if t then none else item (plain_pseudo n (plain_structure n)) text) ≡ item s rest
+        → (if t then none else as_item (λ x. x) (plain_pseudo opened n (plain_structure n) text))
+        ≡ item s rest
         → IsFurther d s
     by true e k = absurd (cc)
     by false e k =
-        let is : plain_pseudo n (plain_structure n) ≡ s = cc in
-        subst (IsFurther d) is (plain_pseudo_well d n some e)
+        let m = made (λ x. x) (plain_pseudo opened n (plain_structure n) text) s rest k in
+        subst (IsFurther d) m.is (plain_pseudo_well d opened n text m.value rest some e m.first)
 
 -- what is a name after a sign
 named_well : (d : ℕ) (make : List ℕ → Simple) → ((n : List ℕ) → IsName n → IsFurther d (make n))

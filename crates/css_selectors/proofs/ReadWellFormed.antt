@@ -11,7 +11,7 @@ use Rattle.css_syntax.specs.Tokens.{past_gap}
 use Rattle.css_matching.specs.declared.Combinator.{Combinator}
 use Rattle.css_matching.specs.declared.Combinator.TheVariants.{Descendant}
 use Rattle.css_selectors.specs.declared.refusal.Why.{Why}
-use Rattle.css_selectors.specs.declared.refusal.Why.TheVariants.{Unexpected}
+use Rattle.css_selectors.specs.declared.refusal.Why.TheVariants.{UnknownName, Unexpected}
 use Rattle.css_selectors.specs.declared.components.ListKind.{ListKind}
 use Rattle.css_selectors.specs.declared.components.ListKind.TheVariants.{Not, Is, Where}
 use Rattle.css_selectors.specs.declared.components.Function.{Function}
@@ -23,14 +23,15 @@ use Rattle.css_selectors.specs.Components.{Progression, Structure, Simple, outer
 use Rattle.css_selectors.specs.Components.Simple.{universal, type_name, id, class, has_attribute, attribute, structure, language, state, function, named_element, nesting, namespaced, nth_of}
 use Rattle.css_selectors.specs.Components.Condition.{simple, negation, any_of, where_any}
 use Rattle.css_selectors.specs.Readings.{Reading, got, refused, follow, give, ◌>>=◌, ◌>>◌, Step, item, none, stop, step_after, as_item, go_on, items, items_up_to, with_first}
-use Rattle.css_selectors.specs.Grammar.{gap, past_comments, past_colon, condition_here, name, begins_compound, closing, one_more, progression, numbered_by, language_ranges, plain_structure, plain_pseudo, is_old_element, list_kind, function_named, argument_of, argument, is_word, begins_name, is_list_text, no_list, of_list, after_word, without_list, from_last, after_progression, functional, named_pseudo, type_selector, next_simple, some_of, Finder, compound, listed, ListReader, begins_pseudo_class, simple_item, with_argument, pseudo_condition, condition_by, deepest, too_deep, next_condition, some_or_element, conditions, first_sign, joined_by, signed_part, by_sign, part_after, next_part, element_argument, element_name, element_named, named_condition, class_or_element, after_element, with_after, pseudo_element, at_end, parts, nesting_part, after_sign, relative_parts, start_parts, placed_as, placed_by, placed, next_placed, list_by, placed_selector, selector, CompoundReader, next_part_in, complex, complex_list, ends_part, past_part, is_lasting, no_selector, part_end, judged, listed_part, next_listed, kept, keep, selectors_after, is_forgiving, placed_list_by}
-use Rattle.css_selectors.specs.WellFormed.{IsName, IsArgumentOf, IsListText, IsElementName, is_pseudo_class, IsAfterElement, IsPseudoElement, IsFurther, IsFurtherCondition, IsFirstCondition, IsList, AreConditions, is_last, AreParts, BeginsPlain, IsWellFormed}
+use Rattle.css_selectors.specs.Grammar.{gap, past_comments, past_colon, condition_here, name, begins_compound, closing, one_more, numbered_by, language_ranges, plain_structure, plain_pseudo, is_old_element, list_kind, function_named, argument_of, argument, is_word, begins_name, is_list_text, no_list, of_list, after_word, without_list, from_last, after_progression, functional, named_pseudo, type_selector, next_simple, some_of, Finder, compound, listed, ListReader, begins_pseudo_class, simple_item, with_argument, pseudo_condition, condition_by, deepest, too_deep, next_condition, some_or_element, conditions, first_sign, joined_by, signed_part, by_sign, part_after, next_part, element_argument, element_name, element_named, named_condition, class_or_element, after_element, with_after, pseudo_element, at_end, parts, nesting_part, after_sign, relative_parts, start_parts, placed_as, placed_by, placed, next_placed, list_by, placed_selector, selector, CompoundReader, next_part_in, complex, complex_list, ends_part, past_part, is_lasting, no_selector, part_end, judged, listed_part, next_listed, kept, keep, selectors_after, is_forgiving, placed_list_by}
+use Rattle.css_selectors.specs.KnownNames.{is_one_of, states, functions, is_element, element_functions}
+use Rattle.css_selectors.specs.WellFormed.{IsName, IsListText, IsElementArgument, IsElementName, is_pseudo_class, IsAfterElement, IsPseudoElement, IsFurther, IsFurtherCondition, IsFirstCondition, IsList, AreConditions, is_last, AreParts, BeginsPlain, IsWellFormed}
 use Rattle.css_text.proofs.bytes.GapLemmas.{no_gap-byte}
 use Rattle.css_selectors.proofs.NestedLists.{IsRow, IsLink, IsChain, AreChains, chains_in}
 use Rattle.css_selectors.proofs.CompoundsAgain.{Accept, row_after, some_after, some_or_element_after, no_part_at}
 use Rattle.css_selectors.proofs.GapLemmas.{no_comments}
 use Rattle.css_selectors.proofs.ReadingLemmas.{followed}
-use Rattle.css_selectors.proofs.ReadSimples.{found_after, made, all_items, nothing_read, first_of_all, name_well, argument_of_well, functional_well, named_pseudo_well, next_simple_well, type_well, first_of_further}
+use Rattle.css_selectors.proofs.ReadSimples.{numbered_read, found_after, made, all_items, nothing_read, first_of_all, name_well, argument_of_well, functional_well, named_pseudo_well, next_simple_well, type_well, first_of_further}
 
 -- ---- compound selectors, at a depth
 
@@ -310,14 +311,14 @@ module _ (n : ℕ) (list : ListReader) (well : (kind : ListKind) (opened text : 
       after : (m t : List ℕ) → IsName m → (o : Bool) → (if o
           then as_item (λ c. c)
           (with_argument list text m (list_kind m) (function_named m) (past_one t))
-          else simple_item (named_pseudo m t)) ≡ item c rest → IsFurtherCondition n c
+          else simple_item (named_pseudo text m t)) ≡ item c rest → IsFurtherCondition n c
       after m t some true k =
           let f = made (λ x. x)
           (with_argument list text m (list_kind m) (function_named m) (past_one t)) c rest k in
           subst (IsFurtherCondition n) f.is
           (argument_well text m (past_one t) (list_kind m) f.value rest some refl f.first)
       after m t some false k =
-          further (named_pseudo m t) (λ s u e. named_pseudo_well n m t s u some e) k
+          further (named_pseudo text m t) (λ s u e. named_pseudo_well n text m t s u some e) k
 
       named : List ℕ
       named = past_comments (past_one text)
@@ -396,17 +397,20 @@ last_well p text (inl w) = any_conditions (starts colon text && true) p.conditio
 last_well p text (inr w) =
     subst (AreConditions (starts colon text && true)) (sym w.0) (ap (λ t. t && true) w.1)
 
-parts_up_to : (n : ℕ) (p : Part) (text : List ℕ) (ps : List Part) (end : List ℕ)
-    → Conditions p.conditions text → items_up_to n next_part text ≡ got ps end
-    → AreParts (starts colon end) (p ∷ ps)
-parts_up_to zero p text ps end w h =
-    let none : [] ≡ ps = cc in
-    let same : text ≡ end = cc in
-    subst (λ (qs : List Part). AreParts (starts colon end) (p ∷ qs)) none (
+-- no further part is read
+none_further : (p : Part) (text : List ℕ) (ps : List Part) (end : List ℕ)
+    → Conditions p.conditions text → [] ≡ ps → text ≡ end → AreParts (starts colon end) (p ∷ ps)
+none_further p text ps end w nothing same =
+    subst (λ (qs : List Part). AreParts (starts colon end) (p ∷ qs)) nothing (
       subst (λ (t : List ℕ). AreConditions (starts colon t && true) p.conditions) same
           (last_well p text w),
       tt,
     )
+
+parts_up_to : (n : ℕ) (p : Part) (text : List ℕ) (ps : List Part) (end : List ℕ)
+    → Conditions p.conditions text → items_up_to n next_part text ≡ got ps end
+    → AreParts (starts colon end) (p ∷ ps)
+parts_up_to zero p text ps end w h = none_further p text ps end w (cc) (cc)
 parts_up_to (suc n) p text ps end w h = by (next_part text) refl h (parts_up_to n)
   where
     front : (s : Part) (t : List ℕ) → next_part text ≡ item s t → Conditions p.conditions text
@@ -418,14 +422,7 @@ parts_up_to (suc n) p text ps end w h = by (next_part text) refl h (parts_up_to 
         → ((q : Part) (t : List ℕ) (qs : List Part) (u : List ℕ) → Conditions q.conditions t
         → items_up_to n next_part t ≡ got qs u → AreParts (starts colon u) (q ∷ qs))
         → AreParts (starts colon end) (p ∷ ps)
-    by none e k more =
-        let none : [] ≡ ps = cc in
-        let same : text ≡ end = cc in
-        subst (λ (qs : List Part). AreParts (starts colon end) (p ∷ qs)) none (
-          subst (λ (t : List ℕ). AreConditions (starts colon t && true) p.conditions) same
-              (last_well p text w),
-          tt,
-        )
+    by none e k more = none_further p text ps end w (cc) (cc)
     by (stop why t) e k more = absurd (cc)
     by (item s t) e k more =
         let f = first_of_all s (items_up_to n next_part t) ps end k in
@@ -460,37 +457,44 @@ parts_well text ps end h =
 
 -- ---- pseudo-elements
 
-element_argument_well : (n text : List ℕ) (a : Option (List ℕ)) (rest : List ℕ)
-    → element_argument n text ≡ got a rest → ForSome a (IsArgumentOf n)
+element_argument_well : (opened n text : List ℕ) (a : Option (List ℕ)) (rest : List ℕ)
+    → element_argument opened n text ≡ got a rest → IsElementArgument n a
 unfolding element_argument
-element_argument_well n text a rest h = by (starts open_parenthesis text) h
+element_argument_well opened n text a rest h = by (starts open_parenthesis text) h
   where
-    by : (t : Bool) → (if t then follow (argument_of text n (past_one text)) (λ b. give (Some b))
-        else got None text) ≡ got a rest → ForSome a (IsArgumentOf n)
-    by false k =
-        let is : None ≡ a = cc in
-        subst (λ (o : Option (List ℕ)). ForSome o (IsArgumentOf n)) is (λ b same. absurd (cc))
+    plain : (t : Bool) → is_element n ≡ t
+        → (if t then got None text else refused UnknownName opened) ≡ got a rest
+        → IsElementArgument n a
+    plain true e k = let is : None ≡ a = cc in subst (IsElementArgument n) is e
+    plain false e k = absurd (cc)
+
+    by : (t : Bool) → (if t
+        then follow (argument_of element_functions opened n (past_one text)) (λ b. give (Some b))
+        else (if is_element n then got None text else refused UnknownName opened)) ≡ got a rest
+        → IsElementArgument n a
+    by false k = plain (is_element n) refl k
     by true k =
-        let f = followed (argument_of text n (past_one text)) (λ b. give (Some b)) a rest k in
+        let f = followed (argument_of element_functions opened n (past_one text)) (λ b. give (Some b))
+        a rest k in
         let is : Some f.value ≡ a = (let e = f.second in cc) in
-        let well = argument_of_well text n (past_one text) f.value f.middle f.first in
-        subst (λ (o : Option (List ℕ)). ForSome o (IsArgumentOf n)) is
-        (λ b same. let own : f.value ≡ b = cc in subst (IsArgumentOf n) own well)
+        subst (IsElementArgument n) is
+        (argument_of_well element_functions opened n (past_one text) f.value f.middle f.first)
 
 abbrev NamedElement : Type 0
 NamedElement = List ℕ × Option (List ℕ)
 
-element_name_well : (text : List ℕ) (e : NamedElement) (rest : List ℕ)
-    → element_name text ≡ got e rest → IsElementName e.0 e.1
+element_name_well : (opened text : List ℕ) (e : NamedElement) (rest : List ℕ)
+    → element_name opened text ≡ got e rest → IsElementName e.0 e.1
 unfolding element_name
-element_name_well text e rest h =
+element_name_well opened text e rest h =
     let named : List ℕ = past_colon (past_comments text) in
-    let f = followed (name named) (λ n. element_argument n >>= λ a. give (n, a)) e rest h in
-    let g = followed (element_argument f.value f.middle) (λ a. give (f.value, a)) e rest f.second in
+    let f = followed (name named) (λ n. element_argument opened n >>= λ a. give (n, a)) e rest h in
+    let g = followed (element_argument opened f.value f.middle) (λ a. give (f.value, a)) e rest
+    f.second in
     let is : (f.value, g.value) ≡ e = (let k = g.second in cc) in
     subst (λ (x : NamedElement). IsElementName x.0 x.1) is (
       name_well named f.value f.middle f.first,
-      element_argument_well f.value f.middle g.value g.middle g.first,
+      element_argument_well opened f.value f.middle g.value g.middle g.first,
     )
 
 -- what is read from a colon on is no other simple selector
@@ -543,7 +547,7 @@ class_of_functional : (list : ListReader) (opened n text : List ℕ) (kind : Opt
     (s : Simple) (rest : List ℕ) → functional list opened n kind text ≡ got s rest
     → is_pseudo_class s ≡ true
 class_of_functional list opened n text None s rest h =
-    let f = followed (argument_of opened n text) (λ a. give (function n a)) s rest h in
+    let f = followed (argument_of functions opened n text) (λ a. give (function n a)) s rest h in
     let is : function n f.value ≡ s = (let e = f.second in cc) in
     subst (λ (x : Simple). is_pseudo_class x ≡ true) is refl
 class_of_functional list opened n text (Some Language) s rest h =
@@ -551,22 +555,23 @@ class_of_functional list opened n text (Some Language) s rest h =
     let is : language f.value ≡ s = (let e = f.second in cc) in
     subst (λ (x : Simple). is_pseudo_class x ≡ true) is refl
 class_of_functional list opened n text (Some (Numbered kind)) s rest h =
-    let f = followed (gap text) (λ x. progression >>= λ p. gap >>
-    after_progression list kind p (from_last kind)) s rest h in
-    let g = followed (progression f.middle) (λ p. gap >>
-    after_progression list kind p (from_last kind)) s rest f.second in
-    let i = followed (gap g.middle) (λ x. after_progression list kind g.value (from_last kind)) s rest
-    g.second in
-    class_of_numbered list kind g.value (from_last kind) i.middle s rest i.second
+    let r = numbered_read list kind text s rest h in
+    class_of_numbered list kind r.value (from_last kind) r.after s rest r.last
 
-class_of_name : (n text : List ℕ) (c : Condition) (rest : List ℕ)
-    → simple_item (named_pseudo n text) ≡ item c rest → IsClass c
-class_of_name n text c rest h = by (is_old_element n) (plain_structure n) h
+class_of_name : (opened n text : List ℕ) (c : Condition) (rest : List ℕ)
+    → simple_item (named_pseudo opened n text) ≡ item c rest → IsClass c
+class_of_name opened n text c rest h = by (is_old_element n) (plain_structure n) h
   where
+    known : (t : Bool) → simple_item (as_item (λ s. s)
+        (if t then got (state n) text else refused UnknownName opened)) ≡ item c rest → IsClass c
+    known true k = let is : simple (state n) ≡ c = cc in subst IsClass is refl
+    known false k = absurd (cc)
+
     by : (t : Bool) (o : Option Structure)
-        → simple_item (if t then none else item (plain_pseudo n o) text) ≡ item c rest → IsClass c
+        → simple_item (if t then none else as_item (λ s. s) (plain_pseudo opened n o text))
+        ≡ item c rest → IsClass c
     by true o k = absurd (cc)
-    by false None k = let is : simple (state n) ≡ c = cc in subst IsClass is refl
+    by false None k = known (is_one_of states n) k
     by false (Some s) k = let is : simple (structure s) ≡ c = cc in subst IsClass is refl
 
 class_of_argument : (list : ListReader) (opened n text : List ℕ) (kind : Option ListKind)
@@ -598,14 +603,14 @@ class_here list text c rest h = by (begins_pseudo_class (colon ∷ text)) h
     after : (m t : List ℕ) (o : Bool) → (if o
         then as_item (λ c. c)
         (with_argument list (colon ∷ text) m (list_kind m) (function_named m) (past_one t))
-        else simple_item (named_pseudo m t)) ≡ item c rest → IsClass c
+        else simple_item (named_pseudo (colon ∷ text) m t)) ≡ item c rest → IsClass c
     after m t true k =
         let f = made (λ x. x)
         (with_argument list (colon ∷ text) m (list_kind m) (function_named m) (past_one t)) c rest
         k in
         subst IsClass f.is
         (class_of_argument list (colon ∷ text) m (past_one t) (list_kind m) f.value rest f.first)
-    after m t false k = class_of_name m t c rest k
+    after m t false k = class_of_name (colon ∷ text) m t c rest k
 
     by : (t : Bool) → (if t then step_after (name named) (pseudo_condition list (colon ∷ text))
         else simple_item (next_simple (colon ∷ text))) ≡ item c rest → IsClass c
@@ -661,8 +666,8 @@ after_element_well text c rest h = by (starts colon here) refl h
         subst IsAfterElement is
         (class_after d (next_class here d t s e) (next_condition_well deepest here d t e))
     kind s none e k =
-        let f = made named_condition (element_name (past_one here)) c rest k in
-        subst IsAfterElement f.is (element_name_well (past_one here) f.value rest f.first)
+        let f = made named_condition (element_name here (past_one here)) c rest k in
+        subst IsAfterElement f.is (element_name_well here (past_one here) f.value rest f.first)
     kind s (stop why t) e k = absurd (cc)
 
     by : (t : Bool) → starts colon here ≡ t
@@ -682,18 +687,18 @@ unfolding pseudo_element
 element_well text element rest h = by (starts colon text) refl h
   where
     by : (t : Bool) → starts colon text ≡ t
-        → (if t then follow (element_name (past_one text)) with_after else got None text)
+        → (if t then follow (element_name text (past_one text)) with_after else got None text)
         ≡ got element rest → ElementWell text element
     by false e k =
         let is : None ≡ element = cc in
         subst (ElementWell text) is (record { there = e; well = λ n same. absurd (cc) })
     by true e k =
-        let f = followed (element_name (past_one text)) with_after element rest k in
+        let f = followed (element_name text (past_one text)) with_after element rest k in
         let g = followed (items after_element f.middle)
         (λ cs. give (Some (element_named f.value.0 f.value.1 cs))) element rest f.second in
         let is : Some (element_named f.value.0 f.value.1 g.value) ≡ element =
         (let l = g.second in cc) in
-        let named = element_name_well (past_one text) f.value f.middle f.first in
+        let named = element_name_well text (past_one text) f.value f.middle f.first in
         let all = all_items after_element IsAfterElement after_element_well f.middle g.value
         g.middle g.first in
         subst (ElementWell text) is (record {

@@ -17,7 +17,8 @@ use Rattle.css_selectors.specs.Components.Condition.{simple, negation, any_of, w
 use Rattle.css_selectors.specs.Readings.{got, follow, give, ◌>>=◌, item, none, as_item, with_first, items}
 use Rattle.css_selectors.specs.Grammar.{gap, past_comments, past_colon, name, begins_pseudo_class, next_condition, next_simple, deepest, conditions, joined_by, part_after, next_part, one_more, element_argument, element_name, element_named, named_condition, class_or_element, after_element_here, after_element, with_after, pseudo_element, selector_with, parts, placed_by, placed_selector, selector}
 use Rattle.css_selectors.specs.Printing.{identifier_text, argument_text, structure_text, simple_text, condition_text, combinator_text, part_text, parts_text, pseudo_element_text, selector_text}
-use Rattle.css_selectors.specs.WellFormed.{IsArgumentOf, IsElementName, IsAfterElement, IsPseudoElement, IsFurtherCondition, AreConditions, is_last, AreParts, BeginsPlain, IsWellFormed}
+use Rattle.css_selectors.specs.KnownNames.{element_functions}
+use Rattle.css_selectors.specs.WellFormed.{IsElementArgument, IsElementName, IsAfterElement, IsPseudoElement, IsFurtherCondition, AreConditions, is_last, AreParts, BeginsPlain, IsWellFormed}
 use Rattle.css_selectors.proofs.GapLemmas.{no_comments}
 use Rattle.css_selectors.proofs.SpelledAgain.{EndsName, name-again, begins-again}
 use Rattle.css_selectors.proofs.NumbersAgain.{no_gap}
@@ -157,16 +158,18 @@ no_element_comments (Some e) = no_comments (colon ∷ colon ∷ _) refl
 -- ---- pseudo-elements
 
 -- its argument
-element_argument-again : (n : List ℕ) (a : Option (List ℕ)) (rest : List ℕ)
-    → ForSome a (IsArgumentOf n) → ends rest ≡ true
-    → element_argument n (argument_text a ++ rest) ≡ got a rest
+element_argument-again : (opened n : List ℕ) (a : Option (List ℕ)) (rest : List ℕ)
+    → IsElementArgument n a → ends rest ≡ true
+    → element_argument opened n (argument_text a ++ rest) ≡ got a rest
 unfolding element_argument
-element_argument-again n None rest w h = rw (opens_none rest h) refl
-element_argument-again n (Some a) rest w h =
-    ap (λ l. element_argument n (open_parenthesis ∷ l))
+element_argument-again opened n None rest w h =
+    let stops = opens_none rest h in
+    rw (stops, w) refl
+element_argument-again opened n (Some a) rest w h =
+    ap (λ l. element_argument opened n (open_parenthesis ∷ l))
     (append_assoc a (close_parenthesis ∷ []) rest)
     ∙ ap (λ r. follow r (λ b. give (Some b)))
-    (argument_of-again (open_parenthesis ∷ (a ++ (close_parenthesis ∷ rest))) n a rest (w a refl))
+    (argument_of-again element_functions opened n a rest w)
 
 argument_follows : (a : Option (List ℕ)) (rest : List ℕ) → ends rest ≡ true
     → EndsName (argument_text a ++ rest)
@@ -174,24 +177,24 @@ argument_follows None rest h = ends_name rest h
 argument_follows (Some a) rest h = call_end _
 
 -- its name, and its argument
-element_name-again : (n : List ℕ) (a : Option (List ℕ)) (rest : List ℕ) → IsElementName n a
+element_name-again : (opened n : List ℕ) (a : Option (List ℕ)) (rest : List ℕ) → IsElementName n a
     → ends rest ≡ true
-    → element_name (colon ∷ ((identifier_text n ++ argument_text a) ++ rest)) ≡ got (n, a) rest
+    → element_name opened (colon ∷ ((identifier_text n ++ argument_text a) ++ rest)) ≡ got (n, a) rest
 unfolding element_name
-element_name-again n a rest w h =
+element_name-again opened n a rest w h =
     let q : List ℕ = argument_text a ++ rest in
     let e = argument_follows a rest h in
     let text : List ℕ = identifier_text n ++ q in
     let begins = begins-again n q w.0 e in
-    ap (λ l. element_name (colon ∷ l))
+    ap (λ l. element_name opened (colon ∷ l))
     (append_assoc (identifier_text n) (argument_text a) rest)
-    ∙ ap (λ l. follow (name (past_colon l)) (λ m. element_argument m >>= λ b. give (m, b)))
+    ∙ ap (λ l. follow (name (past_colon l)) (λ m. element_argument opened m >>= λ b. give (m, b)))
     (no_comments (colon ∷ text) refl)
-    ∙ ap (λ l. follow (name l) (λ m. element_argument m >>= λ b. give (m, b)))
+    ∙ ap (λ l. follow (name l) (λ m. element_argument opened m >>= λ b. give (m, b)))
     (no_comments text (no_comment_here text (name_other slash text begins refl)))
-    ∙ ap (λ r. follow r (λ m. element_argument m >>= λ b. give (m, b)))
+    ∙ ap (λ r. follow r (λ m. element_argument opened m >>= λ b. give (m, b)))
     (name-again n q w.0 e)
-    ∙ ap (λ r. follow r (λ b. give (n, b))) (element_argument-again n a rest w.1 h)
+    ∙ ap (λ r. follow r (λ b. give (n, b))) (element_argument-again opened n a rest w.1 h)
 
 -- ---- what follows a pseudo-element
 
@@ -283,7 +286,7 @@ further_element-again n a rest w h =
     let more : List ℕ = (identifier_text n ++ argument_text a) ++ rest in
     ap after_element_here (no_comments (colon ∷ colon ∷ more) refl)
     ∙ ap (class_or_element (colon ∷ colon ∷ more)) (element_follows false more).last
-    ∙ ap (as_item named_condition) (element_name-again n a rest w h)
+    ∙ ap (as_item named_condition) (element_name-again (colon ∷ colon ∷ more) n a rest w h)
 
 after-again : (c : Condition) (rest : List ℕ) → IsAfterElement c → ends rest ≡ true
     → after_element (condition_text c ++ rest) ≡ item c rest
@@ -334,7 +337,7 @@ element-again (Some e) w =
     let more : List ℕ = (identifier_text e.name ++ argument_text e.argument) ++ after in
     let stops : ends after ≡ true =
     subst (λ (l : List ℕ). ends l ≡ true) (append-nil after) (after_ends e.after well.1) in
-    ap (λ r. follow r with_after) (element_name-again e.name e.argument after well.0 stops)
+    ap (λ r. follow r with_after) (element_name-again (colon ∷ colon ∷ more) e.name e.argument after well.0 stops)
     ∙ ap (λ l. follow (items after_element l) (λ cs. give (Some (element_named e.name e.argument cs))))
     (sym (append-nil after))
     ∙ ap (λ r. follow r (λ cs. give (Some (element_named e.name e.argument cs))))

@@ -1,7 +1,8 @@
 -- Printed simple selectors read back.
 -- Serves `printing_laws::printing_law`.
-use Rattle.std.proofs.Common.{◌≡◌, ℕ, zero, suc, ◌<◌, ◌≤◌, ◌==◌, ◌||◌, ◌&&◌, not, Bool, true, false, List, [], ◌∷◌, ◌++◌, Option, None, Some, length, length-append, flat_map, append_assoc, arith, refl, sym, ap, ◌∙◌, subst, eqb-true}
+use Rattle.std.proofs.Common.{◌≡◌, ℕ, zero, suc, ◌<◌, ◌≤◌, ◌==◌, ◌||◌, ◌&&◌, not, Bool, true, false, List, [], ◌∷◌, ◌++◌, Option, None, Some, All, length, length-append, flat_map, append_assoc, arith, refl, sym, ap, ◌∙◌, subst, eqb-true}
 use Rattle.std.specs.Prelude.{codes, if◌then◌else◌}
+use Rattle.std.proofs.lemmas.List.Elements.{All-head, All-tail}
 use Rattle.css_text.specs.AsciiBytes.{backslash, asterisk, close_bracket, close_parenthesis, colon, comma, double_quote, equals_sign, form_feed, full_stop, hyphen, newline, carriage_return, number_sign, open_bracket, open_parenthesis, slash, space, tab, vertical_bar}
 use Rattle.css_text.specs.Bytes.{starts_by, starts, past_one}
 use Rattle.css_text.specs.Comments.{opens_comment}
@@ -21,7 +22,8 @@ use Rattle.css_selectors.specs.Components.Condition.{simple}
 use Rattle.css_selectors.specs.Readings.{got, refused, follow, give, ◌>>=◌, ◌>>◌, Step, item, none, as_item, with_first, go_on, items, items_up_to}
 use Rattle.css_selectors.specs.Grammar.{gap, past_comments, name, begins_name, begins_word, begins_compound, ampersand, value, comparison, flag, flag_named, compared, by_comparison, is_bar, at_bar, prefix, namespace, in_namespace, attribute_from_name, attribute_selector, closing, progression, one_more, plain_structure, plain_pseudo, list_kind, function_named, numbered_by, next_range, range_after, language_ranges, argument_of, is_list_text, no_list, of_list, after_word, from_last, after_progression, functional, is_old_element, next_simple, simple_item, ListReader, with_argument, pseudo_condition, condition_here, condition_by}
 use Rattle.css_selectors.specs.Printing.{identifier_text, string_text, progression_text, comparison_text, flag_text, structure_text, further_text, list_text, namespace_text, nth_of_text, simple_text}
-use Rattle.css_selectors.specs.WellFormed.{IsName, IsArgument, IsArgumentOf, IsListText, IsProgression, IsStructure, IsNamespace, IsFurther}
+use Rattle.css_selectors.specs.KnownNames.{functions}
+use Rattle.css_selectors.specs.WellFormed.{IsDenoted, IsName, IsArgument, IsArgumentOf, IsListText, IsProgression, IsStructure, IsNamespace, IsFurther}
 use Rattle.css_selectors.proofs.ArgumentLemmas.{argument-again, argument_spaced}
 use Rattle.css_selectors.proofs.GapLemmas.{no_comments}
 use Rattle.css_selectors.proofs.SpelledAgain.{EndsName, ident-again, name-again, begins-again, word-again, decoded-again, value-again, all_below, passes, either_fails}
@@ -336,7 +338,7 @@ flag_end rest n v c ignores = by ignores
         (one_blank (105 ∷ close_bracket ∷ rest) (no_gap-byte 105 (close_bracket ∷ rest) refl refl))
         ∙ ap (λ r. follow (follow r (flag_named (105 ∷ close_bracket ∷ rest))) (λ j. gap >>
         (closing close_bracket >> give (an_attribute n c v j))))
-        (name-again (codes "i") (close_bracket ∷ rest) (omega arith)
+        (name-again (codes "i") (close_bracket ∷ rest) (omega arith, refl)
         (record { bare = refl; calm = refl; apart = refl }))
         ∙ closed true calm
 
@@ -394,12 +396,12 @@ operator_bare starts_with rest = refl
 operator_bare ends_with rest = refl
 operator_bare contains rest = refl
 
-an_attribute-again : (n v rest : List ℕ) (c : Comparison) (ignores : Bool) → IsName n
+an_attribute-again : (n v rest : List ℕ) (c : Comparison) (ignores : Bool) → IsName n → IsDenoted v
     → attribute_from_name (identifier_text n ++ (comparison_text c ++ (string_text v
     ++ (flag_text ignores ++ (close_bracket ∷ rest)))))
     ≡ got (an_attribute n c v ignores) rest
 unfolding compared
-an_attribute-again n v rest c ignores some =
+an_attribute-again n v rest c ignores some denoted =
     let end : List ℕ = flag_text ignores ++ (close_bracket ∷ rest) in
     let quoted : List ℕ = string_text v ++ end in
     let p = operator_end c quoted in
@@ -410,7 +412,7 @@ an_attribute-again n v rest c ignores some =
     (no_gap quoted (no_gap-byte double_quote _ refl refl))
     ∙ ap (λ r. follow r (λ t. gap >> (flag >>= λ i. gap >>
     (closing close_bracket >> give (an_attribute n c t i)))))
-    (value-again v end)
+    (value-again v end denoted)
     ∙ flag_end rest n v c ignores
 
 -- an attribute selector, by the namespace before its name
@@ -499,19 +501,19 @@ of_argument list opened n rest kind last p a is_last w is_a is =
     (progression-again p end left w.0 w.1 (of_end (102 ∷ listed)))
     ∙ ap (λ o. after_progression list kind p o left) is_last
     ∙ ap (λ r. follow r (after_word list last p left))
-    (name-again (codes "of") listed (omega arith) (record { bare = refl; calm = refl; apart = refl }))
+    (name-again (codes "of") listed (omega arith, refl) (record { bare = refl; calm = refl; apart = refl }))
     ∙ of_list-again list last p a rest is_a is
 
 -- a further language range
-range-again : (range rest : List ℕ)
+range-again : (range rest : List ℕ) → IsDenoted range
     → next_range (further_text string_text range ++ rest) ≡ item range rest
 unfolding next_range
-range-again range rest =
+range-again range rest denoted =
     let text : List ℕ = string_text range ++ rest in
     ap range_after (no_gap (comma ∷ space ∷ text) (no_gap-byte comma (space ∷ text) refl refl))
     ∙ ap (λ r. as_item (λ x. x) (follow r (λ x. value)))
     (one_blank text (no_gap-byte double_quote _ refl refl))
-    ∙ ap (as_item (λ x. x)) (value-again range rest)
+    ∙ ap (as_item (λ x. x)) (value-again range rest denoted)
 
 range_end : (rest : List ℕ) → next_range (close_parenthesis ∷ rest) ≡ none
 unfolding next_range
@@ -519,18 +521,21 @@ range_end rest =
     ap range_after
     (no_gap (close_parenthesis ∷ rest) (no_gap-byte close_parenthesis rest refl refl))
 
-each_range : (ranges : List (List ℕ)) (rest : List ℕ)
+each_range : (ranges : List (List ℕ)) (rest : List ℕ) → All IsDenoted ranges
     → EachReads next_range (further_text string_text) ranges (close_parenthesis ∷ rest)
-each_range [] rest = range_end rest
-each_range (range ∷ ranges) rest =
-    (omega arith, range-again range _, each_range ranges rest)
+each_range [] rest all = range_end rest
+each_range (range ∷ ranges) rest all = (
+  omega arith,
+  range-again range _ (All-head IsDenoted range ranges all),
+  each_range ranges rest (All-tail IsDenoted range ranges all),
+)
 
-ranges-again : (rest : List ℕ) (ranges : List (List ℕ)) → 0 < length ranges
+ranges-again : (rest : List ℕ) (ranges : List (List ℕ)) → 0 < length ranges → All IsDenoted ranges
     → language_ranges (list_text string_text ranges ++ (close_parenthesis ∷ rest))
     ≡ got ranges rest
 unfolding language_ranges
-ranges-again rest [] some = absurd (omega arith)
-ranges-again rest (range ∷ ranges) some =
+ranges-again rest [] some all = absurd (omega arith)
+ranges-again rest (range ∷ ranges) some all =
     let end : List ℕ = close_parenthesis ∷ rest in
     let others : List ℕ = flat_map (further_text string_text) ranges ++ end in
     ap language_ranges
@@ -540,18 +545,20 @@ ranges-again rest (range ∷ ranges) some =
     (no_gap (string_text range ++ others) (no_gap-byte double_quote _ refl refl))
     ∙ ap (λ r. follow r (λ first. one_more first (items next_range) >>= λ all.
     gap >> (closing close_parenthesis >> give all)))
-    (value-again range others)
+    (value-again range others (All-head IsDenoted range ranges all))
     ∙ ap (λ r. follow (with_first range r) (λ all.
     gap >> (closing close_parenthesis >> give all)))
-    (items-again next_range (further_text string_text) ranges end (each_range ranges rest))
+    (items-again next_range (further_text string_text) ranges end
+    (each_range ranges rest (All-tail IsDenoted range ranges all)))
     ∙ ap (λ r. follow r (λ x. closing close_parenthesis >> give (range ∷ ranges)))
     (no_gap end (no_gap-byte close_parenthesis rest refl refl))
 
-language_argument : (list : ListReader) (opened n rest : List ℕ) (ranges : List (List ℕ)) → 0 < length ranges
+language_argument : (list : ListReader) (opened n rest : List ℕ) (ranges : List (List ℕ))
+    → 0 < length ranges × All IsDenoted ranges
     → functional list opened n (Some Language) (list_text string_text ranges ++ (close_parenthesis ∷ rest))
     ≡ got (language ranges) rest
-language_argument list opened n rest ranges some =
-    ap (λ r. follow r (λ all. give (language all))) (ranges-again rest ranges some)
+language_argument list opened n rest ranges w =
+    ap (λ r. follow r (λ all. give (language all))) (ranges-again rest ranges w.0 w.1)
 
 -- ---- pseudo-classes without a list
 
@@ -634,10 +641,11 @@ call_assoc n a rest =
     ∙ ap (λ l. n ++ (open_parenthesis ∷ l)) (append_assoc a (close_parenthesis ∷ []) rest)
 
 -- the argument of what has this name
-pub argument_of-again : (opened n a rest : List ℕ) → IsArgumentOf n a
-    → argument_of opened n (a ++ (close_parenthesis ∷ rest)) ≡ got a rest
-argument_of-again opened n a rest w =
-    rw w.0 (argument-again (a ++ (close_parenthesis ∷ [])) a [] w.1 rest)
+pub argument_of-again : (names : List (List ℕ)) (opened n a rest : List ℕ) → IsArgumentOf names n a
+    → argument_of names opened n (a ++ (close_parenthesis ∷ rest)) ≡ got a rest
+argument_of-again names opened n a rest w =
+    let known = w.0 in
+    rw known (argument-again (a ++ (close_parenthesis ∷ [])) a [] w.1 rest)
 
 module _ (list : ListReader) where
   -- a pseudo-class is read by its name
@@ -656,12 +664,13 @@ module _ (list : ListReader) where
 
   -- a pseudo-class that is only a name
   plain-again : (n rest : List ℕ) (s : Simple) → IsName n → is_old_element n ≡ false
-      → ends rest ≡ true → plain_pseudo n (plain_structure n) ≡ s
+      → ends rest ≡ true
+      → ((opened : List ℕ) → plain_pseudo opened n (plain_structure n) rest ≡ got s rest)
       → condition_by list (colon ∷ (identifier_text n ++ rest)) ≡ item (simple s) rest
   plain-again n rest s some other h is =
       let stops = opens_none rest h in
       pseudo_named n rest some (ends_name rest h)
-      ∙ rw (stops, other) (ap (λ x. item (simple x) rest) is)
+      ∙ rw (stops, other) (ap (λ r. simple_item (as_item (λ x. x) r)) (is _))
 
   -- a functional pseudo-class, by what its argument is read as
   pub call-again : (n argument rest : List ℕ) (c : Condition) → IsName n
@@ -696,36 +705,36 @@ module _ (list : ListReader) where
 
   structure-again : (s : Structure) (rest : List ℕ) → IsStructure s → ends rest ≡ true
       → condition_by list (structure_text s ++ rest) ≡ item (simple (structure s)) rest
-  structure-again root rest w h = plain-again (codes "root") rest _ (omega arith) refl h refl
-  structure-again scope rest w h = plain-again (codes "scope") rest _ (omega arith) refl h refl
-  structure-again empty rest w h = plain-again (codes "empty") rest _ (omega arith) refl h refl
+  structure-again root rest w h = plain-again (codes "root") rest _ (omega arith, refl) refl h (λ opened. refl)
+  structure-again scope rest w h = plain-again (codes "scope") rest _ (omega arith, refl) refl h (λ opened. refl)
+  structure-again empty rest w h = plain-again (codes "empty") rest _ (omega arith, refl) refl h (λ opened. refl)
   structure-again first_child rest w h =
-      plain-again (codes "first-child") rest _ (omega arith) refl h refl
+      plain-again (codes "first-child") rest _ (omega arith, refl) refl h (λ opened. refl)
   structure-again last_child rest w h =
-      plain-again (codes "last-child") rest _ (omega arith) refl h refl
+      plain-again (codes "last-child") rest _ (omega arith, refl) refl h (λ opened. refl)
   structure-again only_child rest w h =
-      plain-again (codes "only-child") rest _ (omega arith) refl h refl
+      plain-again (codes "only-child") rest _ (omega arith, refl) refl h (λ opened. refl)
   structure-again first_of_type rest w h =
-      plain-again (codes "first-of-type") rest _ (omega arith) refl h refl
+      plain-again (codes "first-of-type") rest _ (omega arith, refl) refl h (λ opened. refl)
   structure-again last_of_type rest w h =
-      plain-again (codes "last-of-type") rest _ (omega arith) refl h refl
+      plain-again (codes "last-of-type") rest _ (omega arith, refl) refl h (λ opened. refl)
   structure-again only_of_type rest w h =
-      plain-again (codes "only-of-type") rest _ (omega arith) refl h refl
+      plain-again (codes "only-of-type") rest _ (omega arith, refl) refl h (λ opened. refl)
   structure-again (nth_child p) rest w h =
-      numbered-again (codes "nth-child") rest OfChild p (omega arith) refl refl w
+      numbered-again (codes "nth-child") rest OfChild p (omega arith, refl) refl refl w
   structure-again (nth_last_child p) rest w h =
-      numbered-again (codes "nth-last-child") rest OfLastChild p (omega arith) refl refl w
+      numbered-again (codes "nth-last-child") rest OfLastChild p (omega arith, refl) refl refl w
   structure-again (nth_of_type p) rest w h =
-      numbered-again (codes "nth-of-type") rest OfType p (omega arith) refl refl w
+      numbered-again (codes "nth-of-type") rest OfType p (omega arith, refl) refl refl w
   structure-again (nth_last_of_type p) rest w h =
-      numbered-again (codes "nth-last-of-type") rest OfLastType p (omega arith) refl refl w
+      numbered-again (codes "nth-last-of-type") rest OfLastType p (omega arith, refl) refl refl w
 
-  language-again : (ranges : List (List ℕ)) (rest : List ℕ) → 0 < length ranges
+  language-again : (ranges : List (List ℕ)) (rest : List ℕ) → 0 < length ranges × All IsDenoted ranges
       → condition_by list (simple_text (language ranges) ++ rest)
       ≡ item (simple (language ranges)) rest
   language-again ranges rest some =
       call-again (codes "lang") ((list_text string_text ranges ++ (close_parenthesis ∷ [])) ++ rest)
-      rest (simple (language ranges)) (omega arith) (λ opened.
+      rest (simple (language ranges)) (omega arith, refl) (λ opened.
       ap (with_argument list opened (codes "lang") None (Some Language))
       (append_assoc (list_text string_text ranges) (close_parenthesis ∷ []) rest)
       ∙ ap (λ r. follow r (λ s. give (simple s))) (language_argument list opened (codes "lang") rest ranges some))
@@ -742,7 +751,7 @@ module _ (list : ListReader) where
           (a ++ (close_parenthesis ∷ rest)) ≡ got (simple (function n a)) rest
       reads opened =
           rw (w.1, w.2) (ap (λ r. follow (follow r (λ b. give (function n b)))
-          (λ s. give (simple s))) (argument_of-again opened n a rest w.3))
+          (λ s. give (simple s))) (argument_of-again functions opened n a rest w.3))
 
   -- one with a list after `An+B`
   nth-again : (n rest : List ℕ) (kind : Numbering) (last : Bool) (p : Progression) (a : List ℕ)
@@ -798,13 +807,15 @@ module _ (list : ListReader) where
       (attribute_assoc (identifier_text n) (comparison_text c) (string_text v) (flag_text ignores)
       (close_bracket ∷ []) rest)
       ∙ ap (λ r. simple_item (as_item (λ s. s) r))
-      (attribute_bare n (tested c v ignores rest) rest (an_attribute n c v ignores) w
+      (attribute_bare n (tested c v ignores rest) rest (an_attribute n c v ignores) w.0
       (tested_end c v ignores rest) (operator_calm c _) (operator_bare c _)
-      (an_attribute-again n v rest c ignores w))
+      (an_attribute-again n v rest c ignores w.0 w.1))
   further-again d checks (structure s) rest w h = structure-again s rest w h
   further-again d checks (language ranges) rest w h = language-again ranges rest w
   further-again d checks (state n) rest w h =
-      plain-again n rest (state n) w.0 w.2 h (ap (plain_pseudo n) w.1)
+      let known = w.3 in
+      plain-again n rest (state n) w.0 w.2 h
+      (λ opened. ap (λ o. plain_pseudo opened n o rest) w.1 ∙ rw known refl)
   further-again d checks (function n a) rest w h = called-again d n a rest w
   further-again d checks (named_element n a) rest w h = absurd w
   further-again d checks (nesting stands) rest w h =
@@ -828,11 +839,11 @@ module _ (list : ListReader) where
       (flag_text ignores) (close_bracket ∷ []) rest
       ∙ append_assoc (namespace_text p) (identifier_text n) (tested c v ignores rest))
       ∙ ap (λ r. simple_item (as_item (λ s. s) r))
-      (attribute_in p n (tested c v ignores rest) rest (an_attribute n c v ignores) w.0 w.1
-      (tested_end c v ignores rest) (an_attribute-again n v rest c ignores w.1))
+      (attribute_in p n (tested c v ignores rest) rest (an_attribute n c v ignores) w.0
+      w.1.0 (tested_end c v ignores rest) (an_attribute-again n v rest c ignores w.1.0 w.1.1))
   further-again d checks (nth_of false p a) rest w h =
-      nth-again (codes "nth-child") rest OfChild false p a (omega arith) refl refl refl w.0 w.1
+      nth-again (codes "nth-child") rest OfChild false p a (omega arith, refl) refl refl refl w.0 w.1
       (checks a w.2)
   further-again d checks (nth_of true p a) rest w h =
-      nth-again (codes "nth-last-child") rest OfLastChild true p a (omega arith) refl refl refl w.0 w.1
+      nth-again (codes "nth-last-child") rest OfLastChild true p a (omega arith, refl) refl refl refl w.0 w.1
       (checks a w.2)

@@ -13,16 +13,18 @@ use Rattle.css_text.specs.Characters.{is_letter}
 use Rattle.css_text.specs.Reading.{each, before}
 use Rattle.css_text.proofs.reading.EachLemmas.{Takes}
 use Rattle.css_text.proofs.reading.EndsLemmas.{before-append}
-use Rattle.css_syntax.specs.Tokens.{is_newline, is_name_byte, begins_escape, hex_digit, past_escape, name_part, string_part, past_word}
+use Rattle.css_syntax.specs.Tokens.{is_newline, is_wide_byte, is_name_byte, begins_escape, hex_digit, past_escape, name_part, string_part, past_word}
 use Rattle.css_syntax.specs.Statements.{begins_cdc}
-use Rattle.css_syntax.specs.Escapes.{character_of, escaped_text, decoded_in}
+use Rattle.css_syntax.specs.Escapes.{character_of, escaped_text, unescaped_in, without_nul_byte, without_nul, decoded_in}
 use Rattle.css_syntax.proofs.Decoding.{decoded-nil, decoded-plain, decoded-escape}
 use Rattle.css_syntax.proofs.RunSteps.{no_name_part}
+use Rattle.css_syntax.proofs.WithoutNul.{nul-once}
 use Rattle.css_syntax.proofs.Shorter.{each-goes, each-rests, name_part-takes, string_part-takes}
 use Rattle.css_selectors.specs.declared.refusal.Why.TheVariants.{NoName}
 use Rattle.css_selectors.specs.Readings.{got, refused}
 use Rattle.css_selectors.specs.Grammar.{begins_plain_name, begins_name, ident_sequence, name, string, closed_string, value}
 use Rattle.css_selectors.specs.Printing.{is_control, is_kept, code_point_text, escape_text, byte_text, start_text, after_hyphen, identifier_text, string_text}
+use Rattle.css_selectors.specs.WellFormed.{IsName, IsDenoted}
 use Rattle.css_selectors.proofs.PrintLemmas.{kept_low}
 use Rattle.css_selectors.proofs.TextLemmas.{name_low}
 
@@ -166,19 +168,17 @@ sign_escaped b calm plain = record {
 }
 
 -- what is written of a byte that is not kept
-escape_escaped : (b : ℕ) → b < 128
+escape_escaped : (b : ℕ) → (b == 0) ≡ false → b < 128
     → (is_control b ≡ false → (is_newline b ≡ false) × (is_hex_digit b ≡ false))
     → Escaped b (escape_text b)
-escape_escaped b low plain = by (is_control b) refl
+escape_escaped b some low plain = by (b == 0) (is_control b) some refl
   where
-    by : (t : Bool) → is_control b ≡ t
-        → Escaped b (if t then code_point_text b else backslash ∷ b ∷ [])
-    by true e =
-        code_point_escaped b
-        (either_fails (is_control b) (b == 0)
-        (passes (λ k. not (is_control k && k == 0)) 128 b refl low) e)
-        low
-    by false e = let p = plain e in sign_escaped b p.0 p.1
+    by : (z t : Bool) → z ≡ false → is_control b ≡ t
+        → Escaped b (if z then encode_utf8 65533
+        else (if t then code_point_text b else backslash ∷ b ∷ []))
+    by true t k e = absurd (cc)
+    by false true k e = code_point_escaped b some low
+    by false false k e = let p = plain e in sign_escaped b p.0 p.1
 
 -- ---- what is spelled
 
@@ -200,13 +200,13 @@ record Spells (quote : Option ℕ) (text value rest : List ℕ) : Type 0 where
   pub own : List ℕ
   pub is : text ≡ own ++ rest
   pub leaves : (each (spelled_part quote) text).1 ≡ rest
-  pub denotes : decoded_in (is_string quote) own ≡ value
+  pub denotes : unescaped_in (is_string quote) own ≡ value
 
-whole : (quote : Option ℕ) (text value rest : List ℕ) → Spells quote text value rest
-    → decoded_in (is_string quote) (before text rest) ≡ value
+whole : (quote : Option ℕ) (text value rest : List ℕ) → Spells quote text (without_nul value) rest
+    → decoded_in (is_string quote) (before text rest) ≡ without_nul value
 whole quote text value rest s =
     ap (decoded_in (is_string quote)) (ap (λ t. before t rest) s.is ∙ before-append s.own rest)
-    ∙ s.denotes
+    ∙ ap without_nul s.denotes ∙ nul-once value
 
 spells_nothing : (quote : Option ℕ) (rest : List ℕ) → spelled_part quote rest ≡ None
     → Spells quote rest [] rest
@@ -222,7 +222,10 @@ record IsPlace (quote : Option ℕ) : Type 0 where
   pub kept : (b : ℕ) → is_kept quote b ≡ true → (text : List ℕ)
       → spelled_part quote (b ∷ text) ≡ Some (tt, text)
   pub plain : (b : ℕ) → is_kept quote b ≡ true → (b == backslash) ≡ false
-  pub escaped : (b : ℕ) → is_kept quote b ≡ false → Escaped b (escape_text b)
+  pub escaped : (b : ℕ) → (b == 0) ≡ false → is_kept quote b ≡ false → Escaped b (escape_text b)
+  pub nul : is_kept quote 0 ≡ false
+  pub replaced : (is_kept quote 239 ≡ true) × (is_kept quote 191 ≡ true)
+      × (is_kept quote 189 ≡ true)
   pub begins : (text : List ℕ) → starts_by is_newline text ≡ false
       → spelled_part quote (backslash ∷ text) ≡ Some (tt, past_escape text)
 
@@ -254,9 +257,9 @@ module _ (quote : Option ℕ) (place : IsPlace quote) where
             ∙ ap (λ l. (each (spelled_part quote) l).1) (e.leaves text) ∙ s.leaves;
         denotes = decoded-escape (is_string quote) (e.others ++ s.own)
             (escape_begins (e.others ++ s.own) (e.calm s.own))
-            ∙ ap (λ l. l ++ decoded_in (is_string quote) (past_escape (e.others ++ s.own)))
+            ∙ ap (λ l. l ++ unescaped_in (is_string quote) (past_escape (e.others ++ s.own)))
             (e.denotes s.own)
-            ∙ ap (λ l. b ∷ decoded_in (is_string quote) l) (e.leaves s.own)
+            ∙ ap (λ l. b ∷ unescaped_in (is_string quote) l) (e.leaves s.own)
             ∙ ap (λ l. b ∷ l) s.denotes;
       })
     where
@@ -264,22 +267,41 @@ module _ (quote : Option ℕ) (place : IsPlace quote) where
           → begins_escape (backslash ∷ l) ≡ true
       escape_begins l calm = rw calm refl
 
+  -- U+FFFD, which is written in place of U+0000
+  spells_replaced : (text value rest : List ℕ) → Spells quote text value rest
+      → Spells quote (byte_text quote 0 ++ text) (without_nul_byte 0 ++ value) rest
+  unfolding lib.Utf8.encode
+  spells_replaced text value rest s =
+      let nul = place.nul in
+      let kept = place.replaced in
+      rw nul
+      (spells_bare 239 (191 ∷ 189 ∷ text) (191 ∷ 189 ∷ value) rest kept.0
+      (spells_bare 191 (189 ∷ text) (189 ∷ value) rest kept.1
+      (spells_bare 189 text value rest kept.2 s)))
+
   spells_byte : (b : ℕ) (text value rest : List ℕ) → Spells quote text value rest
-      → Spells quote (byte_text quote b ++ text) (b ∷ value) rest
-  spells_byte b text value rest s = by (is_kept quote b) refl
+      → Spells quote (byte_text quote b ++ text) (without_nul_byte b ++ value) rest
+  spells_byte b text value rest s = by (b == 0) refl
     where
-      by : (t : Bool) → is_kept quote b ≡ t
+      other : (b == 0) ≡ false → (t : Bool) → is_kept quote b ≡ t
           → Spells quote ((if t then b ∷ [] else escape_text b) ++ text) (b ∷ value) rest
-      by true e = spells_bare b text value rest e s
-      by false e = spells_escape b (escape_text b) text value rest (place.escaped b e) s
+      other z true e = spells_bare b text value rest e s
+      other z false e = spells_escape b (escape_text b) text value rest (place.escaped b z e) s
+
+      by : (z : Bool) → (b == 0) ≡ z → Spells quote (byte_text quote b ++ text)
+          ((if z then encode_utf8 65533 else b ∷ []) ++ value) rest
+      by true z =
+          subst (λ (k : ℕ). Spells quote (byte_text quote k ++ text) (encode_utf8 65533 ++ value) rest)
+          (sym (eqb-true b 0 z)) (spells_replaced text value rest s)
+      by false z = other z (is_kept quote b) refl
 
   spells_bytes : (value rest : List ℕ) → spelled_part quote rest ≡ None
-      → Spells quote (flat_map (byte_text quote) value ++ rest) value rest
+      → Spells quote (flat_map (byte_text quote) value ++ rest) (without_nul value) rest
   spells_bytes [] rest none = spells_nothing quote rest none
   spells_bytes (b ∷ value) rest none =
-      subst (λ l. Spells quote l (b ∷ value) rest)
+      subst (λ l. Spells quote l (without_nul (b ∷ value)) rest)
       (sym (append_assoc (byte_text quote b) (flat_map (byte_text quote) value) rest))
-      (spells_byte b (flat_map (byte_text quote) value ++ rest) value rest
+      (spells_byte b (flat_map (byte_text quote) value ++ rest) (without_nul value) rest
       (spells_bytes value rest none))
 
 -- ---- strings
@@ -308,28 +330,31 @@ string_place = record {
       let q = p.0 in let s = p.1.0 in let n = p.1.1 in rw (q, n, s) refl;
   plain = λ b e. (parts b e).1.0;
   escaped = escaped;
+  nul = refl;
+  replaced = (refl, refl, refl);
   begins = λ text e. refl;
 }
   where
     parts : (b : ℕ) → is_kept (Some double_quote) b ≡ true
         → (b == double_quote) ≡ false × ((b == backslash) ≡ false × (is_newline b ≡ false))
     parts b h =
-        by (b == double_quote) (b == backslash) (is_control b) (is_newline b)
+        by (b == double_quote) (b == backslash) (is_control b) (b == 0) (is_newline b)
         (newline_control b) h
       where
-        by : (q s c n : Bool) → (n ≡ true → c ≡ true) → not (q || s || c) ≡ true
+        by : (q s c z n : Bool) → (n ≡ true → c ≡ true) → not (q || s || c || z) ≡ true
             → (q ≡ false) × ((s ≡ false) × (n ≡ false))
-        by true s c n i k = absurd (cc)
-        by false true c n i k = absurd (cc)
-        by false false true n i k = absurd (cc)
-        by false false false n i k = (refl, (refl, calm_if n false i refl))
+        by true s c z n i k = absurd (cc)
+        by false true c z n i k = absurd (cc)
+        by false false true z n i k = absurd (cc)
+        by false false false z n i k = (refl, (refl, calm_if n false i refl))
 
     low : (b : ℕ) → is_kept (Some double_quote) b ≡ false → b < 128
     low b h = kept_low (Some double_quote) small b h
 
-    escaped : (b : ℕ) → is_kept (Some double_quote) b ≡ false → Escaped b (escape_text b)
-    escaped b h =
-        escape_escaped b (low b h)
+    escaped : (b : ℕ) → (b == 0) ≡ false → is_kept (Some double_quote) b ≡ false
+        → Escaped b (escape_text b)
+    escaped b some h =
+        escape_escaped b some (low b h)
         (λ plain. (
           calm_if (is_newline b) (is_control b) (newline_control b) plain,
           none_passes (is_hex_digit b)
@@ -341,7 +366,8 @@ string_place = record {
 
 pub string-again : (opened value rest : List ℕ)
     → string opened double_quote
-    (flat_map (byte_text (Some double_quote)) value ++ (double_quote ∷ rest)) ≡ got value rest
+    (flat_map (byte_text (Some double_quote)) value ++ (double_quote ∷ rest))
+    ≡ got (without_nul value) rest
 unfolding string string_part
 string-again opened value rest =
     let text : List ℕ =
@@ -352,13 +378,16 @@ string-again opened value rest =
     (whole (Some double_quote) text value (double_quote ∷ rest) s)
 
 -- a string is a value
-pub value-again : (v rest : List ℕ) → value (string_text v ++ rest) ≡ got v rest
+pub value-denotes : (v rest : List ℕ) → value (string_text v ++ rest) ≡ got (without_nul v) rest
 unfolding value
-value-again v rest =
+value-denotes v rest =
     ap (λ l. value (double_quote ∷ l))
     (append_assoc (flat_map (byte_text (Some double_quote)) v) (codes "\"") rest)
     ∙ string-again
     (double_quote ∷ flat_map (byte_text (Some double_quote)) v ++ (double_quote ∷ rest)) v rest
+
+pub value-again : (v rest : List ℕ) → IsDenoted v → value (string_text v ++ rest) ≡ got v rest
+value-again v rest denoted = value-denotes v rest ∙ ap (λ l. got l rest) denoted
 
 -- ---- names
 
@@ -373,23 +402,33 @@ name_plain b h = by (b == backslash) refl
 name_place : IsPlace None
 unfolding name_part
 name_place = record {
-  kept = λ b e text. rw e refl;
-  plain = name_plain;
+  kept = λ b e text. let name = and_first (is_name_byte b) (not (b == 0)) e in rw name refl;
+  plain = λ b e. name_plain b (and_first (is_name_byte b) (not (b == 0)) e);
   escaped = escaped;
+  nul = refl;
+  replaced = (refl, refl, refl);
   begins = λ text e. rw e refl;
 }
   where
-    escaped : (b : ℕ) → is_kept None b ≡ false → Escaped b (escape_text b)
-    escaped b h =
-        escape_escaped b (name_low b h)
+    escaped : (b : ℕ) → (b == 0) ≡ false → is_kept None b ≡ false → Escaped b (escape_text b)
+    escaped b some h =
+        escape_escaped b some low
         (λ plain.
         let is = either_passes (is_control b) (not (is_newline b || is_hex_digit b))
         (either_passes (is_name_byte b) (is_control b || not (is_newline b || is_hex_digit b))
         (passes (λ k. is_name_byte k || (is_control k || not
         (is_newline k || is_hex_digit k))) 128 b
-        refl (name_low b h)) h) plain in
+        refl low) (other (is_name_byte b) (b == 0) some h)) plain in
         neither (is_newline b) (is_hex_digit b) is)
       where
+        other : (n z : Bool) → z ≡ false → (n && not z) ≡ false → n ≡ false
+        other n true e k = absurd (cc)
+        other true false e k = absurd (cc)
+        other false false e k = refl
+
+        low : b < 128
+        low = name_low b (other (is_name_byte b) (b == 0) some h)
+
         neither : (n x : Bool) → not (n || x) ≡ true → (n ≡ false) × (x ≡ false)
         neither true x k = absurd (cc)
         neither false true k = absurd (cc)
@@ -418,24 +457,26 @@ first_text b = if is_digit b then code_point_text b else byte_text None b
 
 spells_first : (b : ℕ) (text value rest : List ℕ) → Spells None text value rest
     → Spells None ((if is_digit b then code_point_text b else byte_text None b) ++ text)
-    (b ∷ value) rest
+    (without_nul_byte b ++ value) rest
 spells_first b text value rest s = by (is_digit b) refl
   where
     by : (t : Bool) → is_digit b ≡ t
-        → Spells None ((if t then code_point_text b else byte_text None b) ++ text) (b ∷ value) rest
+        → Spells None ((if t then code_point_text b else byte_text None b) ++ text)
+        (without_nul_byte b ++ value) rest
     by true e =
         let low = digit_low b e in
-        spells_escape None name_place b (code_point_text b) text value rest
-        (code_point_escaped b low.0 low.1) s
+        let some = low.0 in
+        rw some (spells_escape None name_place b (code_point_text b) text value rest
+        (code_point_escaped b low.0 low.1) s)
     by false e = spells_byte None name_place b text value rest s
 
 spells_start : (b : ℕ) (name rest : List ℕ) → EndsName rest
-    → Spells None (start_text (b ∷ name) ++ rest) (b ∷ name) rest
+    → Spells None (start_text (b ∷ name) ++ rest) (without_nul (b ∷ name)) rest
 spells_start b name rest ends =
-    subst (λ l. Spells None l (b ∷ name) rest)
+    subst (λ l. Spells None l (without_nul (b ∷ name)) rest)
     (sym (append_assoc (if is_digit b then code_point_text b else byte_text None b)
     (flat_map (byte_text None) name) rest))
-    (spells_first b (flat_map (byte_text None) name ++ rest) name rest
+    (spells_first b (flat_map (byte_text None) name ++ rest) (without_nul name) rest
     (spells_bytes None name_place name rest (no_name_part rest ends.calm ends.bare)))
 
 -- what begins with an escape begins a name
@@ -448,7 +489,8 @@ begins_escaped b own text e =
 begins_first : (b : ℕ) (text : List ℕ) → (b == hyphen) ≡ false
     → begins_plain_name ((if is_digit b then code_point_text b else byte_text None b) ++ text)
     ≡ true
-begins_first b text other = by (is_digit b) (is_name_byte b) refl refl
+unfolding lib.Utf8.encode
+begins_first b text other = by (is_digit b) (is_kept None b) refl refl
   where
     word : (l d u h w : Bool) → (l || d || u || h || w) ≡ true → d ≡ false → h ≡ false
         → (l || u || w) ≡ true
@@ -458,7 +500,17 @@ begins_first b text other = by (is_digit b) (is_name_byte b) refl refl
     word false false false true w e ed eh = absurd (cc)
     word false false false false w e ed eh = e
 
-    by : (d n : Bool) → is_digit b ≡ d → is_name_byte b ≡ n
+    replaced : begins_plain_name (escape_text 0 ++ text) ≡ true
+    replaced = refl
+
+    escaped : is_kept None b ≡ false → (z : Bool) → (b == 0) ≡ z
+        → begins_plain_name (escape_text b ++ text) ≡ true
+    escaped en true z =
+        subst (λ (k : ℕ). begins_plain_name (escape_text k ++ text) ≡ true) (sym (eqb-true b 0 z))
+        replaced
+    escaped en false z = begins_escaped b (escape_text b) text (name_place.escaped b z en)
+
+    by : (d n : Bool) → is_digit b ≡ d → is_kept None b ≡ n
         → begins_plain_name ((if d then code_point_text b
         else (if n then b ∷ [] else escape_text b)) ++ text) ≡ true
     by true n ed en =
@@ -466,11 +518,10 @@ begins_first b text other = by (is_digit b) (is_name_byte b) refl refl
         begins_escaped b (code_point_text b) text (code_point_escaped b low.0 low.1)
     by false true ed en =
         let is = word (is_letter b) (is_digit b) (b == underscore) (b == hyphen)
-        (nat_le 128 b) en ed
+        (is_wide_byte b) (and_first (is_name_byte b) (not (b == 0)) en) ed
         other in
         rw is refl
-    by false false ed en =
-        begins_escaped b (escape_text b) text (name_place.escaped b en)
+    by false false ed en = escaped en (b == 0) refl
 
 begins_start : (b : ℕ) (name rest : List ℕ) → (b == hyphen) ≡ false
     → begins_plain_name (start_text (b ∷ name) ++ rest) ≡ true
@@ -483,7 +534,7 @@ begins_start b name rest other =
 -- a text that begins a name and spells it
 record Named (text n rest : List ℕ) : Type 0 where
   pub begins : begins_name text ≡ true
-  pub spells : Spells None text n rest
+  pub spells : Spells None text (without_nul n) rest
 
 named_start : (b : ℕ) (n rest : List ℕ) → (b == hyphen) ≡ false → EndsName rest
     → Named (start_text (b ∷ n) ++ rest) (b ∷ n) rest
@@ -501,7 +552,8 @@ named_hyphen [] rest ends = record {
 }
 named_hyphen (c ∷ n) rest ends = record {
   begins = by (c == hyphen) refl;
-  spells = spells_bare None name_place hyphen (start_text (c ∷ n) ++ rest) (c ∷ n) rest refl
+  spells = spells_bare None name_place hyphen (start_text (c ∷ n) ++ rest) (without_nul (c ∷ n)) rest
+      refl
       (spells_start c n rest ends);
 }
   where
@@ -525,7 +577,8 @@ named (b ∷ n) rest some ends = by (b == hyphen) refl
 
 -- no byte that is written of an identifier but a hyphen or a backslash at its start is one of `-->`
 written_other : (b : ℕ) (text : List ℕ) → starts 62 (byte_text None b ++ text) ≡ false
-written_other b text = by (is_name_byte b) refl (name_place.escaped b)
+unfolding lib.Utf8.encode
+written_other b text = by (is_kept None b) refl (b == 0) refl
   where
     kept : is_name_byte b ≡ true → (b == 62) ≡ false
     kept h = by_byte (b == 62) refl
@@ -535,10 +588,15 @@ written_other b text = by (is_name_byte b) refl (name_place.escaped b)
             absurd (let wrong = subst (λ d. is_name_byte d ≡ true) (eqb-true b 62 e) h in cc)
         by_byte false e = refl
 
-    by : (t : Bool) → is_name_byte b ≡ t → (is_kept None b ≡ false → Escaped b (escape_text b))
+    replaced : starts 62 (escape_text 0 ++ text) ≡ false
+    replaced = refl
+
+    by : (t : Bool) → is_kept None b ≡ t → (z : Bool) → (b == 0) ≡ z
         → starts 62 ((if t then b ∷ [] else escape_text b) ++ text) ≡ false
-    by true e f = kept e
-    by false e f = ap (λ l. starts 62 (l ++ text)) (f e).is
+    by true e z h = kept (and_first (is_name_byte b) (not (b == 0)) e)
+    by false e true h =
+        subst (λ (k : ℕ). starts 62 (escape_text k ++ text) ≡ false) (sym (eqb-true b 0 h)) replaced
+    by false e false h = ap (λ l. starts 62 (l ++ text)) (name_place.escaped b h e).is
 
 all_other : (n rest : List ℕ) → starts 62 rest ≡ false
     → starts 62 (flat_map (byte_text None) n ++ rest) ≡ false
@@ -586,10 +644,10 @@ no_cdc (b ∷ n) rest some ends = by (b == hyphen) refl
     by true e = after n
     by false e = plain_no_cdc (start_text (b ∷ n) ++ rest) (begins_start b n rest e)
 
-pub ident-again : (n rest : List ℕ) → 0 < length n → EndsName rest
-    → ident_sequence (identifier_text n ++ rest) ≡ got n rest
+pub ident-denotes : (n rest : List ℕ) → 0 < length n → EndsName rest
+    → ident_sequence (identifier_text n ++ rest) ≡ got (without_nul n) rest
 unfolding ident_sequence
-ident-again n rest some ends =
+ident-denotes n rest some ends =
     let w = named n rest some ends in
     let text : List ℕ = identifier_text n ++ rest in
     ap (λ (t : Bool). if t then got (decoded_in false (before text (past_word text))) (past_word text)
@@ -597,27 +655,31 @@ ident-again n rest some ends =
     ∙ ap (λ r. got (decoded_in false (before text r)) r) w.spells.leaves
     ∙ ap (λ v. got v rest) (whole None text n rest w.spells)
 
-pub name-again : (n rest : List ℕ) → 0 < length n → EndsName rest
+pub ident-again : (n rest : List ℕ) → IsName n → EndsName rest
+    → ident_sequence (identifier_text n ++ rest) ≡ got n rest
+ident-again n rest w ends = ident-denotes n rest w.0 ends ∙ ap (λ l. got l rest) w.1
+
+pub name-again : (n rest : List ℕ) → IsName n → EndsName rest
     → name (identifier_text n ++ rest) ≡ got n rest
 unfolding name
-name-again n rest some ends =
-    let other = no_cdc n rest some ends in
-    rw other (ident-again n rest some ends)
+name-again n rest w ends =
+    let other = no_cdc n rest w.0 ends in
+    rw other (ident-again n rest w ends)
 
-pub begins-again : (n rest : List ℕ) → 0 < length n → EndsName rest
+pub begins-again : (n rest : List ℕ) → IsName n → EndsName rest
     → begins_name (identifier_text n ++ rest) ≡ true
-begins-again n rest some ends = (named n rest some ends).begins
+begins-again n rest w ends = (named n rest w.0 ends).begins
 
 -- the name ends where what follows it begins
-pub word-again : (n rest : List ℕ) → 0 < length n → EndsName rest
+pub word-again : (n rest : List ℕ) → IsName n → EndsName rest
     → past_word (identifier_text n ++ rest) ≡ rest
-word-again n rest some ends = (named n rest some ends).spells.leaves
+word-again n rest w ends = (named n rest w.0 ends).spells.leaves
 
 -- and what is before that denotes it
-pub decoded-again : (n rest : List ℕ) → 0 < length n → EndsName rest
+pub decoded-again : (n rest : List ℕ) → IsName n → EndsName rest
     → decoded_in false (before (identifier_text n ++ rest) (past_word (identifier_text n ++ rest)))
     ≡ n
-decoded-again n rest some ends =
-    let w = named n rest some ends in
-    ap (λ r. decoded_in false (before (identifier_text n ++ rest) r)) w.spells.leaves
-    ∙ whole None (identifier_text n ++ rest) n rest w.spells
+decoded-again n rest w ends =
+    let s = (named n rest w.0 ends).spells in
+    ap (λ r. decoded_in false (before (identifier_text n ++ rest) r)) s.leaves
+    ∙ whole None (identifier_text n ++ rest) n rest s ∙ w.1

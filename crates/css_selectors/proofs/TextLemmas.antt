@@ -10,10 +10,14 @@ use Rattle.std.proofs.Math.Nat.{eq-or-lt_of_le}
 use Rattle.css_text.specs.AsciiBytes.{backslash, colon, newline, carriage_return, form_feed, underscore, hyphen}
 use Rattle.css_text.specs.Bytes.{is_digit}
 use Rattle.css_text.specs.Characters.{is_letter}
-use Rattle.css_syntax.specs.Tokens.{is_name_byte, is_newline}
+use Rattle.css_syntax.specs.Tokens.{is_name_byte, is_newline, is_wide_byte}
 use Rattle.css_selectors.specs.declared.refusal.Quoted.{Quoted}
 use Rattle.css_selectors.specs.declared.refusal.Quoted.TheVariants.{Line, Word, Signs}
 use Rattle.css_selectors.specs.RefusalWords.{is_word_byte, is_quoted}
+
+or_first : (a b : Bool) → (a || b) ≡ false → a ≡ false
+or_first true b h = absurd (cc)
+or_first false b h = refl
 
 or_second : (a b : Bool) → (a || b) ≡ false → b ≡ false
 or_second true b h = absurd (cc)
@@ -22,8 +26,8 @@ or_second false b h = h
 pub name_low : (b : ℕ) → is_name_byte b ≡ false → b < 128
 name_low b h =
     let wide =
-    or_second (is_letter b || is_digit b || b == underscore || b == hyphen) (nat_le 128 b) h in
-    grind (arith, nat_tests, wide)
+    or_second (is_letter b || is_digit b || b == underscore || b == hyphen) (is_wide_byte b) h in
+    grind (arith, nat_tests, or_first (nat_le 128 b) (b == 0) wide)
 
 newline_low : (b : ℕ) → is_newline b ≡ true → b < 128
 newline_low b h =
@@ -39,10 +43,6 @@ newline_low b h =
 not_false : (t : Bool) → not t ≡ false → t ≡ true
 not_false true h = refl
 not_false false h = absurd (cc)
-
-or_first : (a b : Bool) → (a || b) ≡ false → a ≡ false
-or_first true b h = absurd (cc)
-or_first false b h = refl
 
 word_low : (b : ℕ) → is_word_byte b ≡ false → b < 128
 word_low b h =

@@ -7,8 +7,8 @@ use Rattle.css_text.specs.Comments.{blank, comment, gap as gap_before}
 use Rattle.css_text.specs.Reading.{each}
 use Rattle.css_syntax.specs.Tokens.{past_escape, past_letter, spells, past_comment, gap_part, name_part, string_part, past_string, url_part, remnant_part, past_url, token}
 use Rattle.css_syntax.specs.ComponentValues.{block_of, past_open, component_value}
-use Rattle.css_syntax.specs.Escapes.{decoded_part, decoded_in}
-use Rattle.css_selectors.specs.declared.refusal.Why.TheVariants.{NoSelector, NoName, NoProgression, NoValue, UnknownFunction, TooDeep}
+use Rattle.css_syntax.specs.Escapes.{decoded_part, unescaped_in}
+use Rattle.css_selectors.specs.declared.refusal.Why.TheVariants.{NoSelector, NoName, NoProgression, NoValue, UnknownName, UnknownFunction, TooDeep}
 use Rattle.css_selectors.specs.Components.{Part}
 use Rattle.css_selectors.specs.Components.Comparison.{equals, has_subtag}
 use Rattle.css_selectors.specs.Components.Namespace.{absent, any_namespace, of_prefix}
@@ -18,14 +18,17 @@ use Rattle.css_selectors.specs.Components.Condition.{simple}
 use Rattle.css_selectors.specs.Readings.{got, refused, item, stop}
 use Rattle.css_selectors.specs.Grammar.{gap, ident_sequence, name, string, value, comparison, flag, compared, namespace, at_bar, prefix, attribute_from_name, attribute_selector, signed, stepping, offset_or_none, with_offset, subtracted, by_tail, n_word, progression, any_or_name, type_selector, next_simple, next_condition, compound, complex, next_part_in, listed_part, next_listed, past_part, complex_list}
 
--- `-->` is no name, but in a hash its hyphens are one; a backslash before a newline is no escape
+-- `-->` is no name, but in a hash its hyphens are one; a backslash before a newline is no escape; U+0000
+-- is U+FFFD
 pub names :
     (name (codes "-->c") ≡ refused NoName (codes "-->c"))
     × (ident_sequence (codes "-->c") ≡ got (codes "--") (codes ">c"))
     × (name (codes "\\61 \\62/**/") ≡ got (codes "ab") (codes "/**/"))
     × (name (codes "\\\na") ≡ refused NoName (codes "\\\na"))
-unfolding each past_escape name_part decoded_part decoded_in ident_sequence name lib.Utf8.encode
-names = (refl, refl, refl, refl)
+    × (name (97 ∷ 0 ∷ codes "b") ≡ got (97 ∷ 239 ∷ 191 ∷ 189 ∷ codes "b") [])
+    × (name (92 ∷ 0 ∷ []) ≡ got (239 ∷ 191 ∷ 189 ∷ []) [])
+unfolding each past_escape name_part decoded_part unescaped_in ident_sequence name lib.Utf8.encode
+names = (refl, refl, refl, refl, refl, refl)
 
 -- `An+B`, by its tokens
 pub progressions :
@@ -38,7 +41,7 @@ pub progressions :
     × (progression (codes "2/**/n") ≡ got (stepping (signed false 0) (signed false 2)) (codes "/**/n"))
     × (progression (codes "+odd") ≡ refused NoProgression (codes "+odd"))
     × (progression (codes "2e1") ≡ refused NoProgression (codes "2e1"))
-unfolding each past_escape past_comment name_part decoded_part decoded_in blank comment gap_before gap
+unfolding each past_escape past_comment name_part decoded_part unescaped_in blank comment gap_before gap
     ident_sequence name offset_or_none with_offset subtracted by_tail n_word progression lib.Utf8.encode
 progressions = (refl, refl, refl, refl, refl, refl, refl, refl, refl)
 
@@ -49,7 +52,7 @@ pub attributes :
     × (attribute_selector (codes "a/*") ≡ got (has_attribute (codes "a")) [])
     × (attribute_selector (codes "a=") ≡ refused NoValue [])
     × (attribute_selector (codes "*=b]") ≡ refused NoName (codes "*=b]"))
-unfolding each past_escape past_comment name_part string_part decoded_part decoded_in blank comment gap_before
+unfolding each past_escape past_comment name_part string_part decoded_part unescaped_in blank comment gap_before
     gap ident_sequence name string value comparison flag compared namespace at_bar attribute_from_name
     attribute_selector lib.Utf8.encode
 attributes = (refl, refl, refl, refl, refl)
@@ -62,20 +65,21 @@ pub namespaces :
     × (type_selector (codes "n|*.c") ≡ item (namespaced (of_prefix (codes "n")) any_type) (codes ".c"))
     × (type_selector (codes "|a") ≡ item (namespaced absent (a_type (codes "a"))) [])
     × (type_selector (codes "n| a") ≡ stop NoName (codes " a"))
-unfolding each past_escape past_comment name_part string_part decoded_part decoded_in blank comment gap_before
+unfolding each past_escape past_comment name_part string_part decoded_part unescaped_in blank comment gap_before
     gap ident_sequence name string value comparison flag compared namespace at_bar prefix attribute_from_name
     attribute_selector any_or_name type_selector lib.Utf8.encode
 namespaces = (refl, refl, refl, refl, refl, refl)
 
--- comments are between any two tokens; a url is no function
+-- comments are between any two tokens; a url is no function; unknown names are refused
 pub conditions :
     (next_condition zero (codes "/**/./**/b") ≡ item (simple (class (codes "b"))) [])
     × (next_condition zero (codes ":/**/hov\\65 r/") ≡ item (simple (state (codes "hover"))) (codes "/"))
     × (next_condition zero (codes "#/**/a") ≡ stop NoName (codes "/**/a"))
     × (next_condition zero (codes ":url(x)") ≡ stop UnknownFunction (codes ":url(x)"))
-unfolding each past_escape past_comment name_part decoded_part decoded_in ident_sequence name
+    × (next_condition zero (codes ":foo.b") ≡ stop UnknownName (codes ":foo.b"))
+unfolding each past_escape past_comment name_part decoded_part unescaped_in ident_sequence name
     next_simple next_condition lib.Utf8.encode
-conditions = (refl, refl, refl, refl)
+conditions = (refl, refl, refl, refl, refl)
 
 -- a compound selector of a type
 abbrev types : List (List ℕ) → List (List Part)
@@ -90,7 +94,7 @@ pub lists :
     × (complex_list true (next_condition zero) (codes "a!b,c") ≡ got (types (codes "c" ∷ [])) [])
     × (complex_list true (next_condition zero) (codes "a,:is(b))") ≡ refused TooDeep (codes ":is(b))"))
     × (complex_list false (next_condition zero) (codes "a, %%)") ≡ refused NoSelector (codes "%%)"))
-unfolding each past_escape past_comment name_part decoded_part decoded_in blank comment gap_before gap
+unfolding each past_escape past_comment name_part decoded_part unescaped_in blank comment gap_before gap
     ident_sequence name namespace at_bar any_or_name type_selector next_simple next_condition compound complex next_part_in listed_part
     next_listed past_part complex_list token block_of past_open component_value gap_part string_part
     past_string url_part remnant_part past_url spells past_letter lib.Utf8.encode

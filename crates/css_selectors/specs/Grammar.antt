@@ -1,5 +1,5 @@
 -- The grammar of selectors (Selectors 3, section 10).
-use Rattle.std.specs.Prelude.{ℕ, zero, suc, ◌+◌, ◌-◌, ◌*◌, Bool, true, false, not, ◌&&◌, ◌||◌, ◌==◌, min, if◌then◌else◌, List, [], ◌∷◌, codes, Option, Some, None, nat_le}
+use Rattle.std.specs.Prelude.{ℕ, zero, suc, ◌+◌, ◌-◌, ◌*◌, Bool, true, false, not, ◌&&◌, ◌||◌, ◌==◌, min, if◌then◌else◌, List, [], ◌∷◌, codes, Option, Some, None}
 use Rattle.std.specs.Option.{option_map, is_some}
 use Rattle.std.specs.Str.{str_eq_ignore_ascii_case}
 use Rattle.css_text.specs.AsciiBytes.{asterisk, backslash, close_bracket, close_parenthesis, colon, comma, equals_sign, full_stop, greater_than_sign, hyphen, number_sign, open_bracket, open_parenthesis, plus_sign, tilde, underscore, vertical_bar}
@@ -12,7 +12,7 @@ use Rattle.css_syntax.specs.declared.parts.Stops.{Stops}
 use Rattle.css_syntax.specs.Parts.{Stated, parts as parts_stated}
 use Rattle.css_syntax.specs.Printing.{ends_lone}
 use Rattle.css_syntax.specs.Qualities.{is_whole}
-use Rattle.css_syntax.specs.Tokens.{begins_escape, past_comment, past_gap, past_word, past_string_parts}
+use Rattle.css_syntax.specs.Tokens.{begins_escape, is_wide_byte, past_comment, past_gap, past_word, past_string_parts}
 use Rattle.css_syntax.specs.ComponentValues.{deepest as deepest_brackets, component_value}
 use Rattle.css_syntax.specs.Escapes.{decoded, decoded_string}
 use Rattle.css_syntax.specs.Statements.{begins_cdc}
@@ -28,7 +28,7 @@ use Rattle.css_selectors.specs.declared.components.ListKind.TheVariants.{Not, Is
 use Rattle.css_selectors.specs.declared.reading.Start.{Start}
 use Rattle.css_selectors.specs.declared.reading.Start.TheVariants.{Plain, Relative}
 use Rattle.css_selectors.specs.declared.refusal.Why.{Why}
-use Rattle.css_selectors.specs.declared.refusal.Why.TheVariants.{NoSelector, NoName, BrokenString, NoOperator, NoValue, UnknownFlag, NoProgression, UnknownFunction, TooDeep, Unexpected}
+use Rattle.css_selectors.specs.declared.refusal.Why.TheVariants.{NoSelector, NoName, BrokenString, NoOperator, NoValue, UnknownFlag, NoProgression, UnknownName, UnknownFunction, TooDeep, Unexpected}
 use Rattle.css_selectors.specs.Components.{Comparison, Signed, Progression, Structure, Namespace, Local, Simple, outermost, Condition, Part, PseudoElement, Placed, Selector, selectors_from}
 use Rattle.css_selectors.specs.Components.Comparison.{equals, has_word, has_subtag, starts as starts_with, ends as ends_with, contains}
 use Rattle.css_selectors.specs.Components.Structure.{root, scope, empty, first_child, last_child, only_child, first_of_type, last_of_type, only_of_type, nth_child, nth_last_child, nth_of_type, nth_last_of_type}
@@ -36,6 +36,7 @@ use Rattle.css_selectors.specs.Components.Namespace.{absent, any_namespace, of_p
 use Rattle.css_selectors.specs.Components.Local.{any_type, a_type, some_attribute, an_attribute}
 use Rattle.css_selectors.specs.Components.Simple.{universal, type_name, id, class, has_attribute, attribute, structure, language, state, function, named_element, nesting, namespaced, nth_of}
 use Rattle.css_selectors.specs.Components.Condition.{simple, negation, any_of, where_any}
+use Rattle.css_selectors.specs.KnownNames.{is_one_of, states, functions, is_element, element_functions}
 use Rattle.css_selectors.specs.Readings.{Reading, got, refused, Reader, follow, ◌>>=◌, ◌>>◌, give, Step, item, none, stop, step_after, as_item, with_first, items}
 
 -- ---- gaps, names, strings
@@ -63,7 +64,7 @@ comments text = got tt (past_comments text)
 
 -- an underscore, a letter, or a byte of a character past ASCII
 abbrev pub begins_word : ℕ → Bool
-begins_word b = is_letter b || b == underscore || nat_le 128 b
+begins_word b = is_letter b || b == underscore || is_wide_byte b
 
 -- such a byte or an escape
 abbrev pub begins_plain_name : List ℕ → Bool
@@ -383,9 +384,12 @@ list_kind n =
     else (if is_word (codes "is") n then Some Is
     else (if is_word (codes "where") n then Some Where else None))
 
-abbrev pub plain_pseudo : List ℕ → Option Structure → Simple
-plain_pseudo n None = state n
-plain_pseudo n (Some s) = structure s
+-- a pseudo-class that is only a name, by the structural one of this name; `opened` is the text from its
+-- colon on
+abbrev pub plain_pseudo : List ℕ → List ℕ → Option Structure → Reader Simple
+plain_pseudo opened n (Some s) text = got (structure s) text
+plain_pseudo opened n None text =
+    if is_one_of states n then got (state n) text else refused UnknownName opened
 
 -- a pseudo-class that takes no list
 abbrev pub function_named : List ℕ → Option Function
@@ -449,19 +453,16 @@ is_old_element n =
     is_word (codes "before") n || is_word (codes "after") n
     || is_word (codes "first-line") n || is_word (codes "first-letter") n
 
--- Such a pseudo-element takes no argument, and before a parenthesis `url` begins a url token (CSS
--- Syntax 3, section 4.3.4).
-abbrev pub takes_none : List ℕ → Bool
-takes_none n = is_word (codes "url") n || is_old_element n
-
--- the argument of what has this name; `opened` is where a refusal of it begins
-abbrev pub argument_of : List ℕ → List ℕ → Reader (List ℕ)
-argument_of opened n text = if takes_none n then refused UnknownFunction opened else argument text
+-- the argument of what has this name, which is to be one of these; `opened` is the text from its colon on
+abbrev pub argument_of : List (List ℕ) → List ℕ → List ℕ → Reader (List ℕ)
+argument_of names opened n text =
+    if is_one_of names n then argument text else refused UnknownFunction opened
 
 -- a pseudo-class that is only a name; a pseudo-element is none
-abbrev pub named_pseudo : List ℕ → List ℕ → Step Simple
-named_pseudo n text =
-    if is_old_element n then none else item (plain_pseudo n (plain_structure n)) text
+abbrev pub named_pseudo : List ℕ → List ℕ → List ℕ → Step Simple
+named_pseudo opened n text =
+    if is_old_element n then none
+    else as_item (λ s. s) (plain_pseudo opened n (plain_structure n) text)
 
 -- ---- compound selectors
 
@@ -696,7 +697,7 @@ after_progression list kind p (Some last) text =
 
 -- the argument of a pseudo-class with this name, by what reads a list
 abbrev pub functional : ListReader → List ℕ → List ℕ → Option Function → Reader Simple
-functional list opened n None = argument_of opened n >>= λ a. give (function n a)
+functional list opened n None = argument_of functions opened n >>= λ a. give (function n a)
 functional list opened n (Some Language) = language_ranges >>= λ ranges. give (language ranges)
 functional list opened n (Some (Numbered kind)) = do
   gap
@@ -727,7 +728,7 @@ pseudo_condition list opened n text =
     if starts open_parenthesis text
     then as_item (λ c. c)
     (with_argument list opened n (list_kind n) (function_named n) (past_one text))
-    else simple_item (named_pseudo n text)
+    else simple_item (named_pseudo opened n text)
 
 -- the condition that begins here, by what reads a list
 abbrev pub condition_here : ListReader → Finder
@@ -784,18 +785,18 @@ past_colon text = past_comments (past_byte colon text)
 abbrev pub element_named : List ℕ → Option (List ℕ) → List Condition → PseudoElement
 element_named n a after = record { name = n; argument = a; after = after }
 
--- its argument, if it has one
-unfoldable pub element_argument : List ℕ → Reader (Option (List ℕ))
-element_argument n text =
+-- its argument, if it has one; `opened` is the text from its first colon on
+unfoldable pub element_argument : List ℕ → List ℕ → Reader (Option (List ℕ))
+element_argument opened n text =
     if starts open_parenthesis text
-    then follow (argument_of text n (past_one text)) (λ a. give (Some a))
-    else got None text
+    then follow (argument_of element_functions opened n (past_one text)) (λ a. give (Some a))
+    else (if is_element n then got None text else refused UnknownName opened)
 
 -- the name of a pseudo-element after its first colon, and its argument
-unfoldable pub element_name : Reader (List ℕ × Option (List ℕ))
-element_name text =
+unfoldable pub element_name : List ℕ → Reader (List ℕ × Option (List ℕ))
+element_name opened text =
     follow (name (past_colon (past_comments text)))
-    (λ n. element_argument n >>= λ a. give (n, a))
+    (λ n. element_argument opened n >>= λ a. give (n, a))
 
 abbrev pub named_condition : List ℕ × Option (List ℕ) → Condition
 named_condition e = simple (named_element e.0 e.1)
@@ -803,7 +804,7 @@ named_condition e = simple (named_element e.0 e.1)
 -- a pseudo-class, or a pseudo-element, from its colon on
 abbrev pub class_or_element : List ℕ → Step Condition → Step Condition
 class_or_element text (item c rest) = item c rest
-class_or_element text none = as_item named_condition (element_name (past_one text))
+class_or_element text none = as_item named_condition (element_name text (past_one text))
 class_or_element text (stop why rest) = stop why rest
 
 abbrev pub after_element_here : List ℕ → Step Condition
@@ -821,7 +822,7 @@ with_after e = items after_element >>= λ after. give (Some (element_named e.0 e
 -- after the one of which no condition was read, and what follows it.
 unfoldable pub pseudo_element : Reader (Option PseudoElement)
 pseudo_element text =
-    if starts colon text then follow (element_name (past_one text)) with_after else got None text
+    if starts colon text then follow (element_name text (past_one text)) with_after else got None text
 
 abbrev pub at_end : Reader (Unit {0})
 at_end [] = got tt []

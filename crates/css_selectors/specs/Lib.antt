@@ -5,9 +5,11 @@ pub mod Codes
 pub mod Components
 pub mod Costs
 pub mod CostLemmas
+pub mod CutLists
 pub mod Documents
 pub mod Grammar
 pub mod KeyViews
+pub mod KnownNames
 pub mod Keys
 pub mod Meanings
 pub mod Numbers

@@ -1,12 +1,13 @@
 -- The text that a selector is printed as: it is serialized as in CSSOM (sections "Common
 -- Serializing Idioms" and "Serializing Selectors") and CSS Syntax 3 (section 9.1). What would not
 -- read back as the same components is written otherwise: the `*` before other simple selectors is
--- kept, and so are U+0000, the sign of a negative zero, namespaces, and the case of letters in names.
-use Rattle.std.specs.Prelude.{ℕ, Bool, false, not, ◌&&◌, ◌||◌, ◌==◌, if◌then◌else◌, List, [], ◌∷◌, ◌++◌, codes, Option, Some, None}
+-- kept, and so are the sign of a negative zero, namespaces, and the case of letters in names.
+use Rattle.std.specs.Prelude.{ℕ, Bool, false, not, ◌&&◌, ◌||◌, ◌==◌, if◌then◌else◌, List, [], ◌∷◌, ◌++◌, codes, encode_utf8, Option, Some, None}
 use Rattle.std.specs.Fmt.{decimal, digits}
 use Rattle.std.specs.List.{flat_map}
 use Rattle.css_text.specs.AsciiBytes.{backslash, double_quote, hyphen}
 use Rattle.css_text.specs.Bytes.{is_digit, is_within, past_one, starts}
+use Rattle.css_syntax.specs.Escapes.{replacement}
 use Rattle.css_syntax.specs.Tokens.{is_name_byte}
 use Rattle.css_matching.specs.declared.Combinator.{Combinator}
 use Rattle.css_matching.specs.declared.Combinator.TheVariants.{Descendant, Child, Adjacent, Sibling}
@@ -28,19 +29,22 @@ abbrev pub is_control : ℕ → Bool
 is_control b = is_within 1 31 b || b == 127
 
 -- a byte that is written as it is: in an identifier a name byte, in a string with this quote any
--- other than the quote, a backslash and the control characters
+-- other than the quote, a backslash and the control characters; but U+0000 in neither
 abbrev pub is_kept : Option ℕ → ℕ → Bool
-is_kept None b = is_name_byte b
-is_kept (Some quote) b = not (b == quote || b == backslash || is_control b)
+is_kept None b = is_name_byte b && not (b == 0)
+is_kept (Some quote) b = not (b == quote || b == backslash || is_control b || b == 0)
 
 -- "escape a character as code point": a backslash, the number in lower-case hexadecimal digits and
 -- a blank
 abbrev pub code_point_text : ℕ → List ℕ
 code_point_text b = codes "\\" ++ digits 16 false b ++ codes " "
 
--- "escape a character": a backslash and the character; a control character as code point
+-- "escape a character": a backslash and the character; a control character as code point. U+FFFD is
+-- written in place of U+0000.
 abbrev pub escape_text : ℕ → List ℕ
-escape_text b = if is_control b then code_point_text b else backslash ∷ b ∷ []
+escape_text b =
+    if b == 0 then encode_utf8 replacement
+    else (if is_control b then code_point_text b else backslash ∷ b ∷ [])
 
 -- a byte of an identifier, or of a string with this quote
 abbrev pub byte_text : Option ℕ → ℕ → List ℕ

@@ -1,7 +1,8 @@
 -- Selectors that some text reads as.
-use Rattle.std.specs.Prelude.{◌≡◌, ◌<◌, ◌≤◌, ◌&&◌, ℕ, zero, suc, Bool, true, false, List, [], ◌∷◌, ◌++◌, codes, length, All, Option, None}
+use Rattle.std.specs.Prelude.{◌≡◌, ◌<◌, ◌≤◌, ◌&&◌, ℕ, zero, suc, Bool, true, false, List, [], ◌∷◌, ◌++◌, codes, length, All, Option, None, Some}
 use Rattle.std.specs.Option.{ForSome, is_some}
 use Rattle.css_matching.specs.declared.Combinator.TheVariants.{Descendant}
+use Rattle.css_syntax.specs.Escapes.{without_nul}
 use Rattle.css_selectors.specs.Components.{Signed, Progression, Structure, Namespace, Local, Simple, outermost, Condition, Conditions, Parts, Selectors, Part, PseudoElement, Selector}
 use Rattle.css_selectors.specs.Components.Structure.{nth_child, nth_last_child, nth_of_type, nth_last_of_type}
 use Rattle.css_selectors.specs.Components.Namespace.{absent, any_namespace, of_prefix}
@@ -11,12 +12,17 @@ use Rattle.css_selectors.specs.Components.Condition.{simple, negation, any_of, w
 use Rattle.css_selectors.specs.Components.Conditions.{end_of_compound, with_condition}
 use Rattle.css_selectors.specs.Components.Parts.{end_of_selector, with_part}
 use Rattle.css_selectors.specs.Components.Selectors.{end_of_list, with_selector}
+use Rattle.css_selectors.specs.KnownNames.{is_one_of, states, functions, is_element, element_functions}
 use Rattle.css_selectors.specs.Readings.{got}
-use Rattle.css_selectors.specs.Grammar.{argument, takes_none, plain_structure, is_old_element, list_kind, function_named, is_list_text, list_within, deepest}
+use Rattle.css_selectors.specs.Grammar.{argument, plain_structure, is_old_element, list_kind, function_named, is_list_text, list_within, deepest}
+
+-- a text that is denoted has no U+0000
+abbrev pub IsDenoted : List ℕ → Type 0
+IsDenoted text = without_nul text ≡ text
 
 -- a name is not empty
 abbrev pub IsName : List ℕ → Type 0
-IsName name = 0 < length name
+IsName name = 0 < length name × IsDenoted name
 
 -- a number is at most the greatest `u32`
 abbrev pub IsSize : Signed → Type 0
@@ -36,9 +42,9 @@ IsStructure s = Unit {0}
 abbrev pub IsArgument : List ℕ → Type 0
 IsArgument a = argument (a ++ codes ")") ≡ got a []
 
--- the same of what has this name
-abbrev pub IsArgumentOf : List ℕ → List ℕ → Type 0
-IsArgumentOf name a = (takes_none name ≡ false) × IsArgument a
+-- the same of what has this name, which is one of these
+abbrev pub IsArgumentOf : List (List ℕ) → List ℕ → List ℕ → Type 0
+IsArgumentOf names name a = (is_one_of names name ≡ true) × IsArgument a
 
 abbrev pub IsNamespace : Namespace → Type 0
 IsNamespace absent = Unit {0}
@@ -50,7 +56,7 @@ abbrev pub IsAttribute : Local → Type 0
 IsAttribute any_type = ⊥
 IsAttribute (a_type name) = ⊥
 IsAttribute (some_attribute name) = IsName name
-IsAttribute (an_attribute name comparison value ignores_case) = IsName name
+IsAttribute (an_attribute name comparison value ignores_case) = IsName name × IsDenoted value
 
 -- a type or attribute selector
 abbrev pub IsLocal : Local → Type 0
@@ -64,7 +70,7 @@ IsListText n selectors = is_list_text (list_within n) selectors ≡ true
 
 -- A simple selector that may follow others, with lists nested at most `n` deep. `*`, a type and a
 -- pseudo-element may not. A pseudo-class that is a structural one by its name is no other, and none has
--- the name of a pseudo-element that may have one colon. `&` stands for what it does outside of nested
+-- the name of a pseudo-element that may have one colon, or an unknown one. `&` stands for what it does outside of nested
 -- rules.
 abbrev pub IsFurther : ℕ → Simple → Type 0
 IsFurther n universal = ⊥
@@ -72,13 +78,15 @@ IsFurther n (type_name name) = ⊥
 IsFurther n (id name) = IsName name
 IsFurther n (class name) = IsName name
 IsFurther n (has_attribute name) = IsName name
-IsFurther n (attribute name comparison value ignores_case) = IsName name
+IsFurther n (attribute name comparison value ignores_case) = IsName name × IsDenoted value
 IsFurther n (structure s) = IsStructure s
-IsFurther n (language ranges) = 0 < length ranges
+IsFurther n (language ranges) = 0 < length ranges × All IsDenoted ranges
 IsFurther n (state name) =
     IsName name × (plain_structure name ≡ None) × (is_old_element name ≡ false)
+    × (is_one_of states name ≡ true)
 IsFurther n (function name a) =
-    IsName name × (list_kind name ≡ None) × (function_named name ≡ None) × IsArgumentOf name a
+    IsName name × (list_kind name ≡ None) × (function_named name ≡ None)
+    × IsArgumentOf functions name a
 IsFurther n (named_element name a) = ⊥
 IsFurther n (nesting list) = list ≡ outermost
 IsFurther n (namespaced namespace local) = IsNamespace namespace × IsAttribute local
@@ -164,9 +172,14 @@ is_pseudo_class (function name a) = true
 is_pseudo_class (nth_of last p selectors) = true
 is_pseudo_class s = false
 
+-- the argument of a pseudo-element of this name, which has one or none
+abbrev pub IsElementArgument : List ℕ → Option (List ℕ) → Type 0
+IsElementArgument name None = is_element name ≡ true
+IsElementArgument name (Some a) = IsArgumentOf element_functions name a
+
 -- the name of a pseudo-element, and its argument
 abbrev pub IsElementName : List ℕ → Option (List ℕ) → Type 0
-IsElementName name a = IsName name × ForSome a (IsArgumentOf name)
+IsElementName name a = IsName name × IsElementArgument name a
 
 -- what may follow a pseudo-element
 abbrev pub IsAfterElement : Condition → Type 0

@@ -31,7 +31,7 @@ fn same_byte(ignores_case: bool, one: u8, other: u8) -> bool
 }
 
 /// Whether the value begins with the text.
-fn begins(ignores_case: bool, text: &[u8], value: &[u8]) -> bool
+pub(crate) fn begins(ignores_case: bool, text: &[u8], value: &[u8]) -> bool
     ensures answer { result ≡ begins_by ignores_case text.now value.now }
     ensures within { IsTrue result → length text.now ≤ length value.now }
 {

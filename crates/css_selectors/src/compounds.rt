@@ -110,6 +110,7 @@ fn is_lasting(why: Why) -> bool
         | Why::NoValue
         | Why::UnknownFlag
         | Why::NoProgression
+        | Why::UnknownName
         | Why::UnknownFunction
         | Why::Unsupported
         | Why::Unexpected => false,
@@ -509,7 +510,8 @@ fn read_pseudo_condition<'a>(
     if is_old_element(name.as_str()) {
         return Ok(None);
     }
-    Ok(Some((Condition::Simple(plain_pseudo(name)), rest)))
+    let (simple, rest) = plain_pseudo(opened, name, rest)?;
+    Ok(Some((Condition::Simple(simple), rest)))
 }
 
 /// Reads the next condition of a compound selector, if there is one, in which lists may nest `depth`

@@ -1,7 +1,7 @@
 //! Identifiers and strings that denote a text, wherever they are written.
-ghost use Rattle.std.specs.Prelude.{◌≡◌, ◌++◌, IfOk, List, ℕ};
+ghost use Rattle.std.specs.Prelude.{◌≡◌, IfOk, List, ℕ};
 ghost use Rattle.std.specs.String.{string_bytes};
-ghost use Rattle.css_selectors.specs.Escaping.{without_nul as without_nul_of, escaped, quoted};
+ghost use Rattle.css_selectors.specs.Escaping.{escaped, quoted};
 ghost use Rattle.css_selectors.specs.Escaping.{EscapedReadsBack, QuotedReadsBack};
 
 use crate::spelling::{write_identifier, write_string};
@@ -48,30 +48,12 @@ impl<'a> fmt::Display for Quoted<'a> {
     }
 }
 
-/// Returns the text with U+FFFD in place of each U+0000.
-fn without_nul(alloc: Global, text: &str) -> Result<String, AllocError>
-    ensures { IfOk result (λ out. string_bytes out ≡ without_nul_of text.now) }
-{
-    let mut out = String::new(alloc);
-    let mut rest = text;
-    'parts: while let Some((plain, next)) = rest.split_once('\0') {
-        out.push_str(plain)?;
-        out.push('\u{FFFD}')?;
-        rest = next;
-    }
-    out.push_str(rest)?;
-    Ok(out)
-}
-
 /// Returns an identifier that denotes the name: escapes are put where they are needed, as CSSOM
 /// serializes an identifier. U+0000 is written as U+FFFD. Fails only if an allocation fails.
 pub fn escape(alloc: Global, name: &str) -> Result<String, AllocError>
     ensures { IfOk result (λ out. string_bytes out ≡ escaped name.now) }
 {
-    let name = without_nul(alloc, name)?;
-    let identifier = Identifier {
-        name: name.as_str(),
-    };
+    let identifier = Identifier { name };
     format!(in alloc; "{identifier}")
 }
 
@@ -80,10 +62,7 @@ pub fn escape(alloc: Global, name: &str) -> Result<String, AllocError>
 pub fn quote(alloc: Global, text: &str) -> Result<String, AllocError>
     ensures { IfOk result (λ out. string_bytes out ≡ quoted text.now) }
 {
-    let text = without_nul(alloc, text)?;
-    let string = Quoted {
-        text: text.as_str(),
-    };
+    let string = Quoted { text };
     format!(in alloc; "{string}")
 }
 

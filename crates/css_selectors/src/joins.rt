@@ -41,7 +41,7 @@ pub(crate) fn begins_compound(text: &str) -> bool
                 || *byte >= 128
                 || matches!(
                     byte,
-                    b'_' | b'-' | b'*' | b'.' | b'#' | b'[' | b':' | b'\\' | b'&' | b'|'
+                    0 | b'_' | b'-' | b'*' | b'.' | b'#' | b'[' | b':' | b'\\' | b'&' | b'|'
                 )
         }
     }

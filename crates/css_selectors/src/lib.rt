@@ -3,11 +3,14 @@
 //! of ranges. What is no selector is left out of `:is()` and `:where()`, which may be empty.
 //!
 //! `Selector::parse` and `parse_list` read a text as `specs/Grammar` says, or report why and where it
-//! is refused. Names, keywords and strings are what their escapes spell, comments may be between any two
-//! tokens, and the end of the text closes what is open. At the end of a selector `before`,
-//! `after`, `first-line` and `first-letter` are pseudo-elements after one colon, too (Selectors 3,
-//! section 7). A selector can also be made of its components. It prints as CSSOM serializes it, a
-//! pseudo-element with two colons, and one that was read reads back from that text.
+//! is refused. Names, keywords and strings are what their escapes spell, with U+FFFD in place of U+0000,
+//! comments may be between any two tokens, and the end of the text closes what is open. At the end of a
+//! selector `before`, `after`, `first-line` and `first-letter` are pseudo-elements after one colon, too
+//! (Selectors 3, section 7). A selector can also be made of its components. It prints as CSSOM serializes
+//! it, a pseudo-element with two colons, and one that was read reads back from that text.
+//!
+//! A pseudo-class or pseudo-element whose name is in none of the lists of `specs/KnownNames` is refused.
+//! Every pseudo-element without an argument that begins with `-webkit-` is read.
 //!
 //! A pseudo-element may have an argument, and pseudo-classes and further pseudo-elements after it. Its
 //! argument, and that of a pseudo-class that has no meaning here, is kept as it is written. A selector
@@ -38,6 +41,7 @@ mod escaping;
 mod joins;
 mod key;
 mod key_laws;
+mod known_names;
 mod languages;
 mod matching;
 mod matching_laws;
@@ -56,6 +60,7 @@ mod pseudo_classes;
 mod pseudo_elements;
 mod read;
 mod reading;
+mod reading_laws;
 mod refusal;
 mod refusal_words;
 mod selector;

@@ -1,8 +1,9 @@
 //! Reads pseudo-classes.
-ghost use Rattle.std.specs.Prelude.{◌≡◌, None, option_map};
+ghost use Rattle.std.specs.Prelude.{◌≡◌, ℕ, List, option_map};
 ghost use Rattle.css_selectors.specs.Grammar.{plain_structure, numbering as numbering_of, numbered_by as numbered_by_of};
 ghost use Rattle.css_selectors.specs.Grammar.{list_kind as list_kind_of, from_last as from_last_of};
-ghost use Rattle.css_selectors.specs.Grammar.{is_old_element as is_old_element_of, takes_none as takes_none_of, argument_of};
+ghost use Rattle.css_selectors.specs.Grammar.{is_old_element as is_old_element_of, argument_of};
+ghost use Rattle.css_selectors.specs.KnownNames.{functions};
 ghost use Rattle.css_selectors.specs.internal.Reads.{Reads};
 ghost use Rattle.std.specs.Cow.{cow_str_bytes};
 ghost use Rattle.css_selectors.specs.Grammar.{function_named as function_named_of, plain_pseudo as plain_pseudo_of};
@@ -12,6 +13,7 @@ use crate::arguments::read_kept;
 use crate::components::{
     Function, FunctionCall, ListKind, Numbering, Progression, Simple, Structure,
 };
+use crate::known_names::{is_function, is_state};
 use crate::languages::read_ranges;
 use crate::numbers::read_progression;
 use crate::refusal::{Refusal, Why};
@@ -110,38 +112,36 @@ pub(crate) fn is_old_element(name: &str) -> bool
         || name.eq_ignore_ascii_case("first-letter")
 }
 
-/// Whether what has this name takes no argument: one of these pseudo-elements, or `url`, since before a
-/// parenthesis that begins a url token.
-fn takes_none(name: &str) -> bool
-    ensures { result ≡ takes_none_of name.now }
-{
-    name.eq_ignore_ascii_case("url") || is_old_element(name)
-}
-
-/// Reads the argument of what has this name, which is kept as it is written. `opened` is where a
-/// refusal of it begins.
+/// Reads the argument of a functional pseudo-class without a meaning here, which is kept as it is
+/// written. `opened` is the text from its colon on.
 pub(crate) fn read_argument_of<'a>(
     opened: &'a str,
     name: &str,
     text: &'a str,
 ) -> Result<(CowStr<'a>, &'a str), Refusal<'a>>
-    ensures { Reads cow_str_bytes result (argument_of opened.now name.now text.now) }
+    ensures { Reads cow_str_bytes result (argument_of functions opened.now name.now text.now) }
 {
-    if takes_none(name) {
+    if !is_function(name) {
         return Err(Refusal::new(Why::UnknownFunction, opened));
     }
     let (argument, rest) = read_kept(text)?;
     Ok((CowStr::Borrowed(argument), rest))
 }
 
-/// Returns the pseudo-class without an argument of this name.
-pub(crate) fn plain_pseudo<'a>(name: CowStr<'a>) -> Simple<'a>
-    ensures { simple_of result
-        ≡ plain_pseudo_of (cow_str_bytes name.entry) (plain_structure (cow_str_bytes name.entry)) }
+/// Returns the pseudo-class without an argument of this name. `opened` is the text from its colon on.
+pub(crate) fn plain_pseudo<'a>(
+    opened: &'a str,
+    name: CowStr<'a>,
+    rest: &'a str,
+) -> Result<(Simple<'a>, &'a str), Refusal<'a>>
+    ensures { Reads simple_of result
+        (let n : List ℕ = cow_str_bytes name.entry in
+        plain_pseudo_of opened.now n (plain_structure n) rest.now) }
 {
     match structure_named(name.as_str()) {
-        Some(structure) => Simple::Structure(structure),
-        None => Simple::State(name),
+        Some(structure) => Ok((Simple::Structure(structure), rest)),
+        None if is_state(name.as_str()) => Ok((Simple::State(name), rest)),
+        None => Err(Refusal::new(Why::UnknownName, opened)),
     }
 }
 

@@ -6,10 +6,11 @@ ghost use Rattle.css_selectors.specs.Readings.{items};
 ghost use Rattle.css_selectors.specs.internal.Reads.{Reads, Finds};
 ghost use Rattle.css_selectors.specs.Views.{condition_of, element_name_of, pseudo_element_of};
 
+use crate::arguments::read_kept;
 use crate::components::{Condition, ElementName, PseudoElement, Simple};
 use crate::compounds::{DEEPEST, next_condition};
-use crate::pseudo_classes::read_argument_of;
-use crate::refusal::Refusal;
+use crate::known_names::{is_element, is_element_function};
+use crate::refusal::{Refusal, Why};
 use crate::texts::split_ascii;
 use crate::words::{past_comments, read_name};
 use std::alloc::Global;
@@ -25,31 +26,42 @@ fn past_colon(text: &str) -> &str
     }
 }
 
-/// Reads the argument of a pseudo-element of this name, if it has one.
+/// Reads the argument of a pseudo-element of this name, if it has one. `opened` is the text from its
+/// first colon on.
 #[tactic(auto, unfolding(crate::specs::Grammar::element_argument))]
 fn read_element_argument<'a>(
+    opened: &'a str,
     name: &str,
     text: &'a str,
 ) -> Result<(Option<CowStr<'a>>, &'a str), Refusal<'a>>
-    ensures { Reads (λ a. option_map cow_str_bytes a) result (element_argument name.now text.now) }
+    ensures { Reads (λ a. option_map cow_str_bytes a) result
+        (element_argument opened.now name.now text.now) }
 {
     let Some((b'(', rest)) = split_ascii(text) else {
+        if !is_element(name) {
+            return Err(Refusal::new(Why::UnknownName, opened));
+        }
         return Ok((None, text));
     };
-    let (argument, rest) = read_argument_of(text, name, rest)?;
-    Ok((Some(argument), rest))
+    if !is_element_function(name) {
+        return Err(Refusal::new(Why::UnknownFunction, opened));
+    }
+    let (argument, rest) = read_kept(rest)?;
+    Ok((Some(CowStr::Borrowed(argument)), rest))
 }
 
-/// Reads the name of a pseudo-element, from after its first colon, and its argument.
+/// Reads the name of a pseudo-element, from after its first colon, and its argument. `opened` is the text
+/// from that colon on.
 #[tactic(auto, unfolding(crate::specs::Grammar::element_name))]
 fn read_element_name<'a>(
     alloc: Global,
+    opened: &'a str,
     text: &'a str,
 ) -> Result<(ElementName<'a>, &'a str), Refusal<'a>>
-    ensures { Reads element_name_of result (element_name text.now) }
+    ensures { Reads element_name_of result (element_name opened.now text.now) }
 {
     let (name, rest) = read_name(alloc, past_colon(past_comments(text)))?;
-    let (argument, rest) = read_element_argument(name.as_str(), rest)?;
+    let (argument, rest) = read_element_argument(opened, name.as_str(), rest)?;
     Ok((ElementName { name, argument }, rest))
 }
 
@@ -68,7 +80,7 @@ fn next_after_element<'a>(
     if let Some((condition, rest)) = next_condition(alloc, DEEPEST, text)? {
         return Ok(Some((condition, rest)));
     }
-    let (element, rest) = read_element_name(alloc, rest)?;
+    let (element, rest) = read_element_name(alloc, text, rest)?;
     Ok(Some((Condition::Simple(Simple::Element(element)), rest)))
 }
 
@@ -106,7 +118,7 @@ pub(crate) fn read_pseudo_element<'a>(
     let Some((b':', rest)) = split_ascii(text) else {
         return Ok((None, text));
     };
-    let (element, rest) = read_element_name(alloc, rest)?;
+    let (element, rest) = read_element_name(alloc, text, rest)?;
     let (after, rest) = read_after_element(alloc, rest)?;
     Ok((Some(PseudoElement { element, after }), rest))
 }

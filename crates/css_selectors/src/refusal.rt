@@ -22,6 +22,8 @@ pub enum Why {
     UnknownFlag,
     /// There is no `An+B`, `odd` or `even` here.
     NoProgression,
+    /// There is no pseudo-class or pseudo-element of this name without an argument.
+    UnknownName,
     /// There is no functional pseudo-class or pseudo-element of this name.
     UnknownFunction,
     /// This is a selector, but it has no meaning here.

@@ -85,6 +85,7 @@ impl Why {
             Why::NoValue => "is no value",
             Why::UnknownFlag => "is no flag",
             Why::NoProgression => "is no An+B",
+            Why::UnknownName => "is unknown",
             Why::UnknownFunction => "is no function",
             Why::Unsupported => "is unsupported",
             Why::TooDeep => "is nested too deep",

@@ -27,8 +27,8 @@ fn is_kept(quote: Option<u8>, byte: u8) -> bool
     ensures { result ≡ is_kept_byte quote byte }
 {
     match quote {
-        None => is_name_byte(byte),
-        Some(quote) => !(byte == quote || byte == b'\\' || is_control(byte)),
+        None => is_name_byte(byte) && byte != 0,
+        Some(quote) => !(byte == quote || byte == b'\\' || is_control(byte) || byte == 0),
     }
 }
 
@@ -72,11 +72,14 @@ fn write_code_point<W: fmt::Write>(f: &mut fmt::Formatter<W>, byte: u8) -> fmt::
     f.write_str(text.as_str())
 }
 
-/// Writes the escape of an ASCII character.
+/// Writes the escape of an ASCII character; of U+0000 it is U+FFFD.
 fn write_escape<W: fmt::Write>(f: &mut fmt::Formatter<W>, byte: u8) -> fmt::Result
     requires { byte < 128 }
     ensures { WritesStyledOnOk W.write_str_gives f.old result (escape_text byte) f.new }
 {
+    if byte == 0 {
+        return f.write_char('\u{FFFD}');
+    }
     if is_control(byte) {
         return write_code_point(f, byte);
     }

@@ -45,7 +45,7 @@ pub(crate) fn past_comments(text: &str) -> &str
 fn begins_word(byte: u8) -> bool
     ensures { result ≡ begins_word_of byte }
 {
-    byte.is_ascii_alphabetic() || byte == b'_' || byte >= 128
+    byte.is_ascii_alphabetic() || byte == b'_' || byte >= 128 || byte == 0
 }
 
 /// Whether a name without a hyphen at its start begins here.

@@ -1,0 +1,5 @@
+use Rattle.css_selectors.proofs.OwnLemmas.{own}
+use Rattle.css_selectors.proofs.reading_laws.own_law.Goals as goal
+
+pub returns : goal.returns
+returns c start text rest p h = own start text p rest h

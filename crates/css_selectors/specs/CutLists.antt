@@ -1,0 +1,15 @@
+-- Lists of selectors, cut at their commas.
+use Rattle.std.specs.Prelude.{◌≡◌, ℕ, List, [], ◌∷◌}
+use Rattle.css_text.specs.AsciiBytes.{comma}
+use Rattle.css_selectors.specs.declared.reading.Start.{Start}
+use Rattle.css_selectors.specs.Components.{Placed}
+use Rattle.css_selectors.specs.Grammar.{placed_by}
+use Rattle.css_selectors.specs.Readings.{got}
+
+-- The text is these selectors with commas between them: the first reads from its start up to a
+-- comma, and what follows the comma is the others. The last one reads to the end of the text.
+abbrev pub AreCut : Start → List ℕ → List Placed → Type 0
+AreCut start text [] = ⊥
+AreCut start text (p ∷ []) = placed_by start text ≡ got p []
+AreCut start text (p ∷ q ∷ others) =
+    (rest : List ℕ) × (placed_by start text ≡ got p (comma ∷ rest)) × AreCut start rest (q ∷ others)
