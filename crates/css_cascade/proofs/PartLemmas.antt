@@ -14,7 +14,7 @@ use Rattle.css_syntax.proofs.Shorter.{past_word_within}
 use Rattle.css_syntax.proofs.PartLemmas.{past_gap-within}
 use Rattle.css_syntax.specs.Escapes.{decoded}
 use Rattle.css_cascade.specs.Layers.{LayerPart, named}
-use Rattle.css_cascade.specs.LayerNames.{dot, if_whole, is_empty, name_part, dotted_part, layer_name, further_name, then_dotted}
+use Rattle.css_cascade.specs.LayerNames.{dot, if_ended, if_whole, is_empty, name_part, dotted_part, layer_name, further_name, then_dotted}
 
 -- what `read` found after these, and the rest
 abbrev pub with_each : {A : Type 0} → (List ℕ → Option (A × List ℕ)) → List A → List ℕ
@@ -38,6 +38,15 @@ pub each-end : {A : Type 0} (read : List ℕ → Option (A × List ℕ)) (before
 each-end {A = A} read before text e =
     ap (λ (xs : List A). (xs, text)) (sym (append-nil before))
     ∙ ap (λ (r : List A × List ℕ). (before ++ r.0, r.1)) (sym (each-none read text (sym e)))
+
+-- the names before a text that no further one begins are all
+pub names-end : (before : List (List LayerPart)) (text : List ℕ) (all : Option (List (List LayerPart)))
+    → None ≡ further_name text
+    → if_ended (with_each further_name before text).0 (with_each further_name before text).1 ≡ all
+    → if_ended before text ≡ all
+names-end before text all e h =
+    ap (λ (r : List (List LayerPart) × List ℕ). if_ended r.0 r.1) (each-end further_name before text e)
+    ∙ h
 
 -- ---- each takes a byte or more
 

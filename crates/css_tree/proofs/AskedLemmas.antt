@@ -1,6 +1,6 @@
 -- What a selector means on an element depends only on the marks of the lists of which it asks.
 -- Serves `marking_laws`.
-use Rattle.std.proofs.Common.{◌≡◌, ℕ, zero, suc, ◌+◌, ◌-◌, ◌<◌, ◌↔◌, ◌⊎◌, inl, inr, Bool, false, List, [], get_or, length, take, IsTrue, is_none, Option, None, Some, refl, sym, ap, subst, ◌∙◌, arith}
+use Rattle.std.proofs.Common.{◌≡◌, ℕ, zero, suc, ◌+◌, ◌-◌, ◌<◌, ◌↔◌, Bool, false, List, [], get_or, length, take, IsTrue, is_none, Option, None, Some, refl, sym, ap, subst, ◌∙◌, arith}
 use Rattle.std.specs.Option.{option_map}
 use Rattle.std.specs.Prelude.{All}
 use Rattle.std.proofs.lemmas.List.{get_or-take}
@@ -17,6 +17,7 @@ use Rattle.css_selectors.specs.Components.Parts.{end_of_selector, with_part}
 use Rattle.css_selectors.specs.Components.Selectors.{end_of_list, with_selector}
 use Rattle.css_selectors.specs.Documents.{shape}
 use Rattle.css_selectors.specs.Meanings.{combinator_at, part_count, IsMet, AreMet, MeetsPart, MatchesAny, IsPlaced, Matches, is_placed}
+use Rattle.css_selectors.proofs.AlikeSelectors.{either_so}
 use Rattle.css_tree.specs.Asked.{SimpleAsksBelow, AsksBelow, CompoundAsksBelow, PartsAskBelow, ListAsksBelow, SelectorAsksBelow, AskEarlier}
 use Rattle.css_tree.specs.Marks.{AreMarked, MatchesOne, with_marks}
 use Rattle.css_tree.specs.Pages.{Page, page_document, parent_index, is_in_list, is_marked, is_scope}
@@ -119,10 +120,6 @@ none_same : (p q : Page) (r : Option ℕ)
 none_same p q None = refl
 none_same p q (Some j) = refl
 
-either_so : {A B C D : Type 0} → (A → C) → (B → D) → A ⊎ B → C ⊎ D
-either_so f g (inl x) = inl (f x)
-either_so f g (inr x) = inr (g x)
-
 module _ (page : Page) (m n : List (List Bool)) (limit : ℕ)
     (same : (list i : ℕ) → list < limit → is_marked m list i ≡ is_marked n list i) where
   scope_same : (i : ℕ) (s : Option ℕ)
@@ -220,7 +217,7 @@ module _ (page : Page) (m n : List (List Bool)) (limit : ℕ)
         let l = list_same ss i asks.1 in (either_so k.0 l.0, either_so k.1 l.1)
 
   -- the same lists of marks, where they are asked, make the same matches
-  matches_same : (s : Selector) (i : ℕ) → SelectorAsksBelow (suc limit) s
+  pub matches_same : (s : Selector) (i : ℕ) → SelectorAsksBelow (suc limit) s
       → Matches page_document s (spot (with_marks page m) i)
       ↔ Matches page_document s (spot (with_marks page n) i)
   matches_same s i asks =

@@ -1,5 +1,6 @@
 mod AmpersandLemmas
 mod AskedLemmas
+mod ChainLemmas
 mod Counting
 mod Grouping
 mod MarkLemmas

@@ -13,5 +13,6 @@ pub mod Marks
 pub mod Messages
 pub mod Pages
 pub mod Reports
+pub mod SpelledLists
 pub mod Surroundings
 pub mod Walks

@@ -1,13 +1,13 @@
 -- What a value comes to when its references are replaced (CSS Custom Properties for Cascading
 -- Variables 1, section 3).
 use Rattle.std.specs.Prelude.{ℕ, zero, suc, Bool, true, false, not, ◌||◌, ◌&&◌, ◌==◌, nat_lt, if◌then◌else◌, List, [], ◌∷◌, ◌++◌, length, codes, drop, Option, Some, None}
-use Rattle.css_text.specs.AsciiBytes.{hyphen}
+use Rattle.css_text.specs.AsciiBytes.{hyphen, space}
 use Rattle.css_text.specs.Bytes.{starts_two}
 use Rattle.css_values.specs.Pieces.{Piece, plain, reference, broken, pieces}
 use Rattle.css_values.specs.Seams.{joins}
 
--- A text that was put together: the byte with which its last token begins, or 0 if it is empty, and
--- whether a reference was replaced after what was written last.
+-- A text that was put together: the byte with which its last token begins, or a blank if it is empty,
+-- and whether a reference was replaced after what was written last.
 pub record Value : Type 0 where
   pub text : List ℕ
   pub last : ℕ
@@ -33,7 +33,7 @@ pub data Target : Type 0 where
 
 -- nothing yet
 abbrev pub nothing : Value
-nothing = record { text = []; last = 0; replaced = false }
+nothing = record { text = []; last = space; replaced = false }
 
 -- a comment between two tokens that would join, if one of them or something between them was a
 -- reference
@@ -66,9 +66,9 @@ then_value limit (is left) invalid = invalid
 then_value limit (is left) (is right) = within limit (beside left right)
 then_value limit (is left) (waits n) = waits n
 
--- the first byte, or 0
+-- the first byte, or a blank
 abbrev pub first_byte : List ℕ → ℕ
-first_byte [] = 0
+first_byte [] = space
 first_byte (b ∷ text) = b
 
 -- a token as written

@@ -12,7 +12,7 @@ use std::alloc::{AllocError, Global};
 pub struct Value {
     /// The text.
     pub text: String,
-    /// The byte with which its last token begins, or 0 if it is empty.
+    /// The byte with which its last token begins, or a blank if it is empty.
     pub last: u8,
     /// Whether a reference was replaced after what was written last.
     pub replaced: bool,
@@ -27,12 +27,12 @@ pub(crate) struct Draft {
     pub valid: bool,
 }
 
-/// Returns the first byte, or 0.
+/// Returns the first byte, or a blank.
 pub(crate) fn first_byte(text: &str) -> u8
     ensures { result ≡ first_byte_of text.now }
 {
     match text.as_bytes() {
-        [] => 0,
+        [] => b' ',
         [byte, ..] => *byte,
     }
 }
@@ -52,7 +52,7 @@ impl Draft {
         Draft {
             value: Value {
                 text: String::new(alloc),
-                last: 0,
+                last: b' ',
                 replaced: false,
             },
             valid: true,

@@ -2,7 +2,7 @@ use Rattle.std.proofs.Common.{◌≡◌, ◌∙◌, ◌++◌, ◌∷◌, [], ℕ
 use Rattle.css_cascade.specs.Layers.{LayerPart}
 use Rattle.css_cascade.specs.LayerNames.{further_name, if_ended}
 use Rattle.css_cascade.specs.LayerNameViews.{name_of, read_name_of}
-use Rattle.css_cascade.proofs.PartLemmas.{further-takes, each-end, found-next}
+use Rattle.css_cascade.proofs.PartLemmas.{further-takes, found-next, names-end}
 use Rattle.css_cascade.proofs.names.read_layer_names.Goals as goal
 
 pub names-smaller : goal.names-smaller
@@ -32,17 +32,13 @@ returns-then-is_empty c =
     let e : None ≡ further_name c.names.rest.now = search rules in
     search (
       rules,
-      ap (λ (r : List (List LayerPart) × List ℕ). if_ended r.0 r.1)
-          (each-end further_name (map name_of c.names.names.items) c.names.rest.now e)
-          ∙ c.names.invariant.1,
+      names-end (map name_of c.names.names.items) c.names.rest.now _ e c.names.invariant.1,
     )
 
 pub returns : goal.returns
 returns c =
-    let e : None ≡ further_name c.names.rest.now = search rules in
     search (
       rules,
-      ap (λ (r : List (List LayerPart) × List ℕ). if_ended r.0 r.1)
-          (each-end further_name (map name_of c.names.names.items) c.names.rest.now e)
-          ∙ c.names.invariant.1,
+      names-end (map name_of c.names.names.items) c.names.rest.now _ (search rules)
+          c.names.invariant.1,
     )

@@ -22,10 +22,7 @@ returns-clause-number c =
     let items = c.args.self.now.known.items in
     let new : KnownLayer =
     record { number = c.len-number.result; outer = c.args.outer; part = c.args.part } in
-    let none : number_in c.args.outer (part_of c.args.part) (map known_layer items) ≡ None =
-    search rules in
-    let place : c.place_of-at.result ≡ place_of c.args.outer (map known_layer items) = search rules in
-    let number : c.len-number.result ≡ length items = omega (arith, c.len-number.ensures, c.args.self.now.known.ok.0) in
-    numbered items new c.place_of-at.result none number place
+    numbered items new c.place_of-at.result (search rules)
+    (omega (arith, c.len-number.ensures, c.args.self.now.known.ok.0)) (search rules)
     ∙ ap (λ (ls : List KnownLayer). number_of c.args.outer (part_of c.args.part) (map known_layer ls))
     (sym c.in_ok-insert.ensures.items)
