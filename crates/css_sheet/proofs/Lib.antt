@@ -7,3 +7,5 @@ mod OpenLemmas
 mod GatherLemmas
 mod ParentLemmas
 mod WrittenItems
+pub mod ImportLemmas
+mod FrontLemmas

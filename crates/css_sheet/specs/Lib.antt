@@ -12,5 +12,8 @@ pub mod SheetMessages
 pub mod Sheets
 pub mod SheetLayers
 pub mod SheetOrder
+pub mod ImportRules
+pub mod Imports
+pub mod ImportViews
 pub mod SheetRuleViews
 pub mod internal

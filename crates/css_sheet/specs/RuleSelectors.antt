@@ -1,5 +1,5 @@
 -- The selectors of a style rule, each as it is read, where it is supported.
-use Rattle.std.specs.Prelude.{ℕ, ◌-◌, Bool, ◌&&◌, ◌||◌, nat_le, nat_lt, if◌then◌else◌, List, [], length, map, slice_index, Option, Some, None, Result, Ok, Err}
+use Rattle.std.specs.Prelude.{ℕ, ◌-◌, Bool, true, false, ◌&&◌, ◌||◌, nat_le, nat_lt, if◌then◌else◌, List, [], length, map, slice_index, Option, Some, None, Result, Ok, Err}
 use Rattle.css_text.specs.AsciiBytes.{colon}
 use Rattle.css_text.specs.Bytes.{past_byte}
 use Rattle.css_text.specs.Reading.{before}
@@ -86,6 +86,11 @@ abbrev pub listed_under : Option Nesting → Stated → Result (List Placed) Fau
 listed_under under prelude =
     if is_good prelude.quality then listed_or (list_under under prelude.text)
     else Err (fault_of prelude.quality)
+
+-- the selectors of a rule are valid
+abbrev pub is_listed : Result (List Placed) Fault → Bool
+is_listed (Ok all) = true
+is_listed (Err fault) = false
 
 abbrev pub all_read : Result (List Placed) Fault → Result (List SelectorRead) Fault
 all_read (Ok all) = Ok (map selector_read all)

@@ -2,3 +2,5 @@
 pub mod OpenViews
 pub mod GatherViews
 pub mod PartViews
+pub mod FoundViews
+pub mod FrontViews

@@ -7,6 +7,8 @@
 
 mod gathering;
 mod groups;
+mod import_rules;
+mod imports;
 mod nested_selectors;
 mod open_layers;
 mod parents;
@@ -18,6 +20,8 @@ mod sheet_order;
 mod sheet_rules;
 mod state;
 
+pub use import_rules::{Import, ImportLayer, ImportUrl};
+pub use imports::read_imports;
 pub use selectors::{RuleSelector, read_listed, read_selectors, read_supported, rule_selector};
 pub use sheet_error::SheetError;
 pub use sheet_order::{SheetRules, read_sheet, read_sheets};
