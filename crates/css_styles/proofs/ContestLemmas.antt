@@ -1,11 +1,11 @@
 -- The best of each property, and what it beats.
 -- Serves the functions of `contest`.
-use Rattle.std.proofs.Common.{◌≡◌, ℕ, zero, suc, ◌+◌, ◌<◌, Bool, true, false, not, ◌&&◌, ◌||◌, ◌==◌, cond, List, [], ◌∷◌, ◌++◌, length, map, set, get_or, take, Option, None, Some, refl, sym, ap, ◌∙◌, subst, arith, eqb-true, eq-eqb}
+use Rattle.std.proofs.Common.{◌≡◌, ℕ, zero, suc, ◌<◌, Bool, true, false, not, ◌&&◌, ◌||◌, ◌==◌, cond, List, [], ◌∷◌, ◌++◌, length, map, set, get_or, Option, None, Some, refl, sym, ap, ◌∙◌, subst, arith, eqb-true, eq-eqb}
 use Rattle.std.specs.Prelude.{bytes_eq, filter, option_map}
 use Rattle.std.specs.List.{All, AllByRecursion, list_any, slice_get}
 use Rattle.std.proofs.lemmas.List.{append_assoc, length-set, map-append}
 use Rattle.std.proofs.lemmas.List.Elements.{filter-append, recursion_from_All}
-use Rattle.css_cascade.specs.Cascade.{Weighed, beats}
+use Rattle.css_cascade.specs.Cascade.{beats}
 use Rattle.css_cascade.specs.WeightViews.{weighed}
 use Rattle.css_cascade.specs.declared.weights.Weight.{Weight}
 use Rattle.css_cascade.specs.Cascade.{better, winner_from}
@@ -176,7 +176,7 @@ module _ (properties : List (List ℕ)) (one : Numbered) (of-one : IsNumbered pr
       (map weight_of (filter (λ (n : Numbered). n.property == one.property) all))
 
   -- those of its property are those with its number
-  rivals-of : (all : List Numbered) → AllByRecursion (IsNumbered properties) all
+  pub rivals-of : (all : List Numbered) → AllByRecursion (IsNumbered properties) all
       → map seen (of_property (name one) (map numbered_of all))
       ≡ map weight_of (filter (λ (n : Numbered). n.property == one.property) all)
   rivals-of [] numbered = refl

@@ -10,3 +10,8 @@ mod RollingLemmas
 mod WinningLemmas
 mod GatherLemmas
 mod StyleLemmas
+mod RankLemmas
+mod FloorLemmas
+mod StandingLemmas
+mod LawLemmas
+mod ApartLemmas

@@ -1,28 +1,20 @@
 -- Declarations that count, as those that win and revert are rolled back.
 -- Serves the functions of `contest` and `decide`.
-use Rattle.std.proofs.Common.{◌≡◌, ℕ, suc, ◌+◌, ◌≤◌, Bool, true, false, cond, List, [], ◌∷◌, length, map, Option, None, Some, refl, sym, ap, ◌∙◌, arith}
+use Rattle.std.proofs.Common.{◌≡◌, ℕ, Bool, true, false, cond, List, [], ◌∷◌, length, map, Option, None, Some, refl, sym, ap, ◌∙◌, arith}
 use Rattle.std.specs.Prelude.{filter, option_map}
 use Rattle.std.specs.List.{All}
 use Rattle.std.proofs.lemmas.List.Elements.{All-head, All-tail}
 use Rattle.css_cascade.specs.Cascade.{winner_from}
-use Rattle.css_cascade.specs.Rollbacks.{best_of as best_seen, is_left, is_left_under, left_after, left_once, rolls_back}
-use Rattle.css_cascade.specs.WeightViews.{weighed}
+use Rattle.css_cascade.specs.Rollbacks.{best_of as best_seen, is_left, is_left_under, left_once, rolls_back}
 use Rattle.css_cascade.specs.declared.weights.Weight.{Weight}
 use Rattle.css_cascade.proofs.RollbackLemmas.{all-left, still, winner-mapped}
-use Rattle.css_styles.specs.declared.contenders.Contender.{Contender as ContenderCode}
 use Rattle.css_styles.specs.declared.contest.Numbered.{Numbered}
 use Rattle.css_styles.specs.Contenders.{Contender, of_property}
 use Rattle.css_styles.specs.Winners.{counting_each}
 use Rattle.css_styles.specs.internal.Numbered.{IsNoted, IsNumbered, is_kept, numbered_of}
-use Rattle.css_styles.specs.internal.Stepping.{contender_of, decided, seen}
+use Rattle.css_styles.specs.internal.Stepping.{decided, seen}
 use Rattle.css_styles.proofs.ContestLemmas.{kept-noted}
-
-pub filter-all : {X : Type 0} (test : X → Bool) (xs : List X) → All (λ x. test x ≡ true) xs
-    → filter test xs ≡ xs
-filter-all test [] all = refl
-filter-all test (x ∷ xs) all =
-    ap (λ t. cond t (x ∷ filter test xs) (filter test xs)) (All-head (λ x. test x ≡ true) x xs all)
-    ∙ ap (λ ys. x ∷ ys) (filter-all test xs (All-tail (λ x. test x ≡ true) x xs all))
+use Rattle.css_styles.proofs.FloorLemmas.{filter-all}
 
 -- ---- of several properties
 
@@ -72,21 +64,10 @@ module _ (properties : List (List ℕ)) (all : List Numbered) (best : List (Opti
   kept-all noted kept =
       sym (kept-once noted) ∙ ap (map numbered_of) (filter-all (is_kept best) all kept)
 
--- what is left after one round more
-pub once-more : (rivals : List Contender → Contender → List Contender) (times : ℕ)
-    (all : List Contender)
-    → left_after seen rivals (times + 1) all ≡ left_once seen rivals (left_after seen rivals times all)
-once-more rivals times all =
-    let same : times + 1 ≡ suc times = omega arith in
-    ap (λ (n : ℕ). left_after seen rivals n all) same
-
--- where these are all that count after some rounds, they are in the end
-pub counted-each : (start : List Contender) (times : ℕ) (now : List Contender)
-    → now ≡ left_after seen of_its_property times start → left_once seen of_its_property now ≡ now
-    → times ≤ length start → now ≡ counting_each start
-counted-each start times now e fixed l =
-    e ∙ sym (still seen of_its_property start times
-    (ap (left_once seen of_its_property) (sym e) ∙ fixed ∙ e) (length start) l)
+-- where all of these count still, they do in the end
+pub counted-all : (all : List Contender) → left_once seen of_its_property all ≡ all
+    → all ≡ counting_each all
+counted-all all fixed = sym (still seen of_its_property all 0 fixed (length all) (omega arith))
 
 -- ---- of one property
 
@@ -97,35 +78,6 @@ all_of all one = all
 best-is : (all : List Contender) (best : Option Contender) → best ≡ winner_from seen None all
     → best_seen seen all ≡ option_map seen best
 best-is all best e = sym (ap (option_map seen) e ∙ winner-mapped seen None all)
-
-kept-by : (best : ContenderCode) (xs : List ContenderCode)
-    → map contender_of (filter (λ one. is_left (weighed one.weight) (weighed best.weight)) xs)
-    ≡ filter (λ (one : Contender). is_left (seen one) (weighed best.weight)) (map contender_of xs)
-kept-by best [] = refl
-kept-by best (x ∷ xs) = by (is_left (weighed x.weight) (weighed best.weight)) (kept-by best xs)
-  where
-    by : (t : Bool)
-        → map contender_of (filter (λ one. is_left (weighed one.weight) (weighed best.weight)) xs)
-        ≡ filter (λ (one : Contender). is_left (seen one) (weighed best.weight)) (map contender_of xs)
-        → map contender_of (cond t
-        (x ∷ filter (λ one. is_left (weighed one.weight) (weighed best.weight)) xs)
-        (filter (λ one. is_left (weighed one.weight) (weighed best.weight)) xs))
-        ≡ cond t
-        (contender_of x
-        ∷ filter (λ (one : Contender). is_left (seen one) (weighed best.weight)) (map contender_of xs))
-        (filter (λ (one : Contender). is_left (seen one) (weighed best.weight)) (map contender_of xs))
-    by true rest = ap (λ cs. contender_of x ∷ cs) rest
-    by false rest = rest
-
--- those that are kept where this one wins are those that count still
-pub rolled-once : (xs : List ContenderCode) (best : ContenderCode)
-    → Some (contender_of best) ≡ winner_from seen None (map contender_of xs)
-    → map contender_of (filter (λ one. is_left (weighed one.weight) (weighed best.weight)) xs)
-    ≡ left_once seen all_of (map contender_of xs)
-rolled-once xs best e =
-    kept-by best xs
-    ∙ sym (ap (λ b. filter (λ (one : Contender). is_left_under b (seen one)) (map contender_of xs))
-    (best-is (map contender_of xs) (Some (contender_of best)) e))
 
 every : {X : Type 0} (test : X → Bool) → ((x : X) → test x ≡ true) → (xs : List X)
     → filter test xs ≡ xs
@@ -144,18 +96,14 @@ fixed-some now best e stays =
     ∙ every (λ (one : Contender). is_left (seen one) (seen best))
     (λ one. all-left (seen one) (seen best) stays) now
 
--- the best of those that count after some rounds is what wins, if it stays
-module _ (start : List Contender) (times : ℕ) (now : List Contender)
-    (e : now ≡ left_after seen all_of times start) (l : times ≤ length start) where
-  settled : left_once seen all_of now ≡ now → winner_from seen None now ≡ decided start
-  settled fixed =
-      ap (winner_from seen None)
-      (e ∙ sym (still seen all_of start times
-      (ap (left_once seen all_of) (sym e) ∙ fixed ∙ e) (length start) l))
+-- where the best of these is not rolled back, it is what wins
+module _ (all : List Contender) where
+  settled : left_once seen all_of all ≡ all → winner_from seen None all ≡ decided all
+  settled fixed = ap (winner_from seen None) (sym (still seen all_of all 0 fixed (length all) (omega arith)))
 
-  pub decided-none : None ≡ winner_from seen None now → None ≡ decided start
-  decided-none found = found ∙ settled (fixed-none now found)
+  pub decided-none : None ≡ winner_from seen None all → None ≡ decided all
+  decided-none found = found ∙ settled (fixed-none all found)
 
-  pub decided-some : (best : Contender) → Some best ≡ winner_from seen None now
-      → rolls_back (seen best) ≡ false → Some best ≡ decided start
-  decided-some best found stays = found ∙ settled (fixed-some now best found stays)
+  pub decided-some : (best : Contender) → Some best ≡ winner_from seen None all
+      → rolls_back (seen best) ≡ false → Some best ≡ decided all
+  decided-some best found stays = found ∙ settled (fixed-some all best found stays)

@@ -1,6 +1,6 @@
 -- What the rules state whose indices a walk finds.
 -- Serves `Styles::{winners, winners_named}`.
-use Rattle.std.proofs.Common.{◌≡◌, ℕ, ◌+◌, ◌<◌, ◌≤◌, ◌↔◌, Bool, true, false, not, ◌&&◌, IsTrue, if◌then◌else◌, List, [], ◌∷◌, ◌++◌, length, map, Option, None, Some, refl, sym, ap, ◌∙◌, subst, arith}
+use Rattle.std.proofs.Common.{◌≡◌, ℕ, ◌+◌, ◌<◌, ◌≤◌, Bool, true, false, not, ◌&&◌, IsTrue, if◌then◌else◌, List, [], ◌∷◌, ◌++◌, length, map, Option, None, Some, refl, sym, ap, ◌∙◌, subst, arith}
 use Rattle.std.specs.List.{All, Contains, flat_map, slice_get}
 use Rattle.std.specs.Option.{is_some, option_map}
 use Rattle.std.proofs.lemmas.List.Elements.{All-contains_itself}
@@ -10,14 +10,14 @@ use Rattle.css_selectors.specs.Documents.{Document}
 use Rattle.css_selectors.specs.Meanings.{Matches}
 use Rattle.css_index.specs.Found.{AreMatches, MatchesAt}
 use Rattle.css_sheet.specs.SheetOrder.{SheetRuleText}
-use Rattle.css_styles.specs.Contenders.{Contender, in_rule, in_turn, of_rule, of_rules, rule_declarations}
+use Rattle.css_styles.specs.Contenders.{Contender, OwnText, contenders, in_rule, in_turn, of_own, of_rule, of_rules, rule_declarations}
 use Rattle.css_styles.specs.Winners.{AreReadBy, Decides}
 use Rattle.css_styles.specs.Properties.{property_key}
 use Rattle.css_styles.specs.declared.contest.Numbered.{Numbered}
 use Rattle.css_styles.specs.internal.Numbered.{IsNumbered}
 use Rattle.css_styles.specs.internal.Stepping.{stated_at, states, states_at}
 use Rattle.css_styles.proofs.ContestLemmas.{All-each}
-use Rattle.css_styles.proofs.IndexLemmas.{PassesAt, gathered, get-past, passing_from}
+use Rattle.css_styles.proofs.IndexLemmas.{gathered, get-past, passing_from}
 use Rattle.css_styles.proofs.NumberLemmas.{number-within}
 
 module _ (matches : Selector → Bool) where
@@ -80,11 +80,21 @@ module _ (matches : Selector → Bool) where
         are.ascending (λ k. (λ c. there k ((are.exactly k).0 c), λ h. (are.exactly k).1 (back k h)))
         ∙ of-rules-passing rules 0 rules
 
-    pub found-rules : (selectors : List Selector) (indices : List ℕ) → AreReadBy read rules selectors
+    found-rules : (selectors : List Selector) (indices : List ℕ) → AreReadBy read rules selectors
         → AreMatches document n selectors indices
         → flat_map (stated_at rules) indices ≡ of_rules matches 0 rules
     found-rules selectors indices are_read are =
         found indices (subst (λ ss. AreMatches document n ss indices) are_read are)
+
+    -- what is gathered by these indices is all that contends
+    pub all-contend : (own : OwnText) (selectors : List Selector) (indices now : List ℕ)
+        (found : List Contender) → AreReadBy read rules selectors
+        → AreMatches document n selectors indices → now ≡ indices
+        → found ≡ flat_map (stated_at rules) now ++ of_own own → found ≡ contenders matches rules own
+    all-contend own selectors indices now found are_read are same gathered =
+        gathered
+        ∙ ap (λ cs. cs ++ of_own own)
+        (ap (flat_map (stated_at rules)) same ∙ found-rules selectors indices are_read are)
 
 pub found-within : {Node : Type 0} (document : Document Node) (n : Node) (selectors : List Selector)
     (count : ℕ) (indices : List ℕ) → length selectors ≡ count → AreMatches document n selectors indices

@@ -1,7 +1,6 @@
 -- The declarations of one property, as they are taken one after another, and the one that wins.
 -- Serves the functions of `one_property` and `asked`.
 use Rattle.std.proofs.Common.{◌≡◌, ℕ, ◌+◌, Bool, true, false, not, ◌&&◌, cond, if◌then◌else◌, List, [], ◌∷◌, ◌++◌, Option, None, Some, refl, sym, ap, ◌∙◌, append-nil, map, option_map}
-use Rattle.std.specs.Prelude.{filter}
 use Rattle.std.specs.Option.{is_some}
 use Rattle.css_syntax.specs.DeclarationLists.{DeclarationText}
 use Rattle.css_selectors.specs.Components.{Selector}

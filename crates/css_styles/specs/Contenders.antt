@@ -12,6 +12,7 @@ use Rattle.css_syntax.specs.DeclarationLists.{DeclarationText, ListText, ItemTex
 use Rattle.css_selectors.specs.Components.{Selector}
 use Rattle.css_cascade.specs.Cascade.{Weighed}
 use Rattle.css_cascade.specs.Rollbacks.{rollback_of}
+use Rattle.css_cascade.specs.declared.weights.Origin.{Origin}
 use Rattle.css_cascade.specs.declared.weights.Origin.TheVariants.{Author, Hint}
 use Rattle.css_sheet.specs.SheetOrder.{SheetRuleText, rule_counts, weight}
 use Rattle.css_styles.specs.declared.winner.Source.{Source}
@@ -80,39 +81,31 @@ in_rule rule_place rule place one = record {
   place = place;
 }
 
--- one of the style attribute, which has no layer and no specificity
-abbrev pub in_style : (place : ℕ) → DeclarationText → Contender
-in_style place one = record {
+-- One that is in no rule, which has no layer and no specificity: its origin, whether it is attached to the
+-- element, and where it is.
+abbrev pub in_no_rule : Origin → (attached : Bool) → Source → (place : ℕ) → DeclarationText → Contender
+in_no_rule origin attached source place one = record {
   weight = record {
     important = one.important;
-    origin = Author;
-    attached = true;
+    origin = origin;
+    attached = attached;
     layer = 0;
     specificity = 0 ∷ 0 ∷ 0 ∷ [];
     place = 0 ∷ place ∷ [];
     rollback = rollback_of one.value;
   };
   declaration = one;
-  source = sources.Style;
+  source = source;
   place = place;
 }
 
+-- one of the style attribute
+abbrev pub in_style : (place : ℕ) → DeclarationText → Contender
+in_style = in_no_rule Author true sources.Style
+
 -- one of the presentation declarations, which are presentational hints
 abbrev pub in_presentation : (place : ℕ) → DeclarationText → Contender
-in_presentation place one = record {
-  weight = record {
-    important = one.important;
-    origin = Hint;
-    attached = false;
-    layer = 0;
-    specificity = 0 ∷ 0 ∷ 0 ∷ [];
-    place = 0 ∷ place ∷ [];
-    rollback = rollback_of one.value;
-  };
-  declaration = one;
-  source = sources.Presentation;
-  place = place;
-}
+in_presentation = in_no_rule Hint false sources.Presentation
 
 -- declarations one after another, each with its place among them
 abbrev pub in_turn : ((place : ℕ) → DeclarationText → Contender) → (place : ℕ)

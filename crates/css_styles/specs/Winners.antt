@@ -1,9 +1,10 @@
 -- Which declarations win on an element.
 use Rattle.std.specs.Prelude.{◌≡◌, ◌↔◌, ℕ, Bool, not, ◌&&◌, List, [], ◌∷◌, filter, map, Option, None, Some, IsTrue}
-use Rattle.std.specs.List.{list_any}
+use Rattle.std.specs.List.{Contains, list_any}
+use Rattle.std.specs.declared.cmp.Ordering.TheVariants.{Equal}
 use Rattle.css_syntax.specs.DeclarationLists.{DeclarationText}
 use Rattle.css_selectors.specs.Components.{Selector}
-use Rattle.css_cascade.specs.Cascade.{Wins, beats}
+use Rattle.css_cascade.specs.Cascade.{Wins, beats, cascade_cmp}
 use Rattle.css_cascade.specs.Rollbacks.{left}
 use Rattle.css_sheet.specs.SheetOrder.{SheetRuleText}
 use Rattle.css_styles.specs.Contenders.{Contender, OwnText, contenders, is_property, of_names, of_property}
@@ -65,6 +66,12 @@ AreWinners all [] (one ∷ found) = ⊥
 AreWinners all (names ∷ asked) [] = ⊥
 AreWinners all (names ∷ asked) (one ∷ found) =
     IsWinner (of_names names all) one × AreWinners all asked found
+
+-- Two of these that nothing tells apart in the order of the cascade are alike for it.
+abbrev pub AreApart : List Contender → Type 0
+AreApart found =
+    (one other : Contender) → Contains found one → Contains found other
+    → cascade_cmp one.weight other.weight ≡ Equal → one.weight ≡ other.weight
 
 -- `matches` says of which selectors this holds
 abbrev pub Decides : (Selector → Bool) → (Selector → Type 0) → Type 0

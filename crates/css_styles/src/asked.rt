@@ -10,7 +10,7 @@ use crate::contenders::{Contender, won};
 use crate::contest::Numbered;
 use crate::decide::decide;
 use crate::properties::is_named;
-use std::alloc::AllocError;
+use std::alloc::{AllocError, Global};
 
 /// Appends the declaration, if it has one of these names.
 fn push_if_named<'a>(
@@ -45,6 +45,7 @@ fn pick<'a>(
 
 /// Finds for the property of these names the declaration that wins, if one does.
 fn find_named<'a>(
+    alloc: Global,
     names: &[&str],
     contenders: &[Numbered<'a>],
     rivals: &mut Vec<Contender<'a>>,
@@ -55,13 +56,15 @@ fn find_named<'a>(
         ++ best_named_of (map numbered_of contenders.now) (map (λ name. name.now) names.now) ∷ []) }
 {
     pick(names, contenders, rivals)?;
-    found.push(won(decide(rivals)))?;
+    let best = decide(alloc, rivals)?;
+    found.push(won(best))?;
     Ok(())
 }
 
 /// Finds for each of these properties, which may have several names, the declaration that wins: these
 /// replace the items of `found`. After an error none are left.
 pub(crate) fn find_asked<'a>(
+    alloc: Global,
     asked: &[&[&str]],
     contenders: &[Numbered<'a>],
     rivals: &mut Vec<Contender<'a>>,
@@ -73,7 +76,7 @@ pub(crate) fn find_asked<'a>(
 {
     found.clear();
     for names in asked {
-        if let Err(error) = find_named(*names, contenders, rivals, found) {
+        if let Err(error) = find_named(alloc, *names, contenders, rivals, found) {
             found.clear();
             return Err(error);
         }

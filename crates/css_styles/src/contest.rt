@@ -1,17 +1,22 @@
 //! The best of the declarations of each property that count.
-ghost use Rattle.std.specs.Prelude.{◌≡◌, ◌++◌, ◌∷◌, ◌<◌, ◌≤◌, [], if◌then◌else◌, true, false, Bool, List, ℕ, None, Some, OnErr, OnOk, filter, not, map, length, slice_get, vec_len};
+ghost use Rattle.std.specs.Prelude.{◌≡◌, ◌++◌, ◌∷◌, ◌<◌, ◌≤◌, [], if◌then◌else◌, true, false};
+ghost use Rattle.std.specs.Prelude.{Bool, List, ℕ, None, Some, IfOk, OnErr, OnOk};
+ghost use Rattle.std.specs.Prelude.{filter, not, map, length, slice_get, vec_len};
 ghost use Rattle.std.specs.List.{All};
 ghost use Rattle.std.specs.Option.{option_map};
 ghost use Rattle.css_cascade.specs.WeightViews.{weighed};
 ghost use Rattle.css_cascade.specs.Cascade.{better};
 ghost use Rattle.css_styles.specs.StyleViews.{winner_of};
 ghost use Rattle.css_styles.specs.Winners.{as_winner, counting_each, is_beaten, unbeaten};
-ghost use Rattle.css_styles.specs.internal.Numbered.{IsNoted, IsNumbered, is_kept as is_kept_of, numbered_of};
+ghost use Rattle.css_styles.specs.internal.Floors.{is_over as is_over_of, ranked_of};
+ghost use Rattle.css_styles.specs.internal.Numbered.{IsNoted, IsNumbered, is_kept as is_kept_of};
+ghost use Rattle.css_styles.specs.internal.Numbered.{numbered_of, weight_of};
 
 use crate::Winner;
 use crate::contenders::Contender;
+use crate::floors::{Ranked, Standing, find_standings, rank};
 use css_cascade::{Weight, beats, is_left};
-use std::alloc::AllocError;
+use std::alloc::{AllocError, Global};
 
 /// A declaration that applies to an element, with the number of its property.
 #[derive(Clone, Copy)]
@@ -87,36 +92,90 @@ fn are_kept(contenders: &[Numbered<'_>], best: &[Option<Weight>]) -> bool
     true
 }
 
-/// Leaves those that count still.
-fn keep(contenders: &mut Vec<Numbered<'_>>, best: &[Option<Weight>])
-    ensures { contenders.new.items ≡ filter (is_kept_of best.now) contenders.old.items }
+/// Returns what the cascade sees of these declarations.
+fn weights_of(alloc: Global, contenders: &[Numbered<'_>]) -> Result<Vec<Ranked>, AllocError>
+    ensures { IfOk result (λ ranked. ranked.items ≡ map ranked_of contenders.now) }
+{
+    let mut ranked: Vec<Ranked> = Vec::with_capacity(alloc, contenders.len())?;
+    for one in contenders {
+        ranked.push(Ranked {
+            property: one.property,
+            weight: one.contender.weight,
+        })?;
+    }
+    Ok(ranked)
+}
+
+/// Whether a declaration counts in the end.
+fn is_over(one: &Numbered<'_>, standings: &[Standing]) -> bool
+    ensures { result ≡ is_over_of (slice_get standings.now one.now.property) (weight_of one.now) }
+{
+    match standings.get(one.property) {
+        Some(standing) => standing.leaves(&one.contender.weight),
+        None => true,
+    }
+}
+
+/// Leaves those that count in the end.
+fn keep(contenders: &mut Vec<Numbered<'_>>, standings: &[Standing])
+    ensures { contenders.new.items ≡ filter
+        (λ n. is_over_of (slice_get standings.now n.property) (weight_of n)) contenders.old.items }
 {
     contenders.retain(
         |one: &Numbered<'_>| -> bool
-            ensures { result ≡ is_kept_of best.entry.now one.now }
-        { is_kept(one, best) },
+            ensures { result
+                ≡ is_over_of (slice_get standings.entry.now one.now.property) (weight_of one.now) }
+        { is_over(one, standings) },
     );
 }
 
+/// Leaves those that count in the end, where what wins of some property may be rolled back. Each
+/// property is gone through once, from the best of its declarations on.
+fn take_out(
+    alloc: Global,
+    contenders: &mut Vec<Numbered<'_>>,
+    standings: &mut [Standing],
+) -> Result<(), AllocError>
+    requires { (properties : List (List ℕ)) × (length properties ≤ length standings.old)
+        × All (IsNumbered properties) contenders.old.items }
+    ensures counting { OnOk result (map numbered_of contenders.new.items
+        ≡ counting_each (map numbered_of contenders.old.items)) }
+    ensures numbered { OnOk result ((properties : List (List ℕ))
+        → All (IsNumbered properties) contenders.old.items
+        → All (IsNumbered properties) contenders.new.items) }
+{
+    let mut ranked = weights_of(alloc, contenders)?;
+    rank(&mut ranked)?;
+    find_standings(&ranked, standings);
+    keep(contenders, standings);
+    Ok(())
+}
+
 /// Leaves those that count in the end, and notes the best of each property.
-fn roll_back(contenders: &mut Vec<Numbered<'_>>, best: &mut [Option<Weight>])
+fn roll_back(
+    alloc: Global,
+    contenders: &mut Vec<Numbered<'_>>,
+    best: &mut [Option<Weight>],
+    standings: &mut [Standing],
+) -> Result<(), AllocError>
     requires { (properties : List (List ℕ)) × (length properties ≤ length best.old)
+        × (length properties ≤ length standings.old)
         × All (IsNumbered properties) contenders.old.items }
     ensures len { length best.new ≡ length best.old }
-    ensures counting { map numbered_of contenders.new.items
-        ≡ counting_each (map numbered_of contenders.old.items) }
-    ensures numbered { (properties : List (List ℕ)) → All (IsNumbered properties) contenders.old.items
-        → All (IsNumbered properties) contenders.new.items }
-    ensures noted { All (IsNoted contenders.new.items best.new) contenders.new.items }
+    ensures counting { OnOk result (map numbered_of contenders.new.items
+        ≡ counting_each (map numbered_of contenders.old.items)) }
+    ensures numbered { OnOk result ((properties : List (List ℕ))
+        → All (IsNumbered properties) contenders.old.items
+        → All (IsNumbered properties) contenders.new.items) }
+    ensures noted { OnOk result (All (IsNoted contenders.new.items best.new) contenders.new.items) }
 {
     note_anew(contenders, best);
-    'rounds: for _ in 0..contenders.len() {
-        if are_kept(contenders, best) {
-            return;
-        }
-        keep(contenders, best);
-        note_anew(contenders, best);
+    if are_kept(contenders, best) {
+        return Ok(());
     }
+    take_out(alloc, contenders, standings)?;
+    note_anew(contenders, best);
+    Ok(())
 }
 
 /// Whether no other declaration of its property beats this one.
@@ -165,31 +224,42 @@ fn push_unbeaten<'a>(
     Ok(())
 }
 
-/// Makes room for the best of so many properties.
-pub(crate) fn make_room(best: &mut Vec<Option<Weight>>, count: usize) -> Result<(), AllocError>
-    ensures { OnOk result (count ≤ vec_len best.new) }
+/// Makes room for what is noted of so many properties.
+pub(crate) fn make_room(
+    best: &mut Vec<Option<Weight>>,
+    standings: &mut Vec<Standing>,
+    count: usize,
+) -> Result<(), AllocError>
+    ensures best { OnOk result (count ≤ vec_len best.new) }
+    ensures standings { OnOk result (count ≤ vec_len standings.new) }
 {
     if best.len() < count {
         best.resize(count, None)?;
     }
+    if standings.len() < count {
+        standings.resize(count, Standing::new())?;
+    }
     Ok(())
 }
 
-/// Finds those that count and that no other of the same property beats, which replace the items of `found`.
-/// Only those that count are left of the declarations. After an error none are found.
+/// Finds those that count and that no other of the same property beats, which replace the items of
+/// `found`. Only those that count are left of the declarations. After an error none are found.
 pub(crate) fn find_unbeaten<'a>(
+    alloc: Global,
     contenders: &mut Vec<Numbered<'a>>,
     best: &mut [Option<Weight>],
+    standings: &mut [Standing],
     found: &mut Vec<Winner<'a>>,
 ) -> Result<(), AllocError>
     requires { (properties : List (List ℕ)) × (length properties ≤ length best.old)
+        × (length properties ≤ length standings.old)
         × All (IsNumbered properties) contenders.old.items }
     ensures unbeaten { OnOk result (map winner_of found.new.items
         ≡ map as_winner (unbeaten (counting_each (map numbered_of contenders.old.items)))) }
     ensures err { OnErr result (found.new.items ≡ []) }
 {
     found.clear();
-    roll_back(contenders, best);
+    roll_back(alloc, contenders, best, standings)?;
     let pushed = push_unbeaten(contenders, best, found);
     if pushed.is_err() {
         found.clear();

@@ -1,12 +1,16 @@
 //! The declaration that wins of those that contend for one property.
-ghost use Rattle.std.specs.Prelude.{◌≡◌, None, filter, map, option_map};
+ghost use Rattle.std.specs.Prelude.{◌≡◌, None, IfOk, OnOk, filter, map, option_map};
 ghost use Rattle.css_cascade.specs.Cascade.{winner_from};
-ghost use Rattle.css_cascade.specs.Rollbacks.{is_left as is_left_of};
+ghost use Rattle.css_cascade.specs.Rollbacks.{is_left_under};
 ghost use Rattle.css_cascade.specs.WeightViews.{weighed};
+ghost use Rattle.css_styles.specs.Winners.{counting};
+ghost use Rattle.css_styles.specs.internal.Floors.{floor_of, ranked_alone};
 ghost use Rattle.css_styles.specs.internal.Stepping.{contender_of, decided, seen};
 
 use crate::contenders::{Contender, better_of};
-use css_cascade::{Weight, is_left, rolls_back};
+use crate::floors::{Ranked, Standing, find_standings, rank};
+use css_cascade::rolls_back;
+use std::alloc::{AllocError, Global};
 
 /// Returns the best of these.
 fn best_of<'a>(rivals: &[Contender<'a>]) -> Option<Contender<'a>>
@@ -19,30 +23,61 @@ fn best_of<'a>(rivals: &[Contender<'a>]) -> Option<Contender<'a>>
     best
 }
 
-/// Leaves those that count still where the one with this weight wins.
-fn keep(rivals: &mut Vec<Contender<'_>>, best: &Weight)
-    ensures { rivals.new.items
-        ≡ filter (λ one. is_left_of (weighed one.weight) (weighed best.now)) rivals.old.items }
+/// Returns what the cascade sees of these.
+fn weights_of(alloc: Global, rivals: &[Contender<'_>]) -> Result<Vec<Ranked>, AllocError>
+    ensures { IfOk result (λ ranked. ranked.items ≡ map ranked_alone rivals.now) }
+{
+    let mut ranked: Vec<Ranked> = Vec::with_capacity(alloc, rivals.len())?;
+    for one in rivals {
+        let weight = one.weight;
+        ranked.push(Ranked {
+            property: 0,
+            weight,
+        })?;
+    }
+    Ok(ranked)
+}
+
+/// Leaves those that count where this is known of their property.
+fn keep(rivals: &mut Vec<Contender<'_>>, standing: &Standing)
+    ensures { rivals.new.items ≡ filter
+        (λ one. is_left_under (floor_of standing.now) (weighed one.weight)) rivals.old.items }
 {
     rivals.retain(
         |one: &Contender<'_>| -> bool
-            ensures { result ≡ is_left_of (weighed one.now.weight) (weighed best.entry.now) }
-        { is_left(&one.weight, best) },
+            ensures { result
+                ≡ is_left_under (floor_of standing.entry.now) (weighed one.now.weight) }
+        { standing.leaves(&one.weight) },
     );
 }
 
-/// Returns the one that wins of those that count. Only these are left.
-pub(crate) fn decide<'a>(rivals: &mut Vec<Contender<'a>>) -> Option<Contender<'a>>
-    ensures { option_map contender_of result ≡ decided (map contender_of rivals.old.items) }
+/// Leaves those that count in the end. They are gone through once, from the best on.
+fn take_out(alloc: Global, rivals: &mut Vec<Contender<'_>>) -> Result<(), AllocError>
+    ensures { OnOk result
+        (map contender_of rivals.new.items ≡ counting (map contender_of rivals.old.items)) }
 {
-    'rounds: for _ in 0..rivals.len() {
-        let Some(best) = best_of(rivals) else {
-            return None;
-        };
-        if !rolls_back(&best.weight) {
-            return Some(best);
-        }
-        keep(rivals, &best.weight);
+    let mut ranked = weights_of(alloc, rivals)?;
+    rank(&mut ranked)?;
+    let mut standings = [Standing::new()];
+    find_standings(&ranked, &mut standings);
+    keep(rivals, &standings[0]);
+    Ok(())
+}
+
+/// Returns the one that wins of those that count. Only these are left.
+pub(crate) fn decide<'a>(
+    alloc: Global,
+    rivals: &mut Vec<Contender<'a>>,
+) -> Result<Option<Contender<'a>>, AllocError>
+    ensures { IfOk result (λ best.
+        option_map contender_of best ≡ decided (map contender_of rivals.old.items)) }
+{
+    let Some(best) = best_of(rivals) else {
+        return Ok(None);
+    };
+    if !rolls_back(&best.weight) {
+        return Ok(Some(best));
     }
-    best_of(rivals)
+    take_out(alloc, rivals)?;
+    Ok(best_of(rivals))
 }

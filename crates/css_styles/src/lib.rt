@@ -19,7 +19,9 @@ mod asked;
 mod contenders;
 mod contest;
 mod decide;
+mod floors;
 mod gathering;
+mod laws;
 mod one_property;
 mod properties;
 mod stated;
@@ -27,6 +29,7 @@ mod style_rules;
 mod styles;
 mod winner;
 
+pub use laws::rollback_law;
 pub use one_property::winning;
 pub use style_rules::StyleRules;
 pub use styles::Styles;

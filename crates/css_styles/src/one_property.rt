@@ -174,5 +174,6 @@ pub fn winning<'a, E: Element>(
         rest = after;
     }
     push_own(&mut rivals, property, own)?;
-    Ok(won(decide(&mut rivals)))
+    let best = decide(alloc, &mut rivals)?;
+    Ok(won(best))
 }

@@ -14,6 +14,7 @@ ghost use Rattle.css_styles.specs.Winners.{AreReadBy, AreWinners, Decides, winne
 use crate::asked::find_asked;
 use crate::contenders::Contender;
 use crate::contest::{Numbered, find_unbeaten, make_room};
+use crate::floors::Standing;
 use crate::gathering::gather;
 use crate::{Own, StyleRules, Winner};
 use css_cascade::Weight;
@@ -26,8 +27,8 @@ use std::marker::Model;
 ///
 /// Elements may be asked in any order. Where each comes after the last one in the order of the document,
 /// it opens each element at most once, and only those with children. What a call takes beside the tests is
-/// linear in the declarations of the rules that match the element and of its style attribute, but for
-/// finding the names of the latter.
+/// linear in the declarations of the rules that match the element and of its style attribute, but
+/// for finding the names of the latter, and for sorting all of them where one is rolled back.
 #[derive(Drop)]
 pub struct Styles<'s, 'a, 'w> {
     /// The rules.
@@ -42,6 +43,8 @@ pub struct Styles<'s, 'a, 'w> {
     rivals: Vec<Contender<'a>>,
     /// The best of each property, by its number.
     best: Vec<Option<Weight>>,
+    /// What each property is rolled back to, by its number.
+    standings: Vec<Standing>,
     /// Allocates what a call needs.
     alloc: Global,
 }
@@ -84,6 +87,7 @@ impl<'s, 'a, 'w> Styles<'s, 'a, 'w> {
             contenders: Vec::new(alloc),
             rivals: Vec::new(alloc),
             best: Vec::new(alloc),
+            standings: Vec::new(alloc),
             alloc,
         }
     }
@@ -139,8 +143,8 @@ impl<'s, 'a, 'w> Styles<'s, 'a, 'w> {
     /// As long as the one that wins for a property has the value `revert` or `revert-layer`, what is of its
     /// origin, or in its layer, and what is after that do not count for the property: hints are the author's
     /// for `revert`, and a style attribute is a layer after all others. `revert` of the user agent's wins as
-    /// it is. If none counts, none wins. All that apply are gone through once more for each layer and
-    /// each origin that is rolled back, for the property with the most of them.
+    /// it is. If none counts, none wins. Where something is rolled back, all that apply are sorted
+    /// once, however many layers and origins are rolled back.
     ///
     /// The previous items of `found` are dropped. Fails only if an allocation fails; then no items are
     /// left, and the walk goes on.
@@ -172,8 +176,15 @@ impl<'s, 'a, 'w> Styles<'s, 'a, 'w> {
             .matching(page, element, &mut self.matching, tests)?;
         let all = &mut self.contenders;
         let count = gather(self.alloc, self.rules, &self.matching, own, all)?;
-        make_room(&mut self.best, count)?;
-        find_unbeaten(&mut self.contenders, &mut self.best, found)
+        make_room(&mut self.best, &mut self.standings, count)?;
+        let best = &mut self.best;
+        find_unbeaten(
+            self.alloc,
+            &mut self.contenders,
+            best,
+            &mut self.standings,
+            found,
+        )
     }
 
     /// Finds for each of these properties the declaration that wins on the element at an index that has these
@@ -213,6 +224,6 @@ impl<'s, 'a, 'w> Styles<'s, 'a, 'w> {
             .matching(page, element, &mut self.matching, tests)?;
         let all = &mut self.contenders;
         gather(self.alloc, self.rules, &self.matching, own, all)?;
-        find_asked(asked, &self.contenders, &mut self.rivals, found)
+        find_asked(self.alloc, asked, &self.contenders, &mut self.rivals, found)
     }
 }

@@ -1,4 +1,4 @@
-use Rattle.std.proofs.Common.{not, ap, ◌∙◌, None, Some, sym}
+use Rattle.std.proofs.Common.{not, ap, ◌∙◌, None, Some}
 use Rattle.css_styles.proofs.ContestLemmas.{at-index, noted-some, noted-none}
 use Rattle.css_styles.proofs.contest.is_unbeaten.Goals as goal
 

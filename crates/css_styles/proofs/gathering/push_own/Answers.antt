@@ -1,4 +1,4 @@
-use Rattle.std.proofs.Common.{◌≡◌, ◌++◌, ◌∙◌, sym, ap, length, map, arith, rules}
+use Rattle.std.proofs.Common.{◌≡◌, ◌++◌, ◌∙◌, ap, length, map, arith, rules}
 use Rattle.std.proofs.lemmas.List.{append_assoc, length-append}
 use Rattle.css_styles.specs.Contenders.{in_presentation, in_style, in_turn, own_declarations}
 use Rattle.css_styles.specs.internal.Numbered.{numbered_of}

@@ -31,8 +31,8 @@ returns g c = λ matches decides.
     let none : length c.rules.rest.now ≡ 0 = omega (arith, c.in_default.len_below) in
     subst (IsWinner (of_property property (contenders matches rules own))) (sym c.won.ensures)
     (decided-is (of_property property (contenders matches rules own))
-    (option_map contender_of c.decide.result)
-    (c.decide.ensures
+    (option_map contender_of c.in_ok-best.best)
+    (c.in_ok-best.ensures
     ∙ ap decided (own-taken matches property c.rules.place (map sheet_rule_of c.rules.rest.now) rules
     own (map contender_of c.rules.rivals.items) _
     (ap (map sheet_rule_of) (nil_from_length c.rules.rest.now none))

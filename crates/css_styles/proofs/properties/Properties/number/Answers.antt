@@ -1,5 +1,4 @@
 use Rattle.std.proofs.Common.{◌≡◌, ◌++◌, ◌∷◌, [], List, Some, None, map, length, ap, ◌∙◌, sym, ℕ, rules}
-use Rattle.std.specs.Prelude.{bytes_eq}
 use Rattle.std.specs.BTreeMap.{get_by_text}
 use Rattle.std.specs.Borrow.{Bor}
 use Rattle.std.specs.String.{string_bytes}

@@ -1,16 +1,15 @@
-use Rattle.std.proofs.Common.{◌≡◌, ◌<◌, ◌≤◌, ◌++◌, ◌∙◌, length, map, sym, ap, subst, arith}
+use Rattle.std.proofs.Common.{◌≡◌, ◌<◌, ◌≤◌, ◌∙◌, length, map, sym, ap, subst, arith}
 use Rattle.std.specs.Vec.{vec_len}
-use Rattle.std.specs.List.{All, flat_map}
+use Rattle.std.specs.List.{All}
 use Rattle.css_matching.specs.ListTrees.{spot}
 use Rattle.css_tree.specs.Pages.{page_document}
 use Rattle.css_tree.specs.Walks.{IsOpenAt}
-use Rattle.css_styles.specs.Contenders.{contenders, of_own, of_rules}
+use Rattle.css_styles.specs.Contenders.{contenders}
 use Rattle.css_styles.specs.StyleViews.{StylesText, own_of}
 use Rattle.css_styles.specs.Winners.{AreReadBy, as_winner, counting_each, unbeaten, winners}
 use Rattle.css_styles.specs.internal.Numbered.{numbered_of}
-use Rattle.css_styles.specs.internal.Stepping.{stated_at}
 use Rattle.css_styles.proofs.GatherLemmas.{then-ok}
-use Rattle.css_styles.proofs.StyleLemmas.{found-rules, found-within}
+use Rattle.css_styles.proofs.StyleLemmas.{all-contend, found-within}
 use Rattle.css_styles.proofs.styles.Styles.winners.Goals as goal
 
 pub matching-requires-clause-opened : goal.matching-requires-clause-opened
@@ -25,11 +24,15 @@ gather-requires c =
 pub find_unbeaten-requires : goal.find_unbeaten-requires
 find_unbeaten-requires c =
     let numbered = c.in_ok-count.ensures.numbered in
-    let room : c.in_ok-count.count ≤ vec_len c.make_room.new.best = c.in_ok-make_room.ensures in
-    let len = c.deref_mut.ensures.len in
+    let best : c.in_ok-count.count ≤ vec_len c.make_room.new.best = c.in_ok-make_room.ensures.best in
+    let standings : c.in_ok-count.count ≤ vec_len c.make_room.new.standings =
+    c.in_ok-make_room.ensures.standings in
+    let best_len = c.deref_mut.ensures.len in
+    let standings_len = c.deref_mut-2.ensures.len in
     let count = numbered.1 in (
       numbered.0,
-      omega (arith, room, len, count),
+      omega (arith, best, best_len, count),
+      omega (arith, standings, standings_len, count),
       numbered.2,
     )
 
@@ -39,13 +42,10 @@ returns-clause-winners c = λ read matches are_read decides.
     let own = own_of c.args.own in
     let inside =
     subst (λ (v : StylesText). AreReadBy read v.rules v.walk.selectors) (sym c.self.view_is) are_read in
-    let stated_are : flat_map (stated_at rules) c.deref.result.now ≡ of_rules matches 0 rules =
-    ap (flat_map (stated_at rules)) c.deref.ensures.value
-    ∙ found-rules matches page_document (spot c.args.page.now c.args.element) read decides rules _ _ inside
-    c.in_ok-matching.ensures.matches in
     let all : map numbered_of c.gather.new.contenders.items ≡ contenders matches rules own =
-    c.in_ok-count.ensures.contenders
-    ∙ ap (λ cs. cs ++ of_own own) stated_are in
+    all-contend matches page_document (spot c.args.page.now c.args.element) read decides rules own
+    _ _ _ _ inside c.in_ok-matching.ensures.matches c.deref.ensures.value
+    c.in_ok-count.ensures.contenders in
     then-ok c.find_unbeaten.result
     (λ found. found ∙ ap (λ cs. map as_winner (unbeaten (counting_each cs))) all
     ∙ ap (λ (v : StylesText). winners matches v.rules own) c.self.view_is)

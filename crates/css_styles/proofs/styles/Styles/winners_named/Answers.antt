@@ -1,15 +1,15 @@
-use Rattle.std.proofs.Common.{◌≡◌, ◌<◌, ◌++◌, ◌∙◌, length, map, sym, ap, subst, option_map}
-use Rattle.std.specs.List.{All, flat_map}
+use Rattle.std.proofs.Common.{◌≡◌, ◌<◌, ◌∙◌, length, map, sym, ap, subst}
+use Rattle.std.specs.List.{All}
 use Rattle.css_matching.specs.ListTrees.{spot}
 use Rattle.css_tree.specs.Pages.{page_document}
 use Rattle.css_tree.specs.Walks.{IsOpenAt}
-use Rattle.css_styles.specs.Contenders.{contenders, of_own, of_rules}
-use Rattle.css_styles.specs.StyleViews.{StylesText, names_of, own_of, winner_of}
+use Rattle.css_styles.specs.Contenders.{contenders}
+use Rattle.css_styles.specs.StyleViews.{StylesText, names_of, own_of}
 use Rattle.css_styles.specs.Winners.{AreReadBy, AreWinners}
 use Rattle.css_styles.specs.internal.Numbered.{numbered_of}
-use Rattle.css_styles.specs.internal.Stepping.{best_named, stated_at}
+use Rattle.css_styles.specs.internal.Stepping.{best_named}
 use Rattle.css_styles.proofs.GatherLemmas.{then-ok}
-use Rattle.css_styles.proofs.StyleLemmas.{found-rules, found-within}
+use Rattle.css_styles.proofs.StyleLemmas.{all-contend, found-within}
 use Rattle.css_styles.proofs.WinningLemmas.{are-winners}
 use Rattle.css_styles.proofs.styles.Styles.winners_named.Goals as goal
 
@@ -29,13 +29,11 @@ returns-clause-winners c = λ read matches are_read decides.
     let asked = names_of c.args.asked.now in
     let inside =
     subst (λ (v : StylesText). AreReadBy read v.rules v.walk.selectors) (sym c.self.view_is) are_read in
-    let stated_are : flat_map (stated_at rules) c.deref.result.now ≡ of_rules matches 0 rules =
-    ap (flat_map (stated_at rules)) c.deref.ensures.value
-    ∙ found-rules matches page_document (spot c.args.page.now c.args.element) read decides rules _ _ inside
-    c.in_ok-matching.ensures.matches in
     let all : map numbered_of c.deref-2.result.now ≡ contenders matches rules own =
-    ap (map numbered_of) c.deref-2.ensures.value ∙ c.in_ok-gather.ensures.contenders
-    ∙ ap (λ cs. cs ++ of_own own) stated_are in
+    ap (map numbered_of) c.deref-2.ensures.value
+    ∙ all-contend matches page_document (spot c.args.page.now c.args.element) read decides rules own
+    _ _ _ _ inside c.in_ok-matching.ensures.matches c.deref.ensures.value
+    c.in_ok-gather.ensures.contenders in
     let whole : map numbered_of c.deref-2.result.now
     ≡ contenders matches c.args.self.now.rules own =
     all ∙ ap (λ (v : StylesText). contenders matches v.rules own) c.self.view_is in
