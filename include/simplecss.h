@@ -167,16 +167,21 @@ typedef struct simplecss_tree_fault {
 /* Writes the version of the library, such as "0.2.0". */
 uint32_t simplecss_version(uint8_t *out, size_t out_size, size_t *len);
 
-/* Writes a line of JSON for each selector of a list with commas between them. Of a modern one it is
- * {"text":[0,13],"selector":"a > b::before","specificity":[0,0,3],"pseudo_element":"before"}
- * "text" is its range, in bytes of the list; "selector" is printed as CSSOM serializes it; "pseudo_element" is
- * null if it has none. Of the port it is {"selector":"a > b","specificity":[0,0,2]}. Refused if one of them is not
- * a selector. */
+/* Writes ten numbers of each selector of a list with commas between them: nine as simplecss_read writes of a
+ * selector, with offsets into the list, and the length of what simplecss_printed writes of it:
+ *   start len  is_read ids classes types  element name is_any  printed_len
+ * Of the port, offsets and lengths but for the last are 0. Refused if one of them is not a selector. `out_size` and
+ * `*len` count numbers. */
 uint32_t simplecss_list(const uint8_t *text, size_t text_len, size_t grammar,
-                        uint8_t *out, size_t out_size, size_t *len);
+                        size_t *out, size_t out_size, size_t *len);
 
-/* Writes a line of JSON for the first error of a list of selectors, or nothing where it has none:
- * {"row":1,"column":4,"reason":"`>` begins no selector"}, of `.a >> b`. Rows and columns begin at 1, and columns
+/* Writes the selectors of a list one after another, each printed as CSSOM serializes it. All else is as in
+ * simplecss_list. */
+uint32_t simplecss_printed(const uint8_t *text, size_t text_len, size_t grammar,
+                           uint8_t *out, size_t out_size, size_t *len);
+
+/* Writes the row, the column and the reason of the first error of a list of selectors, with a space between them, or
+ * nothing where it has none: "1 4 `>` begins no selector", of `.a >> b`. Rows and columns begin at 1, and columns
  * count characters. */
 uint32_t simplecss_refusal(const uint8_t *text, size_t text_len, size_t grammar,
                            uint8_t *out, size_t out_size, size_t *len);
@@ -214,14 +219,16 @@ uint32_t simplecss_select(const uint8_t *selectors, size_t selectors_len, size_t
  * then three: how many numbers follow for its group rules, for its selectors and for its items; and then these.
  * `closed` is 0 if the end of the text closes it, and else 1; a kind from SIMPLECSS_SKIPPED on says why it is skipped.
  * A rule with one invalid selector is skipped as a whole. Only rules have selectors and items. Each group rule that
- * the statement is in, such as @media, has six numbers, from the outermost; each selector of a rule has eight:
+ * the statement is in, such as @media, has six numbers, from the outermost; each selector of a rule has nine:
  *   start len  name name_len prelude prelude_len
- *   start len  is_read ids classes types  element element_len
+ *   start len  is_read ids classes types  element name is_any
  * `is_read` says whether what is before the pseudo-element is a modern selector, by which the library matches
  * elements: then `ids`, `classes` and `types` are the specificity of the whole. `element` is where the pseudo-element
- * begins, with its colons; 0 and 0 if there is none. Each item of the block has ten numbers, as a statement has, or
+ * begins, with its colons, and `name` where its name does; both are the end of the selector if there is none. `is_any`
+ * is 1 if there is one of any element, as in `a > ::before`: what is before it is then to be read with `*` after it.
+ * Each item of the block has ten numbers, as a statement has, or
  *   SIMPLECSS_DECLARATION  start len closed  name name_len value value_len  important 0
- * Of "a{b:c}" the numbers are 3 0 6 1 0 1 2 3 0 0, 0 8 10, 0 1 1 0 0 1 0 0, and 0 2 3 1 2 1 4 1 0 0. `most`, `out_size`
+ * Of "a{b:c}" the numbers are 3 0 6 1 0 1 2 3 0 0, 0 9 10, 0 1 1 0 0 1 1 1 0, and 0 2 3 1 2 1 4 1 0 0. `most`, `out_size`
  * and `*len` count numbers. */
 uint32_t simplecss_read(const uint8_t *text, size_t text_len, size_t most,
                         size_t *out, size_t out_size, size_t *len);
@@ -230,6 +237,16 @@ uint32_t simplecss_read(const uint8_t *text, size_t text_len, size_t most,
  * broken declaration. `out_size` and `*len` count numbers. */
 uint32_t simplecss_declarations(const uint8_t *text, size_t text_len,
                                 size_t *out, size_t out_size, size_t *len);
+
+/* Writes of each `@import` of a style sheet that is in force (CSS Cascading 5, section 2) a line of numbers, its texts
+ * one after another, and a newline:
+ *   start size  is_string url_len  layer layer_len  has_supports supports_len  media_len
+ * Numbers have one space between them, and `start` and lengths count bytes. The texts are as written: the url, which
+ * simplecss_decode decodes with `is_string` for `in_string`, 1 if it is between quotes; the name of the layer; what is
+ * in `supports(..)`; and the media queries. `layer` is 0 for none, 1 for one without a name, and 2 for one with a name.
+ * Of `@import "a" layer(b) print;` it is the lines "0 27 1 1 2 1 0 0 5" and "abprint". */
+uint32_t simplecss_imports(const uint8_t *text, size_t text_len,
+                           uint8_t *out, size_t out_size, size_t *len);
 
 /* The kinds of statements and items. Those from SIMPLECSS_SKIPPED on are skipped. */
 #define SIMPLECSS_DECLARATION 0u
@@ -348,22 +365,23 @@ typedef struct simplecss_asked {
 } simplecss_asked;
 
 /* Writes numbers of the style rules of sheets that apply, in the order of the cascade (CSS Cascading 5): by origins,
- * the user agent's first, then by layers, then by specificity, then as they stand. A rule set has a rule for each of its selectors that is supported. The
- * numbers of a rule are
- *   sheet start layer count
+ * the user agent's first, then by layers, then by specificity, then as they stand. A rule set has a rule for each of
+ * its selectors that is supported. The numbers of a rule are
+ *   sheet start layer  selector_len name_len  ids classes types  count
  * and then, for each of its `count` declarations,
  *   name name_len value value_len important closed
  * `sheet` is the number of the text, from 0; `start`, where the rule's declarations begin there, and `name` and
  * `value` are offsets into this text; `layer` is greater the later the layer of the rule is in its origin, and of the
- * author's how many layers are before; `important` and `closed` are 0 or 1. A style rule may be in another (CSS Nesting 1). Declarations between two rules in a rule are a
- * rule of their own. `out_size` and `*len` count numbers. The time grows as n log n of the texts and of the group
- * rules that are passed, if each is passed once. */
+ * author's how many layers are before; `selector_len` is the length of the selector's text, which simplecss_rule_texts
+ * writes, and `name_len` that of the name of a pseudo-element at its end, or 0; `ids`, `classes` and `types` are the
+ * specificity, with what `&` counts; `important` and `closed` are 0 or 1. A style rule may be in another (CSS Nesting
+ * 1). Declarations between two rules in a rule are a rule of their own. `out_size` and `*len` count numbers. The time
+ * grows as n log n of the texts and of the group rules that are passed, if each is passed once. */
 uint32_t simplecss_rules(const simplecss_sheets *sheets, size_t limit,
                          size_t *out, size_t out_size, size_t *len);
 
-/* Writes a line of JSON for each rule of simplecss_rules: the text of its selector, the name of the pseudo-element at
- * the end of that, or null, and the specificity, with what `&` counts:
- * {"text":"> b::before","pseudo_element":"before","specificity":[0,0,3]} */
+/* Writes the texts of the selectors of the rules of simplecss_rules, one after another, as they are written in the
+ * sheets. */
 uint32_t simplecss_rule_texts(const simplecss_sheets *sheets, size_t limit, size_t most,
                               uint8_t *out, size_t out_size, size_t *len);
 
@@ -382,7 +400,7 @@ uint32_t simplecss_rule_texts(const simplecss_sheets *sheets, size_t limit, size
  * the user agent wins as it is; if nothing is left, nothing wins. A rule with a
  * pseudo-element applies to no element. `grammar` is one of modern selectors; the port is refused. `most`, `out_size`
  * and `*len` count numbers. For each element the time grows as the declarations of all rules that match it, of which
- * `limit` is the most, and of its own, and once more for each layer or origin that is rolled back.
+ * `limit` is the most, and of its own; as n log n of these where one is rolled back.
  *
  * Each list of selectors of a style rule with rules in it is tested once on each element. These tests are at most
  * `most`, too: elements times lists, with one for each list and one for each of its selectors. */
@@ -476,15 +494,18 @@ uint32_t simplecss_port_sheet(const uint8_t *texts, size_t texts_len,
                               const size_t *ends, size_t ends_count, size_t limit,
                               uint8_t *out, size_t out_size, size_t *len);
 
-/* Writes a line of JSON for each rule of the style sheet of texts, in the order of specificity:
- * {"selector":"a","specificity":[0,0,1],
- *  "declarations":[{"name":"color","value":"red","important":false}]} */
+/* Writes of each rule of the style sheet of texts, in the order of specificity, a line of numbers, its printed
+ * selector and a newline, and then of each of its declarations a line of numbers, its name, its value and a newline:
+ *   ids classes types selector_len count
+ *   name_len value_len important
+ * Numbers have a space between them, and lengths count bytes. Of `a{b:c}` it is the lines "0 0 1 1 1", "a", "1 1 0" and
+ * "bc". */
 uint32_t simplecss_port_rules(const uint8_t *texts, size_t texts_len,
                               const size_t *ends, size_t ends_count, size_t limit,
                               uint8_t *out, size_t out_size, size_t *len);
 
-/* Writes a line of JSON for each piece of a style sheet's text that is skipped:
- * {"row":1,"column":1,"reason":"at-rule not supported","text":"@media print"} */
+/* Writes of each piece of a style sheet's text that is skipped a line, "row column text_len reason", what is quoted of
+ * it, and a newline: the lines "1 1 12 at-rule not supported" and "@media print". */
 uint32_t simplecss_port_skipped(const uint8_t *text, size_t text_len,
                                 uint8_t *out, size_t out_size, size_t *len);
 
@@ -498,7 +519,7 @@ uint32_t simplecss_port_match(const uint8_t *texts, size_t texts_len,
 
 /* Writes a line for each element of a tree: its number, a colon, the value of the declaration that
  * wins for the name after a space, ` !important` if it is important, and a newline. A value may have
- * newlines; simplecss_port_styles escapes them. */
+ * newlines; simplecss_port_styles says its length. */
 uint32_t simplecss_port_style(const uint8_t *texts, size_t texts_len,
                               const size_t *ends, size_t ends_count, size_t limit,
                               const simplecss_tree *tree,
@@ -506,9 +527,8 @@ uint32_t simplecss_port_style(const uint8_t *texts, size_t texts_len,
                               uint8_t *out, size_t out_size, size_t *len,
                               simplecss_tree_fault *fault);
 
-/* Writes a line of JSON for each element of a tree: an array of the winning declaration of each name,
- * in the order in which the cascade applies them:
- * [{"name":"color","value":"red","important":false}] */
+/* Writes of each element of a tree a line of how many names have a winning declaration, and then each of these, as
+ * simplecss_port_rules does, in the order in which the cascade applies them. */
 uint32_t simplecss_port_styles(const uint8_t *texts, size_t texts_len,
                                const size_t *ends, size_t ends_count, size_t limit,
                                const simplecss_tree *tree, size_t most,

@@ -5,12 +5,11 @@ pub mod RepeatedKeys
 pub mod Building
 pub mod PageCalls
 pub mod ListFacts
-pub mod JsonTexts
-pub mod JsonVectors
+pub mod LineTexts
+pub mod PortSteps
+pub mod PortVectors
 pub mod SelectorTexts
 pub mod PlacedNumbers
-pub mod FurtherMembers
-pub mod SheetTexts
 pub mod PageLines
 pub mod ModernPages
 pub mod ModernLists
@@ -21,3 +20,5 @@ pub mod WinnerSteps
 pub mod WinnerCalls
 pub mod ValueCalls
 pub mod OwnTexts
+pub mod ImportSteps
+pub mod ImportVectors

@@ -1,13 +1,13 @@
 -- What a call for modern selectors answers.
--- Serves `modern::{list, refusal, page_lines, match_selectors, select}`.
-use Rattle.std.proofs.Common.{◌≡◌, ℕ, List, length, map, Option, None, Some, inl, inr, sym, ap, subst, ◌∙◌}
-use Rattle.std.specs.Prelude.{Result, Ok, Err, MatchResult, string_bytes}
+-- Serves `modern::{list, printed, refusal, page_lines, match_selectors, select}`.
+use Rattle.std.proofs.Common.{◌≡◌, ℕ, List, map, Option, None, Some, inl, inr, sym, ap, subst, ◌∙◌}
+use Rattle.std.specs.Prelude.{Result, Ok, Err, MatchResult, Vec, string_bytes}
 use Rattle.std.specs.Option.{option_map}
 use Rattle.std.specs.Result.{IsErrAnd}
 use Rattle.std.specs.declared.string.String.{String}
 use Rattle.std.specs.Str.{IsUtf8}
 use Rattle.css_sheet.specs.RuleSelectors.{selector_of}
-use Rattle.css_selectors.specs.Components.{Selector}
+use Rattle.css_selectors.specs.Components.{Placed, Selector}
 use Rattle.css_selectors.specs.Supported.{supported_list}
 use Rattle.css_tree.specs.Pages.{Page}
 use Rattle.simplecss_tree.specs.Rows.{Row}
@@ -16,10 +16,10 @@ use Rattle.simplecss_c.specs.declared.answer.CallError.TheVariants.{Memory}
 use Rattle.simplecss_c.specs.declared.modern.document_kind.DocumentKind.{DocumentKind}
 use Rattle.simplecss_c.specs.declared.pages.LineContent.{LineContent}
 use Rattle.simplecss_c.specs.declared.pages.LineContent.TheVariants.{Numbers, Selected}
-use Rattle.simplecss_c.specs.Outcomes.{outcome_of}
+use Rattle.simplecss_c.specs.Outcomes.{numbers_outcome, outcome_of}
 use Rattle.simplecss_c.specs.Calls.{FailsFor, FailsWithin, FailsLonger, HasTexts, HasNoSelector, AreSelectorsIn, HasBadEnds, IsBrokenUtf8, Passed, passed_tree}
-use Rattle.simplecss_c.specs.ModernCalls.{AreReadLines, IsModernListCall, IsModernRefusalCall, IsModernMatchCall, IsModernSelectCall}
-use Rattle.simplecss_c.specs.ModernLines.{listed_lines, IsRefusalLine, page_with, AreModernLines}
+use Rattle.simplecss_c.specs.ModernCalls.{AreReadLines, IsOfList, IsModernRefusalCall, IsModernMatchCall, IsModernSelectCall}
+use Rattle.simplecss_c.specs.ModernLines.{IsRefusal, page_with, AreModernLines}
 use Rattle.simplecss_c.specs.Readings.{listed_in, selector_as, selectors_of}
 use Rattle.simplecss_c.proofs.ModernPages.{fails_wider}
 use Rattle.simplecss_c.proofs.Limits.{fails_within, within_wider, longer_wider}
@@ -74,29 +74,44 @@ lines-due most content kind selectors passed rows page utf8 tree same (Err error
           longer,
     )) error due
 
--- the lines of the selectors of a list, of a text that was read
-pub listed-due : {Z : Type 0} (text read : List ℕ) → read ≡ text → IsUtf8 text
-    → (r : Result (String Z) CallError)
-    → MatchResult r
-    (λ lines. option_map (listed_lines (length read)) (listed_in read) ≡ Some (string_bytes lines))
-    (λ error. FailsFor (listed_in read ≡ None) (λ fault. ⊥) ⊥ error)
-    → IsModernListCall text (outcome_of r)
-listed-due text read same utf8 (Ok lines) due = (
-  utf8,
-  ap (λ t. option_map (listed_lines (length t)) (listed_in t)) (sym same) ∙ due,
-)
-listed-due text read same utf8 (Err error) due =
-    fails_wider (λ none. ap listed_in (sym same) ∙ none) (λ fault is. absurd is)
-    (λ is. absurd is) error due
+-- what is written of the selectors of a list, of a text that was read
+module _ (written : List ℕ → List Placed → List ℕ) (text read : List ℕ) (same : read ≡ text)
+    (utf8 : IsUtf8 text) where
+  listed-ok : (answer : List ℕ) → option_map (written read) (listed_in read) ≡ Some answer
+      → IsOfList (written text) text (Ok answer)
+  listed-ok answer due =
+      (utf8, ap (λ t. option_map (written t) (listed_in t)) (sym same) ∙ due)
 
--- the line of a refusal, of a text that was read
+  listed-failed : (error : CallError) → FailsFor (listed_in read ≡ None) (λ fault. ⊥) ⊥ error
+      → IsOfList (written text) text (Err error)
+  listed-failed error due =
+      fails_wider (λ none. ap listed_in (sym same) ∙ none) (λ fault is. absurd is)
+      (λ is. absurd is) error due
+
+  -- as numbers
+  pub numbers-listed : {Z : Type 0} (r : Result (Vec ℕ Z) CallError)
+      → MatchResult r (λ out. option_map (written read) (listed_in read) ≡ Some out.items)
+      (λ error. FailsFor (listed_in read ≡ None) (λ fault. ⊥) ⊥ error)
+      → IsOfList (written text) text (numbers_outcome r)
+  numbers-listed (Ok out) due = listed-ok out.items due
+  numbers-listed (Err error) due = listed-failed error due
+
+  -- as a text
+  pub text-listed : {Z : Type 0} (r : Result (String Z) CallError)
+      → MatchResult r (λ out. option_map (written read) (listed_in read) ≡ Some (string_bytes out))
+      (λ error. FailsFor (listed_in read ≡ None) (λ fault. ⊥) ⊥ error)
+      → IsOfList (written text) text (outcome_of r)
+  text-listed (Ok out) due = listed-ok (string_bytes out) due
+  text-listed (Err error) due = listed-failed error due
+
+-- the refusal of a text that was read
 pub refusal-due : {Z : Type 0} (text read : List ℕ) → read ≡ text → IsUtf8 text
     → (r : Result (String Z) CallError)
-    → MatchResult r (λ line. IsRefusalLine read (supported_list read) (string_bytes line))
+    → MatchResult r (λ refusal. IsRefusal read (supported_list read) (string_bytes refusal))
     (λ error. error ≡ Memory)
     → IsModernRefusalCall text (outcome_of r)
-refusal-due text read same utf8 (Ok line) due =
-    (utf8, subst (λ t. IsRefusalLine t (supported_list t) (string_bytes line)) same due)
+refusal-due text read same utf8 (Ok refusal) due =
+    (utf8, subst (λ t. IsRefusal t (supported_list t) (string_bytes refusal)) same due)
 refusal-due text read same utf8 (Err error) due =
     subst (λ e. IsModernRefusalCall text (Err e)) (sym due) tt
 

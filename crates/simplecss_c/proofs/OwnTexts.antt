@@ -1,6 +1,6 @@
 -- The texts of an element's declarations that are in no rule, among those of all.
 -- Serves `contents::{text_at, own_at}`.
-use Rattle.std.proofs.Common.{◌≡◌, ℕ, ◌<◌, ◌≤◌, ◌+◌, ◌*◌, List, [], length, map, get_or, Some, inl, inr, refl, sym, ap, ◌∙◌, arith, option_map}
+use Rattle.std.proofs.Common.{◌≡◌, ℕ, ◌<◌, ◌≤◌, ◌+◌, ◌*◌, List, [], length, map, get_or, Some, inl, inr, sym, ap, ◌∙◌, arith, option_map}
 use Rattle.std.specs.Borrow.{Bor}
 use Rattle.std.proofs.lemmas.Option.{slice_get-map, slice_get-get_or, slice_get_cases}
 use Rattle.css_styles.specs.Contenders.{OwnText}

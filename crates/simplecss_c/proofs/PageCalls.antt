@@ -1,5 +1,5 @@
 -- What a call over a tree answers, and one with a limit on its answer.
--- Serves `calls::{read, matches, select, match_selectors, styles, style_text}`.
+-- Serves `calls::read` and `port::{matches, select, match_selectors, style, styles}`.
 use Rattle.std.proofs.Common.{◌≡◌, ◌<◌, ◌≤◌, ℕ, List, length, Option, None, Some, inl, inr, sym, ap, ◌∙◌, subst}
 use Rattle.std.specs.Prelude.{Vec, Result, Ok, Err, MatchResult, string_bytes}
 use Rattle.std.specs.Result.{IsErrAnd}
@@ -15,37 +15,36 @@ use Rattle.simplecss_c.specs.declared.answer.CallError.{CallError}
 use Rattle.simplecss_c.specs.declared.answer.CallError.TheVariants.{Refused, Tree, Memory, TooManyDeclarations, NotUtf8, AnswerTooLong, TooManyLayers}
 use Rattle.simplecss_c.specs.Outcomes.{outcome_of, numbers_outcome}
 use Rattle.simplecss_c.specs.declared.pages.LineContent.TheVariants.{Numbers, Selected}
-use Rattle.simplecss_c.specs.Calls.{HasTexts, IsReadWithin, Passed, passed_tree, IsPageCall, IsStyleCall, IsPortSelectCall, IsPortMatchSelectorsCall, AreSelectorsIn, HasNoSelector, HasBadEnds, IsBrokenUtf8, FailsFor, FailsLonger}
+use Rattle.simplecss_c.specs.Calls.{FailsOnPage, HasTexts, IsReadPage, Passed, passed_tree, IsPageCall, IsStyleCall, IsPortSelectCall, IsPortMatchSelectorsCall, AreSelectorsIn, HasNoSelector, HasBadEnds, IsBrokenUtf8, FailsFor, FailsLonger}
 use Rattle.simplecss_c.specs.AnswerLines.{AreLinesOf, AreWinnerLines}
 use Rattle.simplecss_c.specs.SheetNumbers.{IsReadCall, sheet_numbers}
 use Rattle.simplecss_c.proofs.Limits.{fails_within, within_wider, longer_wider}
 
 -- the lines that are due, or why there are none
 pub page_due : {Z : Type 0} (IsAnswer : List StyleRule → List Row → Option (List ℕ) → Type 0)
-    (buffer ends : List ℕ) (limit : ℕ) (passed : Passed) (texts : List (List ℕ)) (rows : List Row)
-    → HasTexts buffer ends texts → IsUtf8 passed.strings → passed_tree passed ≡ Ok rows
-    → (rules : List StyleRule) → IsReadWithin limit texts rules
+    (buffer ends : List ℕ) (limit : ℕ) (passed : Passed) (rules : List StyleRule) (rows : List Row)
+    → IsReadPage buffer ends limit passed rules rows → (same : List StyleRule) → same ≡ rules
     → (r : Result (String Z) CallError)
-    → MatchResult r (λ text. IsAnswer rules rows (Some (string_bytes text)))
-    (FailsLonger (IsAnswer rules rows None))
+    → MatchResult r (λ text. IsAnswer same rows (Some (string_bytes text)))
+    (FailsLonger (IsAnswer same rows None))
     → IsPageCall IsAnswer buffer ends limit passed (outcome_of r)
-page_due IsAnswer buffer ends limit passed texts rows has utf8 tree rules read (Ok text) due = (
-  texts,
-  rows,
-  (has, read.1),
-  utf8,
-  tree,
-  subst (λ rules. IsAnswer rules rows (Some (string_bytes text))) read.0 due,
-)
-page_due IsAnswer buffer ends limit passed texts rows has utf8 tree rules read (Err failure) due =
-    longer_wider _ _ _ _ (λ longer. (
-      texts,
-      rows,
-      (has, read.1),
-      utf8,
-      tree,
-      subst (λ rules. IsAnswer rules rows None) read.0 longer,
-    )) failure due
+page_due IsAnswer buffer ends limit passed rules rows read same is (Ok text) due =
+    (rules, rows, read, subst (λ rules. IsAnswer rules rows (Some (string_bytes text))) is due)
+page_due IsAnswer buffer ends limit passed rules rows read same is (Err failure) due =
+    longer_wider _ _ _ _ (λ longer.
+    (rules, rows, read, subst (λ rules. IsAnswer rules rows None) is longer)) failure due
+
+-- why texts or a tree are none
+pub page_failed : {Z : Type 0} (IsAnswer : List StyleRule → List Row → Option (List ℕ) → Type 0)
+    (buffer ends : List ℕ) (limit : ℕ) (passed : Passed) (r : Result (String Z) CallError)
+    (failure : CallError) → IsErrAnd r (λ reported. reported ≡ failure)
+    → FailsOnPage buffer ends limit passed ⊥ failure
+    → IsPageCall IsAnswer buffer ends limit passed (outcome_of r)
+page_failed IsAnswer buffer ends limit passed (Ok text) failure is due = absurd is
+page_failed IsAnswer buffer ends limit passed (Err reported) failure is due =
+    subst (λ f. IsPageCall IsAnswer buffer ends limit passed (Err f)) (sym is)
+    (within_wider (λ bad. bad) (λ fault is. is) (λ broken. broken) (λ over. over) (λ is. absurd is)
+    failure due)
 
 -- the lines that are due for a name, or why there are none
 pub style_due : {Z : Type 0} (most : ℕ) (buffer ends : List ℕ) (limit : ℕ) (passed : Passed)

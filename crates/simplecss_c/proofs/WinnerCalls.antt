@@ -22,7 +22,7 @@ use Rattle.simplecss_c.specs.MarkedPages.{AreOnMarked}
 use Rattle.simplecss_c.specs.ModernLines.{page_with}
 use Rattle.std.specs.declared.string.String.{String}
 use Rattle.simplecss_c.specs.Outcomes.{numbers_outcome, outcome_of}
-use Rattle.simplecss_c.specs.RuleTexts.{rule_text_lines, AreLongerTexts, IsRuleTextsCall}
+use Rattle.simplecss_c.specs.RuleTexts.{rule_texts, AreLongerTexts, IsRuleTextsCall}
 use Rattle.simplecss_c.specs.Readings.{selector_as}
 use Rattle.simplecss_c.specs.WinnerNumbers.{ContentText, PassedSheets, AreSheets, FailsBeside, AreAskedOnTree, AreBeyond, AreRules, AreNumbers, HasBadContent, IsBrokenContent, IsContent, IsModernNumbersCall, held_declarations, held_layers, unread}
 use Rattle.simplecss_c.proofs.Limits.{fails_within, within_wider, longer_wider}
@@ -163,20 +163,20 @@ module _ (asked : ElementContent) (content : ContentText) (asks : IsContent aske
         (rules, lists, rows, are, utf8, tree, subst (λ p. are_on p None) same longer),
       )) error due)
 
--- the lines that are due for the rules of sheets
+-- the texts that are due for the rules of sheets
 pub texts-due : {Z : Type 0} (most limit : ℕ) (sheets : PassedSheets) (rules same : List SheetRuleText)
     (lists : List (List Selector)) → AreRules sheets limit rules lists → same ≡ rules
     → (r : Result (String Z) CallError)
-    → MatchResult r (λ lines. (string_bytes lines ≡ rule_text_lines same)
-    × (length (string_bytes lines) ≤ most)) (FailsLonger (most < length (rule_text_lines same)))
+    → MatchResult r (λ lines. (string_bytes lines ≡ rule_texts same)
+    × (length (string_bytes lines) ≤ most)) (FailsLonger (most < length (rule_texts same)))
     → IsRuleTextsCall most limit sheets (outcome_of r)
 texts-due most limit sheets rules same lists are is (Ok text) due =
-    (rules, lists, are, due.0 ∙ ap rule_text_lines is, due.1)
+    (rules, lists, are, due.0 ∙ ap rule_texts is, due.1)
 texts-due most limit sheets rules same lists are is (Err error) due =
     longer-beside sheets limit ⊥ (λ fault. ⊥) ⊥ (AreLongerTexts most limit sheets) error
     (longer_wider _ _ _ _ (λ longer. (
       rules,
       lists,
       are,
-      subst (λ rs. most < length (rule_text_lines rs)) is longer,
+      subst (λ rs. most < length (rule_texts rs)) is longer,
     )) error due)

@@ -11,7 +11,7 @@ use Rattle.simplecss_tree.specs.Rows.{Row}
 use Rattle.cssq.specs.MatchRuns.{AreLines, numbers_line}
 use Rattle.cssq.specs.StyleRuns.{style_line}
 use Rattle.cssq.specs.Winners.{IsStated, Wins, WinsForItsName, ListsInOrder}
-use Rattle.simplecss_c.specs.JsonLines.{line, declaration_array}
+use Rattle.simplecss_c.specs.PortTexts.{counted_texts}
 use Rattle.simplecss_c.specs.declared.pages.LineContent.{LineContent}
 use Rattle.simplecss_c.specs.declared.pages.LineContent.TheVariants.{Numbers, Selected}
 use Rattle.simplecss_c.specs.declared.pages.WonContent.{WonContent}
@@ -69,13 +69,13 @@ abbrev pub AreWinnerLines : (most : ℕ) → List ℕ → List StyleRule → Lis
 AreWinnerLines most name rules rows =
     AreLinesWithin most (IsWinnerLine name rules rows) (length rows)
 
--- the line of all that wins on the element at an index: for each name what wins for it, in the
--- order of rules and of declarations in them
+-- how many declarations win on the element at an index, and these: for each name what wins for it, in
+-- the order of rules and of declarations in them
 abbrev pub IsWinnersLine : List StyleRule → List Row → ℕ → List ℕ → Type 0
 IsWinnersLine rules rows index text =
     (winners : List StyleDeclaration)
     × ListsInOrder (WinsForItsName element_tree (spot rows index) rules) winners
-    × (text ≡ line (declaration_array winners))
+    × (text ≡ counted_texts winners)
 
 -- the lines of all elements, in order
 abbrev pub AreWinnersLines : (most : ℕ) → List StyleRule → List Row → Option (List ℕ) → Type 0

@@ -21,7 +21,9 @@ use Rattle.simplecss_c.specs.declared.answer.CallError.TheVariants.{Refused, Tre
 use Rattle.simplecss_c.specs.declared.pages.LineContent.TheVariants.{Numbers, Selected}
 use Rattle.simplecss_c.specs.Texts.{texts_in}
 use Rattle.simplecss_c.specs.Elements.{tree_of}
-use Rattle.simplecss_c.specs.JsonLines.{rule_lines, skipped_lines, selector_lines, read_line}
+use Rattle.simplecss_c.specs.PortTexts.{rule_texts, skipped_texts}
+use Rattle.simplecss_c.specs.Refusals.{read_text}
+use Rattle.simplecss_c.specs.SelectorNumbers.{port_numbers, port_texts}
 use Rattle.simplecss_c.specs.AnswerLines.{AreLinesOf, AreMatchLines, AreWinnerLines, AreWinnersLines}
 
 -- A failure has its own reason. Any call may be out of memory.
@@ -116,27 +118,36 @@ IsSheetCall IsText buffer ends limit (Err failure) =
 abbrev pub IsPrinted : List StyleRule → List ℕ → Type 0
 IsPrinted rules bytes = bytes ≡ sheet_output rules
 
--- a line in JSON for each rule
-abbrev pub IsRuleLines : List StyleRule → List ℕ → Type 0
-IsRuleLines rules bytes = bytes ≡ rule_lines rules
+-- what is written of each rule
+abbrev pub AreRuleTexts : List StyleRule → List ℕ → Type 0
+AreRuleTexts rules bytes = bytes ≡ rule_texts rules
 
--- a line in JSON for each part of the text that is skipped
+-- what is written of each piece of the text that is skipped
 abbrev pub IsSkippedCall : List ℕ → Result (List ℕ) CallError → Type 0
 IsSkippedCall text (Ok bytes) =
-    IsUtf8 text × (bytes ≡ skipped_lines text (skipped this_edition text))
+    IsUtf8 text × (bytes ≡ skipped_texts text (skipped this_edition text))
 IsSkippedCall text (Err failure) = FailsFor ⊥ (λ fault. ⊥) (¬ (IsUtf8 text)) failure
 
--- a line in JSON for each selector of the list, or why there is none
-abbrev pub IsPortListCall : List ℕ → Result (List ℕ) CallError → Type 0
-IsPortListCall text (Ok bytes) =
+-- what is written of the selectors of the list, or why it is none
+abbrev pub IsOfPortList : (List (List Component) → List ℕ) → List ℕ → Result (List ℕ) CallError
+    → Type 0
+IsOfPortList written text (Ok answer) =
     IsUtf8 text × (selectors : List (List Component)) × (list_of this_edition text ≡ Some selectors)
-    × (bytes ≡ selector_lines selectors)
-IsPortListCall text (Err failure) =
+    × (answer ≡ written selectors)
+IsOfPortList written text (Err failure) =
     FailsFor (list_of this_edition text ≡ None) (λ fault. ⊥) (¬ (IsUtf8 text)) failure
 
--- the line of why a text is no list of selectors, or nothing where it is one
+-- the numbers of each selector of the list
+abbrev pub IsPortListCall : List ℕ → Result (List ℕ) CallError → Type 0
+IsPortListCall = IsOfPortList port_numbers
+
+-- the printed texts of the selectors of the list
+abbrev pub IsPortPrintedCall : List ℕ → Result (List ℕ) CallError → Type 0
+IsPortPrintedCall = IsOfPortList port_texts
+
+-- where the text is no list of selectors, and why, or nothing where it is one
 abbrev pub IsPortRefusalCall : List ℕ → Result (List ℕ) CallError → Type 0
-IsPortRefusalCall text (Ok bytes) = IsUtf8 text × (bytes ≡ read_line (list_read this_edition text))
+IsPortRefusalCall text (Ok bytes) = IsUtf8 text × (bytes ≡ read_text (list_read this_edition text))
 IsPortRefusalCall text (Err failure) = FailsFor ⊥ (λ fault. ⊥) (¬ (IsUtf8 text)) failure
 
 -- The value with what closes it, read whole. Which values are refused is not said.
@@ -158,13 +169,25 @@ passed_of p = record { elements = p.elements.now; strings = p.strings.now; ends 
 abbrev pub passed_tree : Passed → Result (List Row) ElementFault
 passed_tree passed = tree_of passed.elements passed.strings passed.ends
 
+-- the rules of the sheet of the texts, which hold at most this number of declarations, and a tree
+abbrev pub IsReadPage : List ℕ → List ℕ → (limit : ℕ) → Passed → List StyleRule → List Row → Type 0
+IsReadPage buffer ends limit passed rules rows =
+    (texts : List (List ℕ)) × HasTextsWithin buffer ends limit texts × IsUtf8 passed.strings
+    × (passed_tree passed ≡ Ok rows) × (rules ≡ sheet this_edition texts)
+
+-- why texts or a tree are none, or why they have no answer
+abbrev pub FailsOnPage : List ℕ → List ℕ → (limit : ℕ) → Passed → (IsLonger : Type 0) → CallError
+    → Type 0
+FailsOnPage buffer ends limit passed IsLonger =
+    FailsWithin (HasBadEnds buffer ends) (λ fault. passed_tree passed ≡ Err fault)
+    (IsBrokenUtf8 buffer ends ⊎ ¬ (IsUtf8 passed.strings)) (IsBeyond buffer ends limit) IsLonger
+
 -- what the sheet of the texts and a tree have for an answer, or none within a limit
 abbrev pub IsPage : (List StyleRule → List Row → Option (List ℕ) → Type 0) → List ℕ → List ℕ
     → (limit : ℕ) → Passed → Option (List ℕ) → Type 0
 IsPage IsAnswer buffer ends limit passed answer =
-    (texts : List (List ℕ)) × (rows : List Row) × HasTextsWithin buffer ends limit texts
-    × IsUtf8 passed.strings × (passed_tree passed ≡ Ok rows)
-    × IsAnswer (sheet this_edition texts) rows answer
+    (rules : List StyleRule) × (rows : List Row) × IsReadPage buffer ends limit passed rules rows
+    × IsAnswer rules rows answer
 
 -- what is written for the sheet of the texts and a tree, or why nothing is
 abbrev pub IsPageCall : (List StyleRule → List Row → Option (List ℕ) → Type 0) → List ℕ → List ℕ
@@ -172,9 +195,7 @@ abbrev pub IsPageCall : (List StyleRule → List Row → Option (List ℕ) → T
 IsPageCall IsAnswer buffer ends limit passed (Ok bytes) =
     IsPage IsAnswer buffer ends limit passed (Some bytes)
 IsPageCall IsAnswer buffer ends limit passed (Err failure) =
-    FailsWithin (HasBadEnds buffer ends) (λ fault. passed_tree passed ≡ Err fault)
-    (IsBrokenUtf8 buffer ends ⊎ ¬ (IsUtf8 passed.strings)) (IsBeyond buffer ends limit)
-    (IsPage IsAnswer buffer ends limit passed None) failure
+    FailsOnPage buffer ends limit passed (IsPage IsAnswer buffer ends limit passed None) failure
 
 -- Of texts, one is no selector, and those before it are.
 abbrev pub HasNoSelector : {S : Type 0} → (List ℕ → Option S) → List (List ℕ) → Type 0

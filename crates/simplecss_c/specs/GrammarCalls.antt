@@ -5,16 +5,22 @@ use Rattle.simplecss_c.specs.declared.answer.CallError.{CallError}
 use Rattle.simplecss_c.specs.declared.answer.CallError.TheVariants.{Refused}
 use Rattle.simplecss_c.specs.declared.grammar.Grammar.{Grammar}
 use Rattle.simplecss_c.specs.declared.grammar.Grammar.TheVariants.{Modern, Port}
-use Rattle.simplecss_c.specs.Calls.{Passed, IsPortListCall, IsPortRefusalCall, IsPortMatchSelectorsCall, IsPortSelectCall}
-use Rattle.simplecss_c.specs.ModernCalls.{IsModernListCall, IsModernRefusalCall, IsModernMatchCall, IsModernSelectCall}
+use Rattle.simplecss_c.specs.Calls.{Passed, IsPortListCall, IsPortPrintedCall, IsPortRefusalCall, IsPortMatchSelectorsCall, IsPortSelectCall}
+use Rattle.simplecss_c.specs.ModernCalls.{IsModernListCall, IsModernPrintedCall, IsModernRefusalCall, IsModernMatchCall, IsModernSelectCall}
 
--- a line in JSON for each selector of the list, or why there is none
+-- the numbers of each selector of the list, or why there are none
 abbrev pub IsListCall : Option Grammar → List ℕ → Result (List ℕ) CallError → Type 0
 IsListCall None text outcome = outcome ≡ Err Refused
 IsListCall (Some (Modern reading)) text outcome = IsModernListCall text outcome
 IsListCall (Some Port) text outcome = IsPortListCall text outcome
 
--- the line of why a text is no list of selectors, or nothing where it is one
+-- the printed texts of the selectors of the list, or why there are none
+abbrev pub IsPrintedCall : Option Grammar → List ℕ → Result (List ℕ) CallError → Type 0
+IsPrintedCall None text outcome = outcome ≡ Err Refused
+IsPrintedCall (Some (Modern reading)) text outcome = IsModernPrintedCall text outcome
+IsPrintedCall (Some Port) text outcome = IsPortPrintedCall text outcome
+
+-- where the text is no list of selectors, and why, or nothing where it is one
 abbrev pub IsRefusalCall : Option Grammar → List ℕ → Result (List ℕ) CallError → Type 0
 IsRefusalCall None text outcome = outcome ≡ Err Refused
 IsRefusalCall (Some (Modern reading)) text outcome = IsModernRefusalCall text outcome

@@ -10,8 +10,7 @@ use Rattle.css_syntax.specs.Placed.{PlacedItem, placed_items}
 use Rattle.css_syntax.specs.Statements.{BlockText, AtRuleText}
 use Rattle.simplecss_c.specs.declared.answer.CallError.{CallError}
 use Rattle.simplecss_c.specs.Calls.{FailsFor}
-use Rattle.simplecss_c.specs.NumberLines.{offset}
-use Rattle.simplecss_c.specs.WinnerNumbers.{number_if}
+use Rattle.simplecss_c.specs.Numbers.{number_if, offset}
 
 -- The number of what is skipped for this reason. Numbers before these are a declaration (0), an at-rule
 -- with a block (1) or without one (2), and a rule (3).

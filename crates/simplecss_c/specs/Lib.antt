@@ -2,9 +2,10 @@ pub mod Outcomes
 pub mod Texts
 pub mod Elements
 pub mod Answers
-pub mod Json
-pub mod JsonLines
-pub mod Ranges
+pub mod Numbers
+pub mod Refusals
+pub mod PortTexts
+pub mod SelectorNumbers
 pub mod AnswerLines
 pub mod Calls
 pub mod Grammars
@@ -20,5 +21,6 @@ pub mod WinnerNumbers
 pub mod ItemNumbers
 pub mod SheetNumbers
 pub mod RuleTexts
+pub mod ImportLines
 pub mod Spellings
 pub mod internal

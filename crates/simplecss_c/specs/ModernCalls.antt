@@ -3,27 +3,36 @@ use Rattle.std.specs.Prelude.{◌≡◌, ◌⊎◌, ℕ, List, map, length, Opti
 use Rattle.std.specs.Option.{option_map}
 use Rattle.std.specs.Str.{IsUtf8}
 use Rattle.css_sheet.specs.RuleSelectors.{selector_of}
-use Rattle.css_selectors.specs.Components.{Selector}
+use Rattle.css_selectors.specs.Components.{Placed, Selector}
 use Rattle.css_selectors.specs.Supported.{supported_list}
 use Rattle.simplecss_tree.specs.Rows.{Row}
 use Rattle.simplecss_c.specs.declared.answer.CallError.{CallError}
 use Rattle.simplecss_c.specs.declared.modern.document_kind.DocumentKind.{DocumentKind}
 use Rattle.simplecss_c.specs.declared.pages.LineContent.{LineContent}
 use Rattle.simplecss_c.specs.declared.pages.LineContent.TheVariants.{Numbers, Selected}
-use Rattle.simplecss_c.specs.Calls.{FailsFor, FailsWithin, HasTexts, HasBadEnds, IsBrokenUtf8, HasNoSelector, HasRefusedText, AreSelectorsIn, Passed, passed_tree}
-use Rattle.simplecss_c.specs.ModernLines.{listed_lines, IsRefusalLine, page_with, AreModernLines}
+use Rattle.simplecss_c.specs.Calls.{FailsFor, FailsWithin, HasTexts, HasBadEnds, IsBrokenUtf8, HasRefusedText, AreSelectorsIn, Passed, passed_tree}
+use Rattle.simplecss_c.specs.ModernLines.{IsRefusal, page_with, AreModernLines}
 use Rattle.simplecss_c.specs.Readings.{listed_in, selector_as, selectors_of}
+use Rattle.simplecss_c.specs.SelectorNumbers.{listed_numbers, printed_texts}
 
--- a line in JSON for each selector of the list, or why there is none
-abbrev pub IsModernListCall : List ℕ → Result (List ℕ) CallError → Type 0
-IsModernListCall text (Ok bytes) =
-    IsUtf8 text × (option_map (listed_lines (length text)) (listed_in text) ≡ Some bytes)
-IsModernListCall text (Err error) =
+-- what is written of the selectors of the list, or why it is none
+abbrev pub IsOfList : (List Placed → List ℕ) → List ℕ → Result (List ℕ) CallError → Type 0
+IsOfList written text (Ok answer) =
+    IsUtf8 text × (option_map written (listed_in text) ≡ Some answer)
+IsOfList written text (Err error) =
     FailsFor (listed_in text ≡ None) (λ fault. ⊥) (¬ (IsUtf8 text)) error
 
--- the line of why a text is no list of selectors, or nothing where it is one
+-- the numbers of each selector of the list
+abbrev pub IsModernListCall : List ℕ → Result (List ℕ) CallError → Type 0
+IsModernListCall text = IsOfList (listed_numbers (length text)) text
+
+-- the printed texts of the selectors of the list
+abbrev pub IsModernPrintedCall : List ℕ → Result (List ℕ) CallError → Type 0
+IsModernPrintedCall text = IsOfList printed_texts text
+
+-- where the text is no list of selectors, and why, or nothing where it is one
 abbrev pub IsModernRefusalCall : List ℕ → Result (List ℕ) CallError → Type 0
-IsModernRefusalCall text (Ok bytes) = IsUtf8 text × IsRefusalLine text (supported_list text) bytes
+IsModernRefusalCall text (Ok bytes) = IsUtf8 text × IsRefusal text (supported_list text) bytes
 IsModernRefusalCall text (Err error) = FailsFor ⊥ (λ fault. ⊥) (¬ (IsUtf8 text)) error
 
 -- which elements of a tree the selectors match, as a document reads them, or none within a limit

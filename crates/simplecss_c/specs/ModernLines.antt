@@ -1,16 +1,12 @@
 -- What is written of modern selectors, and of the elements that they match.
-use Rattle.std.specs.Prelude.{◌≡◌, ℕ, Bool, true, false, ◌+◌, ◌-◌, List, [], ◌∷◌, ◌++◌, codes, length, map, Option, None, Some, if◌then◌else◌, ◌==◌}
-use Rattle.std.specs.List.{flat_map}
+use Rattle.std.specs.Prelude.{◌≡◌, ℕ, Bool, true, false, ◌+◌, List, [], ◌++◌, codes, length, map, Option, if◌then◌else◌, ◌==◌}
 use Rattle.std.specs.Str.{IsCharBoundary}
 use Rattle.css_text.specs.Errors.{position_of}
 use Rattle.css_text.specs.Reading.{rest_offset}
 use Rattle.css_text.specs.declared.TextPos.{TextPos}
-use Rattle.std.specs.Option.{option_map}
-use Rattle.css_selectors.specs.Components.{Placed, PseudoElement, Selector}
-use Rattle.css_selectors.specs.Printing.{selector_text}
+use Rattle.css_selectors.specs.Components.{Selector}
 use Rattle.css_selectors.specs.Readings.{Reading as Reads, got, refused}
 use Rattle.css_selectors.specs.RefusalWords.{quote, why_words}
-use Rattle.css_selectors.specs.Specificities.{specificity}
 use Rattle.css_selectors.specs.declared.refusal.Why.{Why}
 use Rattle.css_index.specs.Found.{AreMatches}
 use Rattle.css_tree.specs.Pages.{Page, page_document}
@@ -22,34 +18,7 @@ use Rattle.simplecss_c.specs.declared.modern.document_kind.DocumentKind.TheVaria
 use Rattle.simplecss_c.specs.declared.pages.LineContent.{LineContent}
 use Rattle.simplecss_c.specs.AnswerLines.{indices_line, AreLinesWithin}
 use Rattle.simplecss_c.specs.Elements.{has_text, scope_in}
-use Rattle.simplecss_c.specs.Json.{string, member, object}
-use Rattle.simplecss_c.specs.JsonLines.{line, counts_array, position_line}
-use Rattle.simplecss_c.specs.Ranges.{extent}
-
--- ---- lists of selectors
-
--- a string, or null
-abbrev pub string_or_null : Option (List ℕ) → List ℕ
-string_or_null None = codes "null"
-string_or_null (Some text) = string text
-
--- the name of a pseudo-element
-abbrev pub element_name : Option PseudoElement → Option (List ℕ)
-element_name element = option_map (λ e. e.name) element
-
--- the line of a selector of a list whose text ends at this offset
-unfoldable pub listed_line : (end : ℕ) → Placed → List ℕ
-listed_line end p =
-    line (object
-    (member (codes "text") (extent (end - length p.from) (length p.from - length p.to))
-    ∷ member (codes "selector") (string (selector_text p.selector))
-    ∷ member (codes "specificity") (counts_array (specificity p.selector))
-    ∷ member (codes "pseudo_element") (string_or_null (element_name p.selector.pseudo_element))
-    ∷ []))
-
--- the lines of the selectors of a list whose text ends at this offset
-abbrev pub listed_lines : (end : ℕ) → List Placed → List ℕ
-listed_lines end all = flat_map (listed_line end) all
+use Rattle.simplecss_c.specs.Refusals.{position_text}
 
 -- ---- refusals
 
@@ -60,13 +29,12 @@ refusal_text why rest =
     then codes "a blank or the end of the text " ++ why_words why
     else codes "`" ++ (quote why rest ++ (codes "` " ++ why_words why))
 
--- Nothing of a list of selectors; of any other text the line of why it is none, with the position of
--- the rest.
-abbrev pub IsRefusalLine : List ℕ → Reads (List Selector) → List ℕ → Type 0
-IsRefusalLine text (got selectors rest) bytes = bytes ≡ []
-IsRefusalLine text (refused why rest) bytes =
+-- Nothing of a list of selectors; of any other text the position of the rest, and why it is none.
+abbrev pub IsRefusal : List ℕ → Reads (List Selector) → List ℕ → Type 0
+IsRefusal text (got selectors rest) bytes = bytes ≡ []
+IsRefusal text (refused why rest) bytes =
     (pos : TextPos) × (IsCharBoundary text (rest_offset text rest) → pos ≡ position_of text rest)
-    × (bytes ≡ position_line pos (refusal_text why rest))
+    × (bytes ≡ position_text pos (refusal_text why rest))
 
 -- ---- elements
 

@@ -1,5 +1,5 @@
 -- The tokens of a text and the names in selectors, as numbers.
-use Rattle.std.specs.Prelude.{◌≡◌, ℕ, ◌-◌, List, [], ◌∷◌, ◌++◌, length, Result, Ok, Err}
+use Rattle.std.specs.Prelude.{◌≡◌, ℕ, List, [], ◌∷◌, ◌++◌, length, Result, Ok, Err}
 use Rattle.std.specs.List.{flat_map}
 use Rattle.std.specs.Str.{IsUtf8}
 use Rattle.css_text.specs.Bytes.{past_one}
@@ -11,6 +11,7 @@ use Rattle.css_syntax.specs.TokenLists.{PlacedToken, tokens}
 use Rattle.css_syntax.specs.NameLists.{PlacedName, names}
 use Rattle.simplecss_c.specs.declared.answer.CallError.{CallError}
 use Rattle.simplecss_c.specs.Calls.{FailsFor, HasTexts, HasBadEnds, IsBrokenUtf8}
+use Rattle.simplecss_c.specs.Numbers.{offset}
 
 -- the number of a kind of tokens
 abbrev pub kind_number : TokenKind → ℕ
@@ -44,10 +45,6 @@ name_number named.PseudoElement = 6
 name_number named.PseudoElementFunction = 7
 name_number named.Namespace = 8
 name_number named.Close = 9
-
--- the offset at which this rest of a text begins, by the offset at which the text ends
-abbrev pub offset : (end : ℕ) → List ℕ → ℕ
-offset end rest = end - length rest
 
 -- of a token: its kind, where it begins and ends, and where what is in it does
 abbrev pub token_numbers : (end : ℕ) → PlacedToken → List ℕ

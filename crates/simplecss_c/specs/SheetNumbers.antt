@@ -1,23 +1,20 @@
 -- The statements of a style sheet by the modern grammar as numbers, with the offsets and the lengths of their
 -- pieces.
-use Rattle.std.specs.Prelude.{◌≡◌, ◌<◌, ◌≤◌, ℕ, ◌+◌, ◌-◌, true, List, [], ◌∷◌, ◌++◌, length, min, Option, None, Some, Result, Ok, Err}
+use Rattle.std.specs.Prelude.{◌≡◌, ◌<◌, ◌≤◌, ℕ, ◌+◌, ◌-◌, true, List, [], ◌∷◌, ◌++◌, length, min, None, Result, Ok, Err}
 use Rattle.std.specs.List.{flat_map}
-use Rattle.std.specs.Option.{is_some}
 use Rattle.std.specs.Str.{IsUtf8}
 use Rattle.css_syntax.specs.declared.quality.Fault.{Fault}
 use Rattle.css_syntax.specs.Parts.{Stated}
 use Rattle.css_syntax.specs.Statements.{BlockText, AtRuleText, StatementText, rule_set, at_rule_statement, skipped_statement}
 use Rattle.css_sheet.specs.Places.{PlacesText}
-use Rattle.css_sheet.specs.RuleSelectors.{SelectorRead, selector_read, listed_under}
-use Rattle.css_sheet.specs.NestedSelectors.{read_counts}
+use Rattle.css_sheet.specs.RuleSelectors.{listed_under}
 use Rattle.css_sheet.specs.SheetItems.{ConditionText, SheetItemText, sheet_items}
 use Rattle.css_selectors.specs.Components.{Placed}
-use Rattle.css_selectors.specs.Specificities.{Counts}
 use Rattle.simplecss_c.specs.declared.answer.CallError.{CallError}
 use Rattle.simplecss_c.specs.Calls.{FailsWithin}
 use Rattle.simplecss_c.specs.ItemNumbers.{at_rule_row, fault_row, item_numbers}
-use Rattle.simplecss_c.specs.NumberLines.{offset}
-use Rattle.simplecss_c.specs.WinnerNumbers.{number_if}
+use Rattle.simplecss_c.specs.SelectorNumbers.{selector_numbers}
+use Rattle.simplecss_c.specs.Numbers.{number_if}
 
 -- ---- group rules
 
@@ -31,34 +28,6 @@ level_row c =
 -- those of group rules, from the outermost
 abbrev pub level_numbers : List ConditionText → List ℕ
 level_numbers conditions = flat_map level_row conditions
-
--- ---- selectors
-
--- whether a selector is supported, and its specificity with its pseudo-element, or three times 0
-abbrev pub read_numbers : SelectorRead → List ℕ
-read_numbers read =
-    (λ (c : Counts). number_if (is_some read.selector) ∷ c.ids ∷ c.classes ∷ c.names ∷ [])
-    (read_counts read)
-
--- of the pseudo-element at its end, if it has one, from its first colon on, the offset and the length, or 0 and
--- 0
-abbrev pub element_numbers : (end : ℕ) → (element to : List ℕ) → (pseudo_element : Option (List ℕ))
-    → List ℕ
-element_numbers end element to None = 0 ∷ 0 ∷ []
-element_numbers end element to (Some name) = offset end element ∷ (length element - length to) ∷ []
-
--- Eight numbers of a selector of a list whose text ends at this offset: its offset and its length; whether it
--- is a modern one without its pseudo-element, and its specificity; and the offset and the length of its
--- pseudo-element.
-abbrev pub selector_row : (end : ℕ) → Placed → List ℕ
-selector_row end p =
-    offset end p.from ∷ (length p.from - length p.to)
-    ∷ (read_numbers (selector_read p)
-    ++ element_numbers end p.element p.to (selector_read p).pseudo_element)
-
--- those of the selectors of a list whose text ends at this offset
-abbrev pub selector_numbers : (end : ℕ) → List Placed → List ℕ
-selector_numbers end all = flat_map (selector_row end) all
 
 -- ---- statements
 

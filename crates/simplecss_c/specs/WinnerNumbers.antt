@@ -1,5 +1,5 @@
 -- The declarations that win on the elements of a tree, and the rules that match them, as numbers.
-use Rattle.std.specs.Prelude.{◌≡◌, ◌⊎◌, ◌<◌, ◌≤◌, ℕ, ◌+◌, ◌*◌, min, take, drop, Bool, true, false, ◌&&◌, ◌||◌, ◌==◌, if◌then◌else◌, List, [], ◌∷◌, length, map, bytes_eq, Option, None, Some, Result, Ok, Err}
+use Rattle.std.specs.Prelude.{◌≡◌, ◌⊎◌, ◌<◌, ◌≤◌, ℕ, ◌+◌, ◌*◌, min, take, drop, Bool, true, false, ◌&&◌, ◌||◌, ◌==◌, if◌then◌else◌, List, [], ◌∷◌, ◌++◌, length, map, bytes_eq, Option, None, Some, Result, Ok, Err}
 use Rattle.std.specs.List.{filter_map, flat_map, slice_get}
 use Rattle.std.specs.Str.{IsUtf8}
 use Rattle.css_matching.specs.ListTrees.{spot}
@@ -8,12 +8,13 @@ use Rattle.css_syntax.specs.DeclarationLists.{DeclarationText, ItemText, declare
 use Rattle.css_syntax.specs.Placed.{PlacedItem, placed_items}
 use Rattle.css_selectors.specs.Components.{Selector}
 use Rattle.css_selectors.specs.Meanings.{Matches}
+use Rattle.css_selectors.specs.Specificities.{Counts}
 use Rattle.css_cascade.specs.Layers.{most_layers}
 use Rattle.css_cascade.specs.declared.weights.Origin.{Origin}
 use Rattle.css_cascade.specs.declared.weights.Origin.TheVariants as origins
 use Rattle.css_index.specs.Found.{AreMatches}
 use Rattle.css_sheet.specs.SheetLayers.{layer_count}
-use Rattle.css_sheet.specs.SheetOrder.{SheetRuleText, cascade_rules, nested_lists, source_rules, declarations_in}
+use Rattle.css_sheet.specs.SheetOrder.{SheetRuleText, cascade_rules, nested_lists, source_rules, declarations_in, rule_counts}
 use Rattle.css_sheet.specs.Sheets.{SheetText, texts_in}
 use Rattle.css_styles.specs.Contenders.{OwnText, contenders}
 use Rattle.css_styles.specs.Winners.{WinnerText, AreWinners, Decides, winners}
@@ -36,7 +37,7 @@ use Rattle.simplecss_c.specs.AnswerLines.{AreLinesWithin}
 use Rattle.simplecss_c.specs.Calls.{FailsWithin, HasTexts, HasBadEnds, IsBrokenUtf8, Passed, passed_tree}
 use Rattle.simplecss_c.specs.MarkedPages.{AreOnMarked}
 use Rattle.simplecss_c.specs.ModernLines.{page_with}
-use Rattle.simplecss_c.specs.NumberLines.{offset}
+use Rattle.simplecss_c.specs.Numbers.{number_if, offset}
 use Rattle.simplecss_c.specs.Readings.{selector_as}
 
 -- ---- group rules
@@ -62,9 +63,6 @@ is_held (name ∷ text ∷ more) keyword prelude =
     is_pair name text keyword prelude || is_held more keyword prelude
 
 -- ---- rules
-
-abbrev pub number_if : Bool → ℕ
-number_if is = if is then 1 else 0
 
 -- The numbers of a declaration of a text that ends at this offset, where `from` is left from the
 -- declaration on: the offset and the length of its name and of its value, and whether it is important
@@ -94,12 +92,25 @@ end_of start block = min (start + length block) 18446744073709551615
 abbrev pub counted_numbers : List (List ℕ) → List ℕ
 counted_numbers all = length all ∷ flat_map (λ numbers. numbers) all
 
--- The numbers of a rule: of its sheet, where its declarations begin there, and of the rank of its layer;
--- and those of its declarations.
+-- the length of the name of a pseudo-element, or 0 if there is none
+abbrev pub name_length : Option (List ℕ) → ℕ
+name_length None = 0
+name_length (Some name) = length name
+
+abbrev pub counts_numbers : Counts → List ℕ
+counts_numbers c = c.ids ∷ c.classes ∷ c.names ∷ []
+
+-- Eight numbers of a rule: of its sheet, where its declarations begin there, and of the rank of its layer; the
+-- length of its selector's text, and of the name of the pseudo-element at the end of that; and the specificity.
+abbrev pub rule_head : SheetRuleText → List ℕ
+rule_head rule =
+    rule.sheet ∷ rule.start ∷ rule.layer ∷ length rule.text ∷ name_length rule.pseudo_element
+    ∷ counts_numbers (rule_counts rule)
+
+-- the numbers of a rule: these, and those of its declarations
 abbrev pub rule_numbers : SheetRuleText → List ℕ
 rule_numbers rule =
-    rule.sheet ∷ rule.start ∷ rule.layer
-    ∷ counted_numbers (block_numbers (end_of rule.start rule.block) rule.block)
+    rule_head rule ++ counted_numbers (block_numbers (end_of rule.start rule.block) rule.block)
 
 -- ---- what wins
 

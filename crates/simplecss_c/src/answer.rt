@@ -178,20 +178,10 @@ pub fn hand_over(outcome: Result<String, CallError>, out: &mut [u8], len: &mut u
 }
 
 /// Sets the fault of a tree, if that is why a call has no answer.
-fn set_fault(outcome: &Result<String, CallError>, fault: &mut TreeFault)
-    ensures { IsFaultSet (outcome_of outcome.now) fault.old fault.new }
+fn set_fault(failure: CallError, fault: &mut TreeFault)
+    ensures { IsFaultSet (Err failure) fault.old fault.new }
 {
-    if let Err(CallError::Tree(found)) = outcome {
-        fault.fault = found.number();
-        fault.element = found.element();
-    }
-}
-
-/// Sets the fault of a tree, if that is why a call has no answer in numbers.
-fn set_fault_of_numbers(outcome: &Result<Vec<usize>, CallError>, fault: &mut TreeFault)
-    ensures { IsFaultSet (numbers_outcome outcome.now) fault.old fault.new }
-{
-    if let Err(CallError::Tree(found)) = outcome {
+    if let CallError::Tree(found) = failure {
         fault.fault = found.number();
         fault.element = found.element();
     }
@@ -207,7 +197,9 @@ pub fn hand_over_of_tree(
     ensures answered { Answers (outcome_of outcome) result out.old out.new len.new }
     ensures faulty { IsFaultSet (outcome_of outcome) fault.old fault.new }
 {
-    set_fault(&outcome, fault);
+    if let Err(failure) = &outcome {
+        set_fault(*failure, fault);
+    }
     hand_over(outcome, out, len)
 }
 
@@ -221,6 +213,8 @@ pub fn hand_over_numbers_of_tree(
     ensures answered { Answers (numbers_outcome outcome) result out.old out.new len.new }
     ensures faulty { IsFaultSet (numbers_outcome outcome) fault.old fault.new }
 {
-    set_fault_of_numbers(&outcome, fault);
+    if let Err(failure) = &outcome {
+        set_fault(*failure, fault);
+    }
     hand_over_numbers(outcome, out, len)
 }

@@ -6,7 +6,8 @@ ghost use Rattle.simplecss_c.specs.Calls.{IsCloseCall, passed_of};
 ghost use Rattle.simplecss_c.specs.ItemNumbers.{IsDeclarationsCall};
 ghost use Rattle.simplecss_c.specs.SheetNumbers.{IsReadCall};
 ghost use Rattle.simplecss_c.specs.Grammars.{grammar_of};
-ghost use Rattle.simplecss_c.specs.GrammarCalls.{IsListCall, IsRefusalCall, IsMatchSelectorsCall, IsSelectCall};
+ghost use Rattle.simplecss_c.specs.GrammarCalls.{IsListCall, IsPrintedCall, IsRefusalCall};
+ghost use Rattle.simplecss_c.specs.GrammarCalls.{IsMatchSelectorsCall, IsSelectCall};
 
 use crate::answer::CallError;
 use crate::elements::PassedTree;
@@ -18,9 +19,9 @@ use crate::{modern, port};
 use css_syntax::closed_value;
 use std::alloc::Global;
 
-/// The lines of a list of selectors, in JSON.
-pub fn list(alloc: Global, text: &[u8], grammar: usize) -> Result<String, CallError>
-    ensures { IsListCall (grammar_of grammar) text.now (outcome_of result) }
+/// The numbers of the selectors of a list.
+pub fn list(alloc: Global, text: &[u8], grammar: usize) -> Result<Vec<usize>, CallError>
+    ensures { IsListCall (grammar_of grammar) text.now (numbers_outcome result) }
 {
     match Grammar::from_number(grammar)? {
         Grammar::Modern(_) => modern::list(alloc, text),
@@ -28,7 +29,17 @@ pub fn list(alloc: Global, text: &[u8], grammar: usize) -> Result<String, CallEr
     }
 }
 
-/// The line of why a text is no list of selectors, in JSON.
+/// The printed texts of the selectors of a list, one after another.
+pub fn printed(alloc: Global, text: &[u8], grammar: usize) -> Result<String, CallError>
+    ensures { IsPrintedCall (grammar_of grammar) text.now (outcome_of result) }
+{
+    match Grammar::from_number(grammar)? {
+        Grammar::Modern(_) => modern::printed(alloc, text),
+        Grammar::Port => port::printed(alloc, text),
+    }
+}
+
+/// Where a text is no list of selectors, and why, or nothing where it is one.
 pub fn refusal(alloc: Global, text: &[u8], grammar: usize) -> Result<String, CallError>
     ensures { IsRefusalCall (grammar_of grammar) text.now (outcome_of result) }
 {

@@ -8,9 +8,10 @@
 
 ghost use Rattle.simplecss_c.specs.Answers.{IsAnswered, IsAnsweredOfTree, IsHandedOver};
 ghost use Rattle.simplecss_c.specs.Calls.{IsSelectorCall, IsSheetCall, IsPrinted, IsMatchCall};
-ghost use Rattle.simplecss_c.specs.Calls.{IsRuleLines, IsSkippedCall, IsStyleCall, IsStylesCall};
+ghost use Rattle.simplecss_c.specs.Calls.{AreRuleTexts, IsSkippedCall, IsStyleCall, IsStylesCall};
 ghost use Rattle.simplecss_c.specs.Calls.{IsCloseCall, passed_of};
 ghost use Rattle.simplecss_c.specs.Conditions.{IsMediaCall, IsSupportsCall};
+ghost use Rattle.simplecss_c.specs.ImportLines.{IsImportsCall};
 ghost use Rattle.simplecss_c.specs.ItemNumbers.{IsDeclarationsCall};
 ghost use Rattle.simplecss_c.specs.NumberLines.{IsTokensCall, IsNamesCall};
 ghost use Rattle.simplecss_c.specs.SheetNumbers.{IsReadCall};
@@ -21,7 +22,7 @@ ghost use Rattle.simplecss_c.specs.Spellings.{IsDecodeCall, IsEscapeCall, IsQuot
 ghost use Rattle.simplecss_c.specs.Values.{IsInheritedCall, IsLonghandsCall, IsResolveCall};
 ghost use Rattle.simplecss_c.specs.Values.{IsShorthandsCall, IsValidCall};
 ghost use Rattle.simplecss_c.specs.Grammars.{grammar_of};
-ghost use Rattle.simplecss_c.specs.GrammarCalls.{IsListCall, IsRefusalCall};
+ghost use Rattle.simplecss_c.specs.GrammarCalls.{IsListCall, IsPrintedCall, IsRefusalCall};
 ghost use Rattle.simplecss_c.specs.GrammarCalls.{IsMatchSelectorsCall, IsSelectCall};
 
 use crate::answer::{
@@ -33,7 +34,8 @@ use crate::contents::{AskedNames, ElementContent, OwnTexts};
 use crate::elements::PassedTree;
 use crate::winners::Sheets;
 use crate::{
-    calls, conditions, element_numbers, port, rule_texts, spellings, tokens, values, winners,
+    calls, conditions, element_numbers, imports, port, rule_texts, spellings, tokens, values,
+    winners,
 };
 use css_values::{INHERITED, SHORTHANDS};
 use std::alloc::Global;
@@ -49,23 +51,37 @@ pub extern "C" fn simplecss_version(out: &mut [u8], len: &mut usize) -> u32
     copy_whole(VERSION.as_bytes(), out, len)
 }
 
-/// Writes a line of JSON for each selector of a list with commas between them: `selector` and
-/// `specificity`, and of a modern one `text`, with offsets into the list, and `pseudo_element`.
+/// Writes ten numbers of each selector of a list with commas between them: nine of where it is, of its
+/// specificity and of its pseudo-element, and the length of its printed text.
 #[unsafe(no_mangle)]
 pub extern "C" fn simplecss_list(
+    alloc: Global,
+    text: &[u8],
+    grammar: usize,
+    out: &mut [usize],
+    len: &mut usize,
+) -> u32
+    ensures { IsAnswered (IsListCall (grammar_of grammar) text.now) result out.old out.new len.new }
+{
+    hand_over_numbers(calls::list(alloc, text, grammar), out, len)
+}
+
+/// Writes the printed texts of the selectors of a list, one after another.
+#[unsafe(no_mangle)]
+pub extern "C" fn simplecss_printed(
     alloc: Global,
     text: &[u8],
     grammar: usize,
     out: &mut [u8],
     len: &mut usize,
 ) -> u32
-    ensures { IsAnswered (IsListCall (grammar_of grammar) text.now) result out.old out.new len.new }
+    ensures { IsAnswered (IsPrintedCall (grammar_of grammar) text.now) result out.old out.new len.new }
 {
-    hand_over(calls::list(alloc, text, grammar), out, len)
+    hand_over(calls::printed(alloc, text, grammar), out, len)
 }
 
-/// Writes a line of JSON for why a text is no list of selectors: `row`, `column` and `reason`.
-/// Nothing where it is one.
+/// Writes the row, the column and the reason of why a text is no list of selectors, with a space between
+/// them. Nothing where it is one.
 #[unsafe(no_mangle)]
 pub extern "C" fn simplecss_refusal(
     alloc: Global,
@@ -123,7 +139,7 @@ pub extern "C" fn simplecss_select(
 
 /// Writes numbers of each statement of a style sheet by the modern grammar, with offsets into the text: ten of
 /// what it is and where; how many there are of its group rules, its selectors and its items; and these: six of
-/// each group rule, eight of each selector, and ten of each item.
+/// each group rule, nine of each selector, and ten of each item.
 #[unsafe(no_mangle)]
 pub extern "C" fn simplecss_read(
     alloc: Global,
@@ -148,6 +164,20 @@ pub extern "C" fn simplecss_declarations(
     ensures { IsAnswered (IsDeclarationsCall text.now) result out.old out.new len.new }
 {
     hand_over_numbers(calls::declarations(alloc, text), out, len)
+}
+
+/// Writes of each `@import` of a style sheet that is in force a line of nine numbers, and its url, the
+/// name of its layer, its condition and its media queries, one after another, with a newline.
+#[unsafe(no_mangle)]
+pub extern "C" fn simplecss_imports(
+    alloc: Global,
+    text: &[u8],
+    out: &mut [u8],
+    len: &mut usize,
+) -> u32
+    ensures { IsAnswered (IsImportsCall text.now) result out.old out.new len.new }
+{
+    hand_over(imports::imports(alloc, text), out, len)
 }
 
 /// Writes the value of a declaration with what closes it, where the end of the text left a string, a
@@ -235,8 +265,9 @@ pub extern "C" fn simplecss_quote(
 }
 
 /// Writes numbers of each style rule of sheets, in the order of the cascade: of its sheet, where its
-/// declarations begin there, the rank of its layer, how many declarations it has, and six for each of them:
-/// of the offset and the length of its name and of its value, and whether it is important and closed.
+/// declarations begin there, the rank of its layer, the lengths of its selector and of its pseudo-element's name,
+/// the specificity, how many declarations it has, and six for each of them: of the offset and the length of its
+/// name and of its value, and whether it is important and closed.
 #[unsafe(no_mangle)]
 pub extern "C" fn simplecss_rules(
     alloc: Global,
@@ -250,8 +281,8 @@ pub extern "C" fn simplecss_rules(
     hand_over_numbers(winners::rules(alloc, *sheets, limit), out, len)
 }
 
-/// Writes a line of JSON for each style rule of sheets, in the order of the cascade: the `text` of its
-/// selector, its `pseudo_element` and its `specificity`.
+/// Writes the texts of the selectors of the style rules of sheets, in the order of the cascade, one after
+/// another.
 #[unsafe(no_mangle)]
 pub extern "C" fn simplecss_rule_texts(
     alloc: Global,
@@ -472,8 +503,8 @@ pub extern "C" fn simplecss_port_sheet(
     hand_over(port::sheet(alloc, texts, ends, limit), out, len)
 }
 
-/// Writes a line of JSON for each rule of the sheet of the texts by the grammar of the port: `selector`,
-/// `specificity` and `declarations`, each with `name`, `value` and `important`.
+/// Writes of each rule of the sheet of the texts by the grammar of the port its specificity, its printed
+/// selector and its declarations, each text after a line with its length.
 #[unsafe(no_mangle)]
 pub extern "C" fn simplecss_port_rules(
     alloc: Global,
@@ -483,13 +514,13 @@ pub extern "C" fn simplecss_port_rules(
     out: &mut [u8],
     len: &mut usize,
 ) -> u32
-    ensures { IsAnswered (IsSheetCall IsRuleLines texts.now ends.now limit) result out.old out.new len.new }
+    ensures { IsAnswered (IsSheetCall AreRuleTexts texts.now ends.now limit) result out.old out.new len.new }
 {
     hand_over(port::rules(alloc, texts, ends, limit), out, len)
 }
 
-/// Writes a line of JSON for each piece of a style sheet's text that the grammar of the port skips: `row`,
-/// `column`, `reason` and `text`.
+/// Writes of each piece of a style sheet's text that the grammar of the port skips the row, the column, the
+/// length of what is quoted and the reason on a line, and what is quoted on another.
 #[unsafe(no_mangle)]
 pub extern "C" fn simplecss_port_skipped(
     alloc: Global,
@@ -545,8 +576,8 @@ pub extern "C" fn simplecss_port_style(
     hand_over_of_tree(outcome, out, len, fault)
 }
 
-/// Writes a line of JSON for each element of a tree: an array of the declarations that win in the port,
-/// each with `name`, `value` and `important`.
+/// Writes of each element of a tree how many declarations win in the port, and these, each text after a line
+/// with its length.
 #[unsafe(no_mangle)]
 pub extern "C" fn simplecss_port_styles(
     alloc: Global,

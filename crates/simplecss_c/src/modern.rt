@@ -3,9 +3,10 @@
 ghost use Rattle.std.specs.Prelude.{◌≡◌, ◌<◌, ◌^◌, None, Some, Err, MatchResult, length, string_bytes};
 ghost use Rattle.std.specs.Str.{IsUtf8};
 ghost use Rattle.simplecss_c.specs.Calls.{FailsWithin, passed_of, passed_tree};
-ghost use Rattle.simplecss_c.specs.ModernCalls.{IsModernListCall, IsModernRefusalCall, AreReadLines};
+ghost use Rattle.simplecss_c.specs.ModernCalls.{IsModernListCall, IsModernPrintedCall};
+ghost use Rattle.simplecss_c.specs.ModernCalls.{IsModernRefusalCall, AreReadLines};
 ghost use Rattle.simplecss_c.specs.ModernCalls.{IsModernMatchCall, IsModernSelectCall};
-ghost use Rattle.simplecss_c.specs.Outcomes.{outcome_of};
+ghost use Rattle.simplecss_c.specs.Outcomes.{numbers_outcome, outcome_of};
 
 mod document_kind;
 mod lists;
@@ -21,18 +22,25 @@ use pages::lines;
 pub use pages::page_of;
 use std::alloc::Global;
 
-/// The lines of a list of selectors, in JSON.
-pub fn list(alloc: Global, text: &[u8]) -> Result<String, CallError>
-    ensures { IsModernListCall text.now (outcome_of result) }
+/// The numbers of the selectors of a list.
+pub fn list(alloc: Global, text: &[u8]) -> Result<Vec<usize>, CallError>
+    ensures { IsModernListCall text.now (numbers_outcome result) }
 {
-    lists::list_lines(alloc, text_of(text)?)
+    lists::list_numbers(alloc, text_of(text)?)
 }
 
-/// The line of why a text is no list of selectors, in JSON.
+/// The printed texts of the selectors of a list, one after another.
+pub fn printed(alloc: Global, text: &[u8]) -> Result<String, CallError>
+    ensures { IsModernPrintedCall text.now (outcome_of result) }
+{
+    lists::list_printed(alloc, text_of(text)?)
+}
+
+/// Where a text is no list of selectors, and why, or nothing where it is one.
 pub fn refusal(alloc: Global, text: &[u8]) -> Result<String, CallError>
     ensures { IsModernRefusalCall text.now (outcome_of result) }
 {
-    lists::refusal_line(alloc, text_of(text)?)
+    lists::refusal(alloc, text_of(text)?)
 }
 
 /// The lines of the elements of a tree, by which selectors match each as a document reads them.

@@ -2,15 +2,18 @@
 
 ghost use Rattle.std.specs.Prelude.{◌≡◌, ◌+◌, ◌^◌, ◌<◌, ◌++◌, All, OnOk, MatchResult, List, ℕ, None, Some};
 ghost use Rattle.std.specs.Prelude.{length, map, string_bytes};
+ghost use Rattle.simplecss.specs.ListTrees.{spot};
+ghost use Rattle.simplecss.specs.Matching.{AreMatches};
 ghost use Rattle.simplecss.specs.RuleViews.{rules_of};
 ghost use Rattle.simplecss_c.specs.AnswerLines.{selected_line, indices_line, IsLineOf, AreLinesOf};
-ghost use Rattle.simplecss_c.specs.AnswerLines.{IsWinnerLine, IsWinnersLine};
 ghost use Rattle.simplecss_c.specs.AnswerLines.{IsWonLine, AreWonLines};
 ghost use Rattle.simplecss_c.specs.Calls.{FailsLonger};
+ghost use Rattle.simplecss_tree.specs.Rows.{Row};
+ghost use Rattle.simplecss_tree.specs.TreeNodes.{element_tree};
 ghost use Rattle.simplecss_tree.specs.Walks.{IsAlong};
 
 use crate::answer::{CallError, check_length};
-use crate::json::push_declarations;
+use crate::port_texts::push_counted;
 use cssq::cascade::{winners_among, winning_among};
 use cssq::runs::{push_numbers, push_winner};
 use simplecss::{HasSelector, Rule, Tests};
@@ -32,7 +35,7 @@ pub enum LineContent {
 pub enum WonContent<'n> {
     /// The element's number, and the declaration of this name.
     Named(&'n str),
-    /// All, in JSON.
+    /// All, each text after its length.
     All,
 }
 
@@ -123,60 +126,37 @@ pub fn lines<'a, T: HasSelector<'a>>(
     Ok(text)
 }
 
-/// Appends the line of what wins for a name on an element, which is given by its index, by a walk. What
-/// was in `indices` is dropped.
-fn push_winning<'a>(
-    out: &mut String,
-    name: &str,
-    walk: &mut RuleWalk<'a>,
-    rules: &[Rule<'a>],
-    tree: &Tree<'_>,
-    element: usize,
-    indices: &mut Vec<usize>,
-) -> Result<(), AllocError>
-    requires rules { walk.old.selectors ≡ map (λ rule. rule.selector) rules.now }
-    requires element { element < length tree.now }
-    requires number { element + 1 < 2 ^ 64 }
-    requires along { IsAlong tree.now walk.old }
-    ensures written { OnOk result
-        ((line : List ℕ) × IsWinnerLine name.now (rules_of rules.now) tree.now element line
-        × (string_bytes out.new ≡ string_bytes out.old ++ line)) }
-    ensures along { OnOk result (IsAlong tree.now walk.new) }
-    ensures selectors { walk.new.selectors ≡ walk.old.selectors }
-{
-    walk.matching(rules, tree, element, indices, &mut Tests::new())?;
-    let winner = winning_among::<Node<'_, '_>>(rules, indices.as_slice(), name);
-    push_winner(out, element + 1, winner)
-}
-
-/// Appends the line of all that wins on an element, which is given by its index, in JSON, by a walk. What
-/// was in `indices` is dropped.
-fn push_winners<'a>(
+/// Appends what is written of the declarations that win on an element of this number, by the indices of the
+/// rules that match it.
+fn push_among(
     out: &mut String,
     alloc: Global,
-    walk: &mut RuleWalk<'a>,
-    rules: &[Rule<'a>],
-    tree: &Tree<'_>,
-    element: usize,
-    indices: &mut Vec<usize>,
+    content: WonContent<'_>,
+    number: usize,
+    rules: &[Rule<'_>],
+    indices: &[usize],
 ) -> Result<(), AllocError>
-    requires rules { walk.old.selectors ≡ map (λ rule. rule.selector) rules.now }
-    requires element { element < length tree.now }
-    requires along { IsAlong tree.now walk.old }
-    ensures written { OnOk result
-        ((line : List ℕ) × IsWinnersLine (rules_of rules.now) tree.now element line
+    requires { All (λ index. index < length rules.now) indices.now }
+    ensures { (tree : List Row) (element : ℕ) → number ≡ element + 1
+        → AreMatches element_tree (spot tree element) (map (λ rule. rule.selector) rules.now)
+        indices.now
+        → OnOk result ((line : List ℕ) × IsWonLine content.entry (rules_of rules.now) tree element line
         × (string_bytes out.new ≡ string_bytes out.old ++ line)) }
-    ensures along { OnOk result (IsAlong tree.now walk.new) }
-    ensures selectors { walk.new.selectors ≡ walk.old.selectors }
 {
-    walk.matching(rules, tree, element, indices, &mut Tests::new())?;
-    let winners = winners_among::<Node<'_, '_>>(alloc, rules, indices.as_slice())?;
-    push_declarations(out, &winners)?;
-    out.push('\n')
+    match content {
+        WonContent::Named(name) => {
+            let winner = winning_among::<Node<'_, '_>>(rules, indices, name);
+            push_winner(out, number, winner)
+        }
+        WonContent::All => {
+            let winners = winners_among::<Node<'_, '_>>(alloc, rules, indices)?;
+            push_counted(out, &winners)
+        }
+    }
 }
 
-/// Appends the line of what wins on an element, which is given by its index, by a walk. What was in
-/// `indices` is dropped.
+/// Appends what is written of an element, which is given by its index, by a walk. What was in `indices` is
+/// dropped.
 fn push_won<'a>(
     out: &mut String,
     alloc: Global,
@@ -197,13 +177,11 @@ fn push_won<'a>(
     ensures along { OnOk result (IsAlong tree.now walk.new) }
     ensures selectors { walk.new.selectors ≡ walk.old.selectors }
 {
-    match content {
-        WonContent::Named(name) => push_winning(out, name, walk, rules, tree, element, indices),
-        WonContent::All => push_winners(out, alloc, walk, rules, tree, element, indices),
-    }
+    walk.matching(rules, tree, element, indices, &mut Tests::new())?;
+    push_among(out, alloc, content, element + 1, rules, indices.as_slice())
 }
 
-/// The lines of what wins on each element of a tree, in at most this number of bytes.
+/// What is written of what wins on each element of a tree, in at most this number of bytes.
 pub fn won_lines(
     alloc: Global,
     content: WonContent<'_>,

@@ -5,20 +5,22 @@ ghost use Rattle.simplecss.specs.DeclarationCounts.{kept_in_all};
 ghost use Rattle.simplecss.specs.ThisEdition.{this_edition};
 ghost use Rattle.simplecss.specs.RuleViews.{rules_in};
 ghost use Rattle.cssq.specs.SelectorRuns.{selector_in};
-ghost use Rattle.simplecss_c.specs.Outcomes.{outcome_of};
-ghost use Rattle.simplecss_c.specs.AnswerLines.{AreMatchLines, AreWinnerLines};
+ghost use Rattle.simplecss_c.specs.Outcomes.{numbers_outcome, outcome_of};
+ghost use Rattle.simplecss_c.specs.AnswerLines.{AreMatchLines};
 ghost use Rattle.simplecss_c.specs.Calls.{FailsWithin, FailsLonger, IsReadWithin};
 ghost use Rattle.simplecss_c.specs.Calls.{IsSelectorCall, IsSheetCall, IsPrinted, IsMatchCall};
 ghost use Rattle.simplecss_c.specs.Calls.{IsPortMatchSelectorsCall, AreSelectorsIn, HasNoSelector, FailsFor};
-ghost use Rattle.simplecss_c.specs.Calls.{IsPageCall, IsPortSelectCall, IsStyleCall, passed_of};
-ghost use Rattle.simplecss_c.specs.Calls.{IsRuleLines, IsSkippedCall, IsPortListCall, IsPortRefusalCall, IsStylesCall};
+ghost use Rattle.simplecss_c.specs.Calls.{FailsOnPage, IsReadPage, IsPortSelectCall, IsStyleCall, passed_of};
+ghost use Rattle.simplecss_c.specs.Calls.{AreRuleTexts, IsSkippedCall, IsPortListCall};
+ghost use Rattle.simplecss_c.specs.Calls.{IsPortPrintedCall, IsPortRefusalCall, IsStylesCall};
 
 use crate::answer::CallError;
 use crate::elements::{PassedTree, read_tree};
 use crate::lists::selectors_of;
 use crate::pages::{LineContent, WonContent, lines, won_lines};
+use crate::lists;
+use crate::port_texts::{rule_texts, skipped_texts};
 use crate::texts::{text_of, texts_of};
-use crate::{json, lists};
 use cssq::runs::{selector_line, sheet_text};
 use log::sink::Discard;
 use simplecss::{Reading, Selector, Silent, StyleSheet, find_skipped};
@@ -71,38 +73,46 @@ pub fn sheet(
     Ok(text)
 }
 
-/// The lines of the rules of a sheet, in JSON.
+/// What is written of the rules of a sheet.
 pub fn rules(
     alloc: Global,
     buffer: &[u8],
     ends: &[usize],
     limit: usize,
 ) -> Result<String, CallError>
-    ensures { IsSheetCall IsRuleLines buffer.now ends.now limit (outcome_of result) }
+    ensures { IsSheetCall AreRuleTexts buffer.now ends.now limit (outcome_of result) }
 {
     let texts = texts_of(alloc, buffer, ends)?;
     let sheet = read_sheet(alloc, &texts, limit)?;
-    Ok(json::rule_lines(alloc, &sheet.rules)?)
+    Ok(rule_texts(alloc, &sheet.rules)?)
 }
 
-/// The lines of what of a style sheet's text is skipped, in JSON.
+/// What is written of the pieces of a style sheet's text that are skipped.
 pub fn skipped(alloc: Global, text: &[u8]) -> Result<String, CallError>
     ensures { IsSkippedCall text.now (outcome_of result) }
 {
     let text = text_of(text)?;
     let skipped = find_skipped(alloc, text)?;
-    Ok(json::skipped_lines(alloc, text, &skipped)?)
+    Ok(skipped_texts(alloc, text, &skipped)?)
 }
 
-/// The lines of a list of selectors, in JSON.
-pub fn list(alloc: Global, text: &[u8]) -> Result<String, CallError>
-    ensures { IsPortListCall text.now (outcome_of result) }
+/// The numbers of the selectors of a list.
+pub fn list(alloc: Global, text: &[u8]) -> Result<Vec<usize>, CallError>
+    ensures { IsPortListCall text.now (numbers_outcome result) }
 {
     let selectors = selectors_of(alloc, text_of(text)?)?;
-    Ok(json::selector_lines(alloc, &selectors)?)
+    Ok(lists::numbers(alloc, &selectors)?)
 }
 
-/// The line of why a text is no list of selectors, in JSON.
+/// The printed texts of the selectors of a list, one after another.
+pub fn printed(alloc: Global, text: &[u8]) -> Result<String, CallError>
+    ensures { IsPortPrintedCall text.now (outcome_of result) }
+{
+    let selectors = selectors_of(alloc, text_of(text)?)?;
+    Ok(lists::printed(alloc, &selectors)?)
+}
+
+/// Where a text is no list of selectors, and why, or nothing where it is one.
 pub fn refusal(alloc: Global, text: &[u8]) -> Result<String, CallError>
     ensures { IsPortRefusalCall text.now (outcome_of result) }
 {
@@ -124,7 +134,25 @@ pub fn select(
     lines(alloc, LineContent::Selected, &selectors, &tree, most)
 }
 
-/// The lines of all that wins on each element of a tree, in JSON.
+/// The style sheet of texts, whose rules may hold at most this number of declarations, and a tree.
+fn read_page<'a>(
+    alloc: Global,
+    buffer: &'a [u8],
+    ends: &[usize],
+    limit: usize,
+    tree: PassedTree<'a>,
+) -> Result<(StyleSheet<'a>, Tree<'a>), CallError>
+    ensures { MatchResult result (λ page. IsReadPage buffer.now ends.now limit (passed_of tree.entry)
+        (rules_in page.0) page.1)
+        (FailsOnPage buffer.now ends.now limit (passed_of tree.entry) ⊥) }
+{
+    let texts = texts_of(alloc, buffer, ends)?;
+    let tree = read_tree(alloc, tree.elements, tree.strings, tree.ends)?;
+    let sheet = read_sheet(alloc, &texts, limit)?;
+    Ok((sheet, tree))
+}
+
+/// What is written of all that wins on each element of a tree.
 pub fn styles(
     alloc: Global,
     buffer: &[u8],
@@ -135,9 +163,7 @@ pub fn styles(
 ) -> Result<String, CallError>
     ensures { IsStylesCall most buffer.now ends.now limit (passed_of tree.entry) (outcome_of result) }
 {
-    let texts = texts_of(alloc, buffer, ends)?;
-    let tree = read_tree(alloc, tree.elements, tree.strings, tree.ends)?;
-    let sheet = read_sheet(alloc, &texts, limit)?;
+    let (sheet, tree) = read_page(alloc, buffer, ends, limit, tree)?;
     won_lines(alloc, WonContent::All, &sheet.rules, &tree, most)
 }
 
@@ -166,9 +192,7 @@ pub fn matches(
 ) -> Result<String, CallError>
     ensures { IsMatchCall most buffer.now ends.now limit (passed_of tree.entry) (outcome_of result) }
 {
-    let texts = texts_of(alloc, buffer, ends)?;
-    let tree = read_tree(alloc, tree.elements, tree.strings, tree.ends)?;
-    let sheet = read_sheet(alloc, &texts, limit)?;
+    let (sheet, tree) = read_page(alloc, buffer, ends, limit, tree)?;
     match_lines(alloc, &sheet, &tree, most)
 }
 
@@ -205,25 +229,6 @@ pub fn match_selectors(
     lines(alloc, LineContent::Numbers, &selectors, &tree, most)
 }
 
-/// What wins for a name on each element of a tree, by the sheet of the texts.
-fn style_text(
-    alloc: Global,
-    buffer: &[u8],
-    ends: &[usize],
-    limit: usize,
-    tree: PassedTree<'_>,
-    name: &str,
-    most: usize,
-) -> Result<String, CallError>
-    ensures { IsPageCall (AreWinnerLines most name.now) buffer.now ends.now limit
-        (passed_of tree.entry) (outcome_of result) }
-{
-    let texts = texts_of(alloc, buffer, ends)?;
-    let tree = read_tree(alloc, tree.elements, tree.strings, tree.ends)?;
-    let sheet = read_sheet(alloc, &texts, limit)?;
-    won_lines(alloc, WonContent::Named(name), &sheet.rules, &tree, most)
-}
-
 /// What wins for a name on each element of a tree.
 pub fn style(
     alloc: Global,
@@ -238,5 +243,6 @@ pub fn style(
         (outcome_of result) }
 {
     let name = text_of(name)?;
-    style_text(alloc, buffer, ends, limit, tree, name, most)
+    let (sheet, tree) = read_page(alloc, buffer, ends, limit, tree)?;
+    won_lines(alloc, WonContent::Named(name), &sheet.rules, &tree, most)
 }

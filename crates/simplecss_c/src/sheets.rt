@@ -5,14 +5,8 @@ ghost use Rattle.std.specs.Prelude.{length, map, option_map};
 ghost use Rattle.css_syntax.specs.Views.{prelude_of, block_of, statement_of, sheet_part_of};
 ghost use Rattle.css_sheet.specs.Places.{places_of};
 ghost use Rattle.css_sheet.specs.ReaderViews.{level_of, condition_at};
-ghost use Rattle.css_sheet.specs.RuleViews.{rule_selector_of};
-ghost use Rattle.css_selectors.specs.ReadViews.{placed_of};
 ghost use Rattle.simplecss_c.specs.Calls.{FailsLonger};
 ghost use Rattle.simplecss_c.specs.SheetNumbers.{level_row as level_row_of, level_numbers as level_numbers_of};
-ghost use Rattle.simplecss_c.specs.SheetNumbers.{element_numbers as element_numbers_of};
-ghost use Rattle.simplecss_c.specs.SheetNumbers.{read_numbers as read_numbers_of};
-ghost use Rattle.simplecss_c.specs.SheetNumbers.{selector_row as selector_row_of};
-ghost use Rattle.simplecss_c.specs.SheetNumbers.{selector_numbers as selector_numbers_of};
 ghost use Rattle.simplecss_c.specs.SheetNumbers.{shown_of, rule_row as rule_row_of, shown_row as shown_row_of};
 ghost use Rattle.simplecss_c.specs.SheetNumbers.{shown_selectors as shown_selectors_of};
 ghost use Rattle.simplecss_c.specs.SheetNumbers.{shown_items as shown_items_of, counted};
@@ -20,9 +14,10 @@ ghost use Rattle.simplecss_c.specs.SheetNumbers.{statement_numbers, sheet_number
 ghost use Rattle.simplecss_c.specs.internal.Shown.{shown_text};
 
 use crate::answer::{CallError, check_count};
-use crate::items::{at_rule_row, count_between, fault_row, item_numbers, offset_of};
+use crate::items::{at_rule_row, fault_row, item_numbers};
+use crate::selector_numbers::selector_numbers;
 use css_selectors::Listed;
-use css_sheet::{Level, Places, RuleSelector, SheetReader, read_listed, rule_selector};
+use css_sheet::{Level, Places, SheetReader, read_listed};
 use css_syntax::{AtRule, Fault, RuleSet, SheetPart, Statement};
 use std::alloc::{AllocError, Global};
 
@@ -55,63 +50,6 @@ fn level_numbers(alloc: Global, levels: &[Level<'_>]) -> Result<Vec<usize>, Allo
     'levels: while let [level, others @ ..] = left {
         out.extend_from_slice(&level_row(level))?;
         left = others;
-    }
-    Ok(out)
-}
-
-/// Returns whether a selector is supported, and its specificity with its pseudo-element.
-fn read_numbers(read: &RuleSelector<'_>) -> [usize; 4]
-    ensures { result ≡ read_numbers_of (rule_selector_of read.now) }
-{
-    let counts = read.specificity();
-    [
-        usize::from(read.selector.is_some()),
-        counts.ids as usize,
-        counts.classes as usize,
-        counts.names as usize,
-    ]
-}
-
-/// Returns the offset and the length of the pseudo-element at the end of a selector, from its first colon on,
-/// or 0 and 0.
-fn element_numbers(end: usize, element: &str, to: &str, pseudo_element: Option<&str>) -> [usize; 2]
-    requires { end < 2 ^ 63 }
-    ensures { result ≡ element_numbers_of end element.now to.now
-        (option_map (λ name. name.now) pseudo_element.entry) }
-{
-    match pseudo_element {
-        Some(_) => [offset_of(end, element), count_between(element, to)],
-        None => [0, 0],
-    }
-}
-
-/// Returns the numbers of a selector of a list whose text ends at this offset.
-fn selector_row(alloc: Global, listed: Listed<'_>, end: usize) -> Result<[usize; 8], AllocError>
-    requires { end < 2 ^ 63 }
-    ensures { IfOk result (λ row. row ≡ selector_row_of end (placed_of listed.entry)) }
-{
-    let start = offset_of(end, listed.from);
-    let count = count_between(listed.from, listed.to);
-    let (element, to) = (listed.element, listed.to);
-    let read = rule_selector(alloc, listed)?;
-    let [is_read, ids, classes, names] = read_numbers(&read);
-    let [at, len] = element_numbers(end, element, to, read.pseudo_element);
-    Ok([start, count, is_read, ids, classes, names, at, len])
-}
-
-/// Returns the numbers of the selectors of a list whose text ends at this offset.
-fn selector_numbers(
-    alloc: Global,
-    all: Vec<Listed<'_>>,
-    end: usize,
-) -> Result<Vec<usize>, AllocError>
-    requires { end < 2 ^ 63 }
-    ensures { IfOk result (λ out. out.items
-        ≡ selector_numbers_of end (map placed_of all.entry.items)) }
-{
-    let mut out = Vec::new(alloc);
-    'selectors: for listed in all {
-        out.extend_from_slice(&selector_row(alloc, listed, end)?)?;
     }
     Ok(out)
 }

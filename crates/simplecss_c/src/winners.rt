@@ -15,14 +15,15 @@ ghost use Rattle.css_styles.specs.Winners.{AreReadBy};
 ghost use Rattle.css_tree.specs.Html.{html_selector};
 ghost use Rattle.css_tree.specs.Walks.{IsOpenAt};
 ghost use Rattle.simplecss_c.specs.Calls.{FailsLonger};
-ghost use Rattle.simplecss_c.specs.NumberLines.{offset as offset_of};
+ghost use Rattle.simplecss_c.specs.Numbers.{offset as offset_of};
 ghost use Rattle.simplecss_c.specs.Outcomes.{numbers_outcome};
 ghost use Rattle.simplecss_c.specs.Readings.{selector_as};
 ghost use Rattle.simplecss_c.specs.WinnerNumbers.{is_held as is_held_of};
 ghost use Rattle.simplecss_c.specs.internal.Held.{is_among, names_at};
 ghost use Rattle.simplecss_c.specs.WinnerNumbers.{declaration_numbers as declaration_numbers_of};
 ghost use Rattle.simplecss_c.specs.WinnerNumbers.{item_numbers, block_numbers as block_numbers_of, counted_numbers};
-ghost use Rattle.simplecss_c.specs.WinnerNumbers.{rule_numbers, source_number as source_number_of};
+ghost use Rattle.simplecss_c.specs.WinnerNumbers.{name_length, rule_head as rule_head_of, rule_numbers};
+ghost use Rattle.simplecss_c.specs.WinnerNumbers.{source_number as source_number_of};
 ghost use Rattle.simplecss_c.specs.WinnerNumbers.{option_numbers, winner_numbers, winners_numbers};
 ghost use Rattle.simplecss_c.specs.WinnerNumbers.{origin_of as origin_of_number, sheets_with as sheets_with_of};
 ghost use Rattle.simplecss_c.specs.WinnerNumbers.{AreNumbers, AreWon, IsWon, IsWonOf, held_declarations, held_layers};
@@ -142,15 +143,40 @@ fn push_counted(out: &mut Vec<usize>, all: &[[usize; 6]]) -> Result<(), AllocErr
     Ok(())
 }
 
+/// Returns the length of a text, or 0 if there is none.
+fn length_of(text: Option<&str>) -> usize
+    ensures { result ≡ name_length (option_map (λ text. text.now) text.entry) }
+{
+    match text {
+        Some(text) => text.len(),
+        None => 0,
+    }
+}
+
+/// Returns the numbers of a rule before those of its declarations.
+fn rule_head(rule: &SheetRule<'_>) -> [usize; 8]
+    ensures { result ≡ rule_head_of (sheet_rule_of rule.now) }
+{
+    let counts = rule.specificity();
+    [
+        rule.sheet,
+        rule.start,
+        rule.layer,
+        rule.text.len(),
+        length_of(rule.pseudo_element),
+        counts.ids as usize,
+        counts.classes as usize,
+        counts.names as usize,
+    ]
+}
+
 /// Appends the numbers of a rule.
 fn push_rule(out: &mut Vec<usize>, alloc: Global, rule: &SheetRule<'_>) -> Result<(), AllocError>
     ensures { OnOk result (out.new.items ≡ out.old.items ++ rule_numbers (sheet_rule_of rule.now)) }
 {
     let end = rule.start.saturating_add(rule.block.len());
     let numbers = block_numbers(alloc, end, rule.block)?;
-    out.push(rule.sheet)?;
-    out.push(rule.start)?;
-    out.push(rule.layer)?;
+    out.extend_from_slice(&rule_head(rule))?;
     push_counted(out, &numbers)
 }
 

@@ -1,23 +1,23 @@
 //! Lists of selectors, and texts that are selectors.
 
-ghost use Rattle.std.specs.Prelude.{◌≡◌, ◌<◌, ◌^◌, ◌++◌, IfOk, OnOk, MatchResult, ℕ, List};
-ghost use Rattle.std.specs.Prelude.{◌-◌, None, Some, is_none, length, map, option_map, string_bytes};
+ghost use Rattle.std.specs.Prelude.{◌≡◌, ◌<◌, ◌^◌, ◌++◌, IfOk, OnOk, MatchResult};
+ghost use Rattle.std.specs.Prelude.{None, Some, is_none, length, map, option_map, string_bytes};
 ghost use Rattle.css_sheet.specs.RuleSelectors.{selector_of};
 ghost use Rattle.css_selectors.specs.ReadViews.{placed_of};
 ghost use Rattle.css_selectors.specs.Supported.{first_unsupported, supported_list};
 ghost use Rattle.simplecss_c.specs.Calls.{FailsFor, HasNoSelector, AreSelectorsIn};
-ghost use Rattle.simplecss_c.specs.ModernLines.{string_or_null, element_name, listed_line, listed_lines as listed_lines_of};
-ghost use Rattle.css_selectors.specs.Views.{pseudo_element_of};
-ghost use Rattle.simplecss_c.specs.ModernLines.{refusal_text, IsRefusalLine};
+ghost use Rattle.simplecss_c.specs.ModernLines.{refusal_text, IsRefusal};
+ghost use Rattle.simplecss_c.specs.SelectorNumbers.{listed_row, listed_numbers as listed_numbers_of};
+ghost use Rattle.simplecss_c.specs.SelectorNumbers.{printed_texts as printed_texts_of};
 ghost use Rattle.simplecss_c.specs.Readings.{is_memory, listed_in, selectors_of};
 ghost use Rattle.simplecss_c.specs.declared.answer.CallError.TheVariants.{Memory};
 
 use crate::answer::CallError;
-use crate::items::{count_between, offset_of};
-use crate::json::{position_line, push_specificity, push_string};
-use crate::ranges::push_range;
-use css_selectors::{Listed, PseudoElement, Refusal, Selector, Why};
+use crate::refusals::position_text;
+use crate::selector_numbers::selector_row;
+use css_selectors::{Listed, Refusal, Selector, Why};
 use std::alloc::{AllocError, Global};
+use std::fmt::Write as _;
 
 impl From<Refusal<'_>> for CallError {
     ghost use Rattle.std.specs.Prelude.{◌≡◌};
@@ -64,52 +64,42 @@ pub fn read_list(alloc: Global, text: &str) -> Result<Vec<Selector<'_>>, CallErr
     Ok(Selector::parse_list(alloc, text)?)
 }
 
-/// Appends the name of a pseudo-element, or null.
-fn push_name(out: &mut String, element: Option<&PseudoElement<'_>>) -> Result<(), AllocError>
-    ensures { OnOk result (string_bytes out.new ≡ string_bytes out.old
-        ++ string_or_null (element_name (option_map (λ e. pseudo_element_of e.now) element.entry))) }
-{
-    match element {
-        Some(element) => push_string(out, element.element.name.as_str()),
-        None => out.push_str("null"),
-    }
-}
-
-/// Appends the line of a selector of a list whose text ends at this offset.
+/// Appends the numbers of a selector of a list whose text ends at this offset.
 fn push_listed(
-    out: &mut String,
+    out: &mut Vec<usize>,
     alloc: Global,
-    listed: &Listed<'_>,
+    listed: Listed<'_>,
     end: usize,
 ) -> Result<(), AllocError>
     requires { end < 2 ^ 63 }
-    ensures { OnOk result (string_bytes out.new ≡ string_bytes out.old
-        ++ listed_line end (placed_of listed.now)) }
+    ensures { OnOk result (out.new.items ≡ out.old.items ++ listed_row end (placed_of listed.entry)) }
 {
-    let selector = &listed.selector;
-    let start = offset_of(end, listed.from);
-    let count = count_between(listed.from, listed.to);
-    let text = format!(in alloc; "{selector}")?;
-    out.push_str("{\"text\":")?;
-    push_range(out, start, start + count)?;
-    out.push_str(",\"selector\":")?;
-    push_string(out, text.as_str())?;
-    out.push_str(",\"specificity\":")?;
-    push_specificity(out, selector.specificity())?;
-    out.push_str(",\"pseudo_element\":")?;
-    push_name(out, selector.pseudo_element())?;
-    out.push_str("}\n")
+    let printed = format!(in alloc; "{}", listed.selector)?;
+    let row = selector_row(alloc, listed, end)?;
+    out.extend_from_slice(&row)?;
+    out.extend_from_slice(&[printed.len()])
 }
 
-/// Returns the lines of the selectors of a list whose text ends at this offset.
-fn listed_lines(alloc: Global, all: &[Listed<'_>], end: usize) -> Result<String, AllocError>
+/// Returns the numbers of the selectors of a list whose text ends at this offset.
+fn listed_numbers(alloc: Global, all: Vec<Listed<'_>>, end: usize) -> Result<Vec<usize>, AllocError>
     requires { end < 2 ^ 63 }
-    ensures { IfOk result (λ lines. string_bytes lines ≡ listed_lines_of end (map placed_of all.now)) }
+    ensures { IfOk result (λ out. out.items ≡ listed_numbers_of end (map placed_of all.entry.items)) }
+{
+    let mut out = Vec::new(alloc);
+    'selectors: for listed in all {
+        push_listed(&mut out, alloc, listed, end)?;
+    }
+    Ok(out)
+}
+
+/// Returns the printed texts of the selectors of a list, one after another.
+fn printed_texts(alloc: Global, all: &[Listed<'_>]) -> Result<String, AllocError>
+    ensures { IfOk result (λ out. string_bytes out ≡ printed_texts_of (map placed_of all.now)) }
 {
     let mut out = String::new(alloc);
     let mut left = all;
     'selectors: while let [listed, others @ ..] = left {
-        push_listed(&mut out, alloc, listed, end)?;
+        write!(out, "{}", listed.selector)?;
         left = others;
     }
     Ok(out)
@@ -143,15 +133,24 @@ fn read_listed(alloc: Global, text: &str) -> Result<Vec<Listed<'_>>, CallError>
     }
 }
 
-/// The lines of the selectors of a list.
-pub fn list_lines(alloc: Global, text: &str) -> Result<String, CallError>
+/// The numbers of the selectors of a list.
+pub fn list_numbers(alloc: Global, text: &str) -> Result<Vec<usize>, CallError>
     ensures { MatchResult result
-        (λ lines. option_map (listed_lines_of (length text.now)) (listed_in text.now)
-        ≡ Some (string_bytes lines))
+        (λ out. option_map (listed_numbers_of (length text.now)) (listed_in text.now) ≡ Some out.items)
         (λ error. FailsFor (listed_in text.now ≡ None) (λ fault. ⊥) ⊥ error) }
 {
     let all = read_listed(alloc, text)?;
-    Ok(listed_lines(alloc, &all, text.len())?)
+    Ok(listed_numbers(alloc, all, text.len())?)
+}
+
+/// The printed texts of the selectors of a list, one after another.
+pub fn list_printed(alloc: Global, text: &str) -> Result<String, CallError>
+    ensures { MatchResult result
+        (λ out. option_map printed_texts_of (listed_in text.now) ≡ Some (string_bytes out))
+        (λ error. FailsFor (listed_in text.now ≡ None) (λ fault. ⊥) ⊥ error) }
+{
+    let all = read_listed(alloc, text)?;
+    Ok(printed_texts(alloc, &all)?)
 }
 
 /// Returns what is quoted of the rest of a refused text, and the reason in words.
@@ -174,10 +173,10 @@ fn is_memory(why: Why) -> bool
     matches!(why, Why::Memory)
 }
 
-/// The line of why a text is no list of selectors, or nothing where it is one.
-pub fn refusal_line(alloc: Global, text: &str) -> Result<String, CallError>
+/// Where a text is no list of selectors, and why, or nothing where it is one.
+pub fn refusal(alloc: Global, text: &str) -> Result<String, CallError>
     ensures { MatchResult result
-        (λ line. IsRefusalLine text.now (supported_list text.now) (string_bytes line))
+        (λ refusal. IsRefusal text.now (supported_list text.now) (string_bytes refusal))
         (λ error. error ≡ Memory) }
 {
     let refusal = match Selector::parse_list(alloc, text) {
@@ -189,5 +188,5 @@ pub fn refusal_line(alloc: Global, text: &str) -> Result<String, CallError>
     }
     let reason = refusal_text(alloc, &refusal)?;
     let pos = refusal.position_in(text);
-    Ok(position_line(alloc, pos, reason.as_str())?)
+    Ok(position_text(alloc, pos, reason.as_str())?)
 }

@@ -1,4 +1,4 @@
-use Rattle.std.proofs.Common.{◌≡◌, None, inl, inr, subst, sym}
+use Rattle.std.proofs.Common.{◌≡◌, None, inl, inr}
 use Rattle.std.specs.Prelude.{Err, ◌⊎◌}
 use Rattle.std.specs.Str.{IsUtf8}
 use Rattle.simplecss_c.specs.Calls.{passed_of, passed_tree}

@@ -4,4 +4,4 @@ use Rattle.simplecss_c.proofs.modern.refusal.Goals as goal
 pub returns : goal.returns
 returns c =
     refusal-due c.args.text.now c.in_ok-text_of.field-0.now c.in_ok-text_of.ensures.0
-    c.in_ok-text_of.ensures.1 c.refusal_line.result c.refusal_line.ensures
+    c.in_ok-text_of.ensures.1 c.refusal.result c.refusal.ensures

@@ -16,4 +16,4 @@ returns-in_err-rules c =
 pub returns : goal.returns
 returns c =
     texts-due c.args.most c.args.limit (sheets_of c.args.sheets) c.in_ok-rules.rules.rules _
-    c.in_ok-rules.rules.lists c.in_ok-rules.ensures c.as_slice.ensures c.lines.result c.lines.ensures
+    c.in_ok-rules.rules.lists c.in_ok-rules.ensures c.as_slice.ensures c.texts.result c.texts.ensures

@@ -1,4 +1,4 @@
-use Rattle.std.proofs.Common.{List, Option, map, ap, sym, ◌∙◌, option_map, subst}
+use Rattle.std.proofs.Common.{List, Option, map, ap, sym, option_map, subst}
 use Rattle.std.specs.List.{flat_map}
 use Rattle.std.proofs.lemmas.Result.{on_ok_weaker}
 use Rattle.css_styles.specs.Contenders.{contenders}

@@ -1,5 +1,4 @@
-use Rattle.std.proofs.Common.{◌≡◌, false, true, map, None, Some, refl, sym, ap, ◌∙◌}
-use Rattle.std.specs.Prelude.{if◌then◌else◌}
+use Rattle.std.proofs.Common.{◌≡◌, map, Some, refl}
 use Rattle.css_selectors.specs.Grammar.{placed_list}
 use Rattle.css_selectors.specs.ReadViews.{placed_of}
 use Rattle.simplecss_c.specs.Readings.{if_listed, listed_in}
