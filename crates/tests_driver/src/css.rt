@@ -10,15 +10,20 @@
 //! selector that is read of it, the name of the pseudo-element, and why the rule set is dropped. With
 //! `order` the rules are printed in the order of the cascade, but for those in `@media print`: the text
 //! of the selector, the name of the pseudo-element and the block; with `nesting` these rules and the lists
-//! that `&` stands for in them. With `printed` and `list` the
+//! that `&` stands for in them. The fields of an import are its url, decoded, its layer, its condition of
+//! `supports(..)` and its media queries; if there is a layer or a condition, an equals sign is before it.
+//! With `printed` and `list` the
 //! declarations are printed, not in fields: each with what closes its value and a blank, or as one
 //! list.
 
 use css_selectors::{Condition, Selector, Simple};
-use css_sheet::{RuleSelector, SheetError, SheetReader, read_listed, read_selectors, read_sheet};
+use css_sheet::{
+    Import, ImportLayer, ImportUrl, RuleSelector, SheetError, SheetReader, read_imports,
+    read_listed, read_selectors, read_sheet,
+};
 use css_syntax::{
     AtRule, Declaration, DeclarationList, Declarations, Item, RuleSet, Statement, Statements,
-    closed_value, decode,
+    closed_value, decode, decode_string,
 };
 use std::alloc::Global;
 use std::borrow::CowStr;
@@ -262,6 +267,47 @@ fn write_nested<W: Write>(alloc: Global, out: &mut W, text: &str) -> io::Result<
     Ok(())
 }
 
+/// Writes the url of an import, decoded.
+fn write_url<W: Write>(alloc: Global, out: &mut W, url: ImportUrl<'_>) -> io::Result<()> {
+    let decoded = match url {
+        ImportUrl::Quoted(text) => decode_string(alloc, text)?,
+        ImportUrl::Bare(text) => decode(alloc, text)?,
+    };
+    match decoded {
+        CowStr::Borrowed(text) => write_field(out, text),
+        CowStr::Owned(text) => write_field(out, text.as_str()),
+    }
+}
+
+/// Writes an import.
+fn write_import<W: Write>(alloc: Global, out: &mut W, import: &Import<'_>) -> io::Result<()> {
+    write_url(alloc, out, import.url)?;
+    match import.layer {
+        ImportLayer::Unlayered => {}
+        ImportLayer::Anonymous => out.write_all(b"=")?,
+        ImportLayer::Named(name) => {
+            out.write_all(b"=")?;
+            out.write_all(name.as_bytes())?;
+        }
+    }
+    out.write_all(b"\x01")?;
+    if let Some(condition) = import.supports {
+        out.write_all(b"=")?;
+        out.write_all(condition.as_bytes())?;
+    }
+    out.write_all(b"\x01")?;
+    write_field(out, import.media)
+}
+
+/// Writes the imports of a text.
+fn write_imports<W: Write>(alloc: Global, out: &mut W, text: &str) -> io::Result<()> {
+    let imports = read_imports(alloc, text)?;
+    for import in &imports {
+        write_import(alloc, out, import)?;
+    }
+    Ok(())
+}
+
 /// Writes a declaration, with what closes its value where the end of the text did.
 fn write_closed<W: Write>(alloc: Global, out: &mut W, one: &Declaration<'_>) -> io::Result<()> {
     let Some(value) = closed_value(alloc, one.value)? else {
@@ -313,6 +359,7 @@ pub(crate) enum Part {
     /// The rules, if they have at most this number of declarations.
     Order(usize),
     Nested,
+    Imports,
     Printed,
     List,
 }
@@ -329,6 +376,7 @@ impl Part {
             ["selectors"] => Some(Part::Selectors),
             ["order", most] => most.parse().ok().map(Part::Order),
             ["nesting"] => Some(Part::Nested),
+            ["imports"] => Some(Part::Imports),
             ["printed"] => Some(Part::Printed),
             ["list"] => Some(Part::List),
             _ => None,
@@ -346,6 +394,7 @@ impl Part {
             Part::Selectors => write_selectors(alloc, out, text)?,
             Part::Order(most) => write_order(alloc, out, text, most)?,
             Part::Nested => write_nested(alloc, out, text)?,
+            Part::Imports => write_imports(alloc, out, text)?,
             Part::Printed => write_printed(alloc, out, text)?,
             Part::List => write_list(alloc, out, text)?,
         }

@@ -80,29 +80,23 @@ fn search_recent<E: Keyed>(
     search.matching(rules, element, &mut indices)
 }
 
-/// Finds the rules twice.
+/// Finds the rules twice, and counts the tests if `is_counted`.
 fn search_rules<E: Keyed>(
     alloc: Global,
     rules: &[Rule<'_>],
     element: &E,
+    is_counted: bool,
 ) -> Result<(), AllocError> {
     let index = RuleIndex::new(alloc, rules)?;
     let mut indices = Vec::new(alloc);
-    index.matching(rules, element, &mut indices)?;
-    index.matching(rules, element, &mut indices)
-}
-
-/// Finds the rules twice, and counts the tests.
-fn search_counted<E: Keyed>(
-    alloc: Global,
-    rules: &[Rule<'_>],
-    element: &E,
-) -> Result<(), AllocError> {
-    let index = RuleIndex::new(alloc, rules)?;
-    let mut indices = Vec::new(alloc);
-    let mut tests = Tests::new();
-    index.matching_counted(rules, element, &mut indices, &mut tests)?;
-    index.matching_counted(rules, element, &mut indices, &mut tests)
+    for _ in 0..2 {
+        if is_counted {
+            index.matching_counted(rules, element, &mut indices, &mut Tests::new())?;
+        } else {
+            index.matching(rules, element, &mut indices)?;
+        }
+    }
+    Ok(())
 }
 
 /// Finds the declarations of an element twice.
@@ -137,8 +131,8 @@ fn search_twice<E: Keyed>(
     element: &E,
 ) -> Result<(), AllocError> {
     match search {
-        Search::Matching => search_rules(alloc, rules, element),
-        Search::Counted => search_counted(alloc, rules, element),
+        Search::Matching => search_rules(alloc, rules, element, false),
+        Search::Counted => search_rules(alloc, rules, element, true),
         Search::Recent => search_recent(alloc, rules, element),
         Search::Stated => search_stated(alloc, rules, element),
         Search::Winners => search_winners(alloc, rules, element),
