@@ -19,7 +19,9 @@ sys.path.insert(0, SOURCE)
 
 import simplecss  # noqa: E402
 
-EXAMPLES = os.path.join(os.path.dirname(os.path.abspath(__file__)), "..", "..", "examples")
+EXAMPLES = os.path.join(
+    os.path.dirname(os.path.abspath(__file__)), "..", "..", "examples"
+)
 PAGES = os.path.join(EXAMPLES, "pages")
 
 DJANGO = """
@@ -89,7 +91,11 @@ class Recipes(unittest.TestCase):
 
     def ran(self, *words: str, status: int = 0) -> str:
         """Runs words, and returns what they print."""
-        paths = (SOURCE, os.path.join(EXAMPLES, "python"), os.environ.get("PYTHONPATH", ""))
+        paths = (
+            SOURCE,
+            os.path.join(EXAMPLES, "python"),
+            os.environ.get("PYTHONPATH", ""),
+        )
         environment = {**os.environ, "PYTHONPATH": os.pathsep.join(filter(None, paths))}
         environment["PYTHONDONTWRITEBYTECODE"] = "1"
         done = subprocess.run(
@@ -123,7 +129,8 @@ class Recipes(unittest.TestCase):
         self.needs("jinja2", "python3-jinja2")
         script = os.path.join(EXAMPLES, "python", "jinja_mail.py")
         self.assertEqual(
-            self.ran(sys.executable, script), '<h1 style="color: green">Fish &amp; chips</h1>\n'
+            self.ran(sys.executable, script),
+            '<h1 style="color: green">Fish &amp; chips</h1>\n',
         )
 
     def test_django(self) -> None:
@@ -152,7 +159,8 @@ class Recipes(unittest.TestCase):
         """Lengths in em are pixels, and nothing else is changed."""
         script = os.path.join(EXAMPLES, "python", "pixels.py")
         sheet = self.write(
-            "em.css", "a{margin:1.5em -.5EM 1e1em;b:'2em' 2rem url(3em)}/*4em*/.\\31 em{}"
+            "em.css",
+            "a{margin:1.5em -.5EM 1e1em;b:'2em' 2rem url(3em)}/*4em*/.\\31 em{}",
         )
         self.assertEqual(
             self.ran(sys.executable, script, sheet),
@@ -161,7 +169,10 @@ class Recipes(unittest.TestCase):
 
     def sheets(self) -> List[str]:
         """Writes a sheet without a mistake and one with one."""
-        return [self.write("good.css", "a { top: 0 }"), self.write("bad.css", "a { top }")]
+        return [
+            self.write("good.css", "a { top: 0 }"),
+            self.write("bad.css", "a { top }"),
+        ]
 
     def test_hook(self) -> None:
         """The local hook of pre-commit fails for a sheet with a mistake."""
@@ -190,15 +201,24 @@ class Recipes(unittest.TestCase):
         if shutil.which("bash") is None:
             self.skipTest("there is no bash")
         jobs = self.settings("github", "lint.yml")["jobs"]
-        (step,) = (each for each in jobs["lint"]["steps"] if "sarif" in each.get("run", ""))
+        (step,) = (
+            each for each in jobs["lint"]["steps"] if "sarif" in each.get("run", "")
+        )
         self.sheets()
         self.ran(
-            "bash", "-c", step["run"].replace("python3", shlex.quote(sys.executable)), status=1
+            "bash",
+            "-c",
+            step["run"].replace("python3", shlex.quote(sys.executable)),
+            status=1,
         )
         (named,) = (
-            each["with"] for each in jobs["lint"]["steps"] if "sarif_file" in each.get("with", ())
+            each["with"]
+            for each in jobs["lint"]["steps"]
+            if "sarif_file" in each.get("with", ())
         )
-        with open(os.path.join(self.folder, named["sarif_file"]), encoding="utf-8") as file:
+        with open(
+            os.path.join(self.folder, named["sarif_file"]), encoding="utf-8"
+        ) as file:
             log = json.load(file)
         self.assertEqual(log["version"], "2.1.0")
         (result,) = log["runs"][0]["results"]

@@ -69,13 +69,17 @@ class Declarations(unittest.TestCase):
             self.assertEqual(style_of("p { n: " + value + "}"), "n: " + value, value)
 
     def test_comments_round_a_value_are_no_part_of_it(self):
-        self.assertEqual(style_of("p { n/**/: /* a; b */ 1px/**/2px /* c */ }"), "n: 1px/**/2px")
+        self.assertEqual(
+            style_of("p { n/**/: /* a; b */ 1px/**/2px /* c */ }"), "n: 1px/**/2px"
+        )
         self.assertEqual(style_of("p { n: '/* a */' }"), "n: '/* a */'")
 
     def test_the_end_of_the_text_closes_a_block(self):
         self.assertEqual(style_of("p { n: 1; m: 2"), "n: 1; m: 2")
         # The parenthesis takes in all that follows.
-        self.assertEqual(inline("<p>", "p { n: 1; m: f(2; o: 3 } p { q: 4 }"), '<p style="n: 1">')
+        self.assertEqual(
+            inline("<p>", "p { n: 1; m: f(2; o: 3 } p { q: 4 }"), '<p style="n: 1">'
+        )
         for css in (
             "p:hover { n: 1",
             "@media x { p { n: 1 }",
@@ -86,14 +90,20 @@ class Declarations(unittest.TestCase):
             '<style>\np:hover { n: 1}\n</style><p style="n: 1">',
         )
         self.assertEqual(inline("<p>", "p"), "<p>")
-        self.assertEqual(inline("<p>", "@import x"), "<style>\n@import x\n</style><p>")
+        self.assertEqual(
+            inline("<p>", "@import 'x'"), "<style>\n@import 'x'\n</style><p>"
+        )
 
     def test_importance(self):
-        self.assertEqual(style_of("p { n: 1 ! IMPORTANT } p { n: 2 }"), "n: 1 !important")
+        self.assertEqual(
+            style_of("p { n: 1 ! IMPORTANT } p { n: 2 }"), "n: 1 !important"
+        )
         self.assertEqual(style_of("p { n: 1 !important; n: 2 }"), "n: 1 !important")
 
     def test_names_in_any_case(self):
-        self.assertEqual(style_of("p { COLOR: Red } P.a { color: Blue }"), "color: Blue")
+        self.assertEqual(
+            style_of("p { COLOR: Red } P.a { color: Blue }"), "color: Blue"
+        )
         self.assertEqual(style_of("p { --A: 1; --a: 2 }"), "--A: 1; --a: 2")
 
     def test_the_earlier_values_of_a_block_stay(self):
@@ -102,7 +112,9 @@ class Declarations(unittest.TestCase):
 
     def test_a_shorthand_keeps_its_place(self):
         css = ".a { margin: 1px } p { margin-left: 2px } #x { margin-top: 3px }"
-        self.assertEqual(style_of(css), "margin-left: 2px; margin: 1px; margin-top: 3px")
+        self.assertEqual(
+            style_of(css), "margin-left: 2px; margin: 1px; margin-top: 3px"
+        )
 
 
 class Selectors(unittest.TestCase):
@@ -139,7 +151,9 @@ class Selectors(unittest.TestCase):
             "p:not(.x:nth-child(2))",
             ":root p",
         ):
-            style = style_of(selector + " { n: 1 }", "<body><p class='a:b' title='b:c|d'>x")
+            style = style_of(
+                selector + " { n: 1 }", "<body><p class='a:b' title='b:c|d'>x"
+            )
             self.assertEqual(style, "n: 1", selector)
         self.assertEqual(
             inline("<b></b><i></i><p></p>", "b ~ p { n: 1 }"),
@@ -193,7 +207,9 @@ class Attributes(unittest.TestCase):
             ("<a\n/ x/>", '<a\n/ x style="n: 1"/>'),
             ("<a x='>'>", "<a x='>' style=\"n: 1\">"),
         ):
-            self.assertEqual(inline(tag + "b</a>", "a { n: 1 }"), written + "b</a>", tag)
+            self.assertEqual(
+                inline(tag + "b</a>", "a { n: 1 }"), written + "b</a>", tag
+            )
 
     def test_what_is_no_tag(self):
         for page in (
@@ -401,7 +417,9 @@ class Important(unittest.TestCase):
         )
         self.assertIn(
             "n: 3 !important",
-            inline("<html><body><body style='n:3'><a>", "a{n:1} *:hover{n:2} body{m:1}"),
+            inline(
+                "<html><body><body style='n:3'><a>", "a{n:1} *:hover{n:2} body{m:1}"
+            ),
         )
 
     def test_other_sheets(self):
@@ -411,7 +429,9 @@ class Important(unittest.TestCase):
             '<style media=print>\na:hover{n:2 !important}\n</style><a style="n: 1">',
         )
         page = "<style id=x>a:hover{n:2}</style><style>a{n:1}</style><a>"
-        self.assertEqual(inline(page, preserve="#x"), page.replace("a{n:1}", "\na { n: 1 }\n"))
+        self.assertEqual(
+            inline(page, preserve="#x"), page.replace("a{n:1}", "\na { n: 1 }\n")
+        )
         self.assertEqual(inline(page, keep_style=True), page)
 
     def test_links(self):
@@ -469,8 +489,14 @@ class KeptRules(unittest.TestCase):
                 "@layer x { a { n: 1 !important } } @layer y { a { n: 2 !important } }",
                 "n: 1 !important",
             ),
-            ("@layer x { a { n: 1 } } a { n: 2 !important } a { n: 3 }", "n: 2 !important"),
-            ("@layer x { @layer z { a { n: 1 } } a { n: 2 } @layer w { a { n: 3 } } }", "n: 2"),
+            (
+                "@layer x { a { n: 1 } } a { n: 2 !important } a { n: 3 }",
+                "n: 2 !important",
+            ),
+            (
+                "@layer x { @layer z { a { n: 1 } } a { n: 2 } @layer w { a { n: 3 } } }",
+                "n: 2",
+            ),
             ("@layer { a { n: 1 } } @layer { a { n: 2 } }", "n: 2"),
             # What stays has a place among what is written.
             ("@layer x { a:hover { n: 1 } } @layer y { a { n: 2 } }", "n: 2"),
@@ -478,15 +504,75 @@ class KeptRules(unittest.TestCase):
                 "@layer y { b:hover { n: 1 } } @layer { a:hover { n: 2 } } @layer y { a { n: 3 } }",
                 "",
             ),
-            ("@layer x { a:hover { n: 1 !important } } @layer y { a { n: 2 !important } }", ""),
+            (
+                "@layer x { a:hover { n: 1 !important } } @layer y { a { n: 2 !important } }",
+                "",
+            ),
             ("@layer y { a { n: 2 } } a:hover { n: 1 }", ""),
             # The order of layers is that of what holds.
-            ("@media print { @layer y; } @layer x { a { n: 1 } } @layer y { a { n: 2 } }", ""),
-            ("@layer x { @layer y {} @layer z { a { n: 1 } } @layer y { a { n: 2 } } }", ""),
-            ("a { @layer y { m: 1 } } @layer x { a { n: 1 } }", ""),
+            (
+                "@media print { @layer y; } @layer x { a { n: 1 } } @layer y { a { n: 2 } }",
+                "",
+            ),
+            (
+                "@layer x { @layer y {} @layer z { a { n: 1 } } @layer y { a { n: 2 } } }",
+                "",
+            ),
+            ("a { @layer y { m: 1 } } @layer x { a { n: 1 } }", "m: 1; n: 1"),
+            (
+                "@layer x { a { n: 1; @layer z { n: 2 } } } @layer y { a { m: 3 } }",
+                "n: 1; m: 3",
+            ),
+            (
+                "a { @layer y { n: 1 } @layer x { n: 2 } } @layer y { a { n: 3 } }",
+                "n: 2",
+            ),
+            (
+                "a { @layer { n: 1 !important } & { n: 2 !important } }",
+                "n: 1 !important",
+            ),
+            ("a { @layer y {} } @layer x { a { n: 1 } } @layer y { a { n: 2 } }", ""),
+            ("a { @media print { @layer y { m: 1 } } } @layer x { a { n: 1 } }", ""),
             ("@layer x { a { n: 1 }", ""),
         ):
             self.assertEqual(style_of(css, "<a id=i>", important=False), style, css)
+
+    def test_rules_in_style_rules(self):
+        """What can be written is; the rest stays in its style rules, as it is written."""
+        page = "<p class=a><i class=b>x</i></p>"
+        for css, written, kept in (
+            (".a { n: 1; .b { m: 2 } o: 3 }", ("n: 1; o: 3", "m: 2"), ""),
+            (".a { n: 1; & { n: 2 } n: 3 }", ("n: 3", ""), ""),
+            (
+                ".a { n: 1; &:hover { n: 2 } .b:hover { .c { m: 3 } } }",
+                ("n: 1", ""),
+                ".a { &:hover { n: 2 !important } }\n.a { .b:hover { .c { m: 3 } } }",
+            ),
+            (
+                ".a { n: 1; @media x { n: 2; .b { m: 3 } } .b { m: 1 } }",
+                ("n: 1", "m: 1"),
+                ".a { @media x { n: 2 !important; .b { m: 3 } } }",
+            ),
+            (
+                "p { & > .b, .b::before { n: 1 } }",
+                ("", "n: 1"),
+                "p .b::before { n: 1 }",
+            ),
+            (
+                "@layer x { .a { @layer y { n: 1; .b:hover { n: 2 } } } }",
+                ("n: 1", ""),
+                "@layer x {\n@layer y {\n.a { .b:hover { n: 2 } }\n}\n}",
+            ),
+            (".a:hover { .b { n: 1 } }", ("", ""), ".a:hover { .b { n: 1 } }"),
+            # Not every browser reads it.
+            (".a { n: 1; .b:new { n: 2 } }", ("", ""), ".a { n: 1; .b:new { n: 2 } }"),
+            (".a { n: 1; .b { n: 2 }", ("", ""), ".a { n: 1; .b { n: 2 }"),
+        ):
+            due = page
+            for tag, style in zip(("p class=a", "i class=b"), written):
+                due = due.replace(tag, f'{tag} style="{style}"') if style else due
+            sheet = f"<style>\n{kept}\n</style>" if kept else ""
+            self.assertEqual(inline(page, css), sheet + due, css)
 
     def test_what_stays_in_layers(self):
         for css, kept in (
@@ -528,13 +614,22 @@ class KeptRules(unittest.TestCase):
             ("b a:hover { n: 1 } a { n: 2 }", "n: 2"),
             ("a:hover { margin-top: 1px } a { margin: 0 }", ""),
             ("a { n: 1 } @media x { a { n: 2 } }", ""),
-            ("a { n: 1 } a { & b { n: 2 } }", ""),
-            ("a { n: 1; m: 2 } b { & i { n: 2 } }", "m: 2"),
-            ("a { n: 1 } a { m: 2; & b { o: 2 } }", "n: 1"),
-            ("a { n: 1; m: 2; o: 3 } b { @media x { i { & u { n: 2 } } m: 3 } }", "o: 3"),
+            ("a { n: 1 } a { & b { n: 2 } }", "n: 1"),
+            ("a { n: 1 } a { & b { n: 2 } ? {} }", ""),
+            ("a { n: 1; m: 2 } b { & i { n: 2 } ? {} }", "m: 2"),
+            ("a { n: 1 } a { m: 2; & b { o: 2 } ? {} }", "n: 1"),
+            (
+                "a { n: 1; m: 2; o: 3 } b { @media x { i { & u { n: 2 } } m: 3 } ? {} }",
+                "o: 3",
+            ),
+            ("a { n: 1 } b { @layer x { n: 2 !important } ? {} }", "n: 1"),
+            ("a { n: 1 !important } b { @layer x { n: 2 !important } ? {} }", ""),
             ("a { n: 1; m: 2 } a { n: {{ x }}; o: 3 }", "n: 1; m: 2"),
             ("a { n: 1; m: f({}); o: '{' }", "n: 1; m: f({}); o: '{'"),
-            ("a { n: 1 !important } @layer x { a { n: 2 !important } }", "n: 2 !important"),
+            (
+                "a { n: 1 !important } @layer x { a { n: 2 !important } }",
+                "n: 2 !important",
+            ),
             ("a { n: 1 !important } @layer x { a:hover { n: 2 !important } }", ""),
             ("a { n: 1 } a:not(:hover) { n: 2 }", ""),
             ("a { n: 1 } a:not(.b):hover { n: 2 }", ""),
@@ -567,7 +662,9 @@ class KeptRules(unittest.TestCase):
             "padding: 1px; padding-left: 7px; padding: f(1)",
         )
         self.assertEqual(
-            style_of("p { padding: 1px } .a { padding-left: 7px } .b { padding: f(1) }"),
+            style_of(
+                "p { padding: 1px } .a { padding-left: 7px } .b { padding: f(1) }"
+            ),
             "padding: 1px; padding-left: 7px; padding: f(1)",
         )
 
@@ -600,7 +697,9 @@ class KeptRules(unittest.TestCase):
             inline("<style TYPE='TEXT/CSS' MEDIA=ALL>a { n: 1 }</style><a>"),
             '<a style="n: 1">',
         )
-        self.assertEqual(inline("<p><style>p { n: 1 }</style>"), '<p style="n: 1"><style></style>')
+        self.assertEqual(
+            inline("<p><style>p { n: 1 }</style>"), '<p style="n: 1"><style></style>'
+        )
 
     def test_time_of_hostile_sheets(self):
         for unit in (
@@ -616,7 +715,9 @@ class KeptRules(unittest.TestCase):
             "a{&b{",
         ):
             inline("<a>", unit * (20_000 // len(unit)))
-        many = ",".join(["a"] * 2000), ";".join(f"p{number}:1" for number in range(2000))
+        many = ",".join(["a"] * 2000), ";".join(
+            f"p{number}:1" for number in range(2000)
+        )
         with self.assertRaises(ValueError):
             inline("<a>", "%s{%s}" % many)
         inline(
@@ -624,7 +725,9 @@ class KeptRules(unittest.TestCase):
             "a{b:c}" + "%s{%s}" % (many[0].replace(",", ":hover,"), many[1]),
         )
         self.assertEqual(
-            style_of("a { n: 1 }" + "@media x{" * 99 + "a { n: 2 }", "<a>", important=False),
+            style_of(
+                "a { n: 1 }" + "@media x{" * 99 + "a { n: 2 }", "<a>", important=False
+            ),
             "",
         )
         for selector in (
@@ -642,7 +745,9 @@ class Options(unittest.TestCase):
     def test_folder(self):
         with tempfile.TemporaryDirectory() as folder:
             os.mkdir(os.path.join(folder, "css"))
-            with open(os.path.join(folder, "css", "a.css"), "w", encoding="utf-8") as file:
+            with open(
+                os.path.join(folder, "css", "a.css"), "w", encoding="utf-8"
+            ) as file:
                 file.write("p { background: url(x.png) } p:hover { n: 1 }")
             page = "<head><link rel=stylesheet href='css/a.css?1'></head><p>"
             self.assertEqual(
@@ -662,7 +767,9 @@ class Options(unittest.TestCase):
                 other = page.replace("css/a.css?1", href)
                 self.assertEqual(inline(other, folder=folder), other)
             self.assertEqual(
-                inline(page, "p { background: none }", folder=folder).count("url(css/x.png)"),
+                inline(page, "p { background: none }", folder=folder).count(
+                    "url(css/x.png)"
+                ),
                 1,
             )
 
@@ -699,8 +806,12 @@ class Options(unittest.TestCase):
         self.assertIn('class="a:b"', inline(page, remove_classes=True))
 
     def test_a_link_with_a_class(self):
-        page = "<body><link class=x rel=stylesheet href='data:text/css,p{n:1}'><p class=x>"
-        self.assertEqual(inline(page, remove_classes=True), '<body><style></style><p style="n: 1">')
+        page = (
+            "<body><link class=x rel=stylesheet href='data:text/css,p{n:1}'><p class=x>"
+        )
+        self.assertEqual(
+            inline(page, remove_classes=True), '<body><style></style><p style="n: 1">'
+        )
 
     def test_attributes(self):
         self.assertEqual(
@@ -732,20 +843,26 @@ class Options(unittest.TestCase):
                 ("a:hover", "it depends on a state of the page"),
                 ("a", "a rule that stays could override it"),
                 ("a::before", "it has a pseudo-element"),
-                ("a, a:q", "a browser may drop the list"),
+                ("a, a:q", "invalid selector"),
                 ("a", "a rule that stays could override it"),
             ],
         )
 
     def test_ignore(self):
-        page = "<style>p{n:1} .x{m:2} b{n:1}</style><p class='x y'>1<p class=y>2<b>3</b>"
+        page = (
+            "<style>p{n:1} .x{m:2} b{n:1}</style><p class='x y'>1<p class=y>2<b>3</b>"
+        )
         self.assertEqual(
             inline(page, ignore="p.x", remove_classes=True, base_url="http://h/"),
             "<style>\np { n: 1 }\n.x { m: 2 }\n</style>"
             '<p class=\'x y\'>1<p style="n: 1">2<b style="n: 1">3</b>',
         )
         self.assertEqual(
-            inline("<a href=x>1</a><a href=y>2</a>", ignore="[href=x]", base_url="http://h/"),
+            inline(
+                "<a href=x>1</a><a href=y>2</a>",
+                ignore="[href=x]",
+                base_url="http://h/",
+            ),
             '<a href=x>1</a><a href="http://h/y">2</a>',
         )
         report = []
@@ -753,7 +870,10 @@ class Options(unittest.TestCase):
         self.assertEqual(
             [tuple(each) for each in report],
             [
-                ("p", "it matches an element without a tag of its own, or one that is ignored"),
+                (
+                    "p",
+                    "it matches an element without a tag of its own, or one that is ignored",
+                ),
                 ("p:hover", "it depends on a state of the page"),
             ],
         )
@@ -766,15 +886,31 @@ class Options(unittest.TestCase):
             ("rect{fill:red;n:1}", "rect/", 'rect style="n: 1" fill="red"/'),
             ("rect{fill:red}", "rect fill=blue /", 'rect fill="red" /'),
             ("rect{fill:red} #a{fill:lime}", "rect id=a /", 'rect id=a fill="lime" /'),
-            ("rect{x:1px;r:2px;width:3px}", "rect/", 'rect style="r: 2px" x="1px" width="3px"/'),
+            (
+                "rect{x:1px;r:2px;width:3px}",
+                "rect/",
+                'rect style="r: 2px" x="1px" width="3px"/',
+            ),
             # A number is no length in a sheet; a stroke has one.
-            ("rect{x:1;stroke-width:1}", "rect/", 'rect style="x: 1" stroke-width="1"/'),
+            (
+                "rect{x:1;stroke-width:1}",
+                "rect/",
+                'rect style="x: 1" stroke-width="1"/',
+            ),
             ("path{d:path('M0')}", "path/", "path style=\"d: path('M0')\"/"),
             ("g{transform:rotate(1deg)}", "g/", 'g style="transform: rotate(1deg)"/'),
             ("g{fill:red!important}", "g/", 'g style="fill: red !important"/'),
-            ("g{fill:red;fill:oklch(0 0 0)}", "g/", 'g style="fill: red; fill: oklch(0 0 0)"/'),
+            (
+                "g{fill:red;fill:oklch(0 0 0)}",
+                "g/",
+                'g style="fill: red; fill: oklch(0 0 0)"/',
+            ),
             # All of a family, or nothing.
-            ("g{font:1px x;font-size:2px}", "g/", 'g style="font: 1px x; font-size: 2px"/'),
+            (
+                "g{font:1px x;font-size:2px}",
+                "g/",
+                'g style="font: 1px x; font-size: 2px"/',
+            ),
             ("g{all:unset;fill:red}", "g/", 'g style="all: unset; fill: red"/'),
             ("g{fill:red}", 'g style="n:1"/', 'g style="n:1" fill="red"/'),
             ("set{fill:freeze}", "set/", 'set style="fill: freeze"/'),
@@ -796,7 +932,8 @@ class Options(unittest.TestCase):
             self.assertIn(expected, text, css)
         page = "<p><svg><style>p,g{fill:red}</style><g/></svg>"
         self.assertEqual(
-            inline(page, as_attributes=True), '<p style="fill: red"><svg><g fill="red"/></svg>'
+            inline(page, as_attributes=True),
+            '<p style="fill: red"><svg><g fill="red"/></svg>',
         )
         page = '<svg xmlns="http://www.w3.org/2000/svg"><style>g{fill:red}</style><g/></svg>'
         self.assertEqual(
@@ -816,12 +953,20 @@ class Options(unittest.TestCase):
     def test_parts(self):
         for text, names, expected in (
             ("<p>1</p> 2", "p", '<p style="n: 1">1</p> 2'),
-            ("<tr><td>1</td></tr>", "tr,td", '<tr style="n: 1"><td style="n: 1">1</td></tr>'),
+            (
+                "<tr><td>1</td></tr>",
+                "tr,td",
+                '<tr style="n: 1"><td style="n: 1">1</td></tr>',
+            ),
             (" <!-- a --><th>1", "th", ' <!-- a --><th style="n: 1">1'),
             ("<thead><tr>", "thead,tr", '<thead style="n: 1"><tr style="n: 1">'),
             ("<col><col>", "col", '<col style="n: 1"><col style="n: 1">'),
             ("<caption>1", "caption", '<caption style="n: 1">1'),
-            ("<template><tr></template><td>", "td", '<template><tr></template><td style="n: 1">'),
+            (
+                "<template><tr></template><td>",
+                "td",
+                '<template><tr></template><td style="n: 1">',
+            ),
             ("", "p", ""),
         ):
             self.assertEqual(inline(text, names + "{n:1}", is_part=True), expected)
@@ -854,11 +999,15 @@ class ManyDocuments(unittest.TestCase):
         inliner = simplecss.Inliner(self.CSS, remove_classes=True)
         for number in range(200):
             tag = self.TAGS[number % len(self.TAGS)]
-            own = f"<style>.b{{m:{number}}} a:visited{{m:1}}</style>" * (number % 3 == 0)
+            own = f"<style>.b{{m:{number}}} a:visited{{m:1}}</style>" * (
+                number % 3 == 0
+            )
             page = f"{own}<{tag}>{number}"
             report, other = [], []
             text = inliner.inline(page, report=report)
-            self.assertEqual(text, inline(page, self.CSS, remove_classes=True, report=other), page)
+            self.assertEqual(
+                text, inline(page, self.CSS, remove_classes=True, report=other), page
+            )
             self.assertEqual(report, other, page)
 
     def test_the_sheet_is_read_once(self):
@@ -877,7 +1026,9 @@ class ManyDocuments(unittest.TestCase):
         call = _library.call
         with unittest.mock.patch.object(_library, "call", side_effect=call) as calls:
             for number in range(100):
-                self.assertIn('style="n: 1"', inline(f"<a>{number}", css, attributes=number < 50))
+                self.assertIn(
+                    'style="n: 1"', inline(f"<a>{number}", css, attributes=number < 50)
+                )
         names = [each.args[0] for each in calls.call_args_list]
         self.assertLessEqual(names.count("simplecss_read"), 4)
 
@@ -886,12 +1037,16 @@ class ManyDocuments(unittest.TestCase):
         inliner = simplecss.Inliner("@import 'a.css'; b{n:1}", load=sheets.get)
         for folder, value in (("x", 2), ("y", 3)):
             at = f"http://h/{folder}/page.html"
-            self.assertEqual(inliner.inline("<b>", at=at), f'<b style="m: {value}; n: 1">')
+            self.assertEqual(
+                inliner.inline("<b>", at=at), f'<b style="m: {value}; n: 1">'
+            )
         self.assertEqual(
             simplecss.Inliner("b{n:1}").inline("<B/><b/>", is_xml=False),
             '<B style="n: 1"/><b style="n: 1"/>',
         )
-        self.assertEqual(simplecss.Inliner("b{n:1}").inline(b"<b>"), b'<b style="n: 1">')
+        self.assertEqual(
+            simplecss.Inliner("b{n:1}").inline(b"<b>"), b'<b style="n: 1">'
+        )
         with self.assertRaises(ValueError):
             simplecss.Inliner("style.css")
 
@@ -926,7 +1081,9 @@ class Injection(unittest.TestCase):
         names = [each.name for each in simplecss.Tree.from_html(page)]
         self.assertEqual(names.count("b"), 1)
         for text in ("&#0;", "\ufffd", "<svg>&#0;</svg>"):
-            names = [each.name for each in simplecss.Tree.from_html(f"{text}<frameset>")]
+            names = [
+                each.name for each in simplecss.Tree.from_html(f"{text}<frameset>")
+            ]
             self.assertIn("frameset", names, text)
 
     def test_pages_that_name_two_encodings(self):
@@ -1022,9 +1179,15 @@ class Injection(unittest.TestCase):
             ("", "<noscript>"),
             ("", "<script><!--<script></script>"),
         ):
-            kept = style.replace("<img", "\\3c img") if "svg" in last or "math" in last else style
+            kept = (
+                style.replace("<img", "\\3c img")
+                if "svg" in last or "math" in last
+                else style
+            )
             kept = style.replace("<img", "\\3c img") if "svg" in first else kept
-            self.assertEqual(inline(first + last, css), f"{first}{kept}{last}", first + last)
+            self.assertEqual(
+                inline(first + last, css), f"{first}{kept}{last}", first + last
+            )
         page = "<?xml version='1.0'?><h><head></head><svg><style>@x;</style></svg></h>"
         self.assertEqual(
             inline(page, css, is_xml=True),
@@ -1058,7 +1221,8 @@ class Injection(unittest.TestCase):
             for first in ("<noscript>", "<p><noscript><div>"):
                 self.assertEqual(
                     inline(first + link, folder=folder),
-                    first + '<style>\np:hover{content:"<\\/noscript><img src=x>"}\n</style>',
+                    first
+                    + '<style>\np:hover{content:"<\\/noscript><img src=x>"}\n</style>',
                 )
             with open(os.path.join(folder, "a.css"), "w", encoding="utf-8") as file:
                 file.write("p, </noscript> {n:1}")
@@ -1085,11 +1249,15 @@ class Injection(unittest.TestCase):
             '<svg><foreignObject><p><![CDATA[><img title="]]></p><b/></foreignObject></svg>',
             "<svg><foreignObject><style>b{n:1}</style></foreignObject><b/></svg>",
         ):
-            self.assertEqual(inline(page, "q{n:\"' x='\"}", is_xml=True).count("style="), 0)
+            self.assertEqual(
+                inline(page, "q{n:\"' x='\"}", is_xml=True).count("style="), 0
+            )
         page = "<svg><foreignObject><title/></foreignObject><b/></svg>"
         self.assertEqual(inline(page, "b{n:1}").count("style="), 0)
         self.assertEqual(
-            inline(f"<?xml version='1.0'?>{page}", "b{n:1}", is_xml=True).count("style="),
+            inline(f"<?xml version='1.0'?>{page}", "b{n:1}", is_xml=True).count(
+                "style="
+            ),
             1,
         )
 
@@ -1108,19 +1276,25 @@ class Injection(unittest.TestCase):
         )
 
     def test_names_of_tags_end_at_the_spaces_of_html(self):
-        for space in "\x0b\x1c\x1d\x1e\x1f\x85\xa0\u1680\u2000\u2028\u2029\u202f\u205f\u3000":
+        for (
+            space
+        ) in "\x0b\x1c\x1d\x1e\x1f\x85\xa0\u1680\u2000\u2028\u2029\u202f\u205f\u3000":
             self.assertEqual(
-                inline(f"<p><script{space}>x</script>", "*{n:1}").partition("</style>")[2],
+                inline(f"<p><script{space}>x</script>", "*{n:1}").partition("</style>")[
+                    2
+                ],
                 f'<p style="n: 1"><script{space} style="n: 1">x</script>',
             )
             self.assertEqual(
-                inline(f"<p class='a{space}b c'>", "b{n:1} @x .a.c", remove_classes=True).partition(
-                    "<p"
-                )[2],
+                inline(
+                    f"<p class='a{space}b c'>", "b{n:1} @x .a.c", remove_classes=True
+                ).partition("<p")[2],
                 ' class="c">',
             )
         for space in "\t\n\f\r /":
-            self.assertEqual(inline(f"<p{space}x>", "p{n:1}"), f'<p{space}x style="n: 1">')
+            self.assertEqual(
+                inline(f"<p{space}x>", "p{n:1}"), f'<p{space}x style="n: 1">'
+            )
 
     def test_letters_of_html_are_those_of_ascii(self):
         for page in (
@@ -1142,7 +1316,9 @@ class Injection(unittest.TestCase):
             inline("<p>", f"p{{n:'{marks}'}} p:hover{{m:'{marks}'}}"),
             f"<style>\np:hover{{m:'{escapes}'}}\n</style><p style=\"n: '{escapes}'\">",
         )
-        self.assertEqual(style_of("p{n:'\\\x1b'; m:\\\\\x1b}"), "n: '\\1b '; m: \\\\\\1b ")
+        self.assertEqual(
+            style_of("p{n:'\\\x1b'; m:\\\\\x1b}"), "n: '\\1b '; m: \\\\\\1b "
+        )
         self.assertEqual(
             inline("<?xml version='1.0'?><p/>", "p{n:a\fb'\uffff\x1b'}", is_xml=True),
             "<?xml version='1.0'?><p style=\"n: a\nb'\\ffff \\1b '\"/>",
@@ -1207,7 +1383,9 @@ class Injection(unittest.TestCase):
 
     def test_attributes_of_xml_have_case(self):
         self.assertEqual(
-            inline("<?xml version='1.0'?><a STYLE='x' style='y'/>", "a{n:1}", is_xml=True),
+            inline(
+                "<?xml version='1.0'?><a STYLE='x' style='y'/>", "a{n:1}", is_xml=True
+            ),
             "<?xml version='1.0'?><a STYLE='x' style='n: 1; y'/>",
         )
 
@@ -1249,7 +1427,9 @@ class Injection(unittest.TestCase):
             )
 
     def test_a_slash_after_a_class_is_of_no_value(self):
-        self.assertEqual(inline('<p title=x class="a"/>', remove_classes=True), "<p title=x />")
+        self.assertEqual(
+            inline('<p title=x class="a"/>', remove_classes=True), "<p title=x />"
+        )
 
     def test_an_unquoted_attribute_stays_one(self):
         self.assertEqual(

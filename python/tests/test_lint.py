@@ -16,18 +16,34 @@ from pathlib import Path
 
 sys.path.insert(0, str(Path(__file__).resolve().parents[1] / "src"))
 import simplecss  # noqa: E402
-from simplecss import __main__ as command, _fixes, _lint, _mistakes, _names  # noqa: E402
+from simplecss import (
+    __main__ as command,
+    _fixes,
+    _lint,
+    _mistakes,
+    _names,
+)  # noqa: E402
 
 # A sheet for each of 19 mistakes that people make, and what is to be reported of it first: the kind,
 # where it begins in the sheet, and what was meant.
 PLANTED = (
     (".a { colr: red }", "unknown-property", "colr", "color"),
-    (".a { background-colour: red }", "unknown-property", "background", "background-color"),
+    (
+        ".a { background-colour: red }",
+        "unknown-property",
+        "background",
+        "background-color",
+    ),
     ("a:hoverr { top: 0 }", "unknown-pseudo-class", ":hoverr", ":hover"),
     ("li:nth-chidl(2n) { top: 0 }", "unknown-pseudo-class", ":nth", ":nth-child"),
     ("p::befor { top: 0 }", "unknown-pseudo-element", "::befor", "::before"),
     ("@medai print { a { top: 0 } }", "unknown-at-rule", "@medai", "@media"),
-    ("@media (min-widht: 3px) { a { top: 0 } }", "unknown-media-feature", "min-", "min-width"),
+    (
+        "@media (min-widht: 3px) { a { top: 0 } }",
+        "unknown-media-feature",
+        "min-",
+        "min-width",
+    ),
     ("a { top: 0; left: 0; top: 1px }", "repeated-declaration", "top: 0", None),
     ("a { }", "empty-rule", "a", None),
     ("a { background: url(x.png; top: 0 }\nb { left: 0 }", "bad-url", "url(", None),
@@ -88,7 +104,9 @@ class Mistakes(unittest.TestCase):
                 self.assertEqual(found[0][1:3], (row, column))
                 self.assertEqual(found[0].hint, meant)
                 if meant is not None:
-                    self.assertTrue(found[0].message.endswith(f"(did you mean '{meant}'?)"))
+                    self.assertTrue(
+                        found[0].message.endswith(f"(did you mean '{meant}'?)")
+                    )
 
     def test_right(self):
         for text in (*RIGHT, NESTED):
@@ -113,7 +131,10 @@ class Mistakes(unittest.TestCase):
                 "@media é, (hover) and (MIN-WIDHT: 1px) { a { top: 0 } }",
                 [("MIN-WIDHT", "min-width")],
             ),
-            ("@media (oreintation: portrait) { a { top: 0 } }", [("oreintation", "orientation")]),
+            (
+                "@media (oreintation: portrait) { a { top: 0 } }",
+                [("oreintation", "orientation")],
+            ),
             # Which of the two is meant is not known.
             ("a { src: url(b) }", [("src", None)]),
         ):
@@ -124,7 +145,10 @@ class Mistakes(unittest.TestCase):
         for text, expected in (
             ("a { top: 0; top: 0 }", ["top: 0"]),
             ("a { top: 0 !important; top: 1px }", ["top: 1px"]),
-            ("a { TOP: 0; left: 0; top: 1px; top: 2px; top: 2px }", ["TOP: 0", "top: 2px"]),
+            (
+                "a { TOP: 0; left: 0; top: 1px; top: 2px; top: 2px }",
+                ["TOP: 0", "top: 2px"],
+            ),
             ("a { --x: 0; top: 0; --x: 1 }", ["--x: 0"]),
         ):
             found = [each.text for each in simplecss.lint(text)]
@@ -152,8 +176,16 @@ class Mistakes(unittest.TestCase):
             ("a { content: 'url(' url(b c) }", "bad-url", "url(b c)"),
             ("a { content: 'b' 'c", "value-not-closed", "'c"),
             ("a { content: 'é' 'c", "value-not-closed", "'c"),
-            ("a { content: 'é' calc(1px + 'é'", "value-not-closed", "content: 'é' calc(1px + 'é'"),
-            ("a { content: 'é' 'x; top: 0 }\nb { left: 0 }", "bad-string", "'x; top: 0 }"),
+            (
+                "a { content: 'é' calc(1px + 'é'",
+                "value-not-closed",
+                "content: 'é' calc(1px + 'é'",
+            ),
+            (
+                "a { content: 'é' 'x; top: 0 }\nb { left: 0 }",
+                "bad-string",
+                "'x; top: 0 }",
+            ),
             ("a { content: 'é' /* b }", "comment-not-closed", "/* b }"),
             ("é:hover, é:hovré { top: 0 }", "unknown-pseudo-class", ":hovré"),
             ("a { top: 0 IMPORTANT }", "misspelt-important", "IMPORTANT"),
@@ -162,7 +194,11 @@ class Mistakes(unittest.TestCase):
             ("@media print { a { top: 0 /* b }", "comment-not-closed", "/* b }"),
             ("a { top: 0 important }", "misspelt-important", "important"),
             ("a { top: 0 !!important }", "misspelt-important", "!important"),
-            ("a { color: red background: blue !important }", "semicolon-missing", "color: red"),
+            (
+                "a { color: red background: blue !important }",
+                "semicolon-missing",
+                "color: red",
+            ),
             ("@media print { }", "empty-rule", "@media print { }"),
         ):
             found = [each.text for each in simplecss.lint(text) if each.kind == kind]
@@ -178,7 +214,11 @@ class Kinds(unittest.TestCase):
         text = "a { colr: red } b { }"
         kinds = [each.kind for each in simplecss.lint(text)]
         self.assertEqual(kinds, ["unknown-property", "empty-rule"])
-        for ignore, count in (("unknown", 1), (["empty-rule", "unknown-property"], 0), ((), 2)):
+        for ignore, count in (
+            ("unknown", 1),
+            (["empty-rule", "unknown-property"], 0),
+            ((), 2),
+        ):
             self.assertEqual(len(simplecss.lint(text, ignore=ignore)), count)
 
     def test_comments(self):
@@ -194,13 +234,19 @@ class Kinds(unittest.TestCase):
             ("a { colr: simplecss-ignore }", 1),
         ):
             self.assertEqual(len(simplecss.lint(text)), count, text)
-        page = "<style>\na { colr: red } /* simplecss-ignore */</style><p style='tpo: 0'>"
-        self.assertEqual([each.text for each in _lint.findings("a.html", page)], ["tpo"])
+        page = (
+            "<style>\na { colr: red } /* simplecss-ignore */</style><p style='tpo: 0'>"
+        )
+        self.assertEqual(
+            [each.text for each in _lint.findings("a.html", page)], ["tpo"]
+        )
 
     def test_each_is_explained(self):
         reasons = {kind for _, kind, _, _ in PLANTED}
         self.assertLessEqual(reasons, {_lint.kind_of(each) for each in _mistakes.KINDS})
-        page = Path(__file__).parents[1].joinpath("README.md").read_text(encoding="utf-8")
+        page = (
+            Path(__file__).parents[1].joinpath("README.md").read_text(encoding="utf-8")
+        )
         for reason, text in _mistakes.KINDS.items():
             self.assertIn(f"  {_lint.kind_of(reason)} ", _lint.kinds())
             self.assertIn(f"| `{_lint.kind_of(reason)}` | {text} |\n", page)
@@ -216,7 +262,7 @@ div:hover > p:not(:hover), div:not(.x):hover, a:not(:visited), main a:not(:link)
 p:not(:empty):active, main:not(.a:hover), x:has(b)"""
 UNUSED = """p.x, .x, .x:hover, p:visited, .y:checked, .x::after, [href=':hover'], div:not(.a):hover,
 .x:not(:hover), p:not(:hover).x, p:empty, :is(.x,.y):focus-within, main a:link, div main, .a:focus ~ main, nav:target,
-a:-moz-focusring.x, .x:hover::before"""
+a:autofill.x, .x:hover::before"""
 
 
 class Usage(unittest.TestCase):
@@ -233,7 +279,9 @@ class Usage(unittest.TestCase):
         self.assertEqual(found, UNUSED.replace("\n", " ").split(", "))
 
     def test_rules(self):
-        text = "é { top: 0 }\n@media print { p, .x { top: 0 } } @font-face { src: url(a) }"
+        text = (
+            "é { top: 0 }\n@media print { p, .x { top: 0 } } @font-face { src: url(a) }"
+        )
         found = simplecss.StyleSheet("main { }", text).unused(*self.trees)
         self.assertEqual(
             found,
@@ -260,11 +308,16 @@ class Usage(unittest.TestCase):
                 f"{sheet}:3:20: '.z' matches nothing",
                 f"{sheet}:3:37: '.x' matches nothing, and others of its rule do",
             ]
-            self.assertEqual(self.run_command(sheet, folder), (0, "\n".join(lines) + "\n"))
+            self.assertEqual(
+                self.run_command(sheet, folder), (0, "\n".join(lines) + "\n")
+            )
             found = [
-                json.loads(it) for it in self.run_command("--json", sheet, folder)[1].splitlines()
+                json.loads(it)
+                for it in self.run_command("--json", sheet, folder)[1].splitlines()
             ]
-            self.assertEqual([each["selector"] for each in found], [".x", ".y", ".z", ".x"])
+            self.assertEqual(
+                [each["selector"] for each in found], [".x", ".y", ".z", ".x"]
+            )
             self.assertEqual(
                 self.run_command("--print", sheet, folder),
                 (0, "a { top: 0 }\n\n@media print {  p, .x { left: 0 } }\n"),
@@ -272,13 +325,19 @@ class Usage(unittest.TestCase):
             # Without a sheet, those that the pages link to.
             self.assertEqual(self.run_command(folder), (0, ""))
             page = Path(folder, "2.html")
-            page.write_text("<link rel=stylesheet href=a.css><i class=z>", encoding="utf-8")
+            page.write_text(
+                "<link rel=stylesheet href=a.css><i class=z>", encoding="utf-8"
+            )
             lines = [
-                each.replace(sheet, os.path.relpath(sheet)) for each in lines if ".z" not in each
+                each.replace(sheet, os.path.relpath(sheet))
+                for each in lines
+                if ".z" not in each
             ]
             lines[1] += ", and others of its rule do"
             self.assertEqual(self.run_command(folder), (0, "\n".join(lines) + "\n"))
-            self.assertEqual(self.run_command(sheet, os.path.join(folder, "none.html"))[0], 4)
+            self.assertEqual(
+                self.run_command(sheet, os.path.join(folder, "none.html"))[0], 4
+            )
 
     def run_command(self, *words):
         out = io.StringIO()
@@ -295,7 +354,10 @@ class Fixes(unittest.TestCase):
                 "a { top: 0 ! importnat; left: 0 important }",
                 "a { top: 0 !important; left: 0 !important }",
             ),
-            ("a { top: 0\n left: 0\n right: 0 }", "a { top: 0;\n left: 0;\n right: 0 }"),
+            (
+                "a { top: 0\n left: 0\n right: 0 }",
+                "a { top: 0;\n left: 0;\n right: 0 }",
+            ),
             ("é { colr: red\n top: 0 }", "é { color: red;\n top: 0 }"),
             (
                 "@medai print { a:hovr::befor { top: 0 } }",
@@ -312,7 +374,9 @@ class Fixes(unittest.TestCase):
     def test_command(self):
         with tempfile.TemporaryDirectory() as folder:
             sheet = os.path.join(folder, "a.css")
-            Path(sheet).write_bytes("\ufeffé { colr: red;\r\n src: x }\r\n".encode("utf-8"))
+            Path(sheet).write_bytes(
+                "\ufeffé { colr: red;\r\n src: x }\r\n".encode("utf-8")
+            )
             out = io.StringIO()
             with redirect_stdout(out):
                 self.assertEqual(command.main(["lint", "--fix", sheet]), 1)

@@ -12,7 +12,9 @@ import unittest
 from typing import Dict, List
 from unittest import mock
 
-sys.path.insert(0, os.path.join(os.path.dirname(os.path.abspath(__file__)), "..", "src"))
+sys.path.insert(
+    0, os.path.join(os.path.dirname(os.path.abspath(__file__)), "..", "src")
+)
 
 from simplecss import (  # noqa: E402
     LimitError,
@@ -44,8 +46,12 @@ class UserAgent(unittest.TestCase):
 
     def test_layers(self) -> None:
         """All others are above them, also attributes of SVG and rules in layers."""
-        tree = Tree.from_html("<ul><li hidden>a</ul><svg><title display=block>b</title></svg>")
-        sheet = StyleSheet("@layer a { li { display: flex } } ul { list-style-type: square }")
+        tree = Tree.from_html(
+            "<ul><li hidden>a</ul><svg><title display=block>b</title></svg>"
+        )
+        sheet = StyleSheet(
+            "@layer a { li { display: flex } } ul { list-style-type: square }"
+        )
         for specified, title in ((False, "none"), (True, "block")):
             found = sheet.style(tree, "display", specified=specified, ua=True)
             values = {each.name: found[each] and found[each].value for each in tree}
@@ -58,7 +64,11 @@ class UserAgent(unittest.TestCase):
         """Their origin is the user agent's (CSS Cascading 5, section 6.1), however specific they are: only
         the sheets of that origin are compared with them."""
         tree = Tree.from_html("<p align=center>")
-        texts = ("* { text-align: a }", "* { text-align: b }", "@layer { * { text-align: c } }")
+        texts = (
+            "* { text-align: a }",
+            "* { text-align: b }",
+            "@layer { * { text-align: c } }",
+        )
         for origins, value in (
             (("author",) * 3, "b"),
             (("user-agent", "user"), "c"),
@@ -80,7 +90,9 @@ class UserAgent(unittest.TestCase):
         """A shorthand of the author's wins over a longhand of theirs."""
         tree = Tree.from_html("<ul style='list-style: square'>")
         sheet = StyleSheet("ul { margin: 0 }")
-        found = sheet.style(tree, "list-style-type", specified=True, shorthands=True, ua=True)
+        found = sheet.style(
+            tree, "list-style-type", specified=True, shorthands=True, ua=True
+        )
         self.assertEqual(str(found[-1]), "list-style: square")
         self.assertEqual(
             str(sheet.style(tree, "list-style-type", shorthands=True, ua=True)[-1]),
@@ -96,7 +108,9 @@ class UserAgent(unittest.TestCase):
                 for ua in (False, True):
                     weight = sheet.style(tree, "font-weight", ua=ua)[-1]
                     self.assertEqual(weight and weight.value, value if ua else None)
-                    self.assertEqual(str(sheet.style(tree, "top", ua=ua)[-1]), "top: 1px")
+                    self.assertEqual(
+                        str(sheet.style(tree, "top", ua=ua)[-1]), "top: 1px"
+                    )
 
     def test_limits(self) -> None:
         """The limits of a sheet count what is theirs, too."""
@@ -120,8 +134,12 @@ class UserAgent(unittest.TestCase):
 class Families(unittest.TestCase):
     def test_shorthands(self) -> None:
         """A shorthand is of the family of what it sets, and so are two names of one property."""
-        for name in {each for part in longhands("all") for each in shorthands(part)} - {"all"}:
-            self.assertEqual({family_of(each) for each in longhands(name)}, {family_of(name)})
+        for name in {each for part in longhands("all") for each in shorthands(part)} - {
+            "all"
+        }:
+            self.assertEqual(
+                {family_of(each) for each in longhands(name)}, {family_of(name)}
+            )
         for one, other in (("word-wrap", "overflow-wrap"), ("grid-gap", "row-gap")):
             self.assertEqual(family_of(one), family_of(other))
 
@@ -136,18 +154,28 @@ class Resolved(unittest.TestCase):
 
     def test_invalid(self) -> None:
         """A declaration that is invalid at computed-value time is left out, with those of circles."""
-        found = by_name("div{--a:var(--b);--b:var(--a);--c:initial;color:var(--c,var(--a,1px))}")
+        found = by_name(
+            "div{--a:var(--b);--b:var(--a);--c:initial;color:var(--c,var(--a,1px))}"
+        )
         self.assertEqual(found[0], {"--x": "blue", "color": "1px"})
         self.assertNotIn("margin", by_name("div{margin:var(--nothing)}")[0])
 
     def test_circles(self) -> None:
         """Those of a circle are invalid, and those that only lead to one take their fallbacks."""
-        circle = [("--a", "var(--b) var(--c)"), ("--b", "var(--a, 1)"), ("--c", "var(--b, 1)")]
-        self.assertEqual(computed([*circle, ("--d", "var(--a, 1)")]), [None, None, None, "1"])
+        circle = [
+            ("--a", "var(--b) var(--c)"),
+            ("--b", "var(--a, 1)"),
+            ("--c", "var(--b, 1)"),
+        ]
+        self.assertEqual(
+            computed([*circle, ("--d", "var(--a, 1)")]), [None, None, None, "1"]
+        )
         alone = [("--a", "var(--a) var(--b)"), ("--b", "var(--a, 1)")]
         self.assertEqual(computed(alone), [None, None])
         # A fallback that is not needed is not read.
-        self.assertEqual(computed([("--a", "var(--x, var(--a))"), ("--x", "1")]), ["1", "1"])
+        self.assertEqual(
+            computed([("--a", "var(--x, var(--a))"), ("--x", "1")]), ["1", "1"]
+        )
 
     def test_registered(self) -> None:
         """A registered property has its initial value, and parents hand it down if it says so (CSS
@@ -159,10 +187,14 @@ class Resolved(unittest.TestCase):
             '@property --y{syntax:"<length>";inherits:false}b{@property --y{}}'
             "div{--y:1px}p{--x:var(--y);width:var(--y);top:var(--z)}"
         )
-        div, first, bold, second = by_name(rules + "b{left:var(--x);right:var(--y,0);--y:var(--q)}")
+        div, first, bold, second = by_name(
+            rules + "b{left:var(--x);right:var(--y,0);--y:var(--q)}"
+        )
         self.assertEqual(div, {"--x": "blue", "--y": "1px"})
         self.assertEqual(first, {"--x": "3px", "width": "3px", "top": "a"})
-        self.assertEqual(bold, {"--x": "3px", "left": "3px", "right": "3px", "--y": "3px"})
+        self.assertEqual(
+            bold, {"--x": "3px", "left": "3px", "right": "3px", "--y": "3px"}
+        )
         self.assertEqual(second, first)
         # What has no value hands none down.
         found = by_name(rules + "div{--z:initial}p{--z:var(--q)}b{left:var(--z,none)}")
@@ -173,11 +205,20 @@ class Resolved(unittest.TestCase):
         """A keyword may be what a value comes to."""
         rule = '@property --r{syntax:"<n>";inherits:false;initial-value:1}'
         rules = [(rule[10:13], rule[14:-1])]
-        for value, due in (("inherit", "2"), ("unset", "1"), ("initial", "1"), ("var(--q)", "1")):
+        for value, due in (
+            ("inherit", "2"),
+            ("unset", "1"),
+            ("initial", "1"),
+            ("var(--q)", "1"),
+        ):
             for text in (value, f"var(--q, {value})"):
-                self.assertEqual(computed([("--r", text)], [("--r", "2")], rules), [due], text)
+                self.assertEqual(
+                    computed([("--r", text)], [("--r", "2")], rules), [due], text
+                )
         for value, plain in (("inherit", "2"), ("unset", "2"), ("initial", None)):
-            self.assertEqual(computed([("--s", f"var(--q,{value})")], [("--s", "2")]), [plain])
+            self.assertEqual(
+                computed([("--s", f"var(--q,{value})")], [("--s", "2")]), [plain]
+            )
 
     def test_names(self) -> None:
         """Names compare as they are, but for escapes."""
@@ -186,7 +227,12 @@ class Resolved(unittest.TestCase):
 
     def test_seams(self) -> None:
         """A comment keeps tokens apart."""
-        pairs = [("--a", "1"), ("x", "var(--a)var(--a)"), ("y", "var(--a)%"), ("z", "var(--a) 2")]
+        pairs = [
+            ("--a", "1"),
+            ("x", "var(--a)var(--a)"),
+            ("y", "var(--a)%"),
+            ("z", "var(--a) 2"),
+        ]
         self.assertEqual(computed(pairs)[1:], ["1/**/1", "1/**/%", "1 2"])
 
     def test_limits(self) -> None:
@@ -219,14 +265,18 @@ class Names(unittest.TestCase):
         self.assertEqual(longhands("margin-left"), ())
         self.assertEqual(shorthands("margin-left"), ("all", "margin"))
         self.assertEqual(
-            set(shorthands("border-top-color")) & {"border", "border-top"}, {"border", "border-top"}
+            set(shorthands("border-top-color")) & {"border", "border-top"},
+            {"border", "border-top"},
         )
         self.assertNotIn("direction", longhands("all"))
 
     def test_style(self) -> None:
         tree = Tree.from_html("<p>")
         sheet = StyleSheet("p{margin-left:1px;margin:2px}p{margin-top:3px}")
-        for name, text in (("margin-left", "margin: 2px"), ("margin-top", "margin-top: 3px")):
+        for name, text in (
+            ("margin-left", "margin: 2px"),
+            ("margin-top", "margin-top: 3px"),
+        ):
             found = sheet.style(tree, name, shorthands=True)
             self.assertEqual(str(found[len(tree) - 1]), text)
 
@@ -245,15 +295,26 @@ class Names(unittest.TestCase):
             ("x", "[var(--é)]"),
         ]
         own.append(("--é", "é"))
-        self.assertEqual(resolve(own, [("--m", "blue")]), ["blue", None, None, "[é]", "é"])
+        self.assertEqual(
+            resolve(own, [("--m", "blue")]), ["blue", None, None, "[é]", "é"]
+        )
         self.assertEqual(resolve(own, limit=2), [None, None, None, None, "é"])
         rules = [("--m", 'syntax: "*"; inherits: false; initial-value: green')]
-        self.assertEqual(resolve(iter(own), [("--m", "blue")], registered=rules)[0], "green")
+        self.assertEqual(
+            resolve(iter(own), [("--m", "blue")], registered=rules)[0], "green"
+        )
 
     def test_valid(self) -> None:
         for value in ("red", "var(--a)", "f(var( --a , ))", "var(--a,var(--b))"):
             self.assertTrue(is_valid_value(value), value)
-        for value in ("var(a)", "var(--a b)", "var()", "var(--)", "var(--a,var(b))", "var(--a,!)"):
+        for value in (
+            "var(a)",
+            "var(--a b)",
+            "var()",
+            "var(--)",
+            "var(--a,var(b))",
+            "var(--a,!)",
+        ):
             self.assertFalse(is_valid_value(value), value)
 
 

@@ -31,7 +31,6 @@ from ._selectors import (
     PORT,
     Reading,
     grammar_of,
-    lines_of,
     matched,
     selector_error,
 )
@@ -72,7 +71,11 @@ class TreeError(ValueError):
         self.column = column
 
     def __str__(self) -> str:
-        return self.reason if self.row is None else f"{self.row}:{self.column}: {self.reason}"
+        return (
+            self.reason
+            if self.row is None
+            else f"{self.row}:{self.column}: {self.reason}"
+        )
 
 
 class _Texts:
@@ -243,7 +246,11 @@ class Elements:
             self.places.append((tag.row, tag.column))
             if tag.is_link:
                 self.states[index] = LINK
-            if tag.space == SVG_SPACE or not tag.space and document.tags[0].name == "svg":
+            if (
+                tag.space == SVG_SPACE
+                or not tag.space
+                and document.tags[0].name == "svg"
+            ):
                 self.drawn.add(index)
         for begun, owner, value in document.texts:
             self.texts.add(begun, owner, value)
@@ -295,7 +302,9 @@ class Elements:
     def own_text_of(self, index: int) -> str:
         """Returns the text of an element without those of the elements in it."""
         found = self.texts.within(index, self.end_of(index))
-        return "".join(self._text(owner, value) for owner, value in found if owner == index)
+        return "".join(
+            self._text(owner, value) for owner, value in found if owner == index
+        )
 
     def text_at(self, at: int) -> str:
         """Returns a text by its number."""
@@ -306,7 +315,11 @@ class Elements:
         if isinstance(value, str):
             return value
         source, (start, end) = self.source or "", value
-        is_raw = self.names[owner] in RAW and owner not in self.drawn and owner not in self.formulas
+        is_raw = (
+            self.names[owner] in RAW
+            and owner not in self.drawn
+            and owner not in self.formulas
+        )
         if is_raw or source.endswith(_CDATA, 0, start):
             return with_line_feeds(source[start:end])
         return decode(source[start:end])
@@ -368,14 +381,18 @@ class Elements:
             return self.found(selectors, grammar)
         return self._find_in(scoped, selectors, MODERN)
 
-    def found_set_from(self, index: int, selectors: str, grammar: str) -> FrozenSet[int]:
+    def found_set_from(
+        self, index: int, selectors: str, grammar: str
+    ) -> FrozenSet[int]:
         """Returns what `found_set` returns where `:scope` matches the element at an index."""
         scoped = self._scoped(index, selectors, grammar)
         if scoped is None:
             return self.found_set(selectors, grammar)
         return frozenset(self._find_in(scoped, selectors, MODERN))
 
-    def _scoped(self, index: int, selectors: str, grammar: str) -> Optional[library.TreeArrays]:
+    def _scoped(
+        self, index: int, selectors: str, grammar: str
+    ) -> Optional[library.TreeArrays]:
         """Returns the arrays of the tree where `:scope` matches the element at an index, or `None` if
         no selector asks for it."""
         library.expect_text(selectors)
@@ -386,38 +403,62 @@ class Elements:
     def _find(self, selectors: str, grammar: str) -> List[int]:
         return self._find_in(self._arrays(grammar), selectors, grammar)
 
-    def _find_in(self, arrays: library.TreeArrays, selectors: str, grammar: str) -> List[int]:
+    def _find_in(
+        self, arrays: library.TreeArrays, selectors: str, grammar: str
+    ) -> List[int]:
         words = [library.encode(selectors), self._number_of(grammar), arrays]
         name = "simplecss_select"
         # Each element is written once at most.
         most = library.NO_LIMIT
-        answer = library.call(name, *words, room=1024 + 8 * len(self), with_fault=True, most=most)
+        answer = library.call(
+            name, *words, room=1024 + 8 * len(self), with_fault=True, most=most
+        )
         if answer.status == library.REFUSED:
             raise selector_error(selectors, grammar)
-        return [number - 1 for number in lines_of(library.output_of(name, answer))]
+        return [int(number) - 1 for number in library.output_of(name, answer).split()]
 
     def classes_and_ids(self) -> Set[str]:
         """Returns the words of all `class` and the values of all `id`, in lower case."""
         values = {each["class"] for each in self.attributes if "class" in each}
         words = words_of(lower(" ".join(values)))
-        return {*words, *(lower(each["id"]) for each in self.attributes if "id" in each)}
+        return {
+            *words,
+            *(lower(each["id"]) for each in self.attributes if "id" in each),
+        }
 
-    def matched(self, selectors: Sequence[str], limit: int, grammar: str = MODERN) -> List[bytes]:
+    def matched(
+        self, selectors: Sequence[str], limit: int, grammar: str = MODERN
+    ) -> List[bytes]:
         """Returns for each element the numbers of the selectors that match it, which begin at 1,
         with spaces between them. More numbers than `limit` raise `LimitError`."""
-        return matched(self._arrays(grammar), selectors, self._number_of(grammar), limit)
+        return matched(
+            self._arrays(grammar), selectors, self._number_of(grammar), limit
+        )
 
     def numbers(
-        self, name: str, sheets: library.SheetArrays, more: Sequence[Any], width: int, limit: int
+        self,
+        name: str,
+        sheets: library.SheetArrays,
+        more: Sequence[Any],
+        width: int,
+        limit: int,
     ) -> "array.array[int]":
         """Returns what a call, which takes `more`, writes of each element for sheets: how many winners or
         rules it has, and so many numbers for each of these. More of them than `limit` raise `LimitError`.
         """
-        words = (sheets, self._number_of(MODERN), library.NO_LIMIT, self._arrays(MODERN), *more)
+        words = (
+            sheets,
+            self._number_of(MODERN),
+            library.NO_LIMIT,
+            self._arrays(MODERN),
+            *more,
+        )
         room = 1024 + _ROOM_FOR_ELEMENT * len(self)
         most = min(len(self) + width * limit, library.NO_LIMIT)
         try:
-            return library.numbers_of(name, *words, room=room, with_fault=True, most=most)
+            return library.numbers_of(
+                name, *words, room=room, with_fault=True, most=most
+            )
         except library.LimitError:
             raise library.Room(limit).passed() from None
 
@@ -433,7 +474,9 @@ class Elements:
             try:
                 arrays[grammar] = self._make_arrays(grammar)
             except UnicodeEncodeError as error:
-                raise TreeError(f"a text is not Unicode: {error.reason}", None, None) from None
+                raise TreeError(
+                    f"a text is not Unicode: {error.reason}", None, None
+                ) from None
         return arrays[grammar]
 
     def _make_arrays(self, grammar: str) -> library.TreeArrays:
@@ -455,13 +498,18 @@ class Elements:
         class."""
         reading = self.reading
         every = {id(attributes): attributes for attributes in self.attributes}
-        changing = reading.may_change(set(itertools.chain.from_iterable(every.values())))
+        changing = reading.may_change(
+            set(itertools.chain.from_iterable(every.values()))
+        )
         found: Dict[int, List[str]] = {}
         for key, attributes in every.items():
             if not changing.isdisjoint(attributes):
                 attributes = reading.attributes(attributes)
             if is_port and "class" in attributes:
-                attributes = {**attributes, "class": attributes["class"].translate(_TO_SPACES)}
+                attributes = {
+                    **attributes,
+                    "class": attributes["class"].translate(_TO_SPACES),
+                }
             found[key] = list(itertools.chain.from_iterable(attributes.items()))
         return found
 
@@ -484,5 +532,9 @@ def _may_name_scope(selectors: str) -> bool:
 
 def _is_link(node: Node) -> bool:
     if node.name == "a":
-        return "href" in node.attributes or node.space == SVG and "xlink:href" in node.attributes
+        return (
+            "href" in node.attributes
+            or node.space == SVG
+            and "xlink:href" in node.attributes
+        )
     return node.name == "area" and node.space == HTML and "href" in node.attributes

@@ -6,10 +6,12 @@ from __future__ import annotations
 import functools
 from typing import Dict, Iterator, List, NamedTuple, Optional, Set, Tuple
 
-from ._linked import Shelf, imported, imports_of, in_force
+from ._flat import flattened
+from ._linked import Import, Shelf, imported, imports_in, in_force
+from ._nested import has_rules
 from ._order import LAYER, count_layers, layers_of
 from ._reading import ReadAtRule, RuleSet, Source, Span, Statement, read_sheet
-from ._staying import Place, StayingRule, has_rules, rules_of
+from ._staying import Place, StayingRule, rules_of
 from ._tokens import is_escaping, without_gaps
 from ._urls import rebased
 
@@ -33,7 +35,10 @@ class ReadSheet:
     def knows_layers(self) -> Optional[bool]:
         """Whether the order of its layers is known, whatever holds; `None` if it has none."""
         every = sum(map(count_layers, self._texts_with_layers()))
-        inner = [each.knows_layers is not None or has_layer for each, has_layer in self.staying]
+        inner = [
+            each.knows_layers is not None or has_layer
+            for each, has_layer in self.staying
+        ]
         if every or any(inner):
             return every == len(self._preludes) and not self.reasons
         return None
@@ -41,7 +46,9 @@ class ReadSheet:
     @functools.cached_property
     def layer_count(self) -> int:
         """How many layers it has at most."""
-        kinds = ([each.kind for each in without_gaps(prelude)] for prelude in self._preludes)
+        kinds = (
+            [each.kind for each in without_gaps(prelude)] for prelude in self._preludes
+        )
         return sum(max(1, each.count("ident")) for each in kinds)
 
     @functools.cached_property
@@ -50,7 +57,9 @@ class ReadSheet:
         groups: Dict[Tuple[Source, Span], str] = {}
         for source, statement in self.placed:
             layers = layers_of(source, statement.levels)
-            groups.update(((source, each.span), each.condition.prelude) for _, each in layers)
+            groups.update(
+                ((source, each.span), each.condition.prelude) for _, each in layers
+            )
             if len(layers) == len(statement.levels) and _is_order(statement):
                 assert isinstance(statement, ReadAtRule)
                 groups[source, statement.span] = statement.rule.prelude
@@ -107,17 +116,21 @@ class SheetReader:
         """Returns a sheet with its urls taken from the base."""
         return css if self._base_url is None else rebased(css, self._base_url)
 
-    def read(self, css: str, url: Optional[str], above: Tuple[str, ...] = ()) -> ReadSheet:
+    def read(
+        self, css: str, url: Optional[str], above: Tuple[str, ...] = ()
+    ) -> ReadSheet:
         """Reads a sheet, which is at a url if it is not in the page itself."""
         self.texts.append(css)
         above = (*above, self.shelf.place_of(url or ""))
         moved = self._based(css if url is None else rebased(css, url, self.shelf.room))
         source, statements = read_sheet(moved)
         found = ReadSheet()
-        rules = list(imports_of(statements))
+        rules = imports_in(moved)
         inner = self._imports(css, url, above) if rules else []
         found.has_imports = bool(rules)
-        last = max((at for at, each in enumerate(inner) if not each.is_moved), default=-1)
+        last = max(
+            (at for at, each in enumerate(inner) if not each.is_moved), default=-1
+        )
         moving: Dict[Span, ReadSheet] = {}
         for at, (rule, each) in enumerate(zip(rules, inner)):
             if at > last and each.read is not None:
@@ -126,19 +139,21 @@ class SheetReader:
             found.reasons[source, rule.span] = each.reason
             if each.read is not None:
                 found.staying.append((each.read, each.has_layer))
-        for statement in in_force(statements):
+        for statement in flattened(source, in_force(statements, rules)):
             if statement.span in moving and isinstance(statement, ReadAtRule):
                 found.placed += moving[statement.span].placed
             else:
                 found.placed.append((source, statement))
         return found
 
-    def _imports(self, css: str, url: Optional[str], above: Tuple[str, ...]) -> List["_InnerSheet"]:
+    def _imports(
+        self, css: str, url: Optional[str], above: Tuple[str, ...]
+    ) -> List["_InnerSheet"]:
         """Returns what a sheet imports."""
-        return [self._import(each, url, above) for each in imports_of(read_sheet(css)[1])]
+        return [self._import(each, url, above) for each in imports_in(css)]
 
     def _import(
-        self, rule: ReadAtRule, url: Optional[str], above: Tuple[str, ...]
+        self, rule: Import, url: Optional[str], above: Tuple[str, ...]
     ) -> "_InnerSheet":
         found = imported(rule, url, self.shelf, above)
         if found is None:
@@ -146,7 +161,7 @@ class SheetReader:
             return _InnerSheet(None, False, False, f"{why}: {LOSES}")
         read = self.read(found.css, found.url, above)
         is_moved = not found.conditions and read.may_move()
-        return _InnerSheet(read, is_moved, found.has_layer, "an at-rule")
+        return _InnerSheet(read, is_moved, rule.layer is not None, "an at-rule")
 
 
 class _InnerSheet(NamedTuple):

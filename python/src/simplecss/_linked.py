@@ -18,9 +18,10 @@ from typing import (
 
 from . import _library as library
 from ._elements import Elements
-from ._reading import Condition, Fault, ReadAtRule, Source, Statement, read_sheet
-from ._tokens import without_gaps
-from ._urls import SCHEME, import_of, joined
+from ._lines import Lines
+from ._reading import Condition, Fault, ReadAtRule, Source, Span, Statement, read_sheet
+from ._tokens import decoded
+from ._urls import SCHEME, joined
 from ._words import BLANKS, lower, words_of
 
 if TYPE_CHECKING:
@@ -70,7 +71,9 @@ def _of_data(url: str) -> str:
     words = [each.strip(BLANKS) for each in lower(kind).split(";")]
     if not comma or words[0] != "text/css":
         raise _Refused("its type is not text/css")
-    return (base64.b64decode(data) if words[-1] == "base64" else data).decode("utf-8-sig")
+    return (base64.b64decode(data) if words[-1] == "base64" else data).decode(
+        "utf-8-sig"
+    )
 
 
 class Shelf:
@@ -189,24 +192,73 @@ class PageSheet(NamedTuple):
     url: Optional[str]
 
 
-def imports_of(statements: Iterable[Statement]) -> Iterator[ReadAtRule]:
-    """Yields the `@import`s of a sheet that browsers follow: before its other rules."""
-    for each in statements:
-        if isinstance(each, Fault) and not each.levels:
-            continue
-        if not isinstance(each, ReadAtRule) or each.rule.block is not None or each.levels:
-            return
-        if each.rule.name not in ("charset", "layer", "import"):
-            return
-        if each.rule.name == "import":
-            yield each
+class Import(NamedTuple):
+    """An `@import` that is in force: where it is, its url, the name of its layer, which is empty if it
+    has none, its condition of `supports()` and its media queries."""
+
+    span: Span
+    url: str
+    layer: Optional[str]
+    supports: Optional[str]
+    media: str
+
+    @property
+    def conditions(self) -> Tuple[Condition, ...]:
+        """What is to hold for the sheet to apply. A layer is not known to."""
+        found: List[Condition] = []
+        if self.layer is not None:
+            found.append(
+                Condition("import", f"layer({self.layer})" if self.layer else "layer")
+            )
+        if self.supports is not None:
+            found.append(Condition("supports", f"({self.supports})"))
+        return (*found, *condition_of(self.media))
+
+
+def imports_in(css: str) -> List[Import]:
+    """Returns the `@import`s of a sheet that are in force."""
+    data = library.encode(css)
+    if b"@" not in data:
+        return []
+    answer = library.call("simplecss_imports", data, room=256 + 2 * len(data))
+    lines = Lines(library.output_of("simplecss_imports", answer))
+    found: List[Import] = []
+    while lines.are_left():
+        (
+            start,
+            size,
+            is_string,
+            url,
+            layer,
+            layer_length,
+            is_supports,
+            supports,
+            media,
+        ) = lines.numbers()
+        address = decoded(lines.text(url), is_string == 1)
+        name, condition, queries = map(lines.text, (layer_length, supports, media))
+        lines.end_line()
+        found.append(
+            Import(
+                (start, start + size),
+                address,
+                name if layer else None,
+                condition if is_supports else None,
+                queries,
+            )
+        )
+    return found
 
 
 def is_sheet_link(attributes: Dict[str, str]) -> bool:
     """Whether a `link` with these attributes is one to a style sheet."""
     words = words_of(lower(attributes.get("rel", "")))
     kind = lower(attributes.get("type", "")).partition(";")[0].strip(BLANKS)
-    return "stylesheet" in words and "disabled" not in attributes and kind in ("", "text/css")
+    return (
+        "stylesheet" in words
+        and "disabled" not in attributes
+        and kind in ("", "text/css")
+    )
 
 
 def is_alternate(attributes: Dict[str, str]) -> bool:
@@ -251,7 +303,9 @@ def in_use(elements: Elements) -> List[int]:
     titles = (title for index, title in found if index not in others)
     preferred = next(filter(None, titles), "")
     return [
-        index for index, title in found if (title == preferred if title else index not in others)
+        index
+        for index, title in found
+        if (title == preferred if title else index not in others)
     ]
 
 
@@ -260,12 +314,18 @@ def sheets_of(elements: Elements, shelf: Shelf) -> Iterator[PageSheet]:
     shelf.take_base(elements)
     for index in in_use(elements):
         attributes = elements.attributes[index]
-        url = attributes.get("href", "").strip(BLANKS) if elements.names[index] == "link" else None
+        url = (
+            attributes.get("href", "").strip(BLANKS)
+            if elements.names[index] == "link"
+            else None
+        )
         css = elements.own_text_of(index) if url is None else None
         if url:
             css = shelf.read(url)
         if css is not None:
-            yield from _with_imports(css, url, condition_of(attributes.get("media", "")), shelf, ())
+            yield from _with_imports(
+                css, url, condition_of(attributes.get("media", "")), shelf, ()
+            )
 
 
 def _with_imports(
@@ -279,7 +339,7 @@ def _with_imports(
     again."""
     source, statements = read_sheet(css)
     above = (*above, shelf.place_of(url or ""))
-    for each in imports_of(statements):
+    for each in imports_in(css):
         found = imported(each, url, shelf, above)
         if found is not None:
             inner = conditions + found.conditions
@@ -294,21 +354,20 @@ class Imported(NamedTuple):
     url: str
     conditions: Tuple[Condition, ...]
 
-    @property
-    def has_layer(self) -> bool:
-        """Whether it is in a layer."""
-        return any(
-            each.name == "import" and _first_of(each.prelude) in _LAYERS for each in self.conditions
-        )
 
-
-def in_force(statements: Iterable[Statement]) -> Iterator[Statement]:
-    """Yields statements without each `@import` and `@namespace` that is too late to say anything:
-    it would say it if what is before it were not there."""
+def in_force(
+    statements: Iterable[Statement], imports: Iterable[Import]
+) -> Iterator[Statement]:
+    """Yields statements without each `@import` that is not one of these, and each `@namespace` that is
+    too late to say anything: it would say it if what is before it were not there."""
     front = ["charset", "layer", "import", "namespace"]
+    spans = {each.span for each in imports}
     for each in statements:
-        name = each.rule.name if isinstance(each, ReadAtRule) and not each.levels else ""
-        if name in ("import", "namespace") and name not in front:
+        name = (
+            each.rule.name if isinstance(each, ReadAtRule) and not each.levels else ""
+        )
+        is_late = each.span not in spans if name == "import" else name not in front
+        if name in ("import", "namespace") and is_late:
             continue
         if name == "namespace":
             front = ["charset", "namespace"]
@@ -317,23 +376,13 @@ def in_force(statements: Iterable[Statement]) -> Iterator[Statement]:
         yield each
 
 
-# What an import into a layer begins with, after its url.
-_LAYERS = (("ident", "layer"), ("function", "layer"))
-
-
-def _first_of(prelude: str) -> Optional[Tuple[str, str]]:
-    """Returns the kind of the first token of a text, and what it denotes, in lower case."""
-    return next(((each.kind, lower(each.value)) for each in without_gaps(prelude)), None)
-
-
 def imported(
-    rule: ReadAtRule, url: Optional[str], shelf: Shelf, above: Tuple[str, ...]
+    found: Import, url: Optional[str], shelf: Shelf, above: Tuple[str, ...]
 ) -> Optional[Imported]:
     """Returns the sheet that a rule imports into that of a url, within those above, or `None`. One
     of those above is imported as an empty one."""
-    found = import_of(rule.rule.prelude)
-    if found is None:
-        shelf.refuse(rule.rule.prelude, "its url has an escape, or is none")
+    if not found.url:
+        shelf.refuse(found.url, "its url is empty")
         return None
     place = joined(url or "", found.url)
     if shelf.place_of(place) in above:
@@ -344,6 +393,4 @@ def imported(
     css = shelf.read(place)
     if css is None:
         return None
-    is_apart = _first_of(found.rest) in (*_LAYERS, ("function", "supports"))
-    conditions = (Condition("import", found.rest),) if is_apart else condition_of(found.rest)
-    return Imported(css, place, conditions)
+    return Imported(css, place, found.conditions)

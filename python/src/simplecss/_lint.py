@@ -108,7 +108,9 @@ def _reported_by_port(part: _SheetText) -> Iterator[_Report]:
     added = 2 * part.is_attribute
     css = "x{" + part.css + "}" if part.is_attribute else part.css
     for each in StyleSheet(css, grammar=PORT).skipped:
-        yield each.reason, max(each.start - added, 0), min(each.end - added, len(part.css)), None
+        yield each.reason, max(each.start - added, 0), min(
+            each.end - added, len(part.css)
+        ), None
 
 
 def _ignored(part: _SheetText) -> Dict[int, Set[str]]:
@@ -142,7 +144,11 @@ def _parts_of(page: Page) -> Iterator[_SheetText]:
         if tag is None:
             continue
         for each in attributes_of(text[tag[0] : tag[1]]):
-            name = text[tag[0] + each.start :][: len(each.name)] if page.is_xml else each.name
+            name = (
+                text[tag[0] + each.start :][: len(each.name)]
+                if page.is_xml
+                else each.name
+            )
             if name == "style" and each.value:
                 is_quoted = each.value[0] in "\"'"
                 value = each.value[1:-1] if is_quoted else each.value
@@ -150,7 +156,9 @@ def _parts_of(page: Page) -> Iterator[_SheetText]:
                 yield _SheetText(decode_value(value), *position(start), True)
 
 
-def _findings_of(name: str, part: _SheetText, shows_all: bool, grammar: str) -> Iterator[Finding]:
+def _findings_of(
+    name: str, part: _SheetText, shows_all: bool, grammar: str
+) -> Iterator[Finding]:
     source = Source(part.css)
 
     def position(offset: int) -> Tuple[int, int]:
@@ -181,7 +189,11 @@ def findings(
     """
 
     def found_in(file: str, parts: Iterable[_SheetText]) -> List[Finding]:
-        found = [each for part in parts for each in _findings_of(file, part, shows_all, grammar)]
+        found = [
+            each
+            for part in parts
+            for each in _findings_of(file, part, shows_all, grammar)
+        ]
         return sorted(found, key=lambda each: (each.row, each.column))
 
     if not is_page(name):
@@ -194,7 +206,11 @@ def findings(
 
 
 def lint(
-    text: str, *, ignore: Iterable[str] = (), unsupported: bool = False, grammar: str = MODERN
+    text: str,
+    *,
+    ignore: Iterable[str] = (),
+    unsupported: bool = False,
+    grammar: str = MODERN,
 ) -> List[Finding]:
     """Returns the mistakes of a style sheet, in order, without those of the kinds that are left
     out: `"unknown-property"`, or the beginning of one. With `unsupported` also what is valid, and
@@ -278,7 +294,11 @@ def as_sarif(found: Sequence[Finding]) -> str:
         for kind, reason in reasons.items()
     ]
     driver = {"name": "simplecss", "version": __version__, "rules": rules}
-    run = {"tool": {"driver": driver}, "columnKind": "unicodeCodePoints", "results": results}
+    run = {
+        "tool": {"driver": driver},
+        "columnKind": "unicodeCodePoints",
+        "results": results,
+    }
     log = {
         "$schema": "https://json.schemastore.org/sarif-2.1.0.json",
         "version": "2.1.0",
@@ -296,7 +316,9 @@ def as_checkstyle(found: Sequence[Finding]) -> str:
     for name, those in files.items():
         lines.append(f"<file name={quoteattr(_of_xml(name))}>")
         for each in those:
-            message, source = quoteattr(_of_xml(each.message)), quoteattr(escape(each.kind))
+            message, source = quoteattr(_of_xml(each.message)), quoteattr(
+                escape(each.kind)
+            )
             lines.append(
                 f'<error line="{each.row}" column="{each.column}" severity="warning"'
                 f" message={message} source={source}/>"

@@ -6,7 +6,16 @@ import functools
 from typing import Dict, Iterator, List, NamedTuple, Optional, Set, Tuple
 
 from . import _library as library
-from ._reading import BlockItem, Fault, ReadAtRule, ReadDeclaration, RuleSet, Source, Span
+from ._reading import (
+    GROUPS,
+    BlockItem,
+    Fault,
+    ReadAtRule,
+    ReadDeclaration,
+    RuleSet,
+    Source,
+    Span,
+)
 from ._reading import Statement, read_sheet
 from ._selectors import listed
 from ._tokens import GAPS, Token, tokens, without_gaps
@@ -20,8 +29,6 @@ _OF_DECLARATIONS = frozenset(
     "counter-style font-face keyframes -moz-keyframes -o-keyframes -webkit-keyframes page property"
     " viewport -ms-viewport".split()
 )
-# The group rules that say nothing without rules. A layer has a place among the others.
-_GROUPS = frozenset("media supports container document -moz-document".split())
 
 # What is done with the blanks of a part: the usual, also those around parts of selectors, also those
 # after colons, all; or with the part: nothing, and it is dropped.
@@ -48,7 +55,9 @@ def minify(text: str) -> str:
     if len(short) >= len(text):
         return text
     is_same = written == [each.text for each in without_gaps(short)]
-    return short if is_same and list(_Sheet(short).said()) == list(sheet.said()) else text
+    return (
+        short if is_same and list(_Sheet(short).said()) == list(sheet.said()) else text
+    )
 
 
 class _Sheet:
@@ -57,13 +66,17 @@ class _Sheet:
     def __init__(self, text: str) -> None:
         self._source, statements = read_sheet(text)
         # What is before an `@import` may be why it is too late.
-        fixed = max((at for at, each in enumerate(statements) if _is_of_front(each)), default=-1)
+        fixed = max(
+            (at for at, each in enumerate(statements) if _is_of_front(each)), default=-1
+        )
         self._kept: List[Statement] = []
         others: List[Statement] = []
         for at, each in enumerate(statements):
             is_dropped = _is_late_charset(each, text) or at > fixed and _is_empty(each)
             (others if is_dropped else self._kept).append(each)
-        self._dropped = {each.span for each in others} | _unused_groups(self._kept, others)
+        self._dropped = {each.span for each in others} | _unused_groups(
+            self._kept, others
+        )
 
     # ---- what it says
 
@@ -94,7 +107,11 @@ class _Sheet:
         if isinstance(item, Fault):
             return item.reason, self._source.at(item.span)
         rule = item.rule
-        return rule.name, _bare(rule.prelude), None if rule.block is None else _bare(rule.block)
+        return (
+            rule.name,
+            _bare(rule.prelude),
+            None if rule.block is None else _bare(rule.block),
+        )
 
     # ---- its short text
 
@@ -111,7 +128,11 @@ class _Sheet:
         for token in tokens(self._source.text):
             while at < len(parts) and parts[at].end <= token.start:
                 at += 1
-            part = parts[at] if at < len(parts) and parts[at].start <= token.start else None
+            part = (
+                parts[at]
+                if at < len(parts) and parts[at].start <= token.start
+                else None
+            )
             writer.add(token, _USUAL if part is None else part.way)
         return writer.end()
 
@@ -161,14 +182,16 @@ def _is_of_front(statement: Statement) -> bool:
 
 def _is_empty(statement: Statement) -> bool:
     """Whether a statement says nothing, and is in no layer, which would be another one without."""
-    if not all(level.condition.name in _GROUPS for level in statement.levels):
+    if not all(level.condition.name in GROUPS for level in statement.levels):
         return False
     if isinstance(statement, RuleSet):
         return not statement.items
     if isinstance(statement, Fault):
         return False
     rule = statement.rule
-    return rule.name in _GROUPS and rule.block is not None and not without_gaps(rule.block)
+    return (
+        rule.name in GROUPS and rule.block is not None and not without_gaps(rule.block)
+    )
 
 
 def _unused_groups(kept: List[Statement], others: List[Statement]) -> Set[Span]:

@@ -4,7 +4,7 @@ from __future__ import annotations
 
 import enum
 import itertools
-from typing import Dict, FrozenSet, Iterator, NamedTuple, Optional, Sequence, Set, Tuple
+from typing import Dict, FrozenSet, Iterator, NamedTuple, Optional, Sequence, Set
 
 from . import _names as names
 from ._declaration import Declaration
@@ -19,7 +19,6 @@ from ._reading import (
     Level,
     ReadAtRule,
     ReadDeclaration,
-    ReadSelector,
     RuleSet,
     Source,
     Span,
@@ -27,7 +26,7 @@ from ._reading import (
     read_block,
     read_sheet,
 )
-from ._selectors import OF_TREE
+from ._selectors import OF_TREE, SelectorError, listed
 from ._tokens import Token, tokens, without_gaps
 from ._values import has_prefix, may_fail
 from ._words import lower, words_of
@@ -71,8 +70,10 @@ _DECLARING = frozenset(
 )
 _GROUPS = frozenset("container layer media scope starting-style supports".split())
 _UNREAD_GROUPS = frozenset(("scope", "starting-style"))
-# What is before the block of a rule, in a text that is read as one.
-_RULE = "x{"
+# What is before the block of a rule, in a text that is read as one, and what makes an at-rule of a rule.
+_RULE, _AT_RULE = "x{", "@x "
+# How the library's words end where it refuses a selector for a name.
+_NAME_REFUSED = ("is unknown", "is no function")
 # Those that do nothing without a rule.
 _NOTHING_WITHOUT_RULES = frozenset(("container", "font-face", "media", "supports"))
 # The pseudo-classes that elements of trees may match.
@@ -121,7 +122,10 @@ def problems_of_sheet(
 
 
 def problems_of_block(
-    source: Source, items: Sequence[BlockItem], shows_all: bool, place: Place = Place.RULE
+    source: Source,
+    items: Sequence[BlockItem],
+    shows_all: bool,
+    place: Place = Place.RULE,
 ) -> Iterator[Problem]:
     """Yields the mistakes of what the block of a rule or of an at-rule has."""
     known = names.properties() if place == Place.RULE else names.descriptors()
@@ -161,7 +165,9 @@ def _misspelt_feature(level: Level) -> Optional[Problem]:
         right = prelude[: token.start] + hint + prelude[token.end :]
         if says(level.condition._replace(prelude=right), Device()) != UNKNOWN:
             start = level.head[1] - len(encode(prelude[token.start :]))
-            return Problem("unknown media feature", (start, start + len(encode(token.text))), hint)
+            return Problem(
+                "unknown media feature", (start, start + len(encode(token.text))), hint
+            )
     return None
 
 
@@ -182,7 +188,7 @@ def _of_rule(source: Source, rule: RuleSet, shows_all: bool) -> Iterator[Problem
     elif not rule.items and _ends_empty(source, (rule.head[1], rule.span[1])):
         yield Problem("empty rule", rule.span)
     for each in rule.selectors:
-        unknown = list(_of_selector(each))
+        unknown = list(_unknown_in(each.text, each.span[0]))
         yield from unknown
         if unknown or not shows_all:
             continue
@@ -247,14 +253,19 @@ def _open_groups(source: Source, statements: Sequence[Statement]) -> Iterator[Pr
     ends = [each.span[1] for each in statements[-1:]]
     for level in reversed(statements[-1].levels if statements else ()):
         # Its last byte is that of what is in it, or it is no brace.
-        if level.span[1] in ends or source.data[level.span[1] - 1 : level.span[1]] != b"}":
+        if (
+            level.span[1] in ends
+            or source.data[level.span[1] - 1 : level.span[1]] != b"}"
+        ):
             yield Problem("block not closed", level.head)
         ends.append(level.span[1])
 
 
 def _end_of(statements: Sequence[Statement]) -> int:
     """Returns where the last statement ends, or the group rule that it is in."""
-    ends = (each.levels[0].span[1] if each.levels else each.span[1] for each in statements)
+    ends = (
+        each.levels[0].span[1] if each.levels else each.span[1] for each in statements
+    )
     return max(ends, default=0)
 
 
@@ -264,19 +275,51 @@ def _open_comment(source: Source, start: int) -> Iterator[Problem]:
     last = list(tokens(rest))[-1:]
     if last and last[0].kind == "comment" and _is_open(last[0]):
         yield Problem(
-            "comment not closed", (len(source.data) - len(encode(last[0].text)), len(source.data))
+            "comment not closed",
+            (len(source.data) - len(encode(last[0].text)), len(source.data)),
         )
 
 
 # ---- selectors
 
 
-def _of_selector(selector: ReadSelector) -> Iterator[Problem]:
-    """Yields the names in a selector that no pseudo-class and no pseudo-element has."""
-    unknown = (each for each in pseudo_names(selector.text) if not _kind_of(each).knows(each.name))
+def _unknown_in(text: str, start: int) -> Iterator[Problem]:
+    """Yields the names in selectors that no pseudo-class and no pseudo-element has. The selectors begin
+    at an offset."""
+    unknown = (
+        each for each in pseudo_names(text) if not _kind_of(each).knows(each.name)
+    )
     for name in itertools.islice(unknown, _MOST_NAMES):
-        start = selector.span[0] + len(encode(selector.text[: name.start]))
-        yield _unknown(name, (start, start + len(encode(selector.text[name.start : name.end]))))
+        first = start + len(encode(text[: name.start]))
+        yield _unknown(name, (first, first + len(encode(text[name.start : name.end]))))
+
+
+def _of_invalid(text: str, span: Span, shows_all: bool) -> Iterator[Problem]:
+    """Yields why the library refuses the selectors of a rule: names that are unknown, or that only
+    other browsers know than the one whose names it has."""
+    head = _head_of(text)
+    unknown = list(_unknown_in(head, span[0]))
+    if unknown:
+        yield from unknown
+    elif not _is_of_others(head):
+        yield Problem("invalid selector", span)
+    elif shows_all:
+        yield Problem("unsupported selector", (span[0], span[0] + len(encode(head))))
+
+
+def _head_of(text: str) -> str:
+    """Returns what is before the block of a rule."""
+    items = read_block(_AT_RULE + text)[1]
+    return items[0].rule.prelude if items and isinstance(items[0], ReadAtRule) else ""
+
+
+def _is_of_others(head: str) -> bool:
+    """Whether a list of selectors is refused for a name."""
+    try:
+        listed(head)
+    except SelectorError as error:
+        return error.reason.endswith(_NAME_REFUSED)
+    return False
 
 
 def _kind_of(name: Name) -> names.Names:
@@ -331,6 +374,8 @@ def _of_fault(source: Source, fault: Fault, shows_all: bool) -> Iterator[Problem
         yield from _of_nested(text, fault.span, shows_all)
     elif reason == "broken declaration":
         yield from _of_broken(text, fault.span, shows_all)
+    elif reason == "invalid selector":
+        yield from _of_invalid(text, fault.span, shows_all)
     elif reason in _MARKS:
         at = _opened(text, _MARKS[reason])
         yield Problem(reason, (start + len(encode(text[:at])), end))
@@ -406,13 +451,17 @@ def _merged(text: str, start: int) -> Iterator[Problem]:
     if name.kind != "ident" or lower(name.value) not in names.properties():
         return
     if _is_whole(text[: before.end]) and _is_whole(text[name.start :]):
-        yield Problem("semicolon missing", (start, start + len(encode(text[: before.end]))))
+        yield Problem(
+            "semicolon missing", (start, start + len(encode(text[: before.end])))
+        )
 
 
 def _is_whole(text: str) -> bool:
     """Whether a text is one declaration, of which nothing is open at its end."""
     items = read_block(text)[1]
-    return len(items) == 1 and isinstance(items[0], ReadDeclaration) and items[0].is_closed
+    return (
+        len(items) == 1 and isinstance(items[0], ReadDeclaration) and items[0].is_closed
+    )
 
 
 def _is_open(token: Token) -> bool:
@@ -421,20 +470,29 @@ def _is_open(token: Token) -> bool:
         return len(token.text) < 4 or not token.text.endswith("*/")
     if token.kind == "string":
         return len(token.text) - len(token.inside) < 2
-    return token.kind in ("bad-string", "bad-url") or token.kind == "url" and token.text[-1] != ")"
+    return (
+        token.kind in ("bad-string", "bad-url")
+        or token.kind == "url"
+        and token.text[-1] != ")"
+    )
 
 
 def _opened(text: str, kinds: FrozenSet[str]) -> int:
     """Returns where the first token of these kinds begins that has no end. If there is none, it is
     where the text begins."""
-    return next((each.start for each in tokens(text) if each.kind in kinds and _is_open(each)), 0)
+    return next(
+        (each.start for each in tokens(text) if each.kind in kinds and _is_open(each)),
+        0,
+    )
 
 
 def _not_closed(text: str, span: Span) -> Problem:
     """Returns what the end of the text closes of a declaration: a comment, a string or a bracket."""
     at = _opened(text, _COMMENTS)
     if at and _is_whole(text + "*/"):
-        return Problem("comment not closed", (span[0] + len(encode(text[:at])), span[1]))
+        return Problem(
+            "comment not closed", (span[0] + len(encode(text[:at])), span[1])
+        )
     at = _opened(text, _STRINGS)
     before = text[:at] if _is_whole(text + text[at : at + 1]) else ""
     return Problem("value not closed", (span[0] + len(encode(before)), span[1]))
@@ -451,10 +509,15 @@ def _repeated(items: Sequence[BlockItem]) -> Iterator[Problem]:
             count += 1
             continue
         name, before = item.declaration.name, last.get(item.declaration.name)
-        if before is not None and before.declaration.important > item.declaration.important:
+        if (
+            before is not None
+            and before.declaration.important > item.declaration.important
+        ):
             yield Problem("repeated declaration", item.span)
             continue
-        if before is not None and _is_lost(before.declaration, item.declaration, count, places):
+        if before is not None and _is_lost(
+            before.declaration, item.declaration, count, places
+        ):
             yield Problem("repeated declaration", before.span)
         for part in _parts_of(item.declaration) & last.keys():
             if item.declaration.important >= last[part].declaration.important:
@@ -463,7 +526,9 @@ def _repeated(items: Sequence[BlockItem]) -> Iterator[Problem]:
         last[name], places[name] = item, count
 
 
-def _is_lost(before: Declaration, after: Declaration, count: int, places: Dict[str, int]) -> bool:
+def _is_lost(
+    before: Declaration, after: Declaration, count: int, places: Dict[str, int]
+) -> bool:
     """Whether a declaration is lost by another one of its property. Browsers take the last value
     that they support: two different ones side by side are meant, and so is a later one of a
     function, or one with a prefix."""

@@ -5,23 +5,27 @@ from __future__ import annotations
 from typing import Iterable, Iterator, List, NamedTuple, Optional, Sequence, Tuple
 
 from ._reading import (
+    NESTED,
     BlockItem,
     Condition,
     Fault,
+    Items,
     ReadAtRule,
+    ReadDeclaration,
     RuleSet,
     Source,
     Span,
     Statement,
     conditions_of,
+    moved,
     read_block,
     read_sheet,
 )
 
 # In how many rules one may be that is looked into.
-_DEEPEST = 64
-# How the library names a rule in a style rule.
-_NESTED = "nested rule"
+DEEPEST = 64
+# Why it skips what may be rules.
+_SKIPPED = frozenset((NESTED, "too deep"))
 # What makes an at-rule of a style rule, and a sheet of the contents of a block.
 _AT_RULE, _RULE = "@x ", "*{"
 
@@ -36,15 +40,54 @@ class Block(NamedTuple):
     conditions: Tuple[Condition, ...]
 
 
-def _has_rules(items: Iterable[BlockItem]) -> bool:
-    """Whether there is a rule among the items of a block."""
+def has_rules(items: Iterable[BlockItem]) -> bool:
+    """Whether a block has rules in it."""
+    if isinstance(items, Items) and items.are_whole:
+        return False
     return any(
-        isinstance(each, ReadAtRule)
-        and each.rule.block is not None
-        or isinstance(each, Fault)
-        and each.reason == _NESTED
+        each.rule.block is not None
+        if isinstance(each, ReadAtRule)
+        else each.reason in _SKIPPED
         for each in items
+        if not isinstance(each, ReadDeclaration)
     )
+
+
+class InnerRule(NamedTuple):
+    """A rule in the block of a style rule: its group rule, if it is one; and where it is, what is
+    before its block, and what is in that."""
+
+    condition: Optional[Condition]
+    span: Span
+    head: Span
+    inner: Span
+
+
+def inner_rule(source: Source, item: BlockItem, by: int) -> Optional[InnerRule]:
+    """Returns the rule that an item of a block is, whose offsets are so much less than those of the
+    sheet."""
+    if isinstance(item, ReadAtRule) and item.rule.block is not None:
+        condition = Condition(item.rule.name, item.rule.prelude)
+        span, inner = moved(item.span, by), moved(item.inner, by)
+        return InnerRule(condition, span, (span[0], inner[0] - 1), inner)
+    if not isinstance(item, Fault) or item.reason != NESTED:
+        return None
+    span = moved(item.span, by)
+    found = read_block(_AT_RULE + source.at(span))[1]
+    if len(found) != 1 or not isinstance(found[0], ReadAtRule):
+        return None
+    end = span[0] + len(found[0].rule.prelude.encode("utf-8"))
+    return InnerRule(
+        None, span, (span[0], end), moved(found[0].inner, span[0] - len(_AT_RULE))
+    )
+
+
+def contents_of(source: Source, inner: Span) -> Tuple[Iterable[BlockItem], int]:
+    """Returns what is in the block of a rule, and by how much its offsets are less than those of
+    the sheet."""
+    found = read_sheet(_RULE + source.at(inner))[1]
+    items = found[0].items if found and isinstance(found[0], RuleSet) else ()
+    return items, inner[0] - len(_RULE)
 
 
 class _Reader:
@@ -56,39 +99,31 @@ class _Reader:
     def blocks(self, rule: RuleSet) -> Iterator[Block]:
         """Yields the blocks in that of a rule, and before them its own."""
         # Most have nothing but declarations.
-        if not rule.items.are_whole and _has_rules(rule.items):
+        if not rule.items.are_whole and has_rules(rule.items):
             block = Block((rule.head[1], rule.span[1]), (), conditions_of(rule.levels))
             yield from self._inside(block, rule.items, rule.head, 0, 0)
 
     def _inside(
-        self, block: Block, items: Iterable[BlockItem], head: Span, at: int, depth: int
+        self, block: Block, items: Iterable[BlockItem], head: Span, by: int, depth: int
     ) -> Iterator[Block]:
-        """Yields a block and those in it. The text that its items are read of begins at an offset."""
+        """Yields a block and those in it."""
         yield block
-        if depth == _DEEPEST:
+        if depth == DEEPEST:
             return
         own = (*block.parents, self._source.at(head))
         for item in items:
-            if isinstance(item, ReadAtRule) and item.rule.block is not None:
-                condition = Condition(item.rule.name, item.rule.prelude)
-                inner = (item.inner[0] + at, item.inner[1] + at)
-                within = Block(inner, block.parents, (*block.conditions, condition))
-                yield from self._contents(within, head, depth)
-            elif isinstance(item, Fault) and item.reason == _NESTED:
-                start, end = item.span[0] + at, item.span[1] + at
-                nested = read_block(_AT_RULE + self._source.at((start, end)))[1]
-                if len(nested) == 1 and isinstance(nested[0], ReadAtRule):
-                    by = start - len(_AT_RULE)
-                    inner = (nested[0].inner[0] + by, nested[0].inner[1] + by)
-                    prelude = len(nested[0].rule.prelude.encode("utf-8"))
-                    within = Block(inner, own, block.conditions)
-                    yield from self._contents(within, (start, start + prelude), depth)
-
-    def _contents(self, block: Block, head: Span, depth: int) -> Iterator[Block]:
-        """Yields a block and those in it, which are read."""
-        found = read_sheet(_RULE + self._source.at(block.span))[1]
-        items = found[0].items if found and isinstance(found[0], RuleSet) else ()
-        yield from self._inside(block, items, head, block.span[0] - len(_RULE), depth + 1)
+            rule = inner_rule(self._source, item, by)
+            if rule is None:
+                continue
+            inside, within = contents_of(self._source, rule.inner)
+            if rule.condition is None:
+                inner = Block(rule.inner, own, block.conditions)
+                yield from self._inside(inner, inside, rule.head, within, depth + 1)
+            else:
+                inner = Block(
+                    rule.inner, block.parents, (*block.conditions, rule.condition)
+                )
+                yield from self._inside(inner, inside, head, within, depth + 1)
 
 
 def blocks_of(source: Source, statements: Iterable[Statement]) -> List[Block]:
@@ -109,7 +144,10 @@ class Places:
 
     def at(self, offset: int) -> Optional[Block]:
         """Returns the innermost block at an offset, if there is one."""
-        while self._next < len(self._blocks) and self._blocks[self._next].span[0] <= offset:
+        while (
+            self._next < len(self._blocks)
+            and self._blocks[self._next].span[0] <= offset
+        ):
             self._leave(self._blocks[self._next].span[0])
             self._open.append(self._blocks[self._next])
             self._next += 1

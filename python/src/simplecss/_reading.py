@@ -26,7 +26,7 @@ from . import _library as library
 from ._declaration import Declaration
 from ._found_names import names_in
 from ._selectors import Specificity
-from ._tokens import originating, without_colons
+from ._tokens import originating
 from ._words import lower
 
 Span = Tuple[int, int]
@@ -34,9 +34,13 @@ Span = Tuple[int, int]
 # The bytes of UTF-8 that begin no character, and how many bytes are counted at once.
 _CONTINUING = bytes(range(0x80, 0xC0))
 _BLOCK = 4096
+# The group rules that say nothing without rules. A layer has a place among the others.
+GROUPS = frozenset("media supports container document -moz-document".split())
+# How a rule in a style rule is named.
+NESTED = "nested rule"
 # What the library writes: numbers of a statement, and how many of these follow for its group rules, its
 # selectors and its items, each of which has so many.
-_OF_STATEMENT, _OF_LEVEL, _OF_SELECTOR, _OF_ITEM = 13, 6, 8, 10
+_OF_STATEMENT, _OF_LEVEL, _OF_SELECTOR, _OF_ITEM = 13, 6, 9, 10
 # The kinds of statements and items, as it numbers them, and then why others are skipped.
 _DECLARATION, _AT_RULE, _AT_STATEMENT, _RULE = range(4)
 _FAULTS = {
@@ -46,7 +50,7 @@ _FAULTS = {
     7: "stray bracket",
     8: "too deep",
     9: "no block",
-    10: "nested rule",
+    10: NESTED,
     11: "invalid selector",
 }
 
@@ -97,7 +101,11 @@ class Source:
     def at(self, span: Sequence[int]) -> str:
         """Returns the text between two offsets."""
         start, end = span
-        return self.text[start:end] if self._is_ascii else self.data[start:end].decode("utf-8")
+        return (
+            self.text[start:end]
+            if self._is_ascii
+            else self.data[start:end].decode("utf-8")
+        )
 
     def offset(self, at: int) -> int:
         """Returns the offset of the character whose first byte is at an offset."""
@@ -146,8 +154,13 @@ class ReadDeclaration(NamedTuple):
     end: int
 
 
+# The name of a level that is a style rule.
+STYLE = ""
+
+
 class Level(NamedTuple):
-    """A group rule that a statement is in, where it begins and ends, and where its prelude ends."""
+    """A group rule that a statement is in, or a style rule; where it begins and ends, and where
+    what is before its block does."""
 
     condition: Condition
     span: Span
@@ -186,7 +199,9 @@ class _Parts(Sequence[_Part]):
     # How many numbers each has.
     _width: int
 
-    def __init__(self, reader: "_Reader", numbers: "array.array[int]", place: Span) -> None:
+    def __init__(
+        self, reader: "_Reader", numbers: "array.array[int]", place: Span
+    ) -> None:
         """Takes what makes them of numbers, and where among these their own are."""
         self._reader = reader
         self._numbers = numbers
@@ -238,31 +253,50 @@ class Items(_Parts[BlockItem]):
     _width = _OF_ITEM
 
     def __init__(
-        self, reader: "_Reader", numbers: "array.array[int]", place: Span, levels: Tuple[Level, ...]
+        self,
+        reader: "_Reader",
+        numbers: "array.array[int]",
+        place: Span,
+        levels: Tuple[Level, ...],
     ) -> None:
         """Takes their group rules, too."""
         super().__init__(reader, numbers, place)
         self._levels = levels
         start, end = place
         # Whether all are declarations that the end of the text does not close.
-        kinds, are_closed = numbers[start:end:_OF_ITEM], numbers[start + 3 : end : _OF_ITEM]
+        kinds, are_closed = (
+            numbers[start:end:_OF_ITEM],
+            numbers[start + 3 : end : _OF_ITEM],
+        )
         self.are_whole = not any(kinds) and all(are_closed)
 
     def _make(self, numbers: "array.array[int]") -> Iterable[BlockItem]:
         return self._reader.items(numbers, self._levels)
 
 
+class MadeItems(Items):
+    """Declarations of a block, which are made."""
+
+    __slots__ = ()
+
+    def __init__(self, made: Sequence[ReadDeclaration]) -> None:
+        self._place = (0, len(made) * _OF_ITEM)
+        self._made = tuple(made)
+        self.are_whole = all(each.is_closed for each in made)
+
+
 class RuleSet(NamedTuple):
     """A rule set: its selectors, what its block has, and the group rules that it is in.
 
-    `head` ends where its block begins."""
+    `head` ends where its block begins. Of a part of a block `span` is where that is."""
 
-    selectors: Selectors
+    selectors: Sequence[ReadSelector]
     items: Items
     levels: Tuple[Level, ...]
     head: Span
     is_closed: bool
     span: Span
+    is_part: bool = False
 
     @property
     def conditions(self) -> Tuple[Condition, ...]:
@@ -283,7 +317,9 @@ def conditions_of(levels: Iterable[Level]) -> Tuple[Condition, ...]:
 
 def declarations_in(items: Iterable[BlockItem]) -> Tuple[Declaration, ...]:
     """Returns the declarations of a block."""
-    return tuple([item.declaration for item in items if isinstance(item, ReadDeclaration)])
+    return tuple(
+        [item.declaration for item in items if isinstance(item, ReadDeclaration)]
+    )
 
 
 class _Names(Dict[str, str]):
@@ -302,11 +338,17 @@ class DeclarationReader:
         self._names = _Names()
 
     def declared(
-        self, name: Sequence[int], value: Sequence[int], is_important: bool, is_closed: bool
+        self,
+        name: Sequence[int],
+        value: Sequence[int],
+        is_important: bool,
+        is_closed: bool,
     ) -> Declaration:
         """Makes the declaration whose name and value are between these offsets."""
         at = self.source.at
-        text = at(value) if is_closed else _closed(at(value))
+        text = at(value)
+        if not is_closed or text.endswith("\\"):
+            text = _closed(text)
         return Declaration(self._names[at(name)], text, is_important)
 
 
@@ -335,13 +377,19 @@ class _Reader(DeclarationReader):
         """Yields the statements that the library writes."""
         data = self.source.data
         most = library.most_numbers(len(data))
-        numbers = library.numbers_of("simplecss_read", data, room=1024 + len(data), most=most)
+        numbers = library.numbers_of(
+            "simplecss_read", data, room=1024 + len(data), most=most
+        )
         at, end = 0, len(numbers)
         while at < end:
             row = numbers[at : at + _OF_STATEMENT]
             at_selectors = at + _OF_STATEMENT + row[10]
             at_items = at_selectors + row[11]
-            levels = self._levels_of(numbers[at + _OF_STATEMENT : at_selectors]) if row[10] else ()
+            levels = (
+                self._levels_of(numbers[at + _OF_STATEMENT : at_selectors])
+                if row[10]
+                else ()
+            )
             at = at_items + row[12]
             if row[0] == _RULE:
                 selectors = Selectors(self, numbers, (at_selectors, at_items))
@@ -354,7 +402,9 @@ class _Reader(DeclarationReader):
     def block_items(self) -> List[BlockItem]:
         """Returns what the text has as a style attribute."""
         data = self.source.data
-        numbers = library.numbers_of("simplecss_declarations", data, room=256 + 2 * len(data))
+        numbers = library.numbers_of(
+            "simplecss_declarations", data, room=256 + 2 * len(data)
+        )
         return self.items(numbers, ())
 
     def selectors(self, numbers: "array.array[int]") -> List[ReadSelector]:
@@ -362,10 +412,15 @@ class _Reader(DeclarationReader):
         firsts = range(0, len(numbers), _OF_SELECTOR)
         return [self._selector(numbers[at : at + _OF_SELECTOR]) for at in firsts]
 
-    def items(self, numbers: "array.array[int]", levels: Tuple[Level, ...]) -> List[BlockItem]:
+    def items(
+        self, numbers: "array.array[int]", levels: Tuple[Level, ...]
+    ) -> List[BlockItem]:
         """Returns the items of these numbers."""
         rows = [numbers[at : at + _OF_ITEM] for at in range(0, len(numbers), _OF_ITEM)]
-        return [self._other(row, levels) if row[0] else self._declaration(row) for row in rows]
+        return [
+            self._other(row, levels) if row[0] else self._declaration(row)
+            for row in rows
+        ]
 
     def _groups_between(self, start: int, end: int) -> Iterator[ReadAtRule]:
         """Yields the group rules between two statements."""
@@ -373,7 +428,7 @@ class _Reader(DeclarationReader):
             for item in read_block(self.source.at((start, end)))[1]:
                 if isinstance(item, ReadAtRule):
                     yield item._replace(
-                        span=_moved(item.span, start), inner=_moved(item.inner, start)
+                        span=moved(item.span, start), inner=moved(item.inner, start)
                     )
 
     def _levels_of(self, numbers: "array.array[int]") -> Tuple[Level, ...]:
@@ -390,9 +445,12 @@ class _Reader(DeclarationReader):
         start, length, name, name_length, prelude, prelude_length = row
         at = self.source.at
         condition = Condition(
-            lower(at((name, name + name_length))), at((prelude, prelude + prelude_length))
+            lower(at((name, name + name_length))),
+            at((prelude, prelude + prelude_length)),
         )
-        return Level(condition, (start, start + length), (start, prelude + prelude_length))
+        return Level(
+            condition, (start, start + length), (start, prelude + prelude_length)
+        )
 
     def _rule(
         self,
@@ -412,32 +470,56 @@ class _Reader(DeclarationReader):
         )
 
     def _selector(self, row: Sequence[int]) -> ReadSelector:
-        start, length, is_read, ids, classes, types, element, element_length = row
-        span = (start, start + length)
+        start, length, is_read, ids, classes, types, element, name_start, is_any = row
+        end = start + length
+        span = (start, end)
         text = front = self.source.at(span)
         name = None
-        if element_length:
-            name = without_colons(self.source.at((element, element + element_length)))
-            front = originating(self.source.at((start, element)))
+        if element < end:
+            name = self.source.at((name_start, end))
+            front = self.source.at((start, element)) + "*" * is_any
         specificity = (ids, classes, types)
         specificity = self._specificities.setdefault(specificity, specificity)
         return ReadSelector(text, front, name, specificity if is_read else None, span)
 
     def _declaration(self, row: Sequence[int]) -> ReadDeclaration:
-        _, start, length, is_closed, name, name_length, value, value_length, is_important, _ = row
+        (
+            _,
+            start,
+            length,
+            is_closed,
+            name,
+            name_length,
+            value,
+            value_length,
+            is_important,
+            _,
+        ) = row
         end = value + value_length
         declaration = self.declared(
             (name, name + name_length), (value, end), is_important == 1, is_closed == 1
         )
-        return ReadDeclaration(declaration, is_closed == 1, (start, start + length), end)
+        return ReadDeclaration(
+            declaration, is_closed == 1, (start, start + length), end
+        )
 
-    def _other(self, row: Sequence[int], levels: Tuple[Level, ...]) -> Union[ReadAtRule, Fault]:
+    def _other(
+        self, row: Sequence[int], levels: Tuple[Level, ...]
+    ) -> Union[ReadAtRule, Fault]:
         """Makes an at-rule, or something that is skipped."""
         kind, start, length = row[:3]
         if kind in _FAULTS:
             text = self.source.data[start : start + length].rstrip(b" \t\n\r\f")
             return Fault(_FAULTS[kind], levels, (start, start + len(text)))
-        is_closed, name, name_length, prelude, prelude_length, block, block_length = row[3:10]
+        (
+            is_closed,
+            name,
+            name_length,
+            prelude,
+            prelude_length,
+            block,
+            block_length,
+        ) = row[3:10]
         at, end = self.source.at, start + length
         has_block = kind == _AT_RULE
         inner = (block, block + block_length) if has_block else (end, end)
@@ -452,14 +534,26 @@ class _Reader(DeclarationReader):
 
 def before_element(text: str, at: int) -> str:
     """Returns the selector of the elements that a pseudo-element is of, whose name is from an index on."""
-    return originating(text[: max(each.start for each in names_in(text) if each.start <= at)])
+    return originating(
+        text[: max(each.start for each in names_in(text) if each.start <= at)]
+    )
+
+
+def ended(text: str) -> Optional[str]:
+    """Returns a text with what its end closes: a string or a comment, and brackets. If it has a bad
+    string or a stray bracket, nothing does."""
+    data = library.encode(text)
+    answer = library.call("simplecss_close", data, room=256 + len(data))
+    return answer.output.decode("utf-8") if answer.status == library.DONE else None
 
 
 def _closed(value: str) -> str:
-    """Returns a value with what the end of the text closes: a string or a comment, and brackets."""
-    data = library.encode(value)
-    answer = library.call("simplecss_close", data, room=256 + len(data))
-    return answer.output.decode("utf-8") if answer.status == library.DONE else value
+    """Returns a value with what its end closes, also a backslash, which is U+FFFD then."""
+    if value.endswith("\\"):
+        inside = ended(f"({value}")
+        return value if inside is None else inside[1:-1]
+    closed = ended(value)
+    return value if closed is None else closed
 
 
 def is_closed(text: str) -> bool:
@@ -468,7 +562,8 @@ def is_closed(text: str) -> bool:
     return library.call("simplecss_close", data, room=256 + len(data)).output == data
 
 
-def _moved(span: Span, by: int) -> Span:
+def moved(span: Span, by: int) -> Span:
+    """Returns where a text is whose offsets are so much less."""
     return span[0] + by, span[1] + by
 
 
@@ -508,6 +603,10 @@ def declarations(text: str) -> List[Declaration]:
 def is_supported(text: str) -> Optional[bool]:
     """Whether the library matches elements by a selector, or `None` if a text is none."""
     found = read_sheet(text + "{}")[1]
-    if len(found) != 1 or not isinstance(found[0], RuleSet) or len(found[0].selectors) != 1:
+    if (
+        len(found) != 1
+        or not isinstance(found[0], RuleSet)
+        or len(found[0].selectors) != 1
+    ):
         return None
     return found[0].selectors[0].specificity is not None

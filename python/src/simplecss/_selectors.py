@@ -23,6 +23,7 @@ from typing import (
 from . import _library as library
 from ._deprecated import warn_of_old
 from ._found_names import Name, find_names, names_in, pseudo_names
+from ._tokens import decoded
 from ._words import lower
 
 if TYPE_CHECKING:
@@ -97,7 +98,9 @@ class Reading(enum.IntEnum):
     def may_change(self, keys: Iterable[str]) -> FrozenSet[str]:
         """Returns the names of attributes that are compared as others, or whose values are."""
         caseless = _CASELESS[self]
-        return frozenset(key for key in keys if key in caseless or self.compared_name(key) != key)
+        return frozenset(
+            key for key in keys if key in caseless or self.compared_name(key) != key
+        )
 
 
 # The attributes whose values compare without case.
@@ -108,6 +111,8 @@ _CASELESS: Dict[Reading, FrozenSet[str]] = {
 }
 
 
+# How many numbers the library writes of a selector of a list.
+_OF_LISTED = 10
 # The grammars, as the library numbers them where no document is read.
 NUMBERS = {MODERN: int(Reading.AS_WRITTEN), PORT: 3}
 
@@ -122,14 +127,6 @@ def grammar_of(grammar: str) -> str:
     return grammar
 
 
-def lines_of(output: bytes) -> List[Any]:
-    """Returns the values of lines of JSON."""
-    import json
-
-    found: List[Any] = json.loads(b"[" + output[:-1].replace(b"\n", b",") + b"]")
-    return found
-
-
 Specificity = Tuple[int, int, int]
 
 
@@ -142,28 +139,30 @@ class Listed(NamedTuple):
     pseudo_element: Optional[str]
 
 
-def specificity_of(numbers: Sequence[int]) -> Specificity:
-    """Returns the three numbers of a specificity."""
-    ids, others, types = numbers
-    return ids, others, types
-
-
 def listed(text: str, grammar: str = MODERN) -> List[Listed]:
     """Returns the selectors of a list. A text that is no list raises `SelectorError`."""
     grammar = grammar_of(grammar)
     data = library.encode(text)
-    name = "simplecss_list"
-    answer = library.call(name, data, NUMBERS[grammar], room=256 + 8 * len(data))
+    words = (data, NUMBERS[grammar])
+    room = _OF_LISTED * (2 + data.count(b","))
+    answer = library.call("simplecss_list", *words, room=room, width=library.WIDTH)
     if answer.status == library.REFUSED:
         raise selector_error(text, grammar)
-    return [
-        Listed(
-            each["selector"],
-            specificity_of(each["specificity"]),
-            each.get("pseudo_element"),
+    numbers = library.numbers_in(library.output_of("simplecss_list", answer))
+    printed = library.call("simplecss_printed", *words, room=64 + 4 * len(data))
+    texts = library.output_of("simplecss_printed", printed)
+    found = []
+    at = 0
+    for row in library.rows_of(numbers, _OF_LISTED):
+        start, length, _, ids, classes, types, element, name, _, printed_length = row
+        text = texts[at : at + printed_length].decode("utf-8")
+        at += printed_length
+        end = start + length
+        pseudo_element = (
+            None if element == end else decoded(data[name:end].decode("utf-8"))
         )
-        for each in lines_of(library.output_of(name, answer))
-    ]
+        found.append(Listed(text, (ids, classes, types), pseudo_element))
+    return found
 
 
 class SelectorTexts(List[str]):
@@ -175,7 +174,9 @@ class SelectorTexts(List[str]):
         joined = "".join(self)
         # The length of a text of ASCII is that of its bytes.
         is_ascii = joined.isascii()
-        ends = library.ends_of(len(each if is_ascii else library.encode(each)) for each in self)
+        ends = library.ends_of(
+            len(each if is_ascii else library.encode(each)) for each in self
+        )
         return library.encode(joined), ends
 
     @functools.cached_property
@@ -225,7 +226,9 @@ def matched(
     """Returns for each element the numbers of the selectors that match it, which begin at 1, with
     spaces between them. The selectors are of the grammar of this number. More numbers than `limit`
     raise `LimitError`."""
-    texts = selectors if isinstance(selectors, SelectorTexts) else SelectorTexts(selectors)
+    texts = (
+        selectors if isinstance(selectors, SelectorTexts) else SelectorTexts(selectors)
+    )
     name = "simplecss_match_selectors"
     words = [*texts.encoded, number, tree]
     # A line is the number of an element, a colon, the numbers with a space before each, and its
@@ -234,7 +237,9 @@ def matched(
     most = min(tree.count * (2 + len(str(tree.count))) + numbers, library.NO_LIMIT)
     room = library.Room(limit)
     try:
-        answer = library.call(name, *words, room=1024 + 32 * tree.count, with_fault=True, most=most)
+        answer = library.call(
+            name, *words, room=1024 + 32 * tree.count, with_fault=True, most=most
+        )
     except library.LimitError:
         raise room.passed() from None
     output = library.output_of(name, answer)
@@ -260,10 +265,10 @@ def selector_error(text: str, grammar: str) -> SelectorError:
     """Returns the error of a list of selectors that was refused."""
     number = NUMBERS[grammar]
     answer = library.call("simplecss_refusal", library.encode(text), number, room=4096)
-    found = lines_of(answer.output)
-    if not found:
+    if not answer.output:
         return SelectorError("refused", 1, 1)
-    return SelectorError(found[0]["reason"], found[0]["row"], found[0]["column"])
+    row, column, reason = answer.output.decode("utf-8").split(" ", 2)
+    return SelectorError(reason, int(row), int(column))
 
 
 def states_in(selector: str) -> List[str]:

@@ -2,6 +2,7 @@
 
 from __future__ import annotations
 
+import collections
 import functools
 import itertools
 from typing import (
@@ -23,13 +24,18 @@ from typing import (
 from . import _library as library
 from ._declaration import Declaration, cascaded
 from ._deprecated import warn_of_old
-from ._device import Device, Media, device_of, holds
+from ._device import LAYER, Device, Media, device_of, holds
 from ._elements import Elements
+from ._lines import Lines
 from ._linked import Load, Name, Shelf, Unread, sheets_of
+from ._making import sheet_text
 from ._nested import Block, Places, blocks_of
 from ._properties import shorthands as shorthands_of
 from ._reading import (
+    GROUPS,
+    NESTED,
     AtRule,
+    BlockItem,
     Condition,
     Fault,
     Level,
@@ -38,6 +44,7 @@ from ._reading import (
     Source,
     Statement,
     before_element,
+    ended,
     read_sheet,
 )
 from ._selectors import (
@@ -47,8 +54,6 @@ from ._selectors import (
     SelectorTexts,
     Specificity,
     grammar_of,
-    lines_of,
-    specificity_of,
 )
 from ._resolving import Pair, registered_in
 from ._resolving import resolved as with_values
@@ -65,6 +70,7 @@ from ._tree import Element, Tree, elements_of
 from ._unused import Unused, Usage
 from ._user_agent import user_agent_sheet
 from ._winners import AUTHOR, ORIGINS, PlacedRule, ReadSheet, Winning
+from ._words import BLANKS
 
 T = TypeVar("T")
 # How many times an answer's limit the declarations that are compared may be, as elements times those of
@@ -189,6 +195,26 @@ class StyleSheet:
         self._winning_on: Dict[Tuple[Device, Tuple[StyleSheet, ...]], Winning] = {}
 
     @classmethod
+    def of_rules(
+        cls,
+        rules: Iterable[Union[Rule, Unsupported, AtRule]],
+        *,
+        limit: Optional[int] = library.USUAL_LIMIT,
+        answer_limit: Optional[int] = library.USUAL_ANSWER_LIMIT,
+    ) -> "StyleSheet":
+        """Returns the style sheet of rules in this order, such as those of other sheets, changed by
+        `_replace`. Each is in its group rules and in the style rules that it has as parents.
+
+        Raises `ValueError` if they do not read as what they are: for example, if a value ends its
+        declaration.
+        """
+        given = list(rules)
+        sheet = cls(sheet_text(given), limit=limit, answer_limit=answer_limit)
+        if _said(given) != _said([*sheet.rules, *sheet.unsupported, *sheet.at_rules]):
+            raise ValueError("a rule does not read as what it is")
+        return sheet
+
+    @classmethod
     def of_page(
         cls,
         tree: Tree,
@@ -220,7 +246,9 @@ class StyleSheet:
         texts = (each.source.text for each in found)
         sheet = cls(*texts, grammar=grammar, limit=limit, answer_limit=answer_limit)
         sheet._read = [(each.source, each.statements) for each in found]
-        return sheet._of_page(tuple(each.conditions for each in found), tuple(shelf.unread))
+        return sheet._of_page(
+            tuple(each.conditions for each in found), tuple(shelf.unread)
+        )
 
     def _of_page(
         self, outer: Tuple[Tuple[Condition, ...], ...], unread: Tuple[Unread, ...]
@@ -234,7 +262,10 @@ class StyleSheet:
     def __reduce__(self) -> Tuple[Any, ...]:
         texts = tuple(text.decode("utf-8") for text in self._texts)
         limits = (self._limit, self._answer_limit)
-        return (_sheet_of, (texts, self._origins, self._outer, self.unread, self._grammar, *limits))
+        return (
+            _sheet_of,
+            (texts, self._origins, self._outer, self.unread, self._grammar, *limits),
+        )
 
     def _call(self, name: str, room: int) -> bytes:
         """Calls what reads the sheet by the grammar "simplecss"."""
@@ -257,12 +288,16 @@ class StyleSheet:
     def _all(self) -> _Contents:
         if self._contents is None:
             is_port = self._grammar == PORT
-            self._contents = self._contents_of_port() if is_port else self._contents_of_modern()
+            self._contents = (
+                self._contents_of_port() if is_port else self._contents_of_modern()
+            )
         return self._contents
 
     def _contents_of_port(self) -> _Contents:
-        output = self._call("simplecss_port_rules", 1024 + 8 * sum(map(len, self._texts)))
-        return _Contents(tuple(map(_rule_of_port, lines_of(output))), (), (), {})
+        output = self._call(
+            "simplecss_port_rules", 1024 + 8 * sum(map(len, self._texts))
+        )
+        return _Contents(tuple(_rules_of_port(Lines(output))), (), (), {})
 
     def _blocks(self) -> List[List[Block]]:
         """Returns the blocks of the rules in style rules of each text, and of these style rules."""
@@ -289,12 +324,17 @@ class StyleSheet:
             if place in starts:
                 indices.setdefault(place, []).append(index)
         at_rules = (
-            each.rule._replace(conditions=outer + each.rule.conditions) if outer else each.rule
+            each.rule._replace(conditions=outer + each.rule.conditions)
+            if outer
+            else each.rule
             for statement, outer in statements
             for each in _at_rules_of(statement)
         )
         return _Contents(
-            tuple(rule for _, rule in rules), tuple(unsupported), tuple(at_rules), indices
+            tuple(rule for _, rule in rules),
+            tuple(unsupported),
+            tuple(at_rules),
+            indices,
         )
 
     def _sets(
@@ -323,7 +363,9 @@ class StyleSheet:
 
     def _read_sheets(self) -> Iterator[ReadSheet]:
         """Yields what each text has, with the conditions of all of it."""
-        for (source, found), blocks, outer in zip(self._statements(), self._blocks(), self._outer):
+        for (source, found), blocks, outer in zip(
+            self._statements(), self._blocks(), self._outer
+        ):
             yield source, found, blocks, outer
 
     def _check_limit(self) -> None:
@@ -332,8 +374,14 @@ class StyleSheet:
         sets = [each for each in every if isinstance(each, RuleSet)]
         # How many items there are is known sooner than how many of them are declarations.
         most = sum(len(each.selectors) * len(each.items) for each in sets)
-        if most > self._limit < sum(len(each.selectors) * len(each.declarations) for each in sets):
-            raise library.LimitError("the rules would hold more declarations than the limit")
+        if (
+            most
+            > self._limit
+            < sum(len(each.selectors) * len(each.declarations) for each in sets)
+        ):
+            raise library.LimitError(
+                "the rules would hold more declarations than the limit"
+            )
 
     @property
     def rules(self) -> Tuple[Rule, ...]:
@@ -359,7 +407,11 @@ class StyleSheet:
     @property
     def skipped(self) -> List[Skipped]:
         """What is skipped of the texts, in order."""
-        each = self._skipped_of_port() if self._grammar == PORT else self._skipped_of_modern()
+        each = (
+            self._skipped_of_port()
+            if self._grammar == PORT
+            else self._skipped_of_modern()
+        )
         return list(each)
 
     def _skipped_of_modern(self) -> Iterator[Skipped]:
@@ -373,11 +425,18 @@ class StyleSheet:
     def _skipped_of_port(self) -> Iterator[Skipped]:
         for number, text in enumerate(self._texts):
             source = Source(text.decode("utf-8"))
-            answer = library.call("simplecss_port_skipped", text, room=1024 + 2 * len(text))
-            for value in lines_of(library.output_of("simplecss_port_skipped", answer)):
-                row, column, part = value["row"], value["column"], value["text"]
+            answer = library.call(
+                "simplecss_port_skipped", text, room=1024 + 2 * len(text)
+            )
+            lines = Lines(library.output_of("simplecss_port_skipped", answer))
+            while lines.are_left():
+                (row, column, length), reason = lines.numbers_and_rest(3)
+                part = lines.text(length)
+                lines.end_line()
                 start = source.lines[row - 1] + column - 1
-                yield Skipped(row, column, value["reason"], part, number, start, start + len(part))
+                yield Skipped(
+                    row, column, reason, part, number, start, start + len(part)
+                )
 
     def __str__(self) -> str:
         if self._grammar == PORT:
@@ -387,8 +446,8 @@ class StyleSheet:
         self._all()
         return "\n".join(
             line
-            for (_, found), outer in zip(self._statements(), self._outer)
-            for line in _within(outer, _lines_of(found))
+            for (source, found), outer in zip(self._statements(), self._outer)
+            for line in _within(outer, _lines_of(source, found))
         )
 
     def __repr__(self) -> str:
@@ -487,7 +546,9 @@ class StyleSheet:
         """
         if self._grammar == PORT:
             _expect_none(ua=ua)
-            found = self._styles_of_port(tree, media, presentation if specified else None)
+            found = self._styles_of_port(
+                tree, media, presentation if specified else None
+            )
         else:
             winning = self._compared_winning(tree, media, ua)
             own = Own(tree, presentation) if specified else NO_OWN
@@ -502,7 +563,9 @@ class StyleSheet:
     def _registered(self, media: Media) -> Iterator[Pair]:
         """Yields the prelude and the block of each `@property` that holds."""
         if self._grammar != PORT:
-            applies = functools.lru_cache(maxsize=None)(functools.partial(holds, media=media))
+            applies = functools.lru_cache(maxsize=None)(
+                functools.partial(holds, media=media)
+            )
             for (_, found), outer in zip(self._statements(), self._outer):
                 yield from registered_in(found, outer, applies)
 
@@ -517,7 +580,10 @@ class StyleSheet:
         found = self._winners_of_port(*self._match(tree, media), name)
         if presentation is None:
             return found
-        every = [specified_by(element, each, presentation) for element, each in zip(tree, found)]
+        every = [
+            specified_by(element, each, presentation)
+            for element, each in zip(tree, found)
+        ]
         return every if name is None else _with_name(every, name)
 
     def _compared_winning(self, tree: Tree, media: Media, ua: bool) -> Winning:
@@ -530,14 +596,20 @@ class StyleSheet:
             self._check_compared(tree, media, sheets)
         return winning
 
-    def _check_compared(self, tree: Tree, media: Media, sheets: Sequence["StyleSheet"]) -> None:
+    def _check_compared(
+        self, tree: Tree, media: Media, sheets: Sequence["StyleSheet"]
+    ) -> None:
         """Raises `LimitError` if more rules match elements than the limit, or if the rules that match one
         together hold more declarations."""
         compared = library.Room(self._answer_limit)
-        matched = ((tuple(each) for each in sheet._matched(tree, media)) for sheet in sheets)
+        matched = (
+            (tuple(each) for each in sheet._matched(tree, media)) for sheet in sheets
+        )
         for found in set(zip(*matched)):
             for sheet, indices in zip(sheets, found):
-                compared.take(sum(len(sheet.rules[each].declarations) for each in indices))
+                compared.take(
+                    sum(len(sheet.rules[each].declarations) for each in indices)
+                )
 
     def _winning(self, media: Media, sheets: Tuple["StyleSheet", ...]) -> Winning:
         """Returns the rules of this sheet, and of others with it, that apply on a device."""
@@ -562,14 +634,18 @@ class StyleSheet:
         """Returns for each line what wins of the rules of its numbers, or of it what has the
         name."""
         winners: Dict[bytes, List[Declaration]] = {}
-        compared, answered = library.Room(self._answer_limit), library.Room(self._answer_limit)
+        compared, answered = library.Room(self._answer_limit), library.Room(
+            self._answer_limit
+        )
         found: List[List[Declaration]] = []
         for line in lines:
             if line not in winners:
                 rules = [self.rules[each] for each in selectors.rules[line]]
                 compared.take(sum(len(rule.declarations) for rule in rules))
                 every = (each for rule in rules for each in rule.declarations)
-                winners[line] = cascaded(each for each in every if name in (None, each.name))
+                winners[line] = cascaded(
+                    each for each in every if name in (None, each.name)
+                )
             answered.take(len(winners[line]))
             found.append(winners[line].copy())
         return found
@@ -619,7 +695,9 @@ def _expect_none(**words: bool) -> None:
             raise ValueError(f"{word} is of the modern grammar")
 
 
-def _with_name(styles: Iterable[List[Declaration]], name: str) -> List[List[Declaration]]:
+def _with_name(
+    styles: Iterable[List[Declaration]], name: str
+) -> List[List[Declaration]]:
     return [[each for each in found if each.name == name] for found in styles]
 
 
@@ -670,12 +748,35 @@ class _Selectors:
         self.rules = Numbers(indices)
 
 
-def _rule_of_port(value: Dict[str, Any]) -> Rule:
-    declared = (
-        Declaration(each["name"], each["value"], each["important"])
-        for each in value["declarations"]
+def _said(
+    rules: Iterable[Union[Rule, Unsupported, AtRule]]
+) -> "collections.Counter[object]":
+    """Returns what rules say, apart from their order and specificity. One without declarations says
+    nothing."""
+    return collections.Counter(
+        each._replace(specificity=(0, 0, 0)) if isinstance(each, Rule) else each
+        for each in rules
+        if isinstance(each, AtRule) or each.declarations
     )
-    return Rule(value["selector"], specificity_of(value["specificity"]), tuple(declared))
+
+
+def _rules_of_port(lines: Lines) -> Iterator[Rule]:
+    """Yields the rules that the library writes by the grammar "simplecss"."""
+    while lines.are_left():
+        ids, others, types, length, count = lines.numbers()
+        selector = lines.text(length)
+        lines.end_line()
+        declared = tuple([_declaration_of_port(lines) for _ in range(count)])
+        yield Rule(selector, (ids, others, types), declared)
+
+
+def _declaration_of_port(lines: Lines) -> Declaration:
+    """Returns the next declaration that the library writes."""
+    name_length, length, is_important = lines.numbers()
+    name = lines.text(name_length)
+    value = lines.text(length)
+    lines.end_line()
+    return Declaration(name, value, is_important == 1)
 
 
 def _rules_of(
@@ -693,19 +794,25 @@ def _rules_of(
                 continue
             if has_rules:
                 element = each.pseudo_element
-                rule = Rule(each.front, each.specificity, declarations, conditions, element)
+                rule = Rule(
+                    each.front, each.specificity, declarations, conditions, element
+                )
                 rules.append((place, rule))
     return rules, unsupported
 
 
 def _nested_rule(
-    placed: PlacedRule, found: Dict[str, Any], block: Block, outer: Tuple[Condition, ...]
+    placed: PlacedRule, text: str, block: Block, outer: Tuple[Condition, ...]
 ) -> Rule:
-    """Returns a rule in this block, of whose selector this was found."""
-    text, element = found["text"], found["pseudo_element"]
+    """Returns a rule in this block, whose selector has this text."""
+    element = None
+    if placed.element_length:
+        data = library.encode(text)
+        element = data[len(data) - placed.element_length :].decode("utf-8")
+        text = before_element(text, len(text) - len(element))
     return Rule(
-        text if element is None else before_element(text, len(text) - len(element)),
-        specificity_of(found["specificity"]),
+        text,
+        placed.specificity,
         tuple(placed.declarations),
         outer + block.conditions,
         element,
@@ -718,7 +825,14 @@ def _at_rules_of(statement: Statement) -> Iterator[ReadAtRule]:
     if isinstance(statement, ReadAtRule):
         yield statement
     elif isinstance(statement, RuleSet) and not statement.items.are_whole:
-        yield from (each for each in statement.items if isinstance(each, ReadAtRule))
+        for each in statement.items:
+            if isinstance(each, ReadAtRule) and not _is_group(each.rule):
+                yield each
+
+
+def _is_group(rule: AtRule) -> bool:
+    """Whether an at-rule in a style rule is a group rule, whose rules are read."""
+    return rule.block is not None and (rule.name in GROUPS or rule.name == LAYER)
 
 
 def faults_of(statements: Iterable[Statement]) -> Iterator[Fault]:
@@ -730,33 +844,54 @@ def faults_of(statements: Iterable[Statement]) -> Iterator[Fault]:
             yield from (each for each in statement.items if isinstance(each, Fault))
 
 
-def _text_of(statement: Statement) -> str:
+def _text_of(source: Source, statement: Statement) -> str:
     """Returns the printed text of a statement."""
-    if isinstance(statement, ReadAtRule):
-        return str(statement.rule)
-    if isinstance(statement, Fault):
-        return ""
-    words = []
-    for item in statement.items:
-        if isinstance(item, ReadAtRule):
-            words.append(str(item.rule))
-        elif not isinstance(item, Fault):
-            name, value, important = item.declaration
-            words.append(f"{name}:{value}{' !important' if important else ''};")
+    if not isinstance(statement, RuleSet):
+        return _at_rule_text(statement) if isinstance(statement, ReadAtRule) else ""
+    last = len(statement.items) - 1
+    words = "".join(
+        _item_text(source, item, statement.is_closed or at < last)
+        for at, item in enumerate(statement.items)
+    )
     selectors = ", ".join(each.text for each in statement.selectors)
-    return f"{selectors} {{ {''.join(words)} }}" if words else f"{selectors} {{ }}"
+    return f"{selectors} {{ {words} }}" if words else f"{selectors} {{ }}"
 
 
-def _lines_of(statements: Iterable[Statement]) -> Iterator[str]:
+def _item_text(source: Source, item: BlockItem, is_closed: bool) -> str:
+    """Returns the printed text of an item of a block, with a rule in it as it is written."""
+    if isinstance(item, ReadAtRule):
+        return _at_rule_text(item)
+    if isinstance(item, Fault):
+        text = source.at(item.span) if item.reason == NESTED else ""
+        return text if is_closed else ended(text) or ""
+    name, value, important = item.declaration
+    return f"{name}:{value}{' !important' if important else ''};"
+
+
+def _at_rule_text(found: ReadAtRule) -> str:
+    """Returns the printed text of an at-rule, which is left out if nothing closes it."""
+    text = str(found.rule)
+    if found.rule.block is None:
+        return f"{ended(text[:-1]) or text[:-1]};"
+    if found.is_closed:
+        return text
+    closed = ended(text[:-2].rstrip(BLANKS))
+    return "" if closed is None else f"{closed[:-1]} }}"
+
+
+def _lines_of(source: Source, statements: Iterable[Statement]) -> Iterator[str]:
     """Yields the printed lines of statements, which open and close their group rules."""
     before: Tuple[Level, ...] = ()
     for statement in statements:
-        text = _text_of(statement)
+        text = _text_of(source, statement)
         if text:
             pairs = zip(before, statement.levels)
             # Where two group rules begin, they are two.
             shared = sum(
-                1 for _ in itertools.takewhile(lambda pair: pair[0].span == pair[1].span, pairs)
+                1
+                for _ in itertools.takewhile(
+                    lambda pair: pair[0].span == pair[1].span, pairs
+                )
             )
             yield from _closed(len(before), shared)
             for depth, level in enumerate(statement.levels[shared:], shared):

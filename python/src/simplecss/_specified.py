@@ -4,7 +4,17 @@ of parents (CSS 2.1 sections 6.2 and 6.4.3)."""
 from __future__ import annotations
 
 import functools
-from typing import Callable, Dict, FrozenSet, Iterable, List, Mapping, Optional, Tuple, Union
+from typing import (
+    Callable,
+    Dict,
+    FrozenSet,
+    Iterable,
+    List,
+    Mapping,
+    Optional,
+    Tuple,
+    Union,
+)
 
 from . import _library as library
 from ._declaration import Declaration, cascaded

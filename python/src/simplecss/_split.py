@@ -25,11 +25,14 @@ from ._families import family_of
 from ._found_names import find_names
 from ._imports import ReadSheet
 from ._marking import goes_back
+from ._nested import has_rules
 from ._order import LAYER, LayeredText, Layers, Ordered, Reach, layers_of, reaches_of
 from ._page import Content
 from ._reading import (
+    STYLE,
     BlockItem,
     Fault,
+    Level,
     ReadAtRule,
     ReadDeclaration,
     ReadSelector,
@@ -47,7 +50,6 @@ from ._staying import (
     StayingRule,
     ended_in,
     has_declarations,
-    has_rules,
     marked,
     rules_of,
     rules_with,
@@ -59,6 +61,7 @@ from ._words import BLANKS
 # Why what is written into attributes stays, too.
 _UNTOUCHED = "it matches an element without a tag of its own, or one that is ignored"
 _OVERRIDDEN = "a rule that stays could override it"
+_AT_RULE = "an at-rule"
 # The states of links.
 _LINKS = frozenset(("link", "any-link"))
 
@@ -109,7 +112,9 @@ class NotWritten(NamedTuple):
 class SplitStatement:
     """A statement of a sheet: what of it is written into attributes, and what stays."""
 
-    def __init__(self, number: int, source: Source, span: Span, title: str, reason: str) -> None:
+    def __init__(
+        self, number: int, source: Source, span: Span, title: str, reason: str
+    ) -> None:
         self.number = number
         # What it is called in a report, and why all of it stays.
         self.title = title
@@ -119,15 +124,17 @@ class SplitStatement:
         self.inner: List[Statement] = []
         self.source = source
         self.span = span
-        # The layers that it is in, if something of them is written.
+        # The layers that it is in, if something of them is written, and what is before the blocks
+        # of the style rules that it is in.
         self.layers: Layers = ()
         self.knows_layers = False
+        self.heads: Tuple[str, ...] = ()
         # The selectors that are written into attributes, and those that stay.
         self.going: List[str] = []
         self.staying: List[ReadSelector] = []
-        # Where the block of a rule set is, what closes it, and what it has.
+        # Where the block of a rule set is, what opens and closes it, and what it has.
         self.block = (0, 0)
-        self.end = ""
+        self.brackets = ("", "")
         self.items: Sequence[BlockItem] = ()
 
     @functools.cached_property
@@ -143,7 +150,9 @@ class SplitStatement:
     @functools.cached_property
     def back(self) -> FrozenSet[str]:
         """The families in which a declaration goes back to what sheets say."""
-        return frozenset(family_of(each.name) for each in self.declarations if goes_back((each,)))
+        return frozenset(
+            family_of(each.name) for each in self.declarations if goes_back((each,))
+        )
 
     @functools.cached_property
     def grouped(self) -> List[List[Declaration]]:
@@ -194,13 +203,16 @@ class SplitStatement:
     @property
     def has_layer(self) -> bool:
         """Whether it is in a layer, or is one."""
-        inner = self.inner[0].levels if self.inner else ()
-        return bool(self.layers) or bool(inner) and inner[0].condition.name == LAYER
+        return bool(self.layers) or any(
+            layers_of(self.source, each.levels) for each in self.inner
+        )
 
     def has_text(self, leftover: Leftover) -> bool:
         """Whether something of it stays."""
         is_left = self.number in leftover.families or self.number in leftover.unmatched
-        return (self.has_kept() or is_left) and not (self.is_order and not leftover.has_layers)
+        return (self.has_kept() or is_left) and not (
+            self.is_order and not leftover.has_layers
+        )
 
     def orders(self) -> Iterator[Tuple[Layers, str]]:
         """Yields what says the order of layers: those that it is in and has, and it itself."""
@@ -234,10 +246,13 @@ class SplitStatement:
 
     def with_going(self, chosen: List[ReadSelector]) -> "SplitStatement":
         """Returns the statement with some of the selectors that stay among those that go."""
-        found = SplitStatement(self.number, self.source, self.span, self.title, self.reason)
+        found = SplitStatement(
+            self.number, self.source, self.span, self.title, self.reason
+        )
         found.inner, found.is_whole = self.inner, self.is_whole
-        found.block, found.end, found.items = self.block, self.end, self.items
+        found.block, found.brackets, found.items = self.block, self.brackets, self.items
         found.layers, found.knows_layers = self.layers, self.knows_layers
+        found.heads = self.heads
         found.staying = [each for each in self.staying if each not in chosen]
         found.going = self.going + [each.text for each in chosen]
         return found
@@ -248,13 +263,16 @@ class SplitStatement:
         return self._kept(())
 
     def _kept(self, marks: Collection[int]) -> List[str]:
-        if self.is_whole or not self.going:
-            return [marked(self.source, self.span, marks)]
+        if self.is_whole or not self.going and not self.heads:
+            whole = marked(self.source, self.span, marks)
+            return [f"{' { '.join([*self.heads, whole])}{' }' * len(self.heads)}"]
         if not self.staying:
             return []
         staying = ", ".join(each.text for each in self.staying)
-        block = marked(self.source, self.block, marks).strip(BLANKS) + self.end
-        return [f"{staying} {block}"]
+        first, last = self.brackets
+        return [
+            f"{staying} {first}{marked(self.source, self.block, marks).strip(BLANKS)}{last}"
+        ]
 
     def kept(self, leftover: Leftover) -> List[str]:
         """Returns the text that stays."""
@@ -266,12 +284,20 @@ class SplitStatement:
             each._replace(important=each.important or family_of(each.name) in important)
             for each in self.left_declarations(leftover)
         ]
-        return [*texts, f"{self._selectors()} {{ {'; '.join(map(str, left))} }}"] if left else texts
+        return (
+            [*texts, f"{self._selectors()} {{ {'; '.join(map(str, left))} }}"]
+            if left
+            else texts
+        )
 
     def left_declarations(self, leftover: Leftover) -> List[Declaration]:
         """Returns the declarations that stay, too."""
         families = leftover.families.get(self.number, ())
-        return [each for each in self.declarations if families and family_of(each.name) in families]
+        return [
+            each
+            for each in self.declarations
+            if families and family_of(each.name) in families
+        ]
 
     def not_written(self, leftover: Leftover) -> Iterator[NotWritten]:
         """Yields what of it is not written into attributes, and why."""
@@ -283,7 +309,9 @@ class SplitStatement:
             yield NotWritten(each.text, _reason_of(each))
         if leftover.families.get(self.number):
             is_untouched = self.number in leftover.untouched
-            yield NotWritten(self._selectors(), _UNTOUCHED if is_untouched else _OVERRIDDEN)
+            yield NotWritten(
+                self._selectors(), _UNTOUCHED if is_untouched else _OVERRIDDEN
+            )
 
     def _selectors(self) -> str:
         return ", ".join(self.going)
@@ -308,7 +336,9 @@ class SplitSheet:
     """A sheet with those that it imports: its statements, and the `style` element that it is in, if
     any."""
 
-    def __init__(self, statements: List[SplitStatement], content: Optional[Content] = None) -> None:
+    def __init__(
+        self, statements: List[SplitStatement], content: Optional[Content] = None
+    ) -> None:
         self.statements = statements
         self.content = content
 
@@ -434,7 +464,8 @@ class Order:
         ]
         first = len(parts)
         parts += (
-            (each.number, Ordered(each.statement.layers, each.selector)) for each in rules.values()
+            (each.number, Ordered(each.statement.layers, each.selector))
+            for each in rules.values()
         )
         # Those that stay come after those that are written of their statement.
         parts += ((each.number, each.ordered) for each in kept.values())
@@ -445,7 +476,9 @@ class Order:
         self.reaches = {rule: found[at] for at, rule in enumerate(kept, len(rules))}
 
 
-def statements_of(read: ReadSheet, start: int, knows_layers: bool) -> List[SplitStatement]:
+def statements_of(
+    read: ReadSheet, start: int, knows_layers: bool
+) -> List[SplitStatement]:
     """Returns the statements of a sheet, of which the first has a number. Where the places of layers
     are not known, these stay as they are."""
     rules = (each for _, each in read.placed if isinstance(each, RuleSet))
@@ -459,10 +492,21 @@ def statements_of(read: ReadSheet, start: int, knows_layers: bool) -> List[Split
 _Placed = Tuple[Source, Statement]
 
 
+def heads_of(levels: Iterable[Level]) -> Tuple[str, ...]:
+    """Returns what is before the blocks of the style rules among levels."""
+    return tuple(
+        each.condition.prelude for each in levels if each.condition.name == STYLE
+    )
+
+
 def _group_of(placed: _Placed, depth: int) -> Optional[Tuple[Source, Span]]:
     """Returns the group rule of a depth that a statement is in."""
     source, statement = placed
-    return (source, statement.levels[depth].span) if len(statement.levels) > depth else None
+    return (
+        (source, statement.levels[depth].span)
+        if len(statement.levels) > depth
+        else None
+    )
 
 
 def _statements_at(
@@ -472,39 +516,59 @@ def _statements_at(
     for group, run in itertools.groupby(placed, lambda each: _group_of(each, depth)):
         if group is None:
             for source, each in run:
-                reason = read.reasons.get((source, each.span), "an at-rule")
+                reason = read.reasons.get((source, each.span), _AT_RULE)
                 for taken in _taken(source, each, reason):
                     taken.layers = layers_of(source, each.levels)
                     taken.knows_layers = knows_layers
+                    taken.heads = heads_of(each.levels)
                     yield taken
             continue
         members = list(run)
-        inner = _in_layer(read, members, depth, group) if knows_layers else []
+        inner = _opened(read, members, depth, group, knows_layers)
         yield from inner or [_whole(members, depth, group, knows_layers)]
 
 
-def _in_layer(
-    read: ReadSheet, members: List[_Placed], depth: int, group: Tuple[Source, Span]
+def _opened(
+    read: ReadSheet,
+    members: List[_Placed],
+    depth: int,
+    group: Tuple[Source, Span],
+    knows_layers: bool,
 ) -> List[SplitStatement]:
-    """Returns the statements in a group rule if it is a layer, of which something is written."""
-    is_layer = members[0][1].levels[depth].condition.name == LAYER
-    if not is_layer or not is_closed(group[0].at(group[1])):
+    """Returns the statements in a level if it is a layer, or a style rule, of which something is
+    written."""
+    name = members[0][1].levels[depth].condition.name
+    is_layer = name == LAYER and knows_layers and is_closed(group[0].at(group[1]))
+    if not is_layer and name != STYLE:
         return []
-    inner = list(_statements_at(read, members, depth + 1, True))
+    inner = list(_statements_at(read, members, depth + 1, knows_layers))
     return inner if any(each.going for each in inner) else []
 
 
 def _whole(
     members: List[_Placed], depth: int, group: Tuple[Source, Span], knows_layers: bool
 ) -> SplitStatement:
-    """Returns a group rule that stays as it is."""
+    """Returns a level that stays as it is."""
     source, span = group
     levels = members[0][1].levels
-    found = SplitStatement(0, source, span, str(levels[depth].condition), "an at-rule")
+    condition = levels[depth].condition
+    title = condition.prelude if condition.name == STYLE else str(condition)
+    found = SplitStatement(0, source, span, title, _reason_within(members[0][1], depth))
     found.inner = [each for _, each in members]
     found.layers = layers_of(source, levels[:depth])
     found.knows_layers = knows_layers
+    found.heads = heads_of(levels[:depth])
     return found
+
+
+def _reason_within(member: Statement, depth: int) -> str:
+    """Returns why a level of this depth stays whose first statement this is."""
+    is_style = all(each.condition.name == STYLE for each in member.levels[depth:])
+    return (
+        _reason_of(member.selectors[0])
+        if is_style and isinstance(member, RuleSet)
+        else _AT_RULE
+    )
 
 
 def _taken(source: Source, found: Statement, reason: str) -> Iterator[SplitStatement]:
@@ -557,15 +621,19 @@ def _sort(statement: SplitStatement, found: RuleSet, source: Source) -> None:
             statement.staying.append(each)
         else:
             statement.going.append(each.text)
-    statement.block = (found.head[1], found.span[1])
+    statement.block = found.span if found.is_part else (found.head[1], found.span[1])
     block = source.at(statement.block).strip(BLANKS)
-    if statement.staying and (_is_open(found) or not found.is_closed and is_escaping(block)):
+    if statement.staying and (
+        _is_open(found) or not found.is_closed and is_escaping(block)
+    ):
         # No brace would close what stays.
         statement.going, statement.staying = [], []
         statement.reason = "the end of the text closes it"
         return
     statement.is_whole = False
-    statement.end = "}" * (not found.is_closed)
+    statement.brackets = (
+        ("{ ", " }") if found.is_part else ("", "}" * (not found.is_closed))
+    )
     statement.items = found.items
 
 

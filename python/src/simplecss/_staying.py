@@ -19,7 +19,9 @@ from typing import (
 from ._declaration import Declaration
 from ._families import EVERYTHING, family_of, without_prefix
 from ._found_names import pseudo_names
-from ._order import EVERY, LAYER, Layers, Ordered, layers_of
+from ._flat import flattened
+from ._nested import has_rules
+from ._order import EVERY, LAYER, Layers, Ordered, count_layers, layers_of
 from ._reading import (
     BlockItem,
     Fault,
@@ -51,8 +53,6 @@ _BACK = frozenset(("revert", "revert-layer"))
 _DEEPEST = 16
 # What a rule may say that is not looked into.
 _ANYTHING = [Declaration("all", "", False), Declaration("all", "", True)]
-# Why the library skips what may have rules in a block.
-_NESTED = frozenset(("nested rule", "too deep"))
 # What makes an at-rule of a rule, whose block the library reads whatever is before it.
 _AS_AT_RULE = "@x "
 
@@ -110,7 +110,11 @@ class SetBlock(Block):
     does."""
 
     def __init__(
-        self, items: Sequence[BlockItem], source: Source, owner: Optional[int], offset: int = 0
+        self,
+        items: Sequence[BlockItem],
+        source: Source,
+        owner: Optional[int],
+        offset: int = 0,
     ) -> None:
         """Takes what it has, and the number of the statement that may be marked, in whose text the
         source begins at an offset."""
@@ -204,7 +208,9 @@ def marked(source: Source, span: Span, marks: Iterable[int]) -> str:
     return "".join(parts) + source.at((start, end))
 
 
-def ends_of(items: Iterable[BlockItem], source: Source, offset: int = 0) -> Dict[str, List[int]]:
+def ends_of(
+    items: Iterable[BlockItem], source: Source, offset: int = 0
+) -> Dict[str, List[int]]:
     """Returns where declarations end, by family, but for families of which one is not closed."""
     found: Dict[str, List[int]] = {}
     is_open: Set[str] = set()
@@ -243,22 +249,13 @@ def has_declarations(items: Sequence[BlockItem]) -> bool:
     return any(isinstance(each, ReadDeclaration) for each in items)
 
 
-def has_rules(items: Iterable[BlockItem]) -> bool:
-    """Whether a block has rules in it."""
-    if isinstance(items, Items) and items.are_whole:
-        return False
-    return any(
-        each.rule.block is not None if isinstance(each, ReadAtRule) else each.reason in _NESTED
-        for each in items
-        if not isinstance(each, ReadDeclaration)
-    )
-
-
 def _block_of(text: str) -> Optional[str]:
     """Returns the block of a rule that the library skips, or `None` if it has other text, too."""
     items = read_block(_AS_AT_RULE + text)[1]
     is_alone = len(items) == 1 and isinstance(items[0], ReadAtRule)
-    return items[0].rule.block if is_alone and isinstance(items[0], ReadAtRule) else None
+    return (
+        items[0].rule.block if is_alone and isinstance(items[0], ReadAtRule) else None
+    )
 
 
 def _within(text: str) -> Tuple[Source, Sequence[BlockItem]]:
@@ -276,7 +273,11 @@ def _declared_within(
     for each in items:
         if isinstance(each, ReadDeclaration) or not has_rules((each,)):
             continue
-        block = each.rule.block if isinstance(each, ReadAtRule) else _block_of(source.at(each.span))
+        block = (
+            each.rule.block
+            if isinstance(each, ReadAtRule)
+            else _block_of(source.at(each.span))
+        )
         if block is None or level > _DEEPEST:
             return None
         inner, inside = _within(block)
@@ -339,7 +340,9 @@ def rules_of(
             yield from _rules_in(found, found.rule.block, inner)
 
 
-def _rules_of_set(source: Source, found: RuleSet, place: Place) -> Iterator[StayingRule]:
+def _rules_of_set(
+    source: Source, found: RuleSet, place: Place
+) -> Iterator[StayingRule]:
     """Yields the rules of a rule set."""
     within = [] if found.items.are_whole else _declared_within(found.items, source)
     if within is None:
@@ -351,11 +354,15 @@ def _rules_of_set(source: Source, found: RuleSet, place: Place) -> Iterator[Stay
     if within:
         # Which elements the rules within it match is not looked at.
         yield place.of_any(within)
+        if count_layers(source.at(found.span)):
+            # Some of them may be in a layer.
+            yield place._replace(is_layered=True).of_any(within)
 
 
 def _rules_in(found: ReadAtRule, text: str, place: Place) -> Iterator[StayingRule]:
     """Yields the rules in the block of an at-rule."""
-    source, statements = read_sheet(text)
+    source, read = read_sheet(text)
+    statements = flattened(source, read)
     if without_prefix(found.rule.name) == "keyframes":
         # What is animated is above all that is not important, and below all that is.
         for each in statements:
@@ -364,7 +371,9 @@ def _rules_in(found: ReadAtRule, text: str, place: Place) -> Iterator[StayingRul
         yield place.of_any(_ANYTHING)
     else:
         level, offset = place.level + 1, place.offset + found.inner[0]
-        yield from rules_of(source, statements, place._replace(level=level, offset=offset))
+        yield from rules_of(
+            source, statements, place._replace(level=level, offset=offset)
+        )
 
 
 def _framed(source: Source, found: Statement) -> Iterator[str]:
@@ -393,4 +402,6 @@ def rules_with(
             wider = _wider(each)
             ordered = Ordered(place.layers, each.text, each.specificity is not None)
             is_definite = wider == each.text
-            yield StayingRule(wider, ordered, place.number, place.is_layered, is_definite, block)
+            yield StayingRule(
+                wider, ordered, place.number, place.is_layered, is_definite, block
+            )

@@ -18,10 +18,12 @@ _KINDS = (
 _AT_KEYWORD = _KINDS.index("at-keyword")
 # What may be between two tokens.
 GAPS = frozenset(("whitespace", "comment"))
-_COMBINATORS = frozenset((">", "+", "~"))
+COMBINATORS = frozenset((">", "+", "~"))
 _MEASURED = frozenset(("percentage", "dimension"))
 _STRINGS = frozenset(("string", "bad-string"))
-_HAS_VALUE = frozenset(("ident", "function", "at-keyword", "hash", "id", "url", "dimension"))
+_HAS_VALUE = frozenset(
+    ("ident", "function", "at-keyword", "hash", "id", "url", "dimension")
+)
 
 
 class Token(NamedTuple):
@@ -53,7 +55,11 @@ class Token(NamedTuple):
         This is a name, the text of a string, a url, or the unit of a dimension; of another token,
         its text.
         """
-        if "\\" not in self.text or self.kind not in _HAS_VALUE and self.kind not in _STRINGS:
+        if (
+            "\\" not in self.text
+            or self.kind not in _HAS_VALUE
+            and self.kind not in _STRINGS
+        ):
             return self.inside
         return decoded(self.inside, self.kind in _STRINGS)
 
@@ -74,7 +80,9 @@ def tokens(text: str) -> Iterator[Token]:
     It may be a sheet, a value or a selector. Their texts, one after another, are the text. A lone surrogate raises `ValueError`.
     """
     data = library.encode(text)
-    return _tokens_at(text, data, library.numbers_of("simplecss_tokens", data, room=64 + len(data)))
+    return _tokens_at(
+        text, data, library.numbers_of("simplecss_tokens", data, room=64 + len(data))
+    )
 
 
 def _tokens_at(text: str, data: bytes, numbers: "array.array[int]") -> Iterator[Token]:
@@ -82,12 +90,16 @@ def _tokens_at(text: str, data: bytes, numbers: "array.array[int]") -> Iterator[
     each = iter(numbers)
     if len(text) == len(data):
         for kind, start, end, inside, inside_end in zip(each, each, each, each, each):
-            yield Token(_KINDS[kind], text[start:end], start, text[inside:inside_end], inside)
+            yield Token(
+                _KINDS[kind], text[start:end], start, text[inside:inside_end], inside
+            )
         return
     at = 0
     for kind, start, end, inside, inside_end in zip(each, each, each, each, each):
         whole, within = data[start:end].decode(), data[inside:inside_end].decode()
-        yield Token(_KINDS[kind], whole, at, within, at + len(data[start:inside].decode()))
+        yield Token(
+            _KINDS[kind], whole, at, within, at + len(data[start:inside].decode())
+        )
         at += len(whole)
 
 
@@ -112,20 +124,11 @@ def without_gaps(text: str) -> List[Token]:
     return [each for each in tokens(text) if each.kind not in GAPS]
 
 
-@functools.lru_cache(maxsize=64)
-def without_colons(text: str) -> str:
-    """Returns the text of a pseudo-element after its colons."""
-    colons = itertools.takewhile(
-        lambda each: each.text == ":" or each.kind == "comment", tokens(text)
-    )
-    return text[max((token.end for token in colons), default=0) :]
-
-
 def originating(front: str) -> str:
     """Returns the selector of the elements that a pseudo-element is of, by what is written before it:
     of any, `*`, where no compound selector is."""
     last = [each for each in tokens(front) if each.kind != "comment"][-1:]
-    is_any = all(each.kind == "whitespace" or each.text in _COMBINATORS for each in last)
+    is_any = all(each.kind == "whitespace" or each.text in COMBINATORS for each in last)
     return f"{front}*" if is_any else front
 
 

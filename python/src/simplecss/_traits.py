@@ -20,7 +20,9 @@ _KNOWN = frozenset(
     " enabled disabled checked required optional valid invalid read-only read-write".split()
 )
 _KNOWN_FUNCTIONS = frozenset(("not", "has", "is", "where"))
-_NUMBERED = frozenset(("nth-child", "nth-last-child", "nth-of-type", "nth-last-of-type"))
+_NUMBERED = frozenset(
+    ("nth-child", "nth-last-child", "nth-of-type", "nth-last-of-type")
+)
 # What namespaces and parentheses have, and pseudo-classes.
 _SPECIAL = frozenset(":|(")
 # The ids, classes and attributes that mail clients add to a page, whose rules match nothing yet, and
@@ -31,7 +33,13 @@ _CLIENT_NAMES = {
 }
 _CLIENT_PREFIXES = {
     "class": ("gmail", "mso", "aolmail"),
-    "attribute": ("data-ogsc", "data-ogsb", "data-outlook-cycle", "x-apple-data-detectors", "owa"),
+    "attribute": (
+        "data-ogsc",
+        "data-ogsb",
+        "data-outlook-cycle",
+        "x-apple-data-detectors",
+        "owa",
+    ),
 }
 
 # How many texts are kept with what they have, and how long they may be.
@@ -40,7 +48,8 @@ _MOST_KEPT, _LONG = 8192, 400
 
 class Traits(NamedTuple):
     """Whether every browser knows the pseudo-classes of a selector, and it has no namespace; whether
-    it depends on more than the tree; and whether it has a name that mail clients add."""
+    it depends on more than the tree; and whether it has a name that mail clients add.
+    """
 
     is_known: bool
     has_state: bool
@@ -93,7 +102,11 @@ def _is_read(text: str) -> bool:
 
 def _is_language(arguments: str) -> bool:
     """Whether in the parentheses is one name."""
-    return [each.kind for each in without_gaps(arguments)] == ["delim", "ident", "delim"]
+    return [each.kind for each in without_gaps(arguments)] == [
+        "delim",
+        "ident",
+        "delim",
+    ]
 
 
 def _has_other(selector: str) -> bool:
@@ -103,7 +116,9 @@ def _has_other(selector: str) -> bool:
     functions = sum(each.is_function for each in pseudo_names(selector))
     opened = sum(each.kind == "function" or each.text == "(" for each in found)
     bars = zip(texts, [*texts[1:], ""])
-    return opened != functions or any(one == "|" and other != "=" for one, other in bars)
+    return opened != functions or any(
+        one == "|" and other != "=" for one, other in bars
+    )
 
 
 def _is_of_client(selector: str) -> bool:

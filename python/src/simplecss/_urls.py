@@ -3,11 +3,11 @@
 from __future__ import annotations
 
 import re
-from typing import Iterator, NamedTuple, Optional
+from typing import Iterator, Optional
 
 from . import _library as library
 from ._patterns import pattern
-from ._tokens import GAPS, Token, tokens, without_gaps
+from ._tokens import GAPS, Token, tokens
 from ._words import BLANKS, lower
 
 # What is before a string that is a url, by the kind of token.
@@ -66,29 +66,11 @@ def _related(base: str, url: str) -> str:
     if found.scheme or not above:
         moved = urllib.parse.urljoin(base, url)
         is_lost = base.startswith("/") and not urllib.parse.urlsplit(moved).scheme
-        return f"/{moved.lstrip('/')}" if is_lost and not moved.startswith("/") else moved
+        return (
+            f"/{moved.lstrip('/')}" if is_lost and not moved.startswith("/") else moved
+        )
     names = urllib.parse.urljoin("/" + _ABOVE * above + base, url)[1:].split("/")
     kept = 0
     while kept < above and names[kept] + "/" == _ABOVE:
         kept += 1
     return "../" * (above - kept) + "/".join(names[kept:])
-
-
-class Import(NamedTuple):
-    """What an `@import` has: a url, and what follows it: a layer, a condition or media."""
-
-    url: str
-    rest: str
-
-
-def import_of(prelude: str) -> Optional[Import]:
-    """Returns what the prelude of an `@import` has, or `None` if it has no url."""
-    found = without_gaps(prelude)[:3]
-    is_function = [each.kind for each in found] == ["function", "string", "delim"]
-    if is_function and lower(found[0].value) == "url" and found[2].text == ")":
-        url, end = found[1].value, found[2].end
-    elif found and found[0].kind in ("string", "url"):
-        url, end = found[0].value, found[0].end
-    else:
-        return None
-    return Import(url, prelude[end:].strip(BLANKS)) if url else None

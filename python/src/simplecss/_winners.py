@@ -6,7 +6,6 @@ import array
 import functools
 import itertools
 from typing import (
-    Any,
     Callable,
     Dict,
     Iterable,
@@ -24,12 +23,12 @@ from ._device import LAYER, Media, holds
 from ._elements import Elements
 from ._nested import Block
 from ._reading import Condition, DeclarationReader, Source, Statement, conditions_of
-from ._selectors import lines_of
+from ._selectors import Specificity
 from ._specified import Own
 
 # How many numbers the library writes of a rule before those of its declarations, of each of these,
 # and of a declaration that wins.
-_OF_RULE, _OF_DECLARATION, _OF_WINNER = 4, 6, 2
+_OF_RULE, _OF_DECLARATION, _OF_WINNER = 9, 6, 2
 # What a sheet has: its text, its statements, the blocks of rules in style rules, and the conditions of
 # all of it.
 ReadSheet = Tuple[Source, List[Statement], List[Block], Tuple[Condition, ...]]
@@ -73,11 +72,16 @@ class Declarations:
 
 
 class PlacedRule(NamedTuple):
-    """A rule: the number of its sheet, where its declarations begin there, and these."""
+    """A rule: the number of its sheet, where its declarations begin there, and these; its specificity;
+    and how many bytes the text of its selector has, and the pseudo-element at the end of that.
+    """
 
     sheet: int
     start: int
     declarations: Declarations
+    specificity: Specificity
+    selector_length: int
+    element_length: int
 
 
 def _held(
@@ -85,7 +89,8 @@ def _held(
 ) -> Iterator[Condition]:
     """Yields the group rules of a sheet that hold."""
     each_conditions = itertools.chain(
-        (conditions_of(each.levels) for each in statements), (each.conditions for each in blocks)
+        (conditions_of(each.levels) for each in statements),
+        (each.conditions for each in blocks),
     )
     for conditions in each_conditions:
         yield from itertools.takewhile(applies, conditions)
@@ -95,17 +100,30 @@ class Winning:
     """The rules of sheets that apply, in the order of the cascade, and what wins of these."""
 
     def __init__(
-        self, sheets: Iterable[ReadSheet], origins: Sequence[str], media: Media, limit: int
+        self,
+        sheets: Iterable[ReadSheet],
+        origins: Sequence[str],
+        media: Media,
+        limit: int,
     ) -> None:
         """Reads the sheets, of these origins. Rules with more declarations than `limit` raise
         `LimitError`."""
-        applies = functools.lru_cache(maxsize=None)(functools.partial(holds, media=media))
-        used = [(n, each) for n, each in enumerate(sheets) if all(map(applies, each[3]))]
+        applies = functools.lru_cache(maxsize=None)(
+            functools.partial(holds, media=media)
+        )
+        used = [
+            (n, each) for n, each in enumerate(sheets) if all(map(applies, each[3]))
+        ]
         groups: Dict[Condition, None] = {}
         for _, (_, statements, blocks, _) in used:
             groups.update(dict.fromkeys(_held(statements, blocks, applies)))
         texts = [source.data for _, (source, _, _, _) in used]
-        words = [library.encode(word) for each in groups if each.name != LAYER for word in each]
+        words = [
+            library.encode(word)
+            for each in groups
+            if each.name != LAYER
+            for word in each
+        ]
         # The numbers of the sheets that apply, among all.
         self._numbers = [number for number, _ in used]
         self._sheets = library.SheetArrays(
@@ -124,24 +142,36 @@ class Winning:
         readers = list(map(DeclarationReader, sources))
         # The declarations of each block, which the rules of a rule set share.
         blocks: Dict[Tuple[int, int], Declarations] = {}
+        # Most rules have one of few.
+        specificities: Dict[Specificity, Specificity] = {}
         room = 1024 + self._size
         numbers = library.numbers_of("simplecss_rules", self._sheets, limit, room=room)
         at = 0
         while at < len(numbers):
-            sheet, start, _, count = numbers[at : at + _OF_RULE]
+            sheet, start, _, length, element, ids, classes, types, count = numbers[
+                at : at + _OF_RULE
+            ]
             at += _OF_RULE
             end = at + _OF_DECLARATION * count
             if (sheet, start) not in blocks:
                 blocks[sheet, start] = Declarations(readers[sheet], numbers[at:end])
-            yield PlacedRule(self._numbers[sheet], start, blocks[sheet, start])
+            weight = (ids, classes, types)
+            weight = specificities.setdefault(weight, weight)
+            number, block = self._numbers[sheet], blocks[sheet, start]
+            yield PlacedRule(number, start, block, weight, length, element)
             at = end
 
-    def texts(self) -> List[Any]:
-        """Returns the text of each rule's selector, its pseudo-element and its specificity."""
+    def texts(self) -> List[str]:
+        """Returns the text of each rule's selector, with its pseudo-element."""
         name = "simplecss_rule_texts"
-        room, most = 1024 + 8 * self._size, library.most_written(self._size)
+        room, most = 1024 + 2 * self._size, library.most_written(self._size)
         answer = library.call(name, self._sheets, self._limit, room=room, most=most)
-        return lines_of(library.output_of(name, answer))
+        every = library.output_of(name, answer)
+        ends = itertools.accumulate(each.selector_length for each in self.rules)
+        return [
+            every[end - rule.selector_length : end].decode("utf-8")
+            for rule, end in zip(self.rules, ends)
+        ]
 
     def matching(self, elements: Elements, limit: int) -> Iterator["array.array[int]"]:
         """Yields for each element the numbers of the rules that match it, or whose pseudo-elements it
@@ -157,7 +187,9 @@ class Winning:
         """Returns what wins on each element, which have these of their own, in the order of the cascade.
         More declarations than `limit` raise `LimitError`."""
         words = (own.arrays,)
-        numbers = elements.numbers("simplecss_winners", self._sheets, words, _OF_WINNER, limit)
+        numbers = elements.numbers(
+            "simplecss_winners", self._sheets, words, _OF_WINNER, limit
+        )
         return list(self._winners(numbers, own))
 
     def named(
@@ -172,7 +204,9 @@ class Winning:
         pairs = zip(numbers[::_OF_WINNER], numbers[1::_OF_WINNER])
         return [self._at(own, index, *pair) for index, pair in enumerate(pairs)]
 
-    def _at(self, own: Own, index: int, source: int, place: int) -> Optional[Declaration]:
+    def _at(
+        self, own: Own, index: int, source: int, place: int
+    ) -> Optional[Declaration]:
         """Returns the declaration that the library says wins on an element."""
         if source < len(self.rules):
             return self.rules[source].declarations.at(place)
@@ -180,7 +214,9 @@ class Winning:
             return own.styled(index)[place]
         return own.presented(index)[place] if source == len(self.rules) + 1 else None
 
-    def _winners(self, numbers: "array.array[int]", own: Own) -> Iterator[List[Declaration]]:
+    def _winners(
+        self, numbers: "array.array[int]", own: Own
+    ) -> Iterator[List[Declaration]]:
         """Yields the declarations that win on each element. Many have the same."""
         at = 0
         known: Dict[Tuple[bytes, ...], List[Declaration]] = {}
@@ -192,7 +228,10 @@ class Winning:
             found = known.get(key)
             if found is None:
                 pairs = zip(numbers[at + 1 : end : 2], numbers[at + 2 : end : 2])
-                each = (self._at(own, index, *pair) for pair in sorted(pairs, key=self._turn))
+                each = (
+                    self._at(own, index, *pair)
+                    for pair in sorted(pairs, key=self._turn)
+                )
                 found = known[key] = [one for one in each if one is not None]
             yield found.copy()
             at = end

@@ -1,0 +1,241 @@
+"""Style rules with rules in them, as rule sets that have declarations only.
+
+What `&` stands for is written as `:is()` of the selectors around (CSS Nesting 1, section 3.1).
+"""
+
+from __future__ import annotations
+
+import itertools
+from typing import Iterable, Iterator, List, NamedTuple, Optional, Sequence, Tuple
+
+from . import _library as library
+from ._found_names import find_names
+from ._nested import DEEPEST, InnerRule, contents_of, has_rules, inner_rule
+from ._order import LAYER
+from ._reading import (
+    STYLE,
+    BlockItem,
+    Condition,
+    Level,
+    MadeItems,
+    ReadDeclaration,
+    ReadSelector,
+    RuleSet,
+    Source,
+    Span,
+    Statement,
+    moved,
+    read_sheet,
+)
+from ._tokens import COMBINATORS, GAPS, Token, is_escaping, tokens
+from ._traits import traits_of
+
+# How long the selectors of a rule may be, and how many times as long as a style rule those of all
+# rules in it.
+_LONGEST, _MOST = 4000, 16
+# How many selectors are written one by one.
+_FEW = 16
+# The group rules that may be in style rules.
+_GROUPS = frozenset("container layer media starting-style supports".split())
+_NESTING = "&"
+# What may follow the selector that `&` stands for and is no part of its last name.
+_APART = frozenset((".", ":", "["))
+_IDS = frozenset(("hash", "id"))
+_OPENING, _CLOSING = frozenset("([{"), frozenset(")]}")
+
+
+class _Unclear(Exception):
+    """A rule cannot be written without rules in it."""
+
+
+class _Within(NamedTuple):
+    """Where declarations are: the selectors of their style rule, what is before its block, and the
+    rules around."""
+
+    selectors: Tuple[ReadSelector, ...]
+    head: Span
+    levels: Tuple[Level, ...]
+
+
+def flattened(source: Source, statements: Iterable[Statement]) -> List[Statement]:
+    """Returns statements, and for each style rule with rules in it rule sets that say the same,
+    with the style rules around as levels; or the rule itself if that is not clear, or if a browser may
+    drop one of the lists of selectors."""
+    parts = [(each, _sets_of(source, each)) for each in statements]
+    find_names(one.text for _, sets in parts for each in sets for one in each.selectors)
+    found: List[Statement] = []
+    for statement, sets in parts:
+        are_known = all(
+            traits_of(one.text).is_known for each in sets for one in each.selectors
+        )
+        if sets and are_known:
+            found += sets
+        else:
+            found.append(statement)
+    return found
+
+
+def _sets_of(source: Source, statement: Statement) -> List[RuleSet]:
+    """Returns the rule sets that a style rule with rules in it is, if that is clear."""
+    if (
+        isinstance(statement, RuleSet)
+        and statement.is_closed
+        and has_rules(statement.items)
+    ):
+        try:
+            return _Flat(source, statement).sets()
+        except (_Unclear, library.LimitError):
+            pass
+    return []
+
+
+class _Flat:
+    """A style rule with rules in it."""
+
+    def __init__(self, source: Source, rule: RuleSet) -> None:
+        self._source = source
+        self._rule = rule
+        # How long the selectors may yet be.
+        self._room = library.Room(_LONGEST + _MOST * (rule.span[1] - rule.span[0]))
+
+    def sets(self) -> List[RuleSet]:
+        """Returns its rule sets."""
+        rule = self._rule
+        level = Level(
+            Condition(STYLE, self._source.at(rule.head)), rule.span, rule.head
+        )
+        within = _Within(tuple(rule.selectors), rule.head, (*rule.levels, level))
+        return list(self._sets_in(within, rule.items, 0, 0))
+
+    def _sets_in(
+        self, within: _Within, items: Iterable[BlockItem], by: int, depth: int
+    ) -> Iterator[RuleSet]:
+        """Yields the rule sets of a block, whose offsets are so much less than in the sheet."""
+        run: List[ReadDeclaration] = []
+        for item in items:
+            if isinstance(item, ReadDeclaration):
+                run.append(item._replace(span=moved(item.span, by), end=item.end + by))
+            elif has_rules((item,)):
+                yield from self._set_of(within, run)
+                run = []
+                yield from self._sets_of(
+                    within, inner_rule(self._source, item, by), depth
+                )
+        yield from self._set_of(within, run)
+
+    def _set_of(
+        self, within: _Within, run: Sequence[ReadDeclaration]
+    ) -> Iterator[RuleSet]:
+        """Yields the rule set of declarations that stand one after another, if there are any."""
+        if run:
+            span = run[0].span[0], run[-1].span[1]
+            # No brace would close what is written of them.
+            if is_escaping(self._source.at(span)):
+                raise _Unclear
+            items = MadeItems(run)
+            yield RuleSet(
+                within.selectors, items, within.levels, within.head, True, span, True
+            )
+
+    def _sets_of(
+        self, around: _Within, rule: Optional[InnerRule], depth: int
+    ) -> List[RuleSet]:
+        """Returns the rule sets of a rule in a style rule."""
+        if rule is None or depth == DEEPEST:
+            raise _Unclear
+        items, by = contents_of(self._source, rule.inner)
+        within = self._within(around, rule)
+        found = list(self._sets_in(within, items, by, depth + 1))
+        if not found and rule.condition is not None and rule.condition.name == LAYER:
+            # It says the order of layers.
+            raise _Unclear
+        return found
+
+    def _within(self, around: _Within, rule: InnerRule) -> _Within:
+        """Returns what the declarations in the block of a rule are in."""
+        if rule.condition is None:
+            head = self._source.at(rule.head)
+            level = Level(Condition(STYLE, head), rule.span, rule.head)
+            selectors = tuple(self._selectors_in(head, around.selectors))
+            return _Within(selectors, rule.head, (*around.levels, level))
+        if rule.condition.name not in _GROUPS:
+            raise _Unclear
+        level = Level(rule.condition, rule.span, rule.head)
+        return around._replace(levels=(*around.levels, level))
+
+    def _selectors_in(
+        self, head: str, around: Sequence[ReadSelector]
+    ) -> Sequence[ReadSelector]:
+        """Returns the selectors of a rule in style rules with these selectors, without `&`."""
+        parts = (_without_nesting(each, around) for each in _parts_of(head))
+        texts = list(itertools.chain.from_iterable(parts))
+        length = sum(map(len, texts))
+        self._room.take(length)
+        found = read_sheet(", ".join(texts) + "{}")[1] if length <= _LONGEST else ()
+        if len(found) != 1 or not isinstance(found[0], RuleSet):
+            raise _Unclear
+        selectors = found[0].selectors
+        if len(selectors) != len(texts):
+            raise _Unclear
+        return selectors
+
+
+def _parts_of(head: str) -> List[List[Token]]:
+    """Returns the tokens of each selector of a list, without the blanks around it."""
+    parts: List[List[Token]] = [[]]
+    depth = 0
+    for token in tokens(head):
+        is_opening = token.kind == "function" or token.text in _OPENING
+        depth += is_opening - (token.text in _CLOSING)
+        if token.text == "," and depth == 0:
+            parts.append([])
+        elif parts[-1] or token.kind not in GAPS:
+            parts[-1].append(token)
+    for part in parts:
+        while part and part[-1].kind in GAPS:
+            part.pop()
+    return parts
+
+
+def _without_nesting(
+    part: Sequence[Token], around: Sequence[ReadSelector]
+) -> List[str]:
+    """Returns what a selector of a rule in style rules with these selectors is without `&`."""
+    texts = [each.text for each in part]
+    if not texts:
+        raise _Unclear
+    parents = f":is({', '.join(each.text for each in around)})"
+    if _NESTING not in texts or texts[0] in COMBINATORS:
+        rest = "".join([" ", *_replaced(texts, parents)])
+    elif texts[0] != _NESTING or not _is_apart(part[1:]):
+        return ["".join(_replaced(texts, parents))]
+    else:
+        rest = "".join(_replaced(texts[1:], parents))
+    return [first + rest for first in (_alone(around) or [parents])]
+
+
+def _alone(around: Sequence[ReadSelector]) -> List[str]:
+    """Returns the texts of selectors of which each may stand for all, with `&` in front: none is
+    stronger than another. The blank after an escape would be a part of it."""
+    specificities = {each.specificity for each in around}
+    is_plain = all(
+        each.pseudo_element is None and "\\" not in each.text for each in around
+    )
+    is_alike = len(specificities) == 1 and None not in specificities
+    return (
+        [each.text for each in around]
+        if is_plain and is_alike and len(around) <= _FEW
+        else []
+    )
+
+
+def _is_apart(rest: Sequence[Token]) -> bool:
+    """Whether what follows a selector is no part of its last name."""
+    return all(
+        each.kind in GAPS or each.kind in _IDS or each.text in _APART
+        for each in rest[:1]
+    )
+
+
+def _replaced(texts: Iterable[str], parents: str) -> Iterator[str]:
+    return (parents if each == _NESTING else each for each in texts)
