@@ -1,6 +1,7 @@
 // The C library as WebAssembly, and how it is called. Nothing is kept between calls but the module itself.
 
-const DONE = 0, REFUSED = 1, TREE_FAULT = 2, OUT_OF_MEMORY = 3, TOO_MANY = 4, TOO_SMALL = 6;
+const DONE = 0, REFUSED = 1, TREE_FAULT = 2, OUT_OF_MEMORY = 3, TOO_MANY = 4, TOO_SMALL = 6,
+  TOO_MANY_LAYERS = 7;
 const FAULTS = ['', 'its depth', 'its name is empty', 'its strings', 'a key occurs twice'];
 // The limit that allows any number, and the greatest number of 32 bits.
 export const NO_LIMIT = 2n ** 64n - 1n;
@@ -175,9 +176,9 @@ function placed(word) {
  * Calls a function of the library. Returns what it writes, or null where it refuses a selector.
  *
  * `room` is the length of the first buffer; a call that needs a longer one is made again. `most` is the most bytes that the
- * answer may have. A call that takes a tree reports its fault. Of some the answer is in numbers.
+ * answer may have. A call that takes a tree reports its fault. Of some the answer is in numbers, of others in bytes.
  */
-export function call(name, words, { room = 65536, most, hasTree = false, isNumbers = false } = {}) {
+export function call(name, words, { room = 65536, most, hasTree = false, isNumbers = false, isBytes = false } = {}) {
   if (!library) throw new Error('simplecss: call load first');
   for (;;) {
     library.simplecss_reset();
@@ -192,6 +193,7 @@ export function call(name, words, { room = 65536, most, hasTree = false, isNumbe
     const written = sizeAt(view, 0);
     if (status === DONE) {
       const answer = new Uint8Array(library.memory.buffer, Number(out), written * size);
+      if (isBytes) return answer.slice();
       return isNumbers ? numbersOf(answer) : decode(answer);
     }
     if (status === REFUSED) return null;
@@ -207,12 +209,45 @@ function failure(name, status, view) {
     return new TreeError(FAULTS[view.getUint32(8, true)], sizeAt(view, isErased ? 12 : 16) - 1);
   }
   if (status === TOO_MANY) return new LimitError('more declarations than `limit`, or a longer answer than `answerLimit` allows');
+  if (status === TOO_MANY_LAYERS) return new LimitError('the sheets have more than 1,024 layers');
   return new TypeError(`simplecss_${name}: status ${status}`);
 }
 
-/** Returns the values of lines of JSON. */
-export function linesOf(text) {
-  return JSON.parse(`[${text.slice(0, -1).replaceAll('\n', ',')}]`);
+/** Lines of numbers with spaces between them. A text whose length in bytes a line has is after it. */
+export class Lines {
+  #data;
+  #at = 0;
+
+  constructor(data) {
+    this.#data = data;
+  }
+
+  /** Whether something is left. */
+  get areLeft() { return this.#at < this.#data.length; }
+
+  /** Returns the next line. */
+  line() {
+    const end = this.#data.indexOf(10, this.#at), found = this.text(end - this.#at);
+    this.#at += 1;
+    return found;
+  }
+
+  /** Returns the numbers of the next line. */
+  numbers() { return this.line().split(' ').map(Number); }
+
+  /** Returns the next text, of so many bytes. */
+  text(length) {
+    this.#at += length;
+    return decode(this.#data.subarray(this.#at - length, this.#at));
+  }
+
+  /** Leaves the newline that ends texts. */
+  endLine() { this.#at += 1; }
+}
+
+/** Returns numbers in rows of this length. */
+export function rowsOf(numbers, width) {
+  return Array.from({ length: numbers.length / width }, (_, index) => numbers.slice(index * width, (index + 1) * width));
 }
 
 /** Returns the version of the library. */

@@ -6,6 +6,7 @@ import { deviceOf } from './device.mjs';
 import { lower, readBlock, readSheet } from './reading.mjs';
 import { partsOf } from './resolving.mjs';
 import { wordsOf } from './sheet.mjs';
+import { MODERN, NUMBERS } from './tree.mjs';
 import { openedIn, pseudoNames, tokens } from './tokens.mjs';
 
 // The at-rules whose blocks have declarations; within a rule of elements, further ones; and those whose blocks have rules,
@@ -16,6 +17,8 @@ const GROUPS = new Set(['container', 'layer', 'media', 'scope', 'starting-style'
 const UNREAD_GROUPS = new Set(['scope', 'starting-style']);
 // What is before the block of a rule, in a text that is read as one.
 const RULE = 'x{';
+// What makes an at-rule of a rule, and how the library's words end where it refuses a selector for a name.
+const OF_ANY_RULE = '@x ', NAME_REFUSED = ['is unknown', 'is no function'];
 // Those that do nothing without a rule.
 const NOTHING_WITHOUT_RULES = new Set(['container', 'font-face', 'media', 'supports']);
 // What an item is directly in.
@@ -176,7 +179,7 @@ function ofRule(source, rule) {
   } else if (rule.items.length === 0 && endsEmpty(source, [rule.head[1], rule.span[1]])) {
     found.push(problem('empty rule', rule.span));
   }
-  return [...found, ...rule.selectors.flatMap(ofSelector), ...problemsOfBlock(source, rule.items)];
+  return [...found, ...rule.selectors.flatMap(each => unknownIn(each.text, each.span[0])), ...problemsOfBlock(source, rule.items)];
 }
 
 /** Whether a text ends with a block that has no more than blanks, no comment either. */
@@ -242,11 +245,29 @@ function openComment(source, from) {
 
 // ---- selectors
 
-/** Returns the names in a selector that no pseudo-class and no pseudo-element has. */
-function ofSelector({ text, span: [from] }) {
+/** Returns the names in selectors that no pseudo-class and no pseudo-element has. The selectors begin at an offset. */
+function unknownIn(text, from) {
   const unknowns = pseudoNames(text).filter(({ name, isElement }) => !(isElement ? ELEMENTS : CLASSES).knows(name));
   return unknowns.slice(0, MOST_NAMES).map(({ name, isElement, start, end }) =>
     unknown(name, [from + start, from + end], isElement));
+}
+
+/** Returns why the library refuses the selectors of a rule: names that are unknown, if no browser knows them. */
+function ofInvalid(text, span) {
+  const head = preludeOf(text), unknowns = unknownIn(head, span[0]);
+  return unknowns.length || isOfOthers(head) ? unknowns : [problem('invalid selector', span)];
+}
+
+/** Returns what is before the block of a rule. */
+function preludeOf(text) {
+  const [first] = readBlock(OF_ANY_RULE + text).items;
+  return first?.kind === 'at-rule' ? first.rule.prelude : '';
+}
+
+/** Whether a list of selectors is refused for a name. */
+function isOfOthers(head) {
+  const reason = call('refusal', [encode(head), NUMBERS[MODERN]]);
+  return NAME_REFUSED.some(words => reason.endsWith(words));
 }
 
 /** Returns that a pseudo-class or a pseudo-element is unknown. */
@@ -279,6 +300,7 @@ function ofFault(source, { reason, span }) {
   const text = source.at(span);
   if (reason === 'nested rule') return ofNested(text, span);
   if (reason === 'broken declaration') return ofBroken(text, span);
+  if (reason === 'invalid selector') return ofInvalid(text, span);
   if (!(reason in MARKS)) return [problem(reason, span)];
   return [problem(reason, [span[0] + (openedIn(text, MARKS[reason])?.[0] ?? 0), span[1]])];
 }

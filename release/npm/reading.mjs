@@ -1,11 +1,10 @@
 // What the library reads of style sheets and style attributes, by the modern grammar.
-import { call, decode, encode, mostNumbers } from './library.mjs';
-import { originating, withoutColons } from './tokens.mjs';
+import { call, decode, encode, mostNumbers, rowsOf } from './library.mjs';
 
 // How many bytes are counted at once.
 const BLOCK = 256;
 // How many numbers the library writes of a statement, and then of each of its group rules, its selectors and its items.
-const OF_STATEMENT = 13, OF_LEVEL = 6, OF_SELECTOR = 8, OF_ITEM = 10;
+const OF_STATEMENT = 13, OF_LEVEL = 6, OF_SELECTOR = 9, OF_ITEM = 10;
 // The kinds of statements and items, as the library numbers them, and why others are skipped.
 const DECLARATION = 0, AT_RULE = 1, RULE = 3, FAULTS = 4;
 const REASONS = ['broken declaration', 'bad string', 'bad url', 'stray bracket', 'too deep', 'no block', 'nested rule',
@@ -198,12 +197,12 @@ class Reader {
     };
   }
 
-  #selector([start, length, isRead, ids, classes, types, element, elementLength]) {
+  #selector([start, length, isRead, ids, classes, types, element, name, isAny]) {
     const at = (from, to) => this.source.at([from, to]), end = start + length;
     return {
       text: at(start, end),
-      front: elementLength ? originating(at(start, element)) : at(start, end),
-      pseudoElement: elementLength ? withoutColons(at(element, element + elementLength)) : null,
+      front: at(start, element) + (isAny ? '*' : ''),
+      pseudoElement: element < end ? at(name, end) : null,
       specificity: isRead ? [ids, classes, types] : null,
       span: [start, end],
     };
@@ -249,17 +248,13 @@ class Reader {
   }
 }
 
-/** Returns numbers in rows of this length. */
-function rowsOf(numbers, width) {
-  return Array.from({ length: numbers.length / width }, (_, index) => numbers.slice(index * width, (index + 1) * width));
-}
-
 /** Whether a byte is white space: TAB, LF, FF, CR or a space. */
 function isBlank(byte) {
   return byte === 32 || byte === 9 || byte === 10 || byte === 12 || byte === 13;
 }
 
-const moved = ([start, end], by) => [start + by, end + by];
+/** Returns where a text is whose offsets are so much less. */
+export const moved = ([start, end], by) => [start + by, end + by];
 
 /** Returns the declaration whose name and value are between these offsets. */
 export function declared(source, nameSpan, valueSpan, important, isClosed) {

@@ -1,7 +1,9 @@
 // Selectors and style sheets: which rules match the elements of a tree, and which declarations win on them.
 import { holds } from './device.mjs';
-import { LimitError, call, encode, expectText, joined, limited, linesOf } from './library.mjs';
+import { Lines, LimitError, call, decode, encode, expectText, joined, limited, rowsOf } from './library.mjs';
+import { Places, blocksOf } from './nested.mjs';
 import { conditionsOf, readSheet, Source } from './reading.mjs';
+import { decoded, originating, pseudoNames } from './tokens.mjs';
 import { NUMBERS, PORT, SelectorError, Tree, grammarOf, matches, selected } from './tree.mjs';
 import { Winning } from './winners.mjs';
 
@@ -10,6 +12,10 @@ const USUAL_LIMIT = 1_000_000, USUAL_ANSWER_LIMIT = 10_000_000;
 // How many times an answer's limit the declarations that are compared may be, as elements times those of all rules, before it is
 // told how many they are.
 const COMPARED = 10;
+// The group rules.
+const GROUP_RULES = new Set(['media', 'supports', 'layer', 'container', 'document', '-moz-document']);
+// How many numbers the library writes of a selector of a list.
+const OF_LISTED = 10;
 // How many bytes of an answer of the Rust crate's grammar a rule or a declaration may have on average.
 const MOST_BYTES = 64;
 
@@ -21,13 +27,15 @@ export class Selector {
 
   constructor(text, options) {
     const grammar = grammarOf(options);
-    const found = linesOf(selected('list', text, grammar, [encode(text), NUMBERS[grammar]]));
+    const data = encode(text), words = [data, NUMBERS[grammar]];
+    const found = rowsOf(selected('list', text, grammar, words, { isNumbers: true }), OF_LISTED);
     if (found.length !== 1) throw new SelectorError('more than one selector', 1, 1);
+    const [start, length, , ids, classes, types, element, name] = found[0], end = start + length;
     this.#source = text;
     this.#options = { grammar };
-    this.#text = found[0].selector;
-    this.specificity = found[0].specificity;
-    this.pseudoElement = found[0].pseudo_element ?? null;
+    this.#text = call('printed', words);
+    this.specificity = [ids, classes, types];
+    this.pseudoElement = element < end ? decoded(decode(data.subarray(name, end)), false) : null;
   }
 
   matches(element) { return matches(element, this.#source, this.#options); }
@@ -91,7 +99,7 @@ export class StyleSheet {
 
   /** Returns what the texts have by the modern grammar. */
   #statements() {
-    this.#read ??= this.#texts.map(readSheet);
+    this.#read ??= this.#texts.map(readSheet).map(each => ({ ...each, blocks: blocksOf(each) }));
     return this.#read;
   }
 
@@ -101,20 +109,41 @@ export class StyleSheet {
   }
 
   #contentsOfPort() {
-    const rules = linesOf(call('port_rules', this.#words()));
-    return {
-      rules: rules.map(rule => ({ ...rule, conditions: [], pseudoElement: null })), unsupported: [], atRules: [],
-    };
+    const lines = new Lines(call('port_rules', this.#words(), { isBytes: true })), rules = [];
+    while (lines.areLeft) rules.push(ruleOfPort(lines));
+    return { rules, unsupported: [], atRules: [], nested: new Map() };
   }
 
   #contentsOfModern() {
-    const statements = this.#statements().flatMap(each => each.statements);
-    const sets = statements.filter(each => each.kind === 'rule');
-    this.#checkLimit(sets);
-    return { ...rulesOf(sets), atRules: statements.flatMap(atRulesOf).map(each => each.rule) };
+    const read = this.#statements();
+    this.#checkLimit();
+    const nested = read.some(({ blocks }) => blocks.length) ? [...this.#nestedRules()] : [];
+    const { rules, unsupported } = rulesOf(read, new Set(nested.map(each => each.block)));
+    const every = [...rules, ...nested].sort(inOrder), starts = new Set(nested.map(each => each.start)), places = new Map();
+    every.forEach(({ start }, index) => {
+      if (starts.has(start)) places.set(start, [...places.get(start) ?? [], index]);
+    });
+    const atRules = read.flatMap(each => each.statements.flatMap(atRulesOf)).map(each => each.rule);
+    return { rules: every.map(each => each.rule), unsupported, atRules, nested: places };
   }
 
-  #checkLimit(sets) {
+  /**
+   * Yields the rules of style rules with rules in them, as they stand in the texts: where the declarations of each are, where its
+   * block is, and the rule.
+   */
+  * #nestedRules() {
+    const every = new Winning(this.#statements(), () => true, this.#limit), texts = every.texts();
+    const found = every.rules.map((rule, index) => ({ ...rule, text: texts[index] }));
+    found.sort((a, b) => a.sheet - b.sheet || a.start - b.start);
+    const places = this.#statements().map(({ blocks }) => new Places(blocks));
+    for (const each of found) {
+      const block = places[each.sheet].at(each.start);
+      if (block) yield placedRule(each.sheet, each.start, block.span[0], nestedRule(each, block));
+    }
+  }
+
+  #checkLimit() {
+    const sets = this.#statements().flatMap(({ statements }) => statements.filter(each => each.kind === 'rule'));
     const count = sets.reduce((sum, each) => sum + each.selectors.length * each.declarations.length, 0);
     if (count > this.#limit) throw new LimitError('the rules would hold more declarations than the limit');
   }
@@ -127,9 +156,7 @@ export class StyleSheet {
   /** Returns for each element, or its node, the indices of the rules that match it, in order. */
   match(root, { media = 'screen' } = {}) {
     return this.#byElement(root, elements => {
-      if (this.#grammar === PORT) return this.#matchedByPort(elements);
-      const { indices, lines } = this.#matched(elements, media);
-      return lines.map(line => numbersIn(line).map(number => indices[number - 1]));
+      return this.#grammar === PORT ? this.#matchedByPort(elements) : this.#matched(elements, media);
     });
   }
 
@@ -161,13 +188,15 @@ export class StyleSheet {
   }
 
   #winnersByPort(elements) {
-    return this.#counted(linesOf(this.#callOfPort('port_styles', elements)));
+    const lines = new Lines(this.#callOfPort('port_styles', elements, true)), found = [];
+    while (lines.areLeft) found.push(declarationsOfPort(lines, lines.numbers()[0]));
+    return this.#counted(found);
   }
 
   /** Calls what matches by the grammar of the Rust crate. A rule or a declaration may have many bytes of the answer. */
-  #callOfPort(name, elements) {
+  #callOfPort(name, elements, isBytes = false) {
     const most = limited(MOST_BYTES * this.#answerLimit);
-    const options = { room: 1024 + 64 * elements.names.length, most, hasTree: true };
+    const options = { room: 1024 + 64 * elements.names.length, most, hasTree: true, isBytes };
     return call(name, [...this.#words(), elements.arrays(PORT)], options);
   }
 
@@ -177,16 +206,32 @@ export class StyleSheet {
     return answer;
   }
 
-  /** Returns which rules apply, and for each element the numbers of those that match it. */
+  /** Returns for each element the indices of the rules that match it, in order. */
   #matched(elements, media) {
-    const indices = [], groups = new Map();
+    const { nested } = this.#all(), inBlocks = new Set([...nested.values()].flat()), indices = [], groups = new Map();
     this.rules.forEach(({ conditions, pseudoElement }, index) => {
+      if (pseudoElement !== null || inBlocks.has(index)) return;
       if (!groups.has(conditions)) groups.set(conditions, conditions.every(each => holds(each, media)));
-      if (groups.get(conditions) && pseudoElement === null) indices.push(index);
+      if (groups.get(conditions)) indices.push(index);
     });
     const lines = elements.matched(indices.map(index => this.rules[index].selector), this.#answerLimit);
-    new Room(this.#answerLimit).take(lines.reduce((sum, line) => sum + numbersIn(line).length, 0));
-    return { indices, lines };
+    const plain = lines.map(line => numbersIn(line).map(number => indices[number - 1]));
+    if (nested.size === 0) return this.#counted(plain);
+    const others = [...this.#nestedOn(elements, media)];
+    return this.#counted(plain.map((each, index) => [...each, ...others[index]].sort((a, b) => a - b)));
+  }
+
+  /** Yields for each element the indices of the rules that match it of style rules with rules in them. */
+  * #nestedOn(elements, media) {
+    const winning = this.#winning(media), taken = new Map();
+    const kept = winning.rules.map(({ sheet, start }) => {
+      const place = placeOf(sheet, start), turn = taken.get(place) ?? 0, index = this.#all().nested.get(place)?.[turn];
+      taken.set(place, turn + 1);
+      return index === undefined || this.rules[index].pseudoElement !== null ? null : index;
+    });
+    for (const numbers of winning.matching(elements, this.#answerLimit)) {
+      yield numbers.map(number => kept[number]).filter(each => each !== null);
+    }
   }
 
   #winners(elements, media) {
@@ -197,16 +242,18 @@ export class StyleSheet {
 
   /** Refuses more rules that match elements than the limit, and more declarations of rules that match one together. */
   #checkCompared(elements, media) {
-    const { indices, lines } = this.#matched(elements, media), compared = new Room(this.#answerLimit);
-    for (const line of new Set(lines)) {
-      compared.take(numbersIn(line).reduce((sum, number) => sum + this.rules[indices[number - 1]].declarations.length, 0));
+    const compared = new Room(this.#answerLimit), known = new Set();
+    for (const indices of this.#matched(elements, media)) {
+      const key = indices.join(' ');
+      if (!known.has(key)) compared.take(indices.reduce((sum, index) => sum + this.rules[index].declarations.length, 0));
+      known.add(key);
     }
   }
 
   /** Returns the rules that apply on a device. */
   #winning(media) {
     const read = this.#statements();
-    this.#checkLimit(read.flatMap(each => each.statements).filter(each => each.kind === 'rule'));
+    this.#checkLimit();
     if (typeof media === 'function') return new Winning(read, media, this.#limit);
     const key = JSON.stringify(media);
     if (!this.#winningOn.has(key)) this.#winningOn.set(key, new Winning(read, media, this.#limit));
@@ -217,24 +264,71 @@ export class StyleSheet {
 /** Returns the numbers of a line, which have a space before each. */
 const numbersIn = line => line.split(' ').slice(1);
 
-/** Returns the rules of rule sets in the order of the cascade, and those that are unsupported. */
-function rulesOf(sets) {
+/** Returns the next rule that the library writes by the grammar of the Rust crate. */
+function ruleOfPort(lines) {
+  const [ids, classes, types, length, count] = lines.numbers(), selector = lines.text(length);
+  lines.endLine();
+  const declarations = declarationsOfPort(lines, count);
+  return { selector, specificity: [ids, classes, types], declarations, conditions: [], pseudoElement: null, parents: [] };
+}
+
+/** Returns so many declarations that the library writes. */
+function declarationsOfPort(lines, count) {
+  return Array.from({ length: count }, () => {
+    const [nameLength, length, important] = lines.numbers(), name = lines.text(nameLength), value = lines.text(length);
+    lines.endLine();
+    return { name, value, important: important === 1 };
+  });
+}
+
+/** Returns a text that says where something is, by the number of its sheet. */
+const placeOf = (sheet, start) => `${sheet} ${start}`;
+
+/** Returns a rule with the places of its declarations and its block. */
+function placedRule(sheet, start, first, rule) {
+  return { sheet, at: start, start: placeOf(sheet, start), block: placeOf(sheet, first), rule };
+}
+
+/** Compares two rules by their specificity, and by where they are. */
+function inOrder(one, other) {
+  const a = one.rule.specificity, b = other.rule.specificity;
+  return a[0] - b[0] || a[1] - b[1] || a[2] - b[2] || one.sheet - other.sheet || one.at - other.at;
+}
+
+/** Returns the rules of rule sets, of those whose blocks are not among these, and the unsupported ones of all. */
+function rulesOf(read, blocks) {
   const rules = [], unsupported = [];
-  for (const { selectors, declarations, levels } of sets) {
+  const sets = read.flatMap(({ statements }, sheet) => (
+    statements.filter(each => each.kind === 'rule').map(set => ({ ...set, sheet }))));
+  for (const { selectors, declarations, levels, head: [, start], sheet } of sets) {
     const conditions = conditionsOf(levels);
     for (const { text, front, specificity, pseudoElement } of selectors) {
+      const rule = { selector: front, specificity, declarations, conditions, pseudoElement, parents: [] };
       if (specificity === null) unsupported.push({ selector: text, declarations, conditions });
-      else rules.push({ selector: front, specificity, declarations, conditions, pseudoElement });
+      else if (!blocks.has(placeOf(sheet, start))) rules.push(placedRule(sheet, start, start, rule));
     }
   }
-  rules.sort((a, b) => a.specificity[0] - b.specificity[0] || a.specificity[1] - b.specificity[1]
-    || a.specificity[2] - b.specificity[2]);
   return { rules, unsupported };
 }
 
-/** Returns the at-rule that a statement is, or those of its block. */
+/** Returns a rule in this block, whose selector has this text. */
+function nestedRule({ text, elementLength, specificity, declarations }, { conditions, parents }) {
+  const source = new Source(text), end = source.data.length, at = end - elementLength;
+  const selector = elementLength ? beforeElement(text, at) : text;
+  return { selector, specificity, declarations, conditions, pseudoElement: elementLength ? source.at([at, end]) : null, parents };
+}
+
+/** Returns the selector of the elements that a pseudo-element is of, whose name is from an offset on. */
+function beforeElement(text, at) {
+  const starts = pseudoNames(text).map(each => each.start).filter(start => start <= at);
+  return originating(new Source(text).at([0, Math.max(...starts)]));
+}
+
+/** Returns the at-rule that a statement is, or those of its block that are no group rules, whose rules are read. */
 function atRulesOf(statement) {
-  return (statement.kind === 'rule' ? statement.items : [statement]).filter(each => each.kind === 'at-rule');
+  if (statement.kind !== 'rule') return statement.kind === 'at-rule' ? [statement] : [];
+  return statement.items.filter(({ kind, rule }) => (
+    kind === 'at-rule' && (rule.block === null || !GROUP_RULES.has(rule.name))));
 }
 
 /** Returns what is skipped of statements and in the blocks of rule sets, in order. */
@@ -244,11 +338,13 @@ function faultsOf(statements) {
 
 /** Returns what the grammar of the Rust crate skips of a text. The text of a fault may lack blanks at its front. */
 export function skippedByPort(text) {
-  const source = new Source(text);
-  const faults = linesOf(call('port_skipped', [source.data])).map(({ row, column, reason, text: part }) => {
-    const span = [source.offset(row, column), source.offset(row, column + [...part].length)];
-    return { reason, text: part, span };
-  });
+  const source = new Source(text), lines = new Lines(call('port_skipped', [source.data], { isBytes: true })), faults = [];
+  while (lines.areLeft) {
+    const [row, column, length, ...reason] = lines.line().split(' ');
+    const start = source.offset(Number(row), Number(column)), part = lines.text(Number(length));
+    lines.endLine();
+    faults.push({ reason: reason.join(' '), text: part, span: [start, start + Number(length)] });
+  }
   return { source, faults };
 }
 

@@ -58,7 +58,7 @@ function isOpen(kind, text, endsWithin) {
 }
 
 /** Returns what a name denotes, or what is between the quotes of a string. */
-function decoded(text, isString) {
+export function decoded(text, isString) {
   return call('decode', [encode(text), BigInt(isString)]);
 }
 
@@ -77,16 +77,6 @@ export function pseudoNames(text) {
     found.push({ name: lower(written.includes('\\') ? decoded(written, false) : written), isElement, start, end });
   }
   return found;
-}
-
-/** Returns the text of a pseudo-element after its colons. */
-export function withoutColons(text) {
-  let end = 0;
-  for (const token of tokens(text)) {
-    if (token.text !== ':' && token.kind !== 'comment') break;
-    end = token.end;
-  }
-  return text.slice(end);
 }
 
 /**

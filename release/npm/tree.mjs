@@ -1,5 +1,5 @@
 // Trees of elements: of a DOM, of parse5, or of a program's own.
-import { NO_LIMIT, TreeError, call, encode, expectText, joined, limited, linesOf, sizes } from './library.mjs';
+import { NO_LIMIT, TreeError, call, encode, expectText, joined, limited, sizes } from './library.mjs';
 import { lower } from './reading.mjs';
 
 // The grammars: that of browsers, and that of the Rust crate.
@@ -46,9 +46,8 @@ export function grammarOf({ grammar = MODERN } = {}) {
 export function selected(name, text, grammar, words, options) {
   const written = call(name, words, options);
   if (written !== null) return written;
-  const [{ reason, row, column } = { reason: 'refused', row: 1, column: 1 }] =
-    linesOf(call('refusal', [encode(text), NUMBERS[grammar]]));
-  throw new SelectorError(reason, row, column);
+  const [row, column, ...reason] = (call('refusal', [encode(text), NUMBERS[grammar]]) || '1 1 refused').split(' ');
+  throw new SelectorError(reason.join(' '), Number(row), Number(column));
 }
 
 /** An element of a tree. */
@@ -186,11 +185,15 @@ class Elements {
     return written.split('\n').slice(0, -1).map(line => line.slice(line.indexOf(':') + 1));
   }
 
-  /** Returns how many declarations of sheets win on each element, and the numbers of each: `most` numbers at most. */
-  won(sheets, most) {
+  /**
+   * Returns what a call, which takes `more`, writes of each element for sheets: how many winners or rules it has, and so many
+   * numbers for each of these. More of them than `limit` are an error.
+   */
+  numbers(name, sheets, more, width, limit) {
     const [grammar, tree] = this.words(MODERN), room = 1024 + ROOM_FOR_ELEMENT * this.names.length;
-    const words = [sheets, grammar, NO_LIMIT, tree, { arrays: joined([]) }];
-    return call('winners', words, { room, most, hasTree: true, isNumbers: true });
+    const most = BigInt(this.names.length) + BigInt(width) * limited(limit);
+    const options = { room, most: most < NO_LIMIT ? most : NO_LIMIT, hasTree: true, isNumbers: true };
+    return call(name, [sheets, grammar, NO_LIMIT, tree, ...more], options);
   }
 
   /** Returns the number of a grammar, of the modern one as the document reads it, and the tree, as calls of the library take them. */

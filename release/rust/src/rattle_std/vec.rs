@@ -1,6 +1,7 @@
 //! A vector whose calls report an allocation that fails.
 use super::alloc::{AllocError, AllocFailed, Global};
 use alloc::vec;
+use core::cmp::Ordering;
 use core::ops::{Deref, DerefMut, RangeBounds};
 
 #[derive(Debug, Default, PartialEq)]
@@ -120,6 +121,11 @@ impl<T> Vec<T> {
         let mut items = Self::with_capacity(Global, n)?;
         items.0.resize(n, item);
         Ok(items)
+    }
+
+    pub fn sort_by<F: FnMut(&T, &T) -> Ordering>(&mut self, compare: F) -> Result<(), AllocError> {
+        self.0.sort_by(compare);
+        Ok(())
     }
 
     pub fn sort_by_cached_key<K: Ord, F: FnMut(&T) -> K>(
