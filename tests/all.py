@@ -32,6 +32,7 @@ SUBJECTS = (
     ("syntax", ("tests_driver",)),
     ("modern_selectors", ("tests_driver",)),
     ("nested_rules", ("tests_driver",)),
+    ("imports", ("tests_driver",)),
     ("cascade", ()),
     ("script", ()),
     ("library", ()),

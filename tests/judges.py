@@ -49,7 +49,7 @@ OUTSIDE = tuple(
         (":has()", r":has\(", (FIND, READ, REFUSE)),
         ("an extension", r"[!#]=|@|/|<|\[\d|\w\(\)", (FIND, READ)),
         ("an extension", rf"(?<!:):({EXTENSIONS})\(", (FIND, READ)),
-        ("an extension", rf"(?<!:):({EXTENSIONS})(?![-\w(])", (FIND, REFUSE)),
+        ("an extension", rf"(?<!:):({EXTENSIONS})(?![-\w(])", (FIND, READ, REFUSE)),
         ("a state, or what a call is about", rf":({STATES})\(", (FIND, READ, REFUSE)),
         ("a state, or what a call is about", rf":({STATES})(?![-\w(])", (FIND, REFUSE)),
         ("an unsupported selector in a list", r":(is|not|where)\([^)]*:host", (FIND, READ, REFUSE)),
@@ -137,19 +137,17 @@ DIFFERENCES: Tuple[Tuple[str, Dict[str, Sequence[str]]], ...] = (
         },
     ),
     (
-        (
-            "docs/DIFFERENCES.md: a name that is not known, which the standards refuse, is that of"
-            " a state"
-        ),
+        "a name that no browser knows is invalid (Selectors 4, section 3.9)",
         {
-            "css-select": (
-                ":visble",
-                ":nth-child",
+            "css-what": (
+                "::foo",
                 ":first-last-child",
                 ":last-last-child",
+                ":nth-child",
                 ":only-last-child",
+                ":visble",
             ),
-            "cascadia": ("div:example", ":example", "div::example", "::example"),
+            "cssselect": ("::text-content", "::text-node", "::attr-href"),
         },
     ),
     ("a selector may have a pseudo-element (Selectors 3, section 7)", {"css-select": ("::after",)}),

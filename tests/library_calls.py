@@ -282,17 +282,16 @@ WITH_TREE = (
     "simplecss_matches",
 )
 LIMITED = (*WITH_TREE, "simplecss_read", "simplecss_rule_texts", "simplecss_values")
-RED = b'{"name":"color","value":"red","important":false}'
-BLUE = b'{"name":"color","value":"blue","important":true}'
+RED, BLUE = b"5 3 0\ncolorred\n", b"5 4 1\ncolorblue\n"
 MODERN_SHEET = b"@media x { a, b:not(c), d::before { e: f; g } } h , { } @i;"
 # The numbers of its three statements: a rule in a group rule, with three selectors and two items; a rule
 # that is skipped; and an at-rule.
 MODERN_NUMBERS = (
-    (3, 11, 34, 1, 11, 22, 36, 7, 0, 0, 6, 24, 20),
+    (3, 11, 34, 1, 11, 22, 36, 7, 0, 0, 6, 27, 20),
     (0, 47, 1, 5, 7, 1),
-    (11, 1, 1, 0, 0, 1, 0, 0),
-    (14, 8, 1, 0, 0, 2, 0, 0),
-    (24, 9, 1, 0, 0, 2, 25, 8),
+    (11, 1, 1, 0, 0, 1, 12, 12, 0),
+    (14, 8, 1, 0, 0, 2, 22, 22, 0),
+    (24, 9, 1, 0, 0, 2, 25, 27, 0),
     (0, 36, 4, 1, 36, 1, 39, 1, 0, 0),
     (4, 42, 1, 0, 0, 0, 0, 0, 0, 0),
     (11, 48, 7, 0, 0, 0, 0, 0, 0, 0, 0, 0, 0),
@@ -300,15 +299,18 @@ MODERN_NUMBERS = (
 )
 # Offsets are in bytes, and the end of the text closes the rule.
 BYTES_NUMBERS = (
-    (3, 0, 8, 0, 0, 2, 3, 5, 0, 0, 0, 8, 10),
-    (0, 2, 1, 0, 0, 1, 0, 0),
+    (3, 0, 8, 0, 0, 2, 3, 5, 0, 0, 0, 9, 10),
+    (0, 2, 1, 0, 0, 1, 2, 2, 0),
     (0, 3, 5, 1, 3, 2, 6, 2, 0, 0),
 )
-# A selector that is valid and unsupported; and a pseudo-element alone, with one colon.
+# A selector that is valid and unsupported; and pseudo-elements of any element, with one colon, after a
+# combinator, and with an argument of an unsupported selector.
 UNREAD_NUMBERS = (
-    (3, 0, 21, 1, 0, 18, 20, 0, 0, 0, 0, 16, 0),
-    (0, 9, 0, 0, 0, 0, 0, 0),
-    (11, 7, 1, 0, 0, 1, 11, 7),
+    (3, 0, 56, 1, 0, 53, 55, 0, 0, 0, 0, 36, 0),
+    (0, 9, 0, 0, 0, 0, 9, 9, 0),
+    (11, 7, 1, 0, 0, 1, 11, 12, 1),
+    (20, 14, 1, 0, 0, 2, 27, 29, 1),
+    (36, 17, 0, 0, 0, 0, 44, 46, 1),
 )
 DECLARATIONS = b"a: b !important; c; --x:; @a b { c };d:url(x"
 DECLARATION_NUMBERS = (
@@ -350,49 +352,42 @@ CLOSED = (
 UNCLOSED = (b" a", b"a ", b"a/*", b"a)", b"f(]", b'"\n', b"(" * 65, b"a;b", b"a}")
 
 # A call, its arguments, and the answer.
+# Sheets with imports, and the lines of those that are in force.
+IMPORTS = (
+    (b'@import "a" layer(b) print;', b"0 27 1 1 2 1 0 0 5\nabprint\n"),
+    (
+        b"@layer x; @import url( a ) layer supports(b: c) not print; @import 'd\\'';"
+        b"e{}@import 'f';",
+        b"10 48 0 1 1 0 1 4 9\nab: cnot print\n59 14 1 3 0 0 0 0 0\nd\\'\n",
+    ),
+    ("/*é*/@import 'é'".encode(), "6 12 1 2 0 0 0 0 0\né\n".encode()),
+    (
+        b"@import '' supports();@import b;@import'';",
+        b"0 22 1 0 0 0 1 0 0\n\n32 10 1 0 0 0 0 0 0\n\n",
+    ),
+    (b"a{}@import 'b';", b""),
+)
 ANSWERS: Sequence[Tuple[str, Tuple[Any, ...], bytes]] = (
     ("simplecss_version", (), version().encode()),
     ("simplecss_port_selector", (b"ul>li.a , b",), b"ul > li[class~='a']\t0,1,2\n"),
     (
-        "simplecss_list",
+        "simplecss_printed",
         (b"a, #b", PORT),
-        b'{"selector":"a","specificity":[0,0,1]}\n'
-        b'{"selector":"*[id=\'b\']","specificity":[1,0,0]}\n',
-    ),
-    (
-        "simplecss_list",
-        (b'[a="\x01\\""]', PORT),
-        b'{"selector":"*[a=\'\\u0001\\\\\\"\']","specificity":[0,1,0]}\n',
+        b"a*[id='b']",
     ),
     ("simplecss_refusal", (b"a, b", PORT), b""),
     (
         "simplecss_refusal",
         (b"a,\n b:none", PORT),
-        b'{"row":2,"column":3,"reason":"unknown pseudo-class \':none\'"}\n',
+        b"2 3 unknown pseudo-class ':none'",
     ),
     # What follows an unknown pseudo-class is not read.
-    (
-        "simplecss_refusal",
-        (b"a:foo <", PORT),
-        b'{"row":1,"column":2,"reason":"unknown pseudo-class \':foo\'"}\n',
-    ),
-    (
-        "simplecss_refusal",
-        (b"a:foo >", PORT),
-        b'{"row":1,"column":2,"reason":"unknown pseudo-class \':foo\'"}\n',
-    ),
+    ("simplecss_refusal", (b"a:foo <", PORT), b"1 2 unknown pseudo-class ':foo'"),
+    ("simplecss_refusal", (b"a:foo >", PORT), b"1 2 unknown pseudo-class ':foo'"),
     # A position in an item counts from the start of the list.
-    (
-        "simplecss_refusal",
-        (b"a,\nb, c[d=]", PORT),
-        b'{"row":2,"column":8,"reason":"invalid ident"}\n',
-    ),
-    ("simplecss_refusal", (b"a, b >", PORT), b'{"row":1,"column":7,"reason":"selector missing"}\n'),
-    (
-        "simplecss_refusal",
-        (b"a, b/c", PORT),
-        b'{"row":1,"column":5,"reason":"unexpected text after a selector"}\n',
-    ),
+    ("simplecss_refusal", (b"a,\nb, c[d=]", PORT), b"2 8 invalid ident"),
+    ("simplecss_refusal", (b"a, b >", PORT), b"1 7 selector missing"),
+    ("simplecss_refusal", (b"a, b/c", PORT), b"1 5 unexpected text after a selector"),
     (
         "simplecss_port_sheet",
         SHEET,
@@ -402,14 +397,19 @@ ANSWERS: Sequence[Tuple[str, Tuple[Any, ...], bytes]] = (
     (
         "simplecss_port_rules",
         SHEET,
-        b'{"selector":"ul > li","specificity":[0,0,2],"declarations":[' + RED + b"]}\n"
-        b'{"selector":"*[class~=\'new\']","specificity":[0,1,0],"declarations":[' + BLUE + b"]}\n",
+        b"0 0 2 7 1\nul > li\n" + RED + b"0 1 0 15 1\n*[class~='new']\n" + BLUE,
+    ),
+    (
+        "simplecss_port_rules",
+        (*buffer_of((b"a{b:c\nd}e{}f{}",)), NO_LIMIT),
+        b"0 0 1 1 1\na\n1 3 0\nbc\nd\n",
     ),
     (
         "simplecss_port_skipped",
         (b"a { b: c }\n @media print { }",),
-        b'{"row":2,"column":2,"reason":"at-rule not supported","text":"@media print"}\n',
+        b"2 2 12 at-rule not supported\n@media print\n",
     ),
+    *(("simplecss_imports", (text,), answer) for text, answer in IMPORTS),
     *(("simplecss_close", (value,), closed) for value, closed in CLOSED),
     ("simplecss_escape", (b"-1\0 a",), b"-\\31 \xef\xbf\xbd\\ a"),
     ("simplecss_escape", (b"",), b""),
@@ -427,8 +427,7 @@ ANSWERS: Sequence[Tuple[str, Tuple[Any, ...], bytes]] = (
             sheets_of(buffer_of((b'a{>b,c "d"{e:f}> b::before , &.c{g:h}}',)), buffer_of(())),
             NO_LIMIT,
         ),
-        b'{"text":"> b::before","pseudo_element":"before","specificity":[0,0,3]}\n'
-        b'{"text":"&.c","pseudo_element":null,"specificity":[0,1,1]}\n',
+        b"> b::before&.c",
     ),
     ("simplecss_port_match", (*SHEET, PAGE), b"1:\n2: 1 2\n3: 1\n"),
     ("simplecss_select", (b"li", PORT, PAGE), b"2\n3\n"),
@@ -439,29 +438,21 @@ ANSWERS: Sequence[Tuple[str, Tuple[Any, ...], bytes]] = (
     ("simplecss_select", (b":active", PORT, STATES), b"4\n5\n"),
     ("simplecss_select", (b":focus", PORT, STATES), b"5\n"),
     (
-        "simplecss_list",
-        (b" a > b, c::before,d:not(.e, #f) ", MODERN),
-        b'{"text":[1,6],"selector":"a > b","specificity":[0,0,2],"pseudo_element":null}\n'
-        b'{"text":[8,17],"selector":"c::before","specificity":[0,0,2],"pseudo_element":"before"}\n'
-        b'{"text":[18,31],"selector":"d:not(.e, #f)","specificity":[1,0,1],'
-        b'"pseudo_element":null}\n',
+        "simplecss_printed",
+        (b" a > b, c:/**/BEFORE,d:not(.e, #f) ", MODERN),
+        b"a > bc::BEFOREd:not(.e, #f)",
     ),
-    (
-        "simplecss_list",
-        ("é/*,*/,[b=',']".encode(), HTML),
-        '{"text":[0,2],"selector":"é","specificity":[0,0,1],"pseudo_element":null}\n'.encode()
-        + b'{"text":[8,15],"selector":"[b=\\",\\"]","specificity":[0,1,0],"pseudo_element":null}\n',
-    ),
+    ("simplecss_printed", ("é/*,*/,[b=',']".encode(), HTML), 'é[b=","]'.encode()),
     ("simplecss_refusal", (b"a, b:nth-child(2n+1) ~ c", MODERN), b""),
     (
         "simplecss_refusal",
         (b"a,\n b:nth-child(2x", MODERN),
-        b'{"row":2,"column":14,"reason":"`2x` is no An+B"}\n',
+        b"2 14 `2x` is no An+B",
     ),
     (
         "simplecss_refusal",
         (b"a,", MODERN),
-        b'{"row":1,"column":3,"reason":"a blank or the end of the text begins no selector"}\n',
+        b"1 3 a blank or the end of the text begins no selector",
     ),
     (
         "simplecss_match_selectors",
@@ -505,7 +496,7 @@ ANSWERS: Sequence[Tuple[str, Tuple[Any, ...], bytes]] = (
     ("simplecss_inherited", (b"--color",), b"true"),
     ("simplecss_inherited", (b"margin",), b"false"),
     ("simplecss_port_style", (*SHEET, PAGE, b"color"), b"1:\n2: blue !important\n3: red\n"),
-    ("simplecss_port_styles", (*SHEET, PAGE), b"[]\n[" + BLUE + b"]\n[" + RED + b"]\n"),
+    ("simplecss_port_styles", (*SHEET, PAGE), b"0\n1\n" + BLUE + b"1\n" + RED),
 )
 
 BROKEN = b"\xff"
@@ -530,19 +521,22 @@ BAD_PAGES: Sequence[Tuple[Tree, int, int]] = (
 FAILURES: List[Tuple[str, Tuple[Any, ...], int]] = []
 _GRAMMARS = (MODERN, HTML, QUIRKS, PORT)
 for _text, _status in ((b"", REFUSED), (b"a:none(b)", REFUSED), (BROKEN, NOT_UTF8)):
-    FAILURES += [("simplecss_list", (_text, each), _status) for each in _GRAMMARS]
+    FAILURES += [
+        (f"simplecss_{name}", (_text, each), _status)
+        for name, each in itertools.product(("list", "printed"), _GRAMMARS)
+    ]
     FAILURES += [("simplecss_port_selector", (_text,), _status)]
 FAILURES += [("simplecss_refusal", (BROKEN, each), NOT_UTF8) for each in _GRAMMARS]
 FAILURES += [
     (f"simplecss_{name}", (BROKEN,), NOT_UTF8)
     for name in (
-        *("port_skipped", "read", "declarations", "close", "tokens", "escape", "quote"),
+        *("port_skipped", "read", "declarations", "imports", "close", "tokens", "escape", "quote"),
         *("valid_value", "longhands", "shorthands", "inherited"),
     )
 ]
 FAILURES += [("simplecss_decode", (BROKEN, each), NOT_UTF8) for each in (0, 1)]
 # What is no grammar is refused before anything else.
-FAILURES += [(f"simplecss_{name}", (BROKEN, 4), REFUSED) for name in ("list", "refusal")]
+FAILURES += [(f"simplecss_{name}", (BROKEN, 4), REFUSED) for name in ("list", "printed", "refusal")]
 FAILURES += [("simplecss_close", (value,), REFUSED) for value in UNCLOSED]
 FAILURES += [
     ("simplecss_media", (BROKEN, SCREEN), NOT_UTF8),
@@ -663,10 +657,37 @@ NUMBERS: Sequence[Tuple[str, Tuple[Any, ...], Sequence[Sequence[int]]]] = (
         "simplecss_rules",
         (_RULES, NO_LIMIT),
         (
-            (1, 12, 0, 2, 12, 1, 14, 1, 0, 1, 16, 3, 20, 4, 0, 0),
-            (0, 7, 1, 2, 7, 1, 9, 1, 0, 1, 11, 1, 13, 1, 0, 1),
-            (0, 27, 1, 1, 27, 1, 29, 1, 1, 1),
-            (0, 7, 1, 2, 7, 1, 9, 1, 0, 1, 11, 1, 13, 1, 0, 1),
+            (1, 12, 0, 2, 0, 0, 0, 1, 2, 12, 1, 14, 1, 0, 1, 16, 3, 20, 4, 0, 0),
+            (0, 7, 1, 1, 0, 0, 0, 1, 2, 7, 1, 9, 1, 0, 1, 11, 1, 13, 1, 0, 1),
+            (0, 27, 1, 2, 0, 0, 0, 1, 1, 27, 1, 29, 1, 1, 1),
+            (0, 7, 1, 4, 0, 0, 1, 0, 2, 7, 1, 9, 1, 0, 1, 11, 1, 13, 1, 0, 1),
+        ),
+    ),
+    (
+        "simplecss_rules",
+        (sheets_of(buffer_of((b"a,#b{> c:/**/before , &.d{e:f}}",)), _NO_GROUPS), NO_LIMIT),
+        (
+            (0, 26, 0, 14, 6, 1, 0, 2, 1, 26, 1, 28, 1, 0, 1),
+            (0, 26, 0, 3, 0, 1, 1, 0, 1, 26, 1, 28, 1, 0, 1),
+        ),
+    ),
+    (
+        "simplecss_list",
+        (b"a, #b, .c > d", PORT),
+        (
+            (0, 0, 1, 0, 0, 1, 0, 0, 0, 1),
+            (0, 0, 1, 1, 0, 0, 0, 0, 0, 9),
+            (0, 0, 1, 0, 1, 1, 0, 0, 0, 17),
+        ),
+    ),
+    (
+        "simplecss_list",
+        (" é > b, c:/**/BEFORE,d:not(.e, #f) , a ::after".encode(), MODERN),
+        (
+            (1, 6, 1, 0, 0, 2, 7, 7, 0, 6),
+            (9, 12, 1, 0, 0, 2, 10, 15, 0, 9),
+            (22, 13, 1, 1, 0, 1, 35, 35, 0, 13),
+            (38, 9, 1, 0, 0, 2, 40, 42, 1, 9),
         ),
     ),
     (
@@ -702,7 +723,11 @@ NUMBERS: Sequence[Tuple[str, Tuple[Any, ...], Sequence[Sequence[int]]]] = (
     ),
     ("simplecss_read", (MODERN_SHEET,), MODERN_NUMBERS),
     ("simplecss_read", ("é{é:é".encode(),), BYTES_NUMBERS),
-    ("simplecss_read", (b"a:foo(b,), :before {}",), UNREAD_NUMBERS),
+    (
+        "simplecss_read",
+        (b"a:dir(b,), :before, c >/**/::after, :host > ::part(e) {}",),
+        UNREAD_NUMBERS,
+    ),
     ("simplecss_read", (b" /* */ <!-- ",), ()),
     ("simplecss_declarations", (DECLARATIONS,), DECLARATION_NUMBERS),
     *(
@@ -717,8 +742,8 @@ NUMBERS: Sequence[Tuple[str, Tuple[Any, ...], Sequence[Sequence[int]]]] = (
         "simplecss_read",
         (b"a{b{}}",),
         (
-            (3, 0, 6, 1, 0, 1, 2, 3, 0, 0, 0, 8, 10),
-            (0, 1, 1, 0, 0, 1, 0, 0),
+            (3, 0, 6, 1, 0, 1, 2, 3, 0, 0, 0, 9, 10),
+            (0, 1, 1, 0, 0, 1, 1, 1, 0),
             (10, 2, 3, 0, 0, 0, 0, 0, 0, 0),
         ),
     ),

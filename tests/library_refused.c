@@ -56,7 +56,7 @@ int main(int count, char **words) {
     (void)!write(2, "begin", 5);
     switch (call) {
     case 0: status = simplecss_port_selector(TEXT("a b > c.d[e='f']:hover"), OUT); break;
-    case 1: status = simplecss_list(TEXT("a b, c > d, e + f"), SIMPLECSS_PORT, OUT); break;
+    case 1: status = simplecss_list(TEXT("a b, c > d, e + f"), SIMPLECSS_PORT, NUMBERS); break;
     case 2: status = simplecss_refusal(TEXT("a b, c > > d"), SIMPLECSS_PORT, OUT); break;
     case 3: status = simplecss_port_sheet(SHEET, OUT); break;
     case 4: status = simplecss_port_rules(SHEET, OUT); break;
@@ -69,7 +69,7 @@ int main(int count, char **words) {
     case 11: status = simplecss_read(TEXT("@media x { a, b:not(c), d::before { e: f; g } } h { } @i;"), MOST, NUMBERS); break;
     case 12: status = simplecss_declarations(TEXT("a: b !important; c"), NUMBERS); break;
     case 13: status = simplecss_match_selectors(TEXT("li.new"), selector_ends, 2, SIMPLECSS_PORT, TREE, MOST, OUT, &fault); break;
-    case 14: status = simplecss_list(TEXT("a\\62 > c, d:not(e, f)::before"), SIMPLECSS_MODERN, OUT); break;
+    case 14: status = simplecss_list(TEXT("a\\62 > c, d:not(e, f)::before"), SIMPLECSS_MODERN, NUMBERS); break;
     case 15: status = simplecss_refusal(TEXT("a, b:nth-child(2"), SIMPLECSS_MODERN, OUT); break;
     case 16: status = simplecss_match_selectors(TEXT("LI.new"), selector_ends, 2, SIMPLECSS_HTML, TREE, MOST, OUT, &fault); break;
     case 17: status = simplecss_select(TEXT("LI:empty, :is(UL, a) > .NEW"), SIMPLECSS_HTML_QUIRKS, TREE, MOST, OUT, &fault); break;
@@ -94,13 +94,16 @@ int main(int count, char **words) {
     case 36: status = simplecss_shorthands(TEXT("margin-left"), OUT); break;
     case 37: status = simplecss_inherited(TEXT("color"), OUT); break;
     case 38: status = simplecss_winners_named(&nested, SIMPLECSS_MODERN, 9, TREE, &own, &asked, MOST, NUMBERS, &fault); break;
+    case 39: status = simplecss_printed(TEXT("a b, c > d, e + f"), SIMPLECSS_PORT, OUT); break;
+    case 40: status = simplecss_printed(TEXT("a\\62 > c, d:not(e, f)::before"), SIMPLECSS_MODERN, OUT); break;
+    case 41: status = simplecss_imports(TEXT("@import 'a' layer(b) supports(c:d) print;"), OUT); break;
     default: break;
     }
     (void)!write(2, "end", 3);
     if (status != SIMPLECSS_DONE && len != 0)
         return 1;
     const size_t written = status == SIMPLECSS_DONE ? len : 0;
-    const int counts = call == 11 || call == 12 || call == 21 || call == 22 || (call >= 26 && call <= 31) || call == 38;
+    const int counts = call == 1 || call == 14 || call == 11 || call == 12 || call == 21 || call == 22 || (call >= 26 && call <= 31) || call == 38;
     if (!is_unwritten(out + (counts ? 0 : written), sizeof out - (counts ? 0 : written)))
         return 1;
     if (!is_unwritten(numbers + (counts ? written : 0), sizeof numbers - (counts ? written : 0) * sizeof *numbers))

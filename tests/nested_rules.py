@@ -1,5 +1,6 @@
-"""Nested style rules beside a browser: of random sheets, each declaration with the selectors of its rule and
-of all rules around it; and which declarations win on the elements of random trees.
+"""Nested style rules beside a browser: of random sheets, each declaration with the selectors of its
+rule and of all rules around it; which declarations win on the elements of random trees; and how
+random pages look before and after `inline`.
 
 The browser is Debian's `chromium`, the program `tests_driver`. Each declaration is of a custom property of
 its own, so that its name says where it is. Selectors are such as both print alike.
@@ -8,6 +9,7 @@ from __future__ import annotations
 
 import os
 import random
+import re
 from typing import Any, Dict, Iterator, List, NamedTuple, Optional, Sequence, Tuple
 
 from tests.common import Case, browser_answers, count, library_path, package
@@ -69,6 +71,72 @@ const answers = input.cases.map(({text, tree, names}) => {
 document.documentElement.textContent = "ANSWER" + JSON.stringify(answers) + "END";
 </script>
 """
+
+# The computed styles of pages, before and after.
+LOOKS = """
+<!DOCTYPE html><meta charset=utf-8><script id=input type="application/json">%s</script><iframe id=room></iframe>
+<script>
+const input = JSON.parse(document.getElementById("input").textContent), room = document.getElementById("room");
+function looks(text) {
+    const page = room.contentDocument;
+    page.open();
+    page.write(text);
+    page.close();
+    return [...page.body.querySelectorAll("*")].map(element => {
+        const style = room.contentWindow.getComputedStyle(element);
+        return input.names.map(name => style.getPropertyValue(name));
+    });
+}
+const answers = input.pages.map(pair => pair.map(looks));
+document.documentElement.textContent = "ANSWER" + JSON.stringify(answers) + "END";
+</script>
+"""
+
+# What pages declare, and which computed values are compared.
+COLORS = ("red", "green", "blue", "tan")
+DECLARED = {
+    "color": COLORS,
+    "background": COLORS,
+    "background-color": COLORS,
+    "width": ("10px", "20px", "50%"),
+    "margin": ("1px", "2px 3px"),
+    "margin-left": ("4px", "5px"),
+    "font-size": ("11px", "12px"),
+    "font": ("13px serif", "14px serif"),
+    "letter-spacing": ("1px", "2px", "revert-layer"),
+    "border": ("1px solid red", "2px solid blue"),
+    "border-left-color": COLORS,
+    "--x": ("1", "2"),
+}
+LOOKED_AT = (
+    *(
+        "color",
+        "background-color",
+        "width",
+        "margin-left",
+        "margin-top",
+        "font-size",
+        "font-family",
+    ),
+    *("letter-spacing", "border-left-color", "border-top-color", "border-left-width", "--x"),
+)
+# What hold in the browser, and what do not.
+STATES = (":read-only", ":not(:hover)", ":hover", ":not(:read-only)", ":is(.c:read-only, .f)")
+HOLDING = (
+    "@media all",
+    "@media print",
+    "@media (width > 1px)",
+    "@supports (color: red)",
+    "@layer x",
+)
+ORDERING = (
+    "@layer",
+    "@layer y",
+    "@layer z",
+    "@layer x",
+    "@container (width > 1px)",
+    "@starting-style",
+)
 
 # The elements around such a tree, as far as selectors see them.
 AROUND = '<html><head/><body><div id="room">%s</div></body></html>'
@@ -137,6 +205,46 @@ class Source:
         kept = [each for each in attributes if self._random.random() < 0.4]
         count = self._random.randrange(1, 4) if depth < 4 else 0
         return one("ab"), kept, [self.tree(depth + 1) for _ in range(count)]
+
+
+class Pages(Source):
+    """Random pages with a sheet, the same in each run."""
+
+    def _declaration(self) -> str:
+        one = self._random.choice
+        name = one(tuple(DECLARED))
+        return f"{name}:{one(DECLARED[name])}{' !important' * (self._random.random() < 0.15)};"
+
+    def _selector(self, depth: int) -> str:
+        one = self._random.choice
+        found = one(one((SIMPLE,) if depth == 0 else (SIMPLE, WITHIN, RELATIVE)))
+        return found + one(STATES) if self._random.random() < 0.15 else found
+
+    def _list(self, depth: int) -> str:
+        return ", ".join(self._selector(depth) for _ in range(self._random.choice((1, 1, 1, 2, 3))))
+
+    def _item(self, depth: int) -> str:
+        kind = self._random.random()
+        if depth > 0 and (kind < 0.5 or depth > 3):
+            return self._declaration()
+        if kind < 0.55:
+            return self._random.choice(SKIPPED) if depth > 0 else ""
+        if kind < 0.65:
+            group = self._random.choice(self._random.choice((HOLDING, ORDERING)))
+            return f"{group} {{{self._items(depth + 1 if depth > 0 else 0)}}}"
+        return f"{self._list(depth)} {{{self._items(depth + 1)}}}"
+
+    def page(self) -> str:
+        """A page, some of whose elements have declarations of their own. The parser of HTML moves
+        no element of it."""
+        page = f"<style>{self.sheet(cut=0.02)}</style><body>{self._html(self.tree())}"
+        return "<!DOCTYPE html>" + re.sub(r"\bb\b", "cite", re.sub(r"\ba\b", "q", page))
+
+    def _html(self, built: Built) -> str:
+        name, attributes, children = built
+        own = [("style", self._declaration())] if self._random.random() < 0.1 else []
+        words = "".join(f' {key}="{value}"' for key, value in (*attributes, *own))
+        return f"<{name}{words}>{''.join(map(self._html, children))}</{name}>"
 
 
 def xml_of(built: Built) -> str:
@@ -235,3 +343,22 @@ class NestedRules(Case):
                 if won != sorted(due) or stated != {name for name, _ in due}:
                     failures.append(f"{case['text']!r}: {won}, {stated}, in the browser {due}")
         self.sweep(total, failures)
+
+    def test_inlined(self) -> None:
+        """Pages look in the browser as they did before `inline`."""
+        os.environ.setdefault("SIMPLECSS_LIBRARY", library_path())
+        package()
+        from simplecss import inline
+
+        source = Pages(int(os.environ.get("SEED", 68)))
+        before = [source.page() for _ in range(count(100))]
+        after = [inline(each) for each in before]
+        work = {"names": LOOKED_AT, "pages": list(zip(before, after))}
+        found = browser_answers(LOOKS, work)
+        if found is None:
+            self.skipTest("no browser answers")
+        failures = []
+        for page, written, (first, second) in zip(before, after, found):
+            if first != second:
+                failures.append(f"{page!r}: {written!r}, {first}, then {second}")
+        self.sweep(len(before), failures)

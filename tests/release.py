@@ -15,6 +15,8 @@ import ctypes
 import functools
 import glob
 import hashlib
+import io
+import itertools
 import json
 import os
 import pathlib
@@ -26,9 +28,9 @@ import subprocess
 import sys
 import tarfile
 import tempfile
-from typing import Any, Callable, Dict, List, Optional, Sequence, Tuple
+from typing import Any, Callable, Dict, Iterator, List, Optional, Sequence, Tuple
 
-from tests import library_calls
+from tests import library_calls, nested_rules
 from tools import erase
 from tests.common import (
     DEBIAN,
@@ -57,7 +59,7 @@ NO_LIMIT = 2**64 - 1
 # The length of the buffer that answers are written to.
 ROOM = 1 << 20
 # The calls of compare.c that write numbers.
-OF_NUMBERS = ("simplecss_read", "simplecss_declarations")
+OF_NUMBERS = ("simplecss_read", "simplecss_declarations", "simplecss_list")
 # The elements of the tree of compare.rs.
 PAGE: Sequence[Tuple[int, str, List[Tuple[str, str]]]] = [
     (0, "div", [("lang", "en")]),
@@ -262,11 +264,13 @@ class Library:
         texts: List[Any] = [
             ("read", text),
             ("declarations", text),
+            ("imports", text),
             ("close", text),
             ("escape", text),
             ("quote", text),
             ("decode", text, 1),
             ("list", text, library_calls.MODERN),
+            ("printed", text, library_calls.MODERN),
             ("refusal", text, library_calls.MODERN),
             ("select", text, library_calls.MODERN, self.page),
             (
@@ -286,6 +290,7 @@ class Library:
             ("port_selector", text),
             ("port_skipped", text),
             ("list", text, library_calls.PORT),
+            ("printed", text, library_calls.PORT),
             ("port_rules", *sheet),
             ("port_match", *sheet, self.page),
             ("port_styles", *sheet, self.page),
@@ -329,6 +334,14 @@ def modern_texts(number: int) -> List[str]:
     return ["".join(rng.choices(pieces, k=rng.randrange(1, 30))) for _ in range(number)]
 
 
+def nested_texts(number: int) -> List[str]:
+    """Random sheets with rules in style rules, of names that the page has."""
+    source = nested_rules.Source(12, shared=6)
+    names = {"b": "p", "c": "note", "d": "x", "e": "a"}
+    every = (source.sheet() for _ in range(number))
+    return [re.sub(r"\b[b-e]\b", lambda found: names[str(found.group())], each) for each in every]
+
+
 def tokens_of(path: str, texts: Sequence[bytes]) -> List[bytes]:
     """What the proved program prints of each text: its tokens."""
     done = run([path, "tokens"], input=b"\x01".join(texts))
@@ -336,18 +349,53 @@ def tokens_of(path: str, texts: Sequence[bytes]) -> List[bytes]:
     return done.stdout.split(b"\x01")[:-1]
 
 
+class Lines:
+    """An answer of lines, some of which say the length of a text after them."""
+
+    def __init__(self, answer: bytes) -> None:
+        self.answer = io.BytesIO(answer)
+
+    def __iter__(self) -> Iterator[List[bytes]]:
+        """The words of each further line."""
+        for line in self.answer:
+            yield line[:-1].split(b" ")
+
+    def text(self, length: int) -> bytes:
+        """A text, after which a line ends."""
+        return self.answer.read(length + 1)[:-1]
+
+
+def skipped_as_text(answer: bytes) -> bytes:
+    """What is skipped, in the form of compare.rs."""
+    lines, found = Lines(answer), b""
+    for row, column, length, *reason in lines:
+        found += b":".join([row, column, b" ".join(reason), lines.text(int(length))]) + b"\n"
+    return found
+
+
+def winners_as_text(answer: bytes) -> bytes:
+    """The winners of elements, in the form of compare.rs."""
+    lines, found = Lines(answer), b""
+    for (count,) in lines:
+        for name, value, important in itertools.islice(lines, int(count)):
+            text = lines.text(int(name) + int(value))
+            is_important = (b"false", b"true")[int(important)]
+            found += b"%s=%s=%s;" % (text[: int(name)], text[int(name) :], is_important)
+        found += b"\n"
+    return found
+
+
 def as_text(answers: Sequence[bytes], tokens: bytes) -> List[bytes]:
     """The same answers in the form of compare.rs."""
-    sheet, selector, skipped, _, _, matches, styles = answers
-    lines = [json.loads(line) for line in skipped.decode().splitlines()]
-    faults = "".join(f"{it['row']}:{it['column']}:{it['reason']}:{it['text']}\n" for it in lines)
-    rows = [json.loads(line) for line in styles.decode().splitlines()]
-    printed = [
-        [f"{it['name']}={it['value']}={str(it['important']).lower()};" for it in row]
-        for row in rows
+    sheet, selector, skipped, _, _, _, matches, styles = answers
+    return [
+        sheet,
+        selector,
+        skipped_as_text(skipped),
+        matches,
+        winners_as_text(styles),
+        tokens,
     ]
-    winners = "".join("".join(row) + "\n" for row in printed)
-    return [sheet, selector, faults.encode(), matches, winners.encode(), tokens]
 
 
 # ---- the eraser
@@ -1172,10 +1220,8 @@ class Npm(Release):
 
     def test_python(self) -> None:
         """The npm package answers as the Python package does."""
-        package, every = self.unpacked(), [*SHEETS, *modern_texts(count(TEXTS) // 10)]
-        # The npm package skips rules in style rules.
-        texts = [it for it in every if not has_nested_rules(it)]
-        self.assertLess(len(every) - len(texts), 10 + len(every) / 10)
+        package, number = self.unpacked(), count(TEXTS) // 10
+        texts = [*SHEETS, *modern_texts(number), *nested_texts(number)]
         answers = python_answers(texts)
         words = ["node", os.path.join(TOP, "tests", "release", "answers.mjs"), package]
         work = json.dumps({"items": items_of_page(), "texts": texts}).encode()
@@ -1326,14 +1372,6 @@ def python_answers(texts: Sequence[str]) -> List[Any]:
     ]
 
 
-def has_nested_rules(text: str) -> bool:
-    """Whether a sheet has rules in style rules."""
-    package()
-    import simplecss
-
-    return any(each.parents for each in simplecss.StyleSheet(text, text + "é").rules)
-
-
 def answers_to(text: str, tree: Any, grammar: str) -> List[Any]:
     """What the Python package answers to a text by a grammar."""
     import simplecss
@@ -1344,7 +1382,7 @@ def answers_to(text: str, tree: Any, grammar: str) -> List[Any]:
     return [
         [[*it[1:], it.kind, it.message] for it in found],
         simplecss.declarations(text),
-        [each[:5] for each in sheet.rules],
+        sheet.rules,
         sheet.unsupported,
         sheet.at_rules,
         sheet.skipped,

@@ -177,7 +177,7 @@ class Sheets(Case):
 
 class Differences(Case):
     def test_modern_grammar(self) -> None:
-        """What docs/DIFFERENCES.md shows of modern grammar: what is kept of a text, or
+        """What docs/DIFFERENCES.md shows of modern grammar: what is kept of a text, nothing, or
         `unsupported`."""
         text = read("docs", "DIFFERENCES.md")
         rows = re.findall(r"^\| `([^`]+)` \| [^|]* \|([^|]*)\| [^|]* \|$", text, re.MULTILINE)
@@ -185,8 +185,8 @@ class Differences(Case):
             with self.subTest(text=text):
                 sheet = simplecss.StyleSheet(text)
                 lines = re.findall(r"`([^`]+)`", shown)
-                if lines:
-                    self.assertEqual(str(sheet).split("\n"), lines)
+                if lines or shown.strip() == "nothing":
+                    self.assertEqual(str(sheet).splitlines(), lines)
                 else:
                     self.assertEqual(list(sheet.skipped), [])
                     self.assertEqual(shown.strip(), "unsupported" if sheet.unsupported else "")

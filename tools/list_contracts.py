@@ -56,7 +56,14 @@ GATHERED = {
     "A list with a number has exactly the elements that it matches, and `&` is `:is()` of it.": (
         "marking_law",
         "ampersand_law",
+        "chain_law",
     ),
+    "A list of selectors is cut at its commas, and each reads as itself from where it begins.": (
+        "places_law",
+        "cut_law",
+        "own_law",
+    ),
+    "What is rolled back does not win.": ("rollback_law",),
     "Values are equal exactly if what contracts see of them is.": ("equality",),
     "Blanks and comments are what their definitions say, which do not mention reading.": (
         "blank",

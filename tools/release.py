@@ -70,6 +70,7 @@ MODULES = (
     "properties",
     "names",
     "reading",
+    "nested",
     "resolving",
     "tokens",
     "device",

@@ -24,7 +24,8 @@ function sheetOf(text, grammar) {
   const characters = ({ source, start, end }) => [start, end].map(at => [...(source ? `${text}é` : text).slice(0, at)].length);
   return [
     sheet.rules.map(each => [
-      each.selector, each.specificity, each.declarations.map(declared), each.conditions.map(within), each.pseudoElement]),
+      each.selector, each.specificity, each.declarations.map(declared), each.conditions.map(within), each.pseudoElement,
+      each.parents]),
     sheet.unsupported.map(each => [each.selector, each.declarations.map(declared), each.conditions.map(within)]),
     sheet.atRules.map(each => [each.name, each.prelude, each.block, each.conditions.map(within)]),
     sheet.skipped.map(each => [each.row, each.column, each.reason, each.text, each.source, ...characters(each)]),

@@ -15,11 +15,14 @@ for (let at = 0; at < input.length; ) {
   const ends = sizes([length]), sheet = [text, ends, NO_LIMIT];
   const [portNumber, port] = elements.words('simplecss'), modern = elements.words('modern');
   const answers = [
-    call('port_sheet', sheet), call('port_selector', [text]), call('port_skipped', [text]), call('list', [text, portNumber]),
+    call('port_sheet', sheet), call('port_selector', [text]), call('port_skipped', [text]),
+    call('list', [text, portNumber], { isNumbers }), call('printed', [text, portNumber]),
     call('port_rules', sheet), call('port_match', [...sheet, port], { most, hasTree }),
     call('port_styles', [...sheet, port], { most, hasTree }),
-    call('read', [text], { most, isNumbers }), call('declarations', [text], { isNumbers }), call('close', [text]),
-    call('escape', [text]), call('quote', [text]), call('decode', [text, 1n]), call('list', [text, modern[0]]),
+    call('read', [text], { most, isNumbers }), call('declarations', [text], { isNumbers }),
+    call('imports', [text]), call('close', [text]),
+    call('escape', [text]), call('quote', [text]), call('decode', [text, 1n]),
+    call('list', [text, modern[0]], { isNumbers }), call('printed', [text, modern[0]]),
     call('refusal', [text, modern[0]]), call('select', [text, ...modern], { most, hasTree }),
     call('match_selectors', [text, ends, ...modern], { most, hasTree }),
   ];
