@@ -146,7 +146,8 @@ fn stretch_at<P: Parts, E: Candidate<P>, F: Fn(usize, &E, &mut Tests) -> bool>(
     ensures finds { FindsStretch E.tree (P.combinator_at parts.now) (E.Meets parts.now) E.node last
         (E.node lowest.now) result }
     ensures bounded { tests.new ≤ tests.old + fixed_length (P.combinator_at parts.now) last
-        + longest_free (P.combinator_at parts.now) last * width E.tree (level_count (P.combinator_at parts.now) last) (E.node lowest.now) }
+        + longest_free (P.combinator_at parts.now) last
+        * width E.tree (level_count (P.combinator_at parts.now) last) (E.node lowest.now) }
     ensures tested { HasTestedAll tests.old tests.new last result }
     ensures inner { IsCharged (E.cost parts.now (E.node lowest.now)) tests.old total.old tests.new
         total.new }

@@ -115,7 +115,8 @@ Finishes limit properties s c n =
 
 -- The value of a property waits for another, where some of these that it reads before are invalid,
 -- however much becomes known.
-pub record Sees (limit : ℕ) (properties : List Property) (s : List Known) (these : ℕ → Bool) (n other : ℕ) : Type 0 where
+pub record Sees
+    (limit : ℕ) (properties : List Property) (s : List Known) (these : ℕ → Bool) (n other : ℕ) : Type 0 where
   pub before : List ℕ
   pub of_these : (m : ℕ) → is_among before m ≡ true → these m ≡ true
   pub apart : is_among before other ≡ false
@@ -147,7 +148,8 @@ AreGood limit properties s [] = Unit {0}
 AreGood limit properties s (c ∷ more) = IsGood limit properties s c × AreGood limit properties s more
 
 -- a property of the circle waits for one of these
-pub record Link (limit : ℕ) (properties : List Property) (s : List Known) (lower : Circle) (these : ℕ → Bool) : Type 0 where
+pub record Link
+    (limit : ℕ) (properties : List Property) (s : List Known) (lower : Circle) (these : ℕ → Bool) : Type 0 where
   pub from : ℕ
   pub to : ℕ
   pub of_lower : has lower from ≡ true
@@ -174,7 +176,8 @@ ArePlaced all bound [] = Unit {0}
 ArePlaced all bound (c ∷ more) = IsPlaced all c.start bound c × ArePlaced all c.start more
 
 -- A path of circles, from its end. So many properties were begun.
-pub record IsPath (limit : ℕ) (properties : List Property) (all : List Slot) (begun : ℕ) (path : List Circle) : Type 0 where
+pub record IsPath
+    (limit : ℕ) (properties : List Property) (all : List Slot) (begun : ℕ) (path : List Circle) : Type 0 where
   pub same_length : length all ≡ length properties
   pub room : begun + unread all ≤ length all
   pub owned : (n : ℕ) → is_open (slot_at all n) ≡ has_any path n
@@ -316,20 +319,26 @@ abbrev pub hidden_from : Circle → ℕ → ℕ
 hidden_from c begun = if c.closed then c.start else begun
 
 -- the current property of the last circle waits for this one
-pub record Waits (limit : ℕ) (properties : List Property) (all : List Slot) (begun : ℕ) (last : Circle) (path : List Circle) (other : ℕ) : Type 0 where
+pub record Waits
+    (limit : ℕ) (properties : List Property) (all : List Slot) (begun : ℕ) (last : Circle)
+    (path : List Circle) (other : ℕ) : Type 0 where
   pub is_path : IsPath limit properties all begun (last ∷ path)
   pub waits_for : (t : List Known) → Given (stage_of all) last t → known_at t other ≡ not_yet
       → comes_to limit properties t last.current.number ≡ waits other
 
 -- the current property of the last circle comes to what was put together
-pub record EndsCurrent (limit : ℕ) (properties : List Property) (all : List Slot) (begun : ℕ) (last : Circle) (path : List Circle) : Type 0 where
+pub record EndsCurrent
+    (limit : ℕ) (properties : List Property) (all : List Slot) (begun : ℕ) (last : Circle)
+    (path : List Circle) : Type 0 where
   pub is_path : IsPath limit properties all begun (last ∷ path)
   pub comes : (t : List Known) → Given (stage_of all) last t
       → comes_to limit properties t last.current.number ≡ last.current.reading.so_far
   pub is_done : IsDone last.current.reading.so_far
 
 -- the current property of a closed circle has ended, and one of the others is read
-pub record EndsOne (all : List Slot) (last : Circle) (path : List Circle) (after : List Slot) (next : Option Circle) (left : List Circle) : Type 0 where
+pub record EndsOne
+    (all : List Slot) (last : Circle) (path : List Circle) (after : List Slot)
+    (next : Option Circle) (left : List Circle) : Type 0 where
   pub entry : Entry
   pub others : List Entry
   pub parts : last.others ≡ others ++ entry ∷ []
@@ -338,7 +347,9 @@ pub record EndsOne (all : List Slot) (last : Circle) (path : List Circle) (after
   pub is_left : left ≡ path
 
 -- it was the last of them: all are invalid, and the circle before is read
-pub record EndsAll (all : List Slot) (last : Circle) (path : List Circle) (after : List Slot) (next : Option Circle) (left : List Circle) : Type 0 where
+pub record EndsAll
+    (all : List Slot) (last : Circle) (path : List Circle) (after : List Slot)
+    (next : Option Circle) (left : List Circle) : Type 0 where
   pub no_others : last.others ≡ []
   pub cleared : Cleared all (last.ended ++ last.current.number ∷ []) after
   pub parts : path ≡ with_last next left
