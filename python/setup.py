@@ -29,16 +29,12 @@ NAME = {"win32": "simplecss.dll", "darwin": "libsimplecss.dylib"}.get(
     sys.platform, "libsimplecss.so"
 )
 PROVED = TOP / "out" / NAME
-WITHOUT = (
-    "install Rust, or run ./build library with the toolchain first (docs/INSTALL.md)"
-)
+WITHOUT = "install Rust, or run ./build library with the toolchain first (docs/INSTALL.md)"
 
 
 def write_erased(to: Path) -> None:
     """Writes the C library's sources as a crate of Rust, with the header."""
-    subprocess.run(
-        [sys.executable, str(TOP / "tools" / "erase.py"), "--c", str(to)], check=True
-    )
+    subprocess.run([sys.executable, str(TOP / "tools" / "erase.py"), "--c", str(to)], check=True)
 
 
 def compiled(folder: Path) -> Path:
@@ -103,9 +99,7 @@ class AnyPython(bdist_wheel):
 
 def version() -> str:
     """Returns the version that the header states."""
-    header = (
-        ERASED / "simplecss.h" if ERASED.is_dir() else TOP / "include" / "simplecss.h"
-    )
+    header = ERASED / "simplecss.h" if ERASED.is_dir() else TOP / "include" / "simplecss.h"
     found = re.search(r'SIMPLECSS_VERSION "(.*)"', header.read_text())
     assert found
     return found[1]

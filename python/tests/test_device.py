@@ -8,9 +8,7 @@ import tempfile
 import unittest
 from contextlib import redirect_stderr, redirect_stdout
 
-sys.path.insert(
-    0, os.path.join(os.path.dirname(os.path.abspath(__file__)), "..", "src")
-)
+sys.path.insert(0, os.path.join(os.path.dirname(os.path.abspath(__file__)), "..", "src"))
 
 import simplecss  # noqa: E402
 from simplecss import Condition, Device  # noqa: E402
@@ -86,9 +84,7 @@ class Media(unittest.TestCase):
             ("(mi\\6e-WIDTH:1px)", TRUE, TRUE),
             ("(min-width > 1px)", UNKNOWN, UNKNOWN),
         ):
-            found = says(Condition("media", text), Device()), says(
-                Condition("media", text), PHONE
-            )
+            found = says(Condition("media", text), Device()), says(Condition("media", text), PHONE)
             self.assertEqual(found, (screen, phone), text)
 
     def test_devices(self):
@@ -163,9 +159,7 @@ class Sheets(unittest.TestCase):
 
     def styles(self, **options):
         tree = simplecss.Tree.from_html("<p>", is_part=True)
-        return "; ".join(
-            map(str, simplecss.StyleSheet(self.CSS).styles(tree, **options)[0])
-        )
+        return "; ".join(map(str, simplecss.StyleSheet(self.CSS).styles(tree, **options)[0]))
 
     def test_rules_apply_where_their_conditions_hold(self):
         self.assertEqual(self.styles(), "q: 4; n: 1; o: 3")
@@ -222,9 +216,7 @@ class Sheets(unittest.TestCase):
             ):
                 with redirect_stdout(io.StringIO()) as out:
                     self.assertEqual(command.main(["style", *words, name, page]), 0)
-                self.assertEqual(
-                    out.getvalue().partition(f" {name}: ")[2].strip(), expected, words
-                )
+                self.assertEqual(out.getvalue().partition(f" {name}: ")[2].strip(), expected, words)
             for words in (
                 ["--width", "-1"],
                 ["--width", "1px"],

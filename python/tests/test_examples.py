@@ -19,9 +19,7 @@ sys.path.insert(0, SOURCE)
 
 import simplecss  # noqa: E402
 
-EXAMPLES = os.path.join(
-    os.path.dirname(os.path.abspath(__file__)), "..", "..", "examples"
-)
+EXAMPLES = os.path.join(os.path.dirname(os.path.abspath(__file__)), "..", "..", "examples")
 PAGES = os.path.join(EXAMPLES, "pages")
 
 DJANGO = """
@@ -201,9 +199,7 @@ class Recipes(unittest.TestCase):
         if shutil.which("bash") is None:
             self.skipTest("there is no bash")
         jobs = self.settings("github", "lint.yml")["jobs"]
-        (step,) = (
-            each for each in jobs["lint"]["steps"] if "sarif" in each.get("run", "")
-        )
+        (step,) = (each for each in jobs["lint"]["steps"] if "sarif" in each.get("run", ""))
         self.sheets()
         self.ran(
             "bash",
@@ -212,13 +208,9 @@ class Recipes(unittest.TestCase):
             status=1,
         )
         (named,) = (
-            each["with"]
-            for each in jobs["lint"]["steps"]
-            if "sarif_file" in each.get("with", ())
+            each["with"] for each in jobs["lint"]["steps"] if "sarif_file" in each.get("with", ())
         )
-        with open(
-            os.path.join(self.folder, named["sarif_file"]), encoding="utf-8"
-        ) as file:
+        with open(os.path.join(self.folder, named["sarif_file"]), encoding="utf-8") as file:
             log = json.load(file)
         self.assertEqual(log["version"], "2.1.0")
         (result,) = log["runs"][0]["results"]

@@ -69,17 +69,13 @@ class Declarations(unittest.TestCase):
             self.assertEqual(style_of("p { n: " + value + "}"), "n: " + value, value)
 
     def test_comments_round_a_value_are_no_part_of_it(self):
-        self.assertEqual(
-            style_of("p { n/**/: /* a; b */ 1px/**/2px /* c */ }"), "n: 1px/**/2px"
-        )
+        self.assertEqual(style_of("p { n/**/: /* a; b */ 1px/**/2px /* c */ }"), "n: 1px/**/2px")
         self.assertEqual(style_of("p { n: '/* a */' }"), "n: '/* a */'")
 
     def test_the_end_of_the_text_closes_a_block(self):
         self.assertEqual(style_of("p { n: 1; m: 2"), "n: 1; m: 2")
         # The parenthesis takes in all that follows.
-        self.assertEqual(
-            inline("<p>", "p { n: 1; m: f(2; o: 3 } p { q: 4 }"), '<p style="n: 1">'
-        )
+        self.assertEqual(inline("<p>", "p { n: 1; m: f(2; o: 3 } p { q: 4 }"), '<p style="n: 1">')
         for css in (
             "p:hover { n: 1",
             "@media x { p { n: 1 }",
@@ -90,20 +86,14 @@ class Declarations(unittest.TestCase):
             '<style>\np:hover { n: 1}\n</style><p style="n: 1">',
         )
         self.assertEqual(inline("<p>", "p"), "<p>")
-        self.assertEqual(
-            inline("<p>", "@import 'x'"), "<style>\n@import 'x'\n</style><p>"
-        )
+        self.assertEqual(inline("<p>", "@import 'x'"), "<style>\n@import 'x'\n</style><p>")
 
     def test_importance(self):
-        self.assertEqual(
-            style_of("p { n: 1 ! IMPORTANT } p { n: 2 }"), "n: 1 !important"
-        )
+        self.assertEqual(style_of("p { n: 1 ! IMPORTANT } p { n: 2 }"), "n: 1 !important")
         self.assertEqual(style_of("p { n: 1 !important; n: 2 }"), "n: 1 !important")
 
     def test_names_in_any_case(self):
-        self.assertEqual(
-            style_of("p { COLOR: Red } P.a { color: Blue }"), "color: Blue"
-        )
+        self.assertEqual(style_of("p { COLOR: Red } P.a { color: Blue }"), "color: Blue")
         self.assertEqual(style_of("p { --A: 1; --a: 2 }"), "--A: 1; --a: 2")
 
     def test_the_earlier_values_of_a_block_stay(self):
@@ -112,9 +102,7 @@ class Declarations(unittest.TestCase):
 
     def test_a_shorthand_keeps_its_place(self):
         css = ".a { margin: 1px } p { margin-left: 2px } #x { margin-top: 3px }"
-        self.assertEqual(
-            style_of(css), "margin-left: 2px; margin: 1px; margin-top: 3px"
-        )
+        self.assertEqual(style_of(css), "margin-left: 2px; margin: 1px; margin-top: 3px")
 
 
 class Selectors(unittest.TestCase):
@@ -151,9 +139,7 @@ class Selectors(unittest.TestCase):
             "p:not(.x:nth-child(2))",
             ":root p",
         ):
-            style = style_of(
-                selector + " { n: 1 }", "<body><p class='a:b' title='b:c|d'>x"
-            )
+            style = style_of(selector + " { n: 1 }", "<body><p class='a:b' title='b:c|d'>x")
             self.assertEqual(style, "n: 1", selector)
         self.assertEqual(
             inline("<b></b><i></i><p></p>", "b ~ p { n: 1 }"),
@@ -207,9 +193,7 @@ class Attributes(unittest.TestCase):
             ("<a\n/ x/>", '<a\n/ x style="n: 1"/>'),
             ("<a x='>'>", "<a x='>' style=\"n: 1\">"),
         ):
-            self.assertEqual(
-                inline(tag + "b</a>", "a { n: 1 }"), written + "b</a>", tag
-            )
+            self.assertEqual(inline(tag + "b</a>", "a { n: 1 }"), written + "b</a>", tag)
 
     def test_what_is_no_tag(self):
         for page in (
@@ -417,9 +401,7 @@ class Important(unittest.TestCase):
         )
         self.assertIn(
             "n: 3 !important",
-            inline(
-                "<html><body><body style='n:3'><a>", "a{n:1} *:hover{n:2} body{m:1}"
-            ),
+            inline("<html><body><body style='n:3'><a>", "a{n:1} *:hover{n:2} body{m:1}"),
         )
 
     def test_other_sheets(self):
@@ -429,9 +411,7 @@ class Important(unittest.TestCase):
             '<style media=print>\na:hover{n:2 !important}\n</style><a style="n: 1">',
         )
         page = "<style id=x>a:hover{n:2}</style><style>a{n:1}</style><a>"
-        self.assertEqual(
-            inline(page, preserve="#x"), page.replace("a{n:1}", "\na { n: 1 }\n")
-        )
+        self.assertEqual(inline(page, preserve="#x"), page.replace("a{n:1}", "\na { n: 1 }\n"))
         self.assertEqual(inline(page, keep_style=True), page)
 
     def test_links(self):
@@ -662,9 +642,7 @@ class KeptRules(unittest.TestCase):
             "padding: 1px; padding-left: 7px; padding: f(1)",
         )
         self.assertEqual(
-            style_of(
-                "p { padding: 1px } .a { padding-left: 7px } .b { padding: f(1) }"
-            ),
+            style_of("p { padding: 1px } .a { padding-left: 7px } .b { padding: f(1) }"),
             "padding: 1px; padding-left: 7px; padding: f(1)",
         )
 
@@ -697,9 +675,7 @@ class KeptRules(unittest.TestCase):
             inline("<style TYPE='TEXT/CSS' MEDIA=ALL>a { n: 1 }</style><a>"),
             '<a style="n: 1">',
         )
-        self.assertEqual(
-            inline("<p><style>p { n: 1 }</style>"), '<p style="n: 1"><style></style>'
-        )
+        self.assertEqual(inline("<p><style>p { n: 1 }</style>"), '<p style="n: 1"><style></style>')
 
     def test_time_of_hostile_sheets(self):
         for unit in (
@@ -715,9 +691,7 @@ class KeptRules(unittest.TestCase):
             "a{&b{",
         ):
             inline("<a>", unit * (20_000 // len(unit)))
-        many = ",".join(["a"] * 2000), ";".join(
-            f"p{number}:1" for number in range(2000)
-        )
+        many = ",".join(["a"] * 2000), ";".join(f"p{number}:1" for number in range(2000))
         with self.assertRaises(ValueError):
             inline("<a>", "%s{%s}" % many)
         inline(
@@ -725,9 +699,7 @@ class KeptRules(unittest.TestCase):
             "a{b:c}" + "%s{%s}" % (many[0].replace(",", ":hover,"), many[1]),
         )
         self.assertEqual(
-            style_of(
-                "a { n: 1 }" + "@media x{" * 99 + "a { n: 2 }", "<a>", important=False
-            ),
+            style_of("a { n: 1 }" + "@media x{" * 99 + "a { n: 2 }", "<a>", important=False),
             "",
         )
         for selector in (
@@ -745,9 +717,7 @@ class Options(unittest.TestCase):
     def test_folder(self):
         with tempfile.TemporaryDirectory() as folder:
             os.mkdir(os.path.join(folder, "css"))
-            with open(
-                os.path.join(folder, "css", "a.css"), "w", encoding="utf-8"
-            ) as file:
+            with open(os.path.join(folder, "css", "a.css"), "w", encoding="utf-8") as file:
                 file.write("p { background: url(x.png) } p:hover { n: 1 }")
             page = "<head><link rel=stylesheet href='css/a.css?1'></head><p>"
             self.assertEqual(
@@ -767,9 +737,7 @@ class Options(unittest.TestCase):
                 other = page.replace("css/a.css?1", href)
                 self.assertEqual(inline(other, folder=folder), other)
             self.assertEqual(
-                inline(page, "p { background: none }", folder=folder).count(
-                    "url(css/x.png)"
-                ),
+                inline(page, "p { background: none }", folder=folder).count("url(css/x.png)"),
                 1,
             )
 
@@ -806,12 +774,8 @@ class Options(unittest.TestCase):
         self.assertIn('class="a:b"', inline(page, remove_classes=True))
 
     def test_a_link_with_a_class(self):
-        page = (
-            "<body><link class=x rel=stylesheet href='data:text/css,p{n:1}'><p class=x>"
-        )
-        self.assertEqual(
-            inline(page, remove_classes=True), '<body><style></style><p style="n: 1">'
-        )
+        page = "<body><link class=x rel=stylesheet href='data:text/css,p{n:1}'><p class=x>"
+        self.assertEqual(inline(page, remove_classes=True), '<body><style></style><p style="n: 1">')
 
     def test_attributes(self):
         self.assertEqual(
@@ -849,9 +813,7 @@ class Options(unittest.TestCase):
         )
 
     def test_ignore(self):
-        page = (
-            "<style>p{n:1} .x{m:2} b{n:1}</style><p class='x y'>1<p class=y>2<b>3</b>"
-        )
+        page = "<style>p{n:1} .x{m:2} b{n:1}</style><p class='x y'>1<p class=y>2<b>3</b>"
         self.assertEqual(
             inline(page, ignore="p.x", remove_classes=True, base_url="http://h/"),
             "<style>\np { n: 1 }\n.x { m: 2 }\n</style>"
@@ -999,15 +961,11 @@ class ManyDocuments(unittest.TestCase):
         inliner = simplecss.Inliner(self.CSS, remove_classes=True)
         for number in range(200):
             tag = self.TAGS[number % len(self.TAGS)]
-            own = f"<style>.b{{m:{number}}} a:visited{{m:1}}</style>" * (
-                number % 3 == 0
-            )
+            own = f"<style>.b{{m:{number}}} a:visited{{m:1}}</style>" * (number % 3 == 0)
             page = f"{own}<{tag}>{number}"
             report, other = [], []
             text = inliner.inline(page, report=report)
-            self.assertEqual(
-                text, inline(page, self.CSS, remove_classes=True, report=other), page
-            )
+            self.assertEqual(text, inline(page, self.CSS, remove_classes=True, report=other), page)
             self.assertEqual(report, other, page)
 
     def test_the_sheet_is_read_once(self):
@@ -1026,9 +984,7 @@ class ManyDocuments(unittest.TestCase):
         call = _library.call
         with unittest.mock.patch.object(_library, "call", side_effect=call) as calls:
             for number in range(100):
-                self.assertIn(
-                    'style="n: 1"', inline(f"<a>{number}", css, attributes=number < 50)
-                )
+                self.assertIn('style="n: 1"', inline(f"<a>{number}", css, attributes=number < 50))
         names = [each.args[0] for each in calls.call_args_list]
         self.assertLessEqual(names.count("simplecss_read"), 4)
 
@@ -1037,16 +993,12 @@ class ManyDocuments(unittest.TestCase):
         inliner = simplecss.Inliner("@import 'a.css'; b{n:1}", load=sheets.get)
         for folder, value in (("x", 2), ("y", 3)):
             at = f"http://h/{folder}/page.html"
-            self.assertEqual(
-                inliner.inline("<b>", at=at), f'<b style="m: {value}; n: 1">'
-            )
+            self.assertEqual(inliner.inline("<b>", at=at), f'<b style="m: {value}; n: 1">')
         self.assertEqual(
             simplecss.Inliner("b{n:1}").inline("<B/><b/>", is_xml=False),
             '<B style="n: 1"/><b style="n: 1"/>',
         )
-        self.assertEqual(
-            simplecss.Inliner("b{n:1}").inline(b"<b>"), b'<b style="n: 1">'
-        )
+        self.assertEqual(simplecss.Inliner("b{n:1}").inline(b"<b>"), b'<b style="n: 1">')
         with self.assertRaises(ValueError):
             simplecss.Inliner("style.css")
 
@@ -1081,9 +1033,7 @@ class Injection(unittest.TestCase):
         names = [each.name for each in simplecss.Tree.from_html(page)]
         self.assertEqual(names.count("b"), 1)
         for text in ("&#0;", "\ufffd", "<svg>&#0;</svg>"):
-            names = [
-                each.name for each in simplecss.Tree.from_html(f"{text}<frameset>")
-            ]
+            names = [each.name for each in simplecss.Tree.from_html(f"{text}<frameset>")]
             self.assertIn("frameset", names, text)
 
     def test_pages_that_name_two_encodings(self):
@@ -1179,15 +1129,9 @@ class Injection(unittest.TestCase):
             ("", "<noscript>"),
             ("", "<script><!--<script></script>"),
         ):
-            kept = (
-                style.replace("<img", "\\3c img")
-                if "svg" in last or "math" in last
-                else style
-            )
+            kept = style.replace("<img", "\\3c img") if "svg" in last or "math" in last else style
             kept = style.replace("<img", "\\3c img") if "svg" in first else kept
-            self.assertEqual(
-                inline(first + last, css), f"{first}{kept}{last}", first + last
-            )
+            self.assertEqual(inline(first + last, css), f"{first}{kept}{last}", first + last)
         page = "<?xml version='1.0'?><h><head></head><svg><style>@x;</style></svg></h>"
         self.assertEqual(
             inline(page, css, is_xml=True),
@@ -1221,8 +1165,7 @@ class Injection(unittest.TestCase):
             for first in ("<noscript>", "<p><noscript><div>"):
                 self.assertEqual(
                     inline(first + link, folder=folder),
-                    first
-                    + '<style>\np:hover{content:"<\\/noscript><img src=x>"}\n</style>',
+                    first + '<style>\np:hover{content:"<\\/noscript><img src=x>"}\n</style>',
                 )
             with open(os.path.join(folder, "a.css"), "w", encoding="utf-8") as file:
                 file.write("p, </noscript> {n:1}")
@@ -1249,15 +1192,11 @@ class Injection(unittest.TestCase):
             '<svg><foreignObject><p><![CDATA[><img title="]]></p><b/></foreignObject></svg>',
             "<svg><foreignObject><style>b{n:1}</style></foreignObject><b/></svg>",
         ):
-            self.assertEqual(
-                inline(page, "q{n:\"' x='\"}", is_xml=True).count("style="), 0
-            )
+            self.assertEqual(inline(page, "q{n:\"' x='\"}", is_xml=True).count("style="), 0)
         page = "<svg><foreignObject><title/></foreignObject><b/></svg>"
         self.assertEqual(inline(page, "b{n:1}").count("style="), 0)
         self.assertEqual(
-            inline(f"<?xml version='1.0'?>{page}", "b{n:1}", is_xml=True).count(
-                "style="
-            ),
+            inline(f"<?xml version='1.0'?>{page}", "b{n:1}", is_xml=True).count("style="),
             1,
         )
 
@@ -1276,25 +1215,19 @@ class Injection(unittest.TestCase):
         )
 
     def test_names_of_tags_end_at_the_spaces_of_html(self):
-        for (
-            space
-        ) in "\x0b\x1c\x1d\x1e\x1f\x85\xa0\u1680\u2000\u2028\u2029\u202f\u205f\u3000":
+        for space in "\x0b\x1c\x1d\x1e\x1f\x85\xa0\u1680\u2000\u2028\u2029\u202f\u205f\u3000":
             self.assertEqual(
-                inline(f"<p><script{space}>x</script>", "*{n:1}").partition("</style>")[
-                    2
-                ],
+                inline(f"<p><script{space}>x</script>", "*{n:1}").partition("</style>")[2],
                 f'<p style="n: 1"><script{space} style="n: 1">x</script>',
             )
             self.assertEqual(
-                inline(
-                    f"<p class='a{space}b c'>", "b{n:1} @x .a.c", remove_classes=True
-                ).partition("<p")[2],
+                inline(f"<p class='a{space}b c'>", "b{n:1} @x .a.c", remove_classes=True).partition(
+                    "<p"
+                )[2],
                 ' class="c">',
             )
         for space in "\t\n\f\r /":
-            self.assertEqual(
-                inline(f"<p{space}x>", "p{n:1}"), f'<p{space}x style="n: 1">'
-            )
+            self.assertEqual(inline(f"<p{space}x>", "p{n:1}"), f'<p{space}x style="n: 1">')
 
     def test_letters_of_html_are_those_of_ascii(self):
         for page in (
@@ -1316,9 +1249,7 @@ class Injection(unittest.TestCase):
             inline("<p>", f"p{{n:'{marks}'}} p:hover{{m:'{marks}'}}"),
             f"<style>\np:hover{{m:'{escapes}'}}\n</style><p style=\"n: '{escapes}'\">",
         )
-        self.assertEqual(
-            style_of("p{n:'\\\x1b'; m:\\\\\x1b}"), "n: '\\1b '; m: \\\\\\1b "
-        )
+        self.assertEqual(style_of("p{n:'\\\x1b'; m:\\\\\x1b}"), "n: '\\1b '; m: \\\\\\1b ")
         self.assertEqual(
             inline("<?xml version='1.0'?><p/>", "p{n:a\fb'\uffff\x1b'}", is_xml=True),
             "<?xml version='1.0'?><p style=\"n: a\nb'\\ffff \\1b '\"/>",
@@ -1383,9 +1314,7 @@ class Injection(unittest.TestCase):
 
     def test_attributes_of_xml_have_case(self):
         self.assertEqual(
-            inline(
-                "<?xml version='1.0'?><a STYLE='x' style='y'/>", "a{n:1}", is_xml=True
-            ),
+            inline("<?xml version='1.0'?><a STYLE='x' style='y'/>", "a{n:1}", is_xml=True),
             "<?xml version='1.0'?><a STYLE='x' style='n: 1; y'/>",
         )
 
@@ -1427,9 +1356,7 @@ class Injection(unittest.TestCase):
             )
 
     def test_a_slash_after_a_class_is_of_no_value(self):
-        self.assertEqual(
-            inline('<p title=x class="a"/>', remove_classes=True), "<p title=x />"
-        )
+        self.assertEqual(inline('<p title=x class="a"/>', remove_classes=True), "<p title=x />")
 
     def test_an_unquoted_attribute_stays_one(self):
         self.assertEqual(

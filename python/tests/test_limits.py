@@ -11,9 +11,7 @@ import unittest
 import xml.etree.ElementTree
 from contextlib import redirect_stderr, redirect_stdout
 
-sys.path.insert(
-    0, os.path.join(os.path.dirname(os.path.abspath(__file__)), "..", "src")
-)
+sys.path.insert(0, os.path.join(os.path.dirname(os.path.abspath(__file__)), "..", "src"))
 
 import simplecss  # noqa: E402
 from simplecss import __main__ as command  # noqa: E402
@@ -216,9 +214,7 @@ class Time(unittest.TestCase):
     def test_an_open_value_is_closed_by_few_calls(self):
         calls = []
         made = library.call
-        library.call = lambda *words, **more: calls.append(words[0]) or made(
-            *words, **more
-        )
+        library.call = lambda *words, **more: calls.append(words[0]) or made(*words, **more)
         self.addCleanup(setattr, library, "call", made)
         self.assertEqual(read_sheet('a { b: "x')[1][0].declarations[0].value, '"x"')
         self.assertEqual(calls, ["simplecss_read", "simplecss_close"])
@@ -293,11 +289,7 @@ class Xml(unittest.TestCase):
 
     def test_long_attributes_of_its_own_are_read(self):
         self.assertEqual(
-            len(
-                simplecss.Tree.from_xml(f'<a b="{"x" * 3_000_000}"/>')[0].attributes[
-                    "b"
-                ]
-            ),
+            len(simplecss.Tree.from_xml(f'<a b="{"x" * 3_000_000}"/>')[0].attributes["b"]),
             3_000_000,
         )
 
@@ -309,24 +301,13 @@ class Limits(unittest.TestCase):
 
     def test_group_rules(self):
         tree = simplecss.Tree.from_html("<b></b>")
-        layers = "".join(
-            f"@layer l{number} {{ b {{ c: d }} }}" for number in range(1025)
-        )
-        self.check_limit(
-            lambda: simplecss.StyleSheet(layers).styles(tree), "1,024 layers"
-        )
-        queries = (
-            f"(min-width: {n // 99}px) and (min-height: {n % 99}px)"
-            for n in range(10_000)
-        )
+        layers = "".join(f"@layer l{number} {{ b {{ c: d }} }}" for number in range(1025))
+        self.check_limit(lambda: simplecss.StyleSheet(layers).styles(tree), "1,024 layers")
+        queries = (f"(min-width: {n // 99}px) and (min-height: {n % 99}px)" for n in range(10_000))
         text = "".join(f"@media {each} {{ b {{ c: d }} }}" for each in queries)
-        self.assertEqual(
-            list(map(len, simplecss.StyleSheet(text).styles(tree))), [0, 0, 0, 1]
-        )
+        self.assertEqual(list(map(len, simplecss.StyleSheet(text).styles(tree))), [0, 0, 0, 1])
         deep = "b{" + "@media screen{" * 9000 + "c:d" + "}" * 9001
-        self.assertEqual(
-            list(map(len, simplecss.StyleSheet(deep).styles(tree))), [0, 0, 0, 1]
-        )
+        self.assertEqual(list(map(len, simplecss.StyleSheet(deep).styles(tree))), [0, 0, 0, 1])
 
     def test_rules_of_elements(self):
         tree = simplecss.Tree.from_html("<b></b>" * 97)
@@ -341,17 +322,13 @@ class Limits(unittest.TestCase):
         self.assertEqual(sheet.match(tree)[99], list(range(10)))
         every = simplecss.StyleSheet("*{a:b}" * 10, answer_limit=None)
         self.assertEqual(every.match(tree), sheet.match(tree))
-        rules = "".join(
-            f".c{i % 7}, b:nth-child({i}n), #x{i} {{a:b}}" for i in range(50)
-        )
+        rules = "".join(f".c{i % 7}, b:nth-child({i}n), #x{i} {{a:b}}" for i in range(50))
         page = simplecss.Tree.from_html(
             "".join(f"<b class='c{i % 9} c{i % 5}' id=x{i}></b>" for i in range(60))
         )
         for grammar in ("modern", "simplecss"):
             found = [
-                simplecss.StyleSheet(rules, answer_limit=limit, grammar=grammar).match(
-                    page
-                )
+                simplecss.StyleSheet(rules, answer_limit=limit, grammar=grammar).match(page)
                 for limit in (2000, None)
             ]
             self.assertEqual(found[0], found[1])
@@ -374,13 +351,9 @@ class Limits(unittest.TestCase):
         self.check_limit(lambda: sheet.styles(tree))
         self.assertEqual([each.value for each in sheet.style(tree, "a7")], ["b"] * 100)
         # The rules of each element are others.
-        page = simplecss.Tree.from_html(
-            "".join(f"<b class=c{i}></b>" for i in range(100))
-        )
+        page = simplecss.Tree.from_html("".join(f"<b class=c{i}></b>" for i in range(100)))
         rules = f"*{{{block}}}" + "".join(f".c{i}{{a1:c}}" for i in range(100))
-        self.check_limit(
-            lambda: simplecss.StyleSheet(rules, answer_limit=999).styles(page)
-        )
+        self.check_limit(lambda: simplecss.StyleSheet(rules, answer_limit=999).styles(page))
         self.check_limit(
             lambda: simplecss.StyleSheet(f"html{{{block}}}", answer_limit=500).styles(
                 tree, inherit=[f"a{i}" for i in range(10)]
@@ -390,9 +363,7 @@ class Limits(unittest.TestCase):
     def test_a_pickled_sheet_has_its_limit(self):
         import pickle
 
-        sheet = pickle.loads(
-            pickle.dumps(simplecss.StyleSheet("*{a:b}", answer_limit=1))
-        )
+        sheet = pickle.loads(pickle.dumps(simplecss.StyleSheet("*{a:b}", answer_limit=1)))
         self.check_limit(lambda: sheet.match(simplecss.Tree.from_html("<p>")))
 
     def test_inline(self):
@@ -465,22 +436,16 @@ class Links(unittest.TestCase):
     def test_only_sheets_are_read(self):
         for name in (".env", "a.txt", ".css", "b.css.bak"):
             self.folder.put(name, "p{secret:x}")
-            self.assertNotIn(
-                "secret", self.inlined(f"<link rel=stylesheet href={name}>")[0], name
-            )
+            self.assertNotIn("secret", self.inlined(f"<link rel=stylesheet href={name}>")[0], name)
         self.assertNotIn(
             "a: b", self.inlined("<link rel=stylesheet href=a.css type=text/plain>")[0]
         )
-        self.assertIn(
-            "a: b", self.inlined("<link rel=stylesheet href=a.css type=TEXT/CSS>")[0]
-        )
+        self.assertIn("a: b", self.inlined("<link rel=stylesheet href=a.css type=TEXT/CSS>")[0])
         self.folder.put("B.CSS", "p{c:d}")
         self.assertIn("c: d", self.inlined("<link rel=stylesheet href=B.CSS>")[0])
 
     def test_what_is_no_url_stays(self):
-        text = simplecss.inline(
-            "<p><a href='//[x'>", "p{a:url(//[x)}", base_url="http://h/"
-        )
+        text = simplecss.inline("<p><a href='//[x'>", "p{a:url(//[x)}", base_url="http://h/")
         self.assertEqual(text, "<p style=\"a: url(//[x)\"><a href='//[x'>")
 
     def test_the_sheet_is_rebased(self):
@@ -545,14 +510,10 @@ class Encodings(unittest.TestCase):
 
     def test_what_the_encoding_lacks_is_an_escape_in_a_style(self):
         page = b"<meta charset=latin1><p>"
-        text = simplecss.inline(
-            page, "p:hover{a:'\u6c34\u6c341\\\u6c34'} p{b:'\u6c34'}"
-        )
+        text = simplecss.inline(page, "p:hover{a:'\u6c34\u6c341\\\u6c34'} p{b:'\u6c34'}")
         self.assertIn(b"a:'\\6c34 \\6c34 1\\6c34 '", text)
         self.assertIn(b"style=\"b: '&#27700;'\"", text)
-        self.assertIn(
-            "'\u6c34'".encode(), simplecss.inline(b"<p>", "p:hover{a:'\u6c34'}")
-        )
+        self.assertIn("'\u6c34'".encode(), simplecss.inline(b"<p>", "p:hover{a:'\u6c34'}"))
 
     def test_xml_has_names_of_one_case(self):
         text = simplecss.inline(
@@ -560,13 +521,9 @@ class Encodings(unittest.TestCase):
             "p{a:b}",
             is_xml=True,
         )
-        self.assertEqual(
-            text, "<?xml version='1.0'?><r><p STYLE='c: d' style='a: b; e: f'/></r>"
-        )
+        self.assertEqual(text, "<?xml version='1.0'?><r><p STYLE='c: d' style='a: b; e: f'/></r>")
         simplecss.Tree.from_xml(text)
-        found = _lint.findings(
-            "a.xml", "<?xml version='1.0'?><r><p STYLE='c' style='e'/></r>"
-        )
+        found = _lint.findings("a.xml", "<?xml version='1.0'?><r><p STYLE='c' style='e'/></r>")
         self.assertEqual([each.text for each in found], ["e"])
 
 
@@ -590,10 +547,7 @@ class White(unittest.TestCase):
         )
         tree = simplecss.Tree.from_html("<svg fill='\xa0'>")
         self.assertEqual(
-            [
-                each.value
-                for each in simplecss.StyleSheet().styles(tree, specified=True)[3]
-            ],
+            [each.value for each in simplecss.StyleSheet().styles(tree, specified=True)[3]],
             ["\xa0"],
         )
 
@@ -618,9 +572,7 @@ class Terminals(unittest.TestCase):
     def check(self, *words):
         _, output, errors = run(*words)
         for text in (output, errors):
-            found = [
-                each for each in text if not each.isprintable() and each not in "\n\t"
-            ]
+            found = [each for each in text if not each.isprintable() and each not in "\n\t"]
             self.assertEqual(found, [], words)
         return output, errors
 
@@ -642,17 +594,13 @@ class Terminals(unittest.TestCase):
         self.check("style", "a", sheet, page)
         self.check("select", self.HOSTILE, page)
         sheet = folder.put("b.css", f"p:hover[a='{self.HOSTILE}'] {{ a:b }}")
-        self.assertIn(
-            "\ufffd", self.check("inline", "--json", "--report", page, sheet)[1]
-        )
+        self.assertIn("\ufffd", self.check("inline", "--json", "--report", page, sheet)[1])
         self.check("select", "p", os.path.join(folder.path, f"none{self.HOSTILE}"))
 
     def test_data_is_as_it_is_but_on_a_terminal(self):
         folder = Folder(self)
         page = folder.put("a.html", f"<meta charset=utf-8><p title='{self.HOSTILE}'>")
-        self.assertEqual(
-            run("select", "--attr", "title", "p", page)[1], self.HOSTILE + "\n"
-        )
+        self.assertEqual(run("select", "--attr", "title", "p", page)[1], self.HOSTILE + "\n")
         terminal = io.StringIO()
         terminal.isatty = lambda: True
         with redirect_stdout(terminal):
@@ -661,9 +609,7 @@ class Terminals(unittest.TestCase):
 
     def test_checkstyle_is_xml(self):
         found = _lint.findings("a\x01\uffff.css", "p { \uffff\x02\ufffe }")
-        root = xml.etree.ElementTree.fromstring(
-            _lint.as_checkstyle(found).encode("utf-8")
-        )
+        root = xml.etree.ElementTree.fromstring(_lint.as_checkstyle(found).encode("utf-8"))
         self.assertEqual(root[0].get("name"), "a\ufffd\ufffd.css")
 
 
@@ -711,9 +657,7 @@ class Products(unittest.TestCase):
                 matched,
             ),
             (
-                lambda n: "".join(
-                    f"@media (width:{i}px){{p{{a:b}}}}" for i in range(n)
-                ),
+                lambda n: "".join(f"@media (width:{i}px){{p{{a:b}}}}" for i in range(n)),
                 800,
                 matched,
             ),
@@ -738,9 +682,7 @@ class Products(unittest.TestCase):
             (
                 lambda n: (
                     "<p>",
-                    "p{{{0}}}p:hover{{{0}}}".format(
-                        "".join(f"b:x{i};" for i in range(n))
-                    ),
+                    "p{{{0}}}p:hover{{{0}}}".format("".join(f"b:x{i};" for i in range(n))),
                 ),
                 1500,
                 inlined,
@@ -804,9 +746,7 @@ class Products(unittest.TestCase):
             simplecss.inline(long, folder=folder, answer_limit=10000)
 
     def test_lines_of_long_selectors_and_values(self):
-        folder = Folder(
-            self, **{"a.css": "p,q{b:" + "x" * 100 + "}", "a.html": "<p>" * 50}
-        )
+        folder = Folder(self, **{"a.css": "p,q{b:" + "x" * 100 + "}", "a.html": "<p>" * 50})
         names = [os.path.join(folder.path, name) for name in ("a.css", "a.html")]
         self.addCleanup(setattr, _jobs, "most_written", _jobs.most_written)
         _jobs.most_written = lambda length: 40

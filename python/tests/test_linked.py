@@ -11,9 +11,7 @@ import tempfile
 import unittest
 from contextlib import redirect_stderr, redirect_stdout
 
-sys.path.insert(
-    0, os.path.join(os.path.dirname(os.path.abspath(__file__)), "..", "src")
-)
+sys.path.insert(0, os.path.join(os.path.dirname(os.path.abspath(__file__)), "..", "src"))
 
 import simplecss  # noqa: E402
 from simplecss import __main__ as command  # noqa: E402
@@ -97,9 +95,7 @@ class Loaded(unittest.TestCase):
             ("disabled", None),
             ("title=x", "red"),
         ):
-            self.assertEqual(
-                self.color(f"<link rel=stylesheet href=a.css {link}>"), expected, link
-            )
+            self.assertEqual(self.color(f"<link rel=stylesheet href=a.css {link}>"), expected, link)
         self.assertEqual(
             self.color("<link rel=stylesheet href=a.css media=print>", media="print"),
             "red",
@@ -111,9 +107,7 @@ class Loaded(unittest.TestCase):
         ):
             self.assertEqual(self.color(f"<link rel={rel} href=a.css>"), expected, rel)
         for place in ("svg", "math"):
-            self.assertIsNone(
-                self.color(f"<{place}><link rel=stylesheet href=a.css></{place}>")
-            )
+            self.assertIsNone(self.color(f"<{place}><link rel=stylesheet href=a.css></{place}>"))
 
     def test_titles(self):
         other = "<link rel='alternate stylesheet' title={} href=a.css>"
@@ -142,9 +136,7 @@ class Loaded(unittest.TestCase):
             "<link rel=stylesheet href=a.css>",
             "<style>p{color:green}</style>",
         )
-        self.assertEqual(
-            (self.color(link + style), self.color(style + link)), ("green", "red")
-        )
+        self.assertEqual((self.color(link + style), self.color(style + link)), ("green", "red"))
 
     def test_imports(self):
         for css, media, expected in (
@@ -159,9 +151,7 @@ class Loaded(unittest.TestCase):
             ("@media screen{@import 'a.css';}", "screen", None),
             ("@import '\\61.css';", "screen", "red"),
         ):
-            self.assertEqual(
-                self.color(f"<style>{css}</style>", media=media), expected, css
-            )
+            self.assertEqual(self.color(f"<style>{css}</style>", media=media), expected, css)
 
     def test_conditions(self):
         tree = simplecss.Tree.from_html(
@@ -238,9 +228,7 @@ class Loaded(unittest.TestCase):
             at="https://h/a/b.html",
             load=lambda url: asked.append(url) or load.get(url),
         )[1]
-        self.assertEqual(
-            asked, ["https://h/c/d.css?e", "https://h/c/g/h.css", "https://h/f.css"]
-        )
+        self.assertEqual(asked, ["https://h/c/d.css?e", "https://h/c/g/h.css", "https://h/f.css"])
         self.assertEqual(unread, ["g/h.css", "/f.css"])
         with self.assertRaises(TypeError):
             color_of("<link rel=stylesheet href=a><p>", load=lambda url: b"")
@@ -289,12 +277,8 @@ class Files(Site):
         )
         self.assertEqual(color_of(text, at=page), (None, ["../../x.css", "/y.css"]))
         # A url stands for the folder.
-        self.assertEqual(
-            color_of(text, at="http://h/a/b/p.html", folder=self.folder), ("red", [])
-        )
-        self.assertEqual(
-            color_of(text, at="http://h/p.html", folder=self.folder)[0], "red"
-        )
+        self.assertEqual(color_of(text, at="http://h/a/b/p.html", folder=self.folder), ("red", []))
+        self.assertEqual(color_of(text, at="http://h/p.html", folder=self.folder)[0], "red")
 
     def test_what_is_never_read(self):
         self.put(
@@ -343,9 +327,7 @@ class Files(Site):
         )
 
     def test_inline_keeps_the_order_of_imports(self):
-        self.put(
-            a_css="p{color:red}", b_css="p{color:blue !important}", c_css="p{top:0}"
-        )
+        self.put(a_css="p{color:red}", b_css="p{color:blue !important}", c_css="p{top:0}")
         page = "<style>@import 'a.css'; @import 'b.css' print; @import 'c.css'; p{color:green}</style><p>"
         self.assertEqual(
             inline(page, folder=self.folder),
@@ -362,9 +344,7 @@ class Files(Site):
 
     def test_inline_wakes_no_import(self):
         page = "<style>p{color:red} @import 'a.css'; @namespace x 'y'; p:hover{top:0}</style><p>"
-        self.assertEqual(
-            inline(page), '<style>\np:hover{top:0}\n</style><p style="color: red">'
-        )
+        self.assertEqual(inline(page), '<style>\np:hover{top:0}\n</style><p style="color: red">')
 
     def test_what_is_said(self):
         left = []
@@ -383,9 +363,7 @@ class Files(Site):
 
     def test_classes_that_a_link_may_need_stay(self):
         page = "<link rel=stylesheet href=http://h/a.css><p class=a>"
-        self.assertEqual(
-            inline(page, "p{b:c}", remove_classes=True).count("class=a"), 1
-        )
+        self.assertEqual(inline(page, "p{b:c}", remove_classes=True).count("class=a"), 1)
 
 
 class CommandLine(Site):
@@ -397,9 +375,7 @@ class CommandLine(Site):
             b__c_html="<p id=c>",
             b__d_txt="<p>",
         )
-        self.message = (
-            f"simplecss: {self.page}: 'http://h/y.css' is not read: {ELSEWHERE}\n"
-        )
+        self.message = f"simplecss: {self.page}: 'http://h/y.css' is not read: {ELSEWHERE}\n"
 
     def test_links_are_followed(self):
         self.assertEqual(
@@ -411,9 +387,7 @@ class CommandLine(Site):
             '{"element": 5, "name": "p", "rules": [0, 1]}',
         )
         status, out, err = run("inline", self.page)
-        self.assertEqual(
-            (status, '<p style="color: red">' in out, LOSES in err), (0, True, True)
-        )
+        self.assertEqual((status, '<p style="color: red">' in out, LOSES in err), (0, True, True))
         self.assertEqual(
             run("style", "color", "--folder", str(self.folder / "b"), self.page)[1], ""
         )
@@ -429,33 +403,27 @@ class CommandLine(Site):
         # Once for all pages.
         (other,) = self.put(e_html="<link rel=stylesheet href=x.css>")
         self.assertEqual(run("lint", self.page, other)[1], found[1])
-        self.assertEqual(
-            run("lint", sheet, self.page)[1].count("broken declaration"), 1
-        )
+        self.assertEqual(run("lint", sheet, self.page)[1].count("broken declaration"), 1)
 
     def test_folders_and_patterns(self):
         self.assertEqual(
             run("select", "--count", "p", str(self.folder))[1],
             f"{self.page}:1\n{self.folder / 'b' / 'c.html'}:1\n",
         )
-        self.assertEqual(
-            run("select", "--count", "p", str(self.folder / "*" / "*.html"))[1], "1\n"
-        )
+        self.assertEqual(run("select", "--count", "p", str(self.folder / "*" / "*.html"))[1], "1\n")
         status, out, err = run("select", "p", str(self.folder / "none*"))
         self.assertEqual((status, out, "cannot read" in err), (4, "", True))
         self.assertEqual(
-            run("style", "color", str(self.folder / "x.css"), str(self.folder))[
-                1
-            ].count("color: red"),
+            run("style", "color", str(self.folder / "x.css"), str(self.folder))[1].count(
+                "color: red"
+            ),
             2,
         )
         self.assertEqual(run("lint", str(self.folder))[1].count("broken"), 2)
 
     def test_outputs(self):
         out = self.folder / "out"
-        self.assertEqual(
-            run("inline", self.page, "-o", str(out / "one.html"))[:2], (0, "")
-        )
+        self.assertEqual(run("inline", self.page, "-o", str(out / "one.html"))[:2], (0, ""))
         self.assertIn("color: red", (out / "one.html").read_text())
         self.assertEqual(
             run("inline", str(self.folder / "b"), self.page, "-o", str(out / "all"))[0],
@@ -477,9 +445,7 @@ class CommandLine(Site):
         )
 
     def test_several_at_once(self):
-        names = self.put(
-            **{f"n{number}_html": f"<p id=n{number}>" for number in range(20)}
-        )
+        names = self.put(**{f"n{number}_html": f"<p id=n{number}>" for number in range(20)})
         self.addCleanup(setattr, command, "_free_processors", command._free_processors)
         answers = []
         for count in (1, 2):

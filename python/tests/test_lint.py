@@ -104,9 +104,7 @@ class Mistakes(unittest.TestCase):
                 self.assertEqual(found[0][1:3], (row, column))
                 self.assertEqual(found[0].hint, meant)
                 if meant is not None:
-                    self.assertTrue(
-                        found[0].message.endswith(f"(did you mean '{meant}'?)")
-                    )
+                    self.assertTrue(found[0].message.endswith(f"(did you mean '{meant}'?)"))
 
     def test_right(self):
         for text in (*RIGHT, NESTED):
@@ -234,19 +232,13 @@ class Kinds(unittest.TestCase):
             ("a { colr: simplecss-ignore }", 1),
         ):
             self.assertEqual(len(simplecss.lint(text)), count, text)
-        page = (
-            "<style>\na { colr: red } /* simplecss-ignore */</style><p style='tpo: 0'>"
-        )
-        self.assertEqual(
-            [each.text for each in _lint.findings("a.html", page)], ["tpo"]
-        )
+        page = "<style>\na { colr: red } /* simplecss-ignore */</style><p style='tpo: 0'>"
+        self.assertEqual([each.text for each in _lint.findings("a.html", page)], ["tpo"])
 
     def test_each_is_explained(self):
         reasons = {kind for _, kind, _, _ in PLANTED}
         self.assertLessEqual(reasons, {_lint.kind_of(each) for each in _mistakes.KINDS})
-        page = (
-            Path(__file__).parents[1].joinpath("README.md").read_text(encoding="utf-8")
-        )
+        page = Path(__file__).parents[1].joinpath("README.md").read_text(encoding="utf-8")
         for reason, text in _mistakes.KINDS.items():
             self.assertIn(f"  {_lint.kind_of(reason)} ", _lint.kinds())
             self.assertIn(f"| `{_lint.kind_of(reason)}` | {text} |\n", page)
@@ -279,9 +271,7 @@ class Usage(unittest.TestCase):
         self.assertEqual(found, UNUSED.replace("\n", " ").split(", "))
 
     def test_rules(self):
-        text = (
-            "é { top: 0 }\n@media print { p, .x { top: 0 } } @font-face { src: url(a) }"
-        )
+        text = "é { top: 0 }\n@media print { p, .x { top: 0 } } @font-face { src: url(a) }"
         found = simplecss.StyleSheet("main { }", text).unused(*self.trees)
         self.assertEqual(
             found,
@@ -308,16 +298,11 @@ class Usage(unittest.TestCase):
                 f"{sheet}:3:20: '.z' matches nothing",
                 f"{sheet}:3:37: '.x' matches nothing, and others of its rule do",
             ]
-            self.assertEqual(
-                self.run_command(sheet, folder), (0, "\n".join(lines) + "\n")
-            )
+            self.assertEqual(self.run_command(sheet, folder), (0, "\n".join(lines) + "\n"))
             found = [
-                json.loads(it)
-                for it in self.run_command("--json", sheet, folder)[1].splitlines()
+                json.loads(it) for it in self.run_command("--json", sheet, folder)[1].splitlines()
             ]
-            self.assertEqual(
-                [each["selector"] for each in found], [".x", ".y", ".z", ".x"]
-            )
+            self.assertEqual([each["selector"] for each in found], [".x", ".y", ".z", ".x"])
             self.assertEqual(
                 self.run_command("--print", sheet, folder),
                 (0, "a { top: 0 }\n\n@media print {  p, .x { left: 0 } }\n"),
@@ -325,19 +310,13 @@ class Usage(unittest.TestCase):
             # Without a sheet, those that the pages link to.
             self.assertEqual(self.run_command(folder), (0, ""))
             page = Path(folder, "2.html")
-            page.write_text(
-                "<link rel=stylesheet href=a.css><i class=z>", encoding="utf-8"
-            )
+            page.write_text("<link rel=stylesheet href=a.css><i class=z>", encoding="utf-8")
             lines = [
-                each.replace(sheet, os.path.relpath(sheet))
-                for each in lines
-                if ".z" not in each
+                each.replace(sheet, os.path.relpath(sheet)) for each in lines if ".z" not in each
             ]
             lines[1] += ", and others of its rule do"
             self.assertEqual(self.run_command(folder), (0, "\n".join(lines) + "\n"))
-            self.assertEqual(
-                self.run_command(sheet, os.path.join(folder, "none.html"))[0], 4
-            )
+            self.assertEqual(self.run_command(sheet, os.path.join(folder, "none.html"))[0], 4)
 
     def run_command(self, *words):
         out = io.StringIO()
@@ -374,9 +353,7 @@ class Fixes(unittest.TestCase):
     def test_command(self):
         with tempfile.TemporaryDirectory() as folder:
             sheet = os.path.join(folder, "a.css")
-            Path(sheet).write_bytes(
-                "\ufeffé { colr: red;\r\n src: x }\r\n".encode("utf-8")
-            )
+            Path(sheet).write_bytes("\ufeffé { colr: red;\r\n src: x }\r\n".encode("utf-8"))
             out = io.StringIO()
             with redirect_stdout(out):
                 self.assertEqual(command.main(["lint", "--fix", sheet]), 1)

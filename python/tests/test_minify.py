@@ -93,10 +93,7 @@ def rules(text):
     return [
         (
             str(simplecss.Selector(rule.selector)),
-            [
-                (each.name, words(each.value), each.important)
-                for each in rule.declarations
-            ],
+            [(each.name, words(each.value), each.important) for each in rule.declarations],
         )
         for rule in sheet.rules
         if rule.declarations
@@ -114,9 +111,7 @@ class Command(Site):
         one, other = self.put(a_css="a { b: c }\n", b_css="p {}\n")
         self.assertEqual(run("minify", one), (0, "a{b:c}\n", ""))
         self.assertEqual(run("minify", one, other)[0], 2)
-        self.assertEqual(
-            run("minify", "a.html")[::2], (2, "simplecss: a.html is no style sheet\n")
-        )
+        self.assertEqual(run("minify", "a.html")[::2], (2, "simplecss: a.html is no style sheet\n"))
         out = self.folder / "out"
         self.assertEqual(run("minify", str(self.folder), "-o", str(out))[0], 0)
         self.assertEqual((out / "a.css").read_text(), "a{b:c}\n")

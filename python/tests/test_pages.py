@@ -16,9 +16,7 @@ import unittest
 from contextlib import redirect_stderr, redirect_stdout
 from unittest import mock
 
-sys.path.insert(
-    0, os.path.join(os.path.dirname(os.path.abspath(__file__)), "..", "src")
-)
+sys.path.insert(0, os.path.join(os.path.dirname(os.path.abspath(__file__)), "..", "src"))
 
 import simplecss  # noqa: E402
 from simplecss import __main__ as command, _library as library  # noqa: E402
@@ -55,16 +53,9 @@ ENCODINGS = [
 class Encodings(unittest.TestCase):
     def test_names(self):
         for name, data, text in ENCODINGS:
-            page = (
-                b"<!-- <meta charset=koi8-u> --><meta charset='"
-                + name.encode()
-                + b"'>"
-                + data
-            )
+            page = b"<!-- <meta charset=koi8-u> --><meta charset='" + name.encode() + b"'>" + data
             decoded, encode = decode_page(page)
-            self.assertEqual(
-                (decoded.partition("'>")[2], encode(decoded)), (text, page), name
-            )
+            self.assertEqual((decoded.partition("'>")[2], encode(decoded)), (text, page), name)
 
     def test_where_a_page_names_its_encoding(self):
         far = b"<style>" + b" " * 2000 + b"</style>"
@@ -100,9 +91,7 @@ class Encodings(unittest.TestCase):
         ):
             page = mark + "<meta charset=koi8-r>é".encode(name)
             decoded, encode = decode_page(page)
-            self.assertEqual(
-                (decoded, encode(decoded)), ("\ufeff<meta charset=koi8-r>é", page)
-            )
+            self.assertEqual((decoded, encode(decoded)), ("\ufeff<meta charset=koi8-r>é", page))
 
     def test_trees_of_bytes(self):
         tree = simplecss.Tree.from_html(b"<meta charset=koi8-r><p>\xc1", is_part=True)
@@ -148,9 +137,7 @@ class Doctypes(unittest.TestCase):
 class Names(unittest.TestCase):
     def test_nul_is_the_character_for_what_is_none(self):
         element = simplecss.Tree.from_html("<p\0q a\0='b\0' A\ufffd=c>")[3]
-        self.assertEqual(
-            (element.name, element.attributes), ("p\ufffdq", {"a\ufffd": "b\ufffd"})
-        )
+        self.assertEqual((element.name, element.attributes), ("p\ufffdq", {"a\ufffd": "b\ufffd"}))
 
     def test_tags_that_differ_in_values_only(self):
         tags = {
@@ -266,14 +253,10 @@ SARIF = {
 def faults(value, form, where="$"):
     """Yields what of a value of JSON has not its form."""
     if isinstance(form, list):
-        is_right, inner = isinstance(value, list), [
-            (each, form[0], f"{where}[]") for each in value
-        ]
+        is_right, inner = isinstance(value, list), [(each, form[0], f"{where}[]") for each in value]
     elif isinstance(form, str):
         required, known = SARIF[form]
-        is_right = (
-            isinstance(value, dict) and set(required) <= value.keys() <= known.keys()
-        )
+        is_right = isinstance(value, dict) and set(required) <= value.keys() <= known.keys()
         inner = (
             [(each, known[key], f"{where}.{key}") for key, each in value.items()]
             if is_right
@@ -296,9 +279,7 @@ class Reports(unittest.TestCase):
     def setUp(self):
         folder = tempfile.TemporaryDirectory()
         self.addCleanup(folder.cleanup)
-        self.names = [
-            os.path.join(folder.name, name) for name in ("a b:%é.css", "b.css", "c.css")
-        ]
+        self.names = [os.path.join(folder.name, name) for name in ("a b:%é.css", "b.css", "c.css")]
         for name, text in zip(
             self.names, ("@x;\na { b }\n@y 'é\u0001';", "@x; a { b", "a { top: 0 }")
         ):
@@ -378,9 +359,7 @@ class CommandLine(unittest.TestCase):
         ):
             page = self.page("a.html", text)
             result = os.path.join(self.folder, "b.html")
-            self.assertEqual(
-                command.main(["inline", *words, "-o", result, page, sheet]), 0
-            )
+            self.assertEqual(command.main(["inline", *words, "-o", result, page, sheet]), 0)
             with open(result, encoding="utf-8", newline="") as file:
                 self.assertEqual(file.read(), expected)
 
@@ -415,9 +394,7 @@ class CommandLine(unittest.TestCase):
             command._PATIENCE = patience
             out, err = io.StringIO(), Terminal()
             with redirect_stdout(out), redirect_stderr(err):
-                self.assertEqual(
-                    command.main(["select", "--count", "p", page, page]), 0
-                )
+                self.assertEqual(command.main(["select", "--count", "p", page, page]), 0)
             self.assertEqual("simplecss: [" in err.getvalue(), is_shown)
             # Nothing of it is left.
             self.assertEqual(err.getvalue().endswith("\r\033[K"), is_shown)
@@ -426,12 +403,8 @@ class CommandLine(unittest.TestCase):
         code = "import simplecss, simplecss._library as it; it.__version__ = '9'; simplecss.Selector('a')"
         environment = {**os.environ, "PYTHONPATH": FOLDER}
         words = [sys.executable, "-c", code]
-        made = subprocess.run(
-            words, env=environment, capture_output=True, text=True, check=False
-        )
-        self.assertIn(
-            f"has version {simplecss.__version__}, and this package 9", made.stderr
-        )
+        made = subprocess.run(words, env=environment, capture_output=True, text=True, check=False)
+        self.assertIn(f"has version {simplecss.__version__}, and this package 9", made.stderr)
 
     def test_an_end_tag_of_a_drawing_in_which_a_paragraph_ended(self):
         # HTML Standard, "The rules for parsing tokens in foreign content": any other end tag.
@@ -446,12 +419,8 @@ class CommandLine(unittest.TestCase):
         # The second is another text, which is not read yet.
         for sheet in (simplecss.StyleSheet(css), css + " "):
             with mock.patch.object(library, "call", wraps=library.call) as call:
-                self.assertEqual(
-                    [simplecss.inline(page, sheet) for page in pages], wanted
-                )
-            self.assertEqual(
-                [each.args[0] for each in call.mock_calls].count("simplecss_read"), 1
-            )
+                self.assertEqual([simplecss.inline(page, sheet) for page in pages], wanted)
+            self.assertEqual([each.args[0] for each in call.mock_calls].count("simplecss_read"), 1)
         self.assertIn('style="color: red"', wanted[0])
         for other in (
             simplecss.StyleSheet(),
@@ -464,12 +433,12 @@ class CommandLine(unittest.TestCase):
             simplecss.inline("<p>", b"p{}")
 
     def test_modules_are_imported_when_their_names_are_used(self):
-        code = "import sys, simplecss; print(*(each for each in sys.modules if 'simplecss' in each))"
+        code = (
+            "import sys, simplecss; print(*(each for each in sys.modules if 'simplecss' in each))"
+        )
         environment = {**os.environ, "PYTHONPATH": FOLDER}
         words = [sys.executable, "-S", "-c", code]
-        made = subprocess.run(
-            words, env=environment, capture_output=True, text=True, check=True
-        )
+        made = subprocess.run(words, env=environment, capture_output=True, text=True, check=True)
         self.assertEqual(made.stdout, "simplecss\n")
         self.assertLessEqual(set(simplecss.__all__), set(dir(simplecss)))
         self.assertTrue(all(hasattr(simplecss, each) for each in simplecss.__all__))

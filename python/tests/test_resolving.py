@@ -12,9 +12,7 @@ import unittest
 from typing import Dict, List
 from unittest import mock
 
-sys.path.insert(
-    0, os.path.join(os.path.dirname(os.path.abspath(__file__)), "..", "src")
-)
+sys.path.insert(0, os.path.join(os.path.dirname(os.path.abspath(__file__)), "..", "src"))
 
 from simplecss import (  # noqa: E402
     LimitError,
@@ -46,12 +44,8 @@ class UserAgent(unittest.TestCase):
 
     def test_layers(self) -> None:
         """All others are above them, also attributes of SVG and rules in layers."""
-        tree = Tree.from_html(
-            "<ul><li hidden>a</ul><svg><title display=block>b</title></svg>"
-        )
-        sheet = StyleSheet(
-            "@layer a { li { display: flex } } ul { list-style-type: square }"
-        )
+        tree = Tree.from_html("<ul><li hidden>a</ul><svg><title display=block>b</title></svg>")
+        sheet = StyleSheet("@layer a { li { display: flex } } ul { list-style-type: square }")
         for specified, title in ((False, "none"), (True, "block")):
             found = sheet.style(tree, "display", specified=specified, ua=True)
             values = {each.name: found[each] and found[each].value for each in tree}
@@ -90,9 +84,7 @@ class UserAgent(unittest.TestCase):
         """A shorthand of the author's wins over a longhand of theirs."""
         tree = Tree.from_html("<ul style='list-style: square'>")
         sheet = StyleSheet("ul { margin: 0 }")
-        found = sheet.style(
-            tree, "list-style-type", specified=True, shorthands=True, ua=True
-        )
+        found = sheet.style(tree, "list-style-type", specified=True, shorthands=True, ua=True)
         self.assertEqual(str(found[-1]), "list-style: square")
         self.assertEqual(
             str(sheet.style(tree, "list-style-type", shorthands=True, ua=True)[-1]),
@@ -108,9 +100,7 @@ class UserAgent(unittest.TestCase):
                 for ua in (False, True):
                     weight = sheet.style(tree, "font-weight", ua=ua)[-1]
                     self.assertEqual(weight and weight.value, value if ua else None)
-                    self.assertEqual(
-                        str(sheet.style(tree, "top", ua=ua)[-1]), "top: 1px"
-                    )
+                    self.assertEqual(str(sheet.style(tree, "top", ua=ua)[-1]), "top: 1px")
 
     def test_limits(self) -> None:
         """The limits of a sheet count what is theirs, too."""
@@ -134,12 +124,8 @@ class UserAgent(unittest.TestCase):
 class Families(unittest.TestCase):
     def test_shorthands(self) -> None:
         """A shorthand is of the family of what it sets, and so are two names of one property."""
-        for name in {each for part in longhands("all") for each in shorthands(part)} - {
-            "all"
-        }:
-            self.assertEqual(
-                {family_of(each) for each in longhands(name)}, {family_of(name)}
-            )
+        for name in {each for part in longhands("all") for each in shorthands(part)} - {"all"}:
+            self.assertEqual({family_of(each) for each in longhands(name)}, {family_of(name)})
         for one, other in (("word-wrap", "overflow-wrap"), ("grid-gap", "row-gap")):
             self.assertEqual(family_of(one), family_of(other))
 
@@ -154,9 +140,7 @@ class Resolved(unittest.TestCase):
 
     def test_invalid(self) -> None:
         """A declaration that is invalid at computed-value time is left out, with those of circles."""
-        found = by_name(
-            "div{--a:var(--b);--b:var(--a);--c:initial;color:var(--c,var(--a,1px))}"
-        )
+        found = by_name("div{--a:var(--b);--b:var(--a);--c:initial;color:var(--c,var(--a,1px))}")
         self.assertEqual(found[0], {"--x": "blue", "color": "1px"})
         self.assertNotIn("margin", by_name("div{margin:var(--nothing)}")[0])
 
@@ -167,15 +151,11 @@ class Resolved(unittest.TestCase):
             ("--b", "var(--a, 1)"),
             ("--c", "var(--b, 1)"),
         ]
-        self.assertEqual(
-            computed([*circle, ("--d", "var(--a, 1)")]), [None, None, None, "1"]
-        )
+        self.assertEqual(computed([*circle, ("--d", "var(--a, 1)")]), [None, None, None, "1"])
         alone = [("--a", "var(--a) var(--b)"), ("--b", "var(--a, 1)")]
         self.assertEqual(computed(alone), [None, None])
         # A fallback that is not needed is not read.
-        self.assertEqual(
-            computed([("--a", "var(--x, var(--a))"), ("--x", "1")]), ["1", "1"]
-        )
+        self.assertEqual(computed([("--a", "var(--x, var(--a))"), ("--x", "1")]), ["1", "1"])
 
     def test_registered(self) -> None:
         """A registered property has its initial value, and parents hand it down if it says so (CSS
@@ -187,14 +167,10 @@ class Resolved(unittest.TestCase):
             '@property --y{syntax:"<length>";inherits:false}b{@property --y{}}'
             "div{--y:1px}p{--x:var(--y);width:var(--y);top:var(--z)}"
         )
-        div, first, bold, second = by_name(
-            rules + "b{left:var(--x);right:var(--y,0);--y:var(--q)}"
-        )
+        div, first, bold, second = by_name(rules + "b{left:var(--x);right:var(--y,0);--y:var(--q)}")
         self.assertEqual(div, {"--x": "blue", "--y": "1px"})
         self.assertEqual(first, {"--x": "3px", "width": "3px", "top": "a"})
-        self.assertEqual(
-            bold, {"--x": "3px", "left": "3px", "right": "3px", "--y": "3px"}
-        )
+        self.assertEqual(bold, {"--x": "3px", "left": "3px", "right": "3px", "--y": "3px"})
         self.assertEqual(second, first)
         # What has no value hands none down.
         found = by_name(rules + "div{--z:initial}p{--z:var(--q)}b{left:var(--z,none)}")
@@ -212,13 +188,9 @@ class Resolved(unittest.TestCase):
             ("var(--q)", "1"),
         ):
             for text in (value, f"var(--q, {value})"):
-                self.assertEqual(
-                    computed([("--r", text)], [("--r", "2")], rules), [due], text
-                )
+                self.assertEqual(computed([("--r", text)], [("--r", "2")], rules), [due], text)
         for value, plain in (("inherit", "2"), ("unset", "2"), ("initial", None)):
-            self.assertEqual(
-                computed([("--s", f"var(--q,{value})")], [("--s", "2")]), [plain]
-            )
+            self.assertEqual(computed([("--s", f"var(--q,{value})")], [("--s", "2")]), [plain])
 
     def test_names(self) -> None:
         """Names compare as they are, but for escapes."""
@@ -295,14 +267,10 @@ class Names(unittest.TestCase):
             ("x", "[var(--é)]"),
         ]
         own.append(("--é", "é"))
-        self.assertEqual(
-            resolve(own, [("--m", "blue")]), ["blue", None, None, "[é]", "é"]
-        )
+        self.assertEqual(resolve(own, [("--m", "blue")]), ["blue", None, None, "[é]", "é"])
         self.assertEqual(resolve(own, limit=2), [None, None, None, None, "é"])
         rules = [("--m", 'syntax: "*"; inherits: false; initial-value: green')]
-        self.assertEqual(
-            resolve(iter(own), [("--m", "blue")], registered=rules)[0], "green"
-        )
+        self.assertEqual(resolve(iter(own), [("--m", "blue")], registered=rules)[0], "green")
 
     def test_valid(self) -> None:
         for value in ("red", "var(--a)", "f(var( --a , ))", "var(--a,var(--b))"):

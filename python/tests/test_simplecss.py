@@ -77,17 +77,13 @@ class Selectors(unittest.TestCase):
     def test_text_and_specificity(self):
         for text, printed, specificity in PRINTED:
             selector = simplecss.Selector(text)
-            self.assertEqual(
-                (str(selector), selector.specificity), (printed, specificity), text
-            )
+            self.assertEqual((str(selector), selector.specificity), (printed, specificity), text)
             self.assertEqual(simplecss.Selector(str(selector)), selector)
         self.assertEqual(simplecss.Selector("p::before").pseudo_element, "before")
 
     def test_those_of_the_crate(self):
         selector = simplecss.Selector("ul>li.a", grammar="simplecss")
-        self.assertEqual(
-            (str(selector), selector.specificity), ("ul > li[class~='a']", (0, 1, 2))
-        )
+        self.assertEqual((str(selector), selector.specificity), ("ul > li[class~='a']", (0, 1, 2)))
         self.assertNotEqual(selector, simplecss.Selector(str(selector)))
         with self.assertRaises(ValueError):
             simplecss.Selector("a", grammar="css")
@@ -180,9 +176,7 @@ class Sheets(unittest.TestCase):
             [rule.specificity for rule in rules],
             [(0, 0, 1), (0, 1, 1), (0, 1, 1), (1, 0, 0)],
         )
-        self.assertEqual(
-            rules[0].declarations, (("color", "red", False), ("margin", "0", False))
-        )
+        self.assertEqual(rules[0].declarations, (("color", "red", False), ("margin", "0", False)))
         self.assertTrue(rules[1].declarations[0].important)
 
     def test_texts_are_read_one_after_another(self):
@@ -202,15 +196,11 @@ class Sheets(unittest.TestCase):
 
     def test_printed_rules_in_rules(self):
         """What is printed says the same, also of rules in rules, and of what the text leaves open."""
-        sheet = simplecss.StyleSheet(
-            "p { a: b; &:hover { c: d } e: f; @media print { & i { g: h"
-        )
+        sheet = simplecss.StyleSheet("p { a: b; &:hover { c: d } e: f; @media print { & i { g: h")
         printed = "p { a:b;&:hover { c: d }e:f;@media print { & i { g: h} } }"
         self.assertEqual(str(sheet), printed)
         self.assertEqual(str(simplecss.StyleSheet("a{b:c\\")), "a { b:c\\\ufffd; }")
-        self.assertEqual(
-            str(simplecss.StyleSheet("@import 'a", "b{}")), "@import 'a';\nb { }"
-        )
+        self.assertEqual(str(simplecss.StyleSheet("@import 'a", "b{}")), "@import 'a';\nb { }")
         parts = "a:b; c:d!important; &:hover{x:y} &_b{c:d; } @media_print{x:y} x{ { e:f /* p{&_q{a:b}c:d}"
         parts += " >z{a:b} @layer_k{&{a:b}} \\ bad i,b{m:n} @x_(; @font-face{a:'x"
         words = [each.replace("_", " ") for each in parts.split(" ")]
@@ -230,17 +220,11 @@ class Sheets(unittest.TestCase):
         sheet = simplecss.StyleSheet(text)
         every = [*sheet.at_rules, *sheet.rules, *sheet.unsupported]
         made = simplecss.StyleSheet.of_rules(every)
-        self.assertEqual(
-            [each for each in made.rules if each.declarations], list(sheet.rules)
-        )
-        self.assertEqual(
-            (made.at_rules, made.unsupported), (sheet.at_rules, sheet.unsupported)
-        )
+        self.assertEqual([each for each in made.rules if each.declarations], list(sheet.rules))
+        self.assertEqual((made.at_rules, made.unsupported), (sheet.at_rules, sheet.unsupported))
         first = sheet.rules[0]
         red = simplecss.Declaration("color", "red", False)
-        changed = simplecss.StyleSheet.of_rules(
-            [first._replace(selector="b", declarations=(red,))]
-        )
+        changed = simplecss.StyleSheet.of_rules([first._replace(selector="b", declarations=(red,))])
         self.assertEqual(str(changed), "b { color:red; }")
         for value in (
             "x; y: z",
@@ -341,9 +325,7 @@ class Modern(unittest.TestCase):
             ("n: url(a", "n: url(a)"),
             ("n: f(/*", "n: f(/**/)"),
         ):
-            self.assertEqual(
-                "; ".join(map(str, simplecss.declarations(block))), expected, block
-            )
+            self.assertEqual("; ".join(map(str, simplecss.declarations(block))), expected, block)
 
     def test_media(self):
         css = (
@@ -352,9 +334,7 @@ class Modern(unittest.TestCase):
         )
         self.assertEqual(self.styles(css), ["m: 2", "o: 3; q: 4; r: 5"])
         self.assertEqual(self.styles(css, media="print"), ["n: 1", "o: 3; r: 5"])
-        self.assertEqual(
-            self.styles(css, media=lambda prelude: "(" in prelude), ["", "r: 5; s: 6"]
-        )
+        self.assertEqual(self.styles(css, media=lambda prelude: "(" in prelude), ["", "r: 5; s: 6"])
         asked = []
         self.styles(css, media=asked.append)
         self.assertEqual(
@@ -392,22 +372,14 @@ class Modern(unittest.TestCase):
         parts = r"a| |>|.b|[d=e]|::before|,|, |~|:is(a,b c)|\62 |/*,*/|:not(a, b)|\,|[d='x,y']|:lang(en, fr)"
         words, choose, count = parts.split("|"), random.Random(1), 0
         while count < 300:
-            text = "".join(
-                choose.choice(words) for _ in range(choose.randrange(3, 9))
-            ).encode()
-            answer = library.call(
-                "simplecss_list", text, 0, room=200, width=library.WIDTH
-            )
+            text = "".join(choose.choice(words) for _ in range(choose.randrange(3, 9))).encode()
+            answer = library.call("simplecss_list", text, 0, room=200, width=library.WIDTH)
             rows = list(library.rows_of(library.numbers_in(answer.output), 10))
             if len(rows) > 1:
                 count += 1
                 found = listed(text.decode())
-                alone = [
-                    text[start : start + length].decode() for start, length, *_ in rows
-                ]
-                self.assertEqual(
-                    [listed(each) for each in alone], [[each] for each in found], text
-                )
+                alone = [text[start : start + length].decode() for start, length, *_ in rows]
+                self.assertEqual([listed(each) for each in alone], [[each] for each in found], text)
 
     def test_of_any_element(self):
         sheet = simplecss.StyleSheet(
@@ -416,9 +388,7 @@ class Modern(unittest.TestCase):
         )
         self.assertEqual(
             sorted(
-                (rule.selector, rule.pseudo_element)
-                for rule in sheet.rules
-                if rule.declarations
+                (rule.selector, rule.pseudo_element) for rule in sheet.rules if rule.declarations
             ),
             [
                 ("> *", "backdrop"),
@@ -430,14 +400,9 @@ class Modern(unittest.TestCase):
         )
 
     def test_pseudo_elements(self):
-        sheet = simplecss.StyleSheet(
-            "p::before, .a:After, p { n: 1 } ::marker { m: 2 }"
-        )
+        sheet = simplecss.StyleSheet("p::before, .a:After, p { n: 1 } ::marker { m: 2 }")
         self.assertEqual(
-            [
-                (rule.selector, rule.specificity, rule.pseudo_element)
-                for rule in sheet.rules
-            ],
+            [(rule.selector, rule.specificity, rule.pseudo_element) for rule in sheet.rules],
             [
                 ("p", (0, 0, 1), None),
                 ("*", (0, 0, 1), "marker"),
@@ -463,9 +428,7 @@ class Modern(unittest.TestCase):
 
     def test_the_cascade(self):
         self.assertEqual(
-            self.styles(
-                ".a { n: 1; n: 2 } p { n: 3 !important; m: 4 } p { m: 5; n: 6 }"
-            ),
+            self.styles(".a { n: 1; n: 2 } p { n: 3 !important; m: 4 } p { m: 5; n: 6 }"),
             ["n: 3 !important; m: 5", ""],
         )
         self.assertEqual(
@@ -582,11 +545,7 @@ class Nested(unittest.TestCase):
                     # What matches an element has the same declarations.
                     found = [
                         [
-                            {
-                                each
-                                for rule in rules
-                                for each in sheet.rules[rule].declarations
-                            }
+                            {each for rule in rules for each in sheet.rules[rule].declarations}
                             for rules in sheet.match(tree, media=media)
                         ]
                         for sheet in (ours, theirs)
@@ -614,9 +573,7 @@ class Nested(unittest.TestCase):
             ],
         )
         last = simplecss.StyleSheet(text).rules[-1]
-        self.assertEqual(
-            (last.pseudo_element, last.conditions), ("before", (("media", "x"),))
-        )
+        self.assertEqual((last.pseudo_element, last.conditions), ("before", (("media", "x"),)))
 
     def test_deep(self):
         """Rules in 90 others take no longer than their text, and are rules."""
@@ -688,21 +645,15 @@ class Trees(unittest.TestCase):
         )
 
     def test_misnested_tags(self):
-        self.assertEqual(
-            self.names("<b><p>a</b>b</p>"), [("b", None), ("p", None), ("b", 1)]
-        )
+        self.assertEqual(self.names("<b><p>a</b>b</p>"), [("b", None), ("p", None), ("b", 1)])
         self.assertEqual(
             self.names("<table><b>a<tr><td>b</table>"),
             [("b", None), ("table", None), ("tbody", 1), ("tr", 2), ("td", 3)],
         )
-        self.assertEqual(
-            self.names("</p></br><image>"), [("p", None), ("br", None), ("img", None)]
-        )
+        self.assertEqual(self.names("</p></br><image>"), [("p", None), ("br", None), ("img", None)])
 
     def test_second_html_and_body(self):
-        tree = simplecss.Tree.from_html(
-            "<html a=1><body b=2><html a=3 c=4><body b=5 d=6>"
-        )
+        tree = simplecss.Tree.from_html("<html a=1><body b=2><html a=3 c=4><body b=5 d=6>")
         self.assertEqual(tree[0].attributes, {"a": "1", "c": "4"})
         self.assertEqual(tree.select_one("body").attributes, {"b": "2", "d": "6"})
 
@@ -710,9 +661,7 @@ class Trees(unittest.TestCase):
         self.assertEqual(
             self.names("<template><p></template><i>"), [("template", None), ("i", None)]
         )
-        self.assertEqual(
-            self.names("<!--><b><!-- > --!><i><!-- <u>"), [("b", None), ("i", 0)]
-        )
+        self.assertEqual(self.names("<!--><b><!-- > --!><i><!-- <u>"), [("b", None), ("i", 0)])
 
     def test_void_and_raw(self):
         self.assertEqual(
@@ -727,9 +676,7 @@ class Trees(unittest.TestCase):
     def test_attributes(self):
         tree = simplecss.Tree.from_html("\n<A Href='x&amp;y&copy=1' href=z hidden b=/>")
         link = tree.select_one("a")
-        self.assertEqual(
-            link.attributes, {"href": "x&y&copy=1", "hidden": "", "b": "/"}
-        )
+        self.assertEqual(link.attributes, {"href": "x&y&copy=1", "hidden": "", "b": "/"})
         self.assertEqual((link.row, link.column), (2, 1))
         self.assertIsNone(tree[0].row)
 
@@ -746,9 +693,7 @@ class Trees(unittest.TestCase):
         ):
             simplecss.Tree.from_html(unit * (200_000 // len(unit)))
         with self.assertRaises(simplecss.TreeError):
-            simplecss.Tree.from_html(
-                "".join(f"<b id={number}><p>" for number in range(20_000))
-            )
+            simplecss.Tree.from_html("".join(f"<b id={number}><p>" for number in range(20_000)))
 
     def test_xml(self):
         text = (
@@ -756,12 +701,8 @@ class Trees(unittest.TestCase):
             '<linearGradient id="a"/><!-- b -->\n é<use x:href="#a"/></svg>'
         )
         tree = simplecss.Tree.from_xml(text)
-        self.assertEqual(
-            [element.name for element in tree], ["svg", "linearGradient", "use"]
-        )
-        self.assertEqual(
-            tree.select("use[href='#a'], linearGradient"), [tree[1], tree[2]]
-        )
+        self.assertEqual([element.name for element in tree], ["svg", "linearGradient", "use"])
+        self.assertEqual(tree.select("use[href='#a'], linearGradient"), [tree[1], tree[2]])
         self.assertEqual(tree.select("lineargradient"), [])
         self.assertEqual(
             [(element.row, element.column) for element in tree],
@@ -797,17 +738,13 @@ class Trees(unittest.TestCase):
         for value in ("a b", "\x01", "a=b", "a\tb", "\t", ""):
             self.assertEqual(found(f"[k='{value}']"), [value])
         self.assertEqual(found("[k~='a']"), ["a\nb", "a\tb", "a b"])
-        self.assertEqual(
-            tree.select("[k~='a']", grammar="simplecss"), [tree[values.index("a b")]]
-        )
+        self.assertEqual(tree.select("[k~='a']", grammar="simplecss"), [tree[values.index("a b")]])
 
     def test_class_words(self):
         tree = simplecss.Tree.from_html('<a class="x\n\ty">')
         for grammar in ("modern", "simplecss"):
             self.assertEqual(tree.select(".x.y", grammar=grammar), [tree[3]])
-            self.assertEqual(
-                tree.select("[class='x y'], [class='x']", grammar=grammar), []
-            )
+            self.assertEqual(tree.select("[class='x y'], [class='x']", grammar=grammar), [])
 
     def test_languages(self):
         tree = simplecss.Tree.from_html("<div lang=de-AT><p>a<p lang=EN>b</div><p>c")
@@ -832,9 +769,7 @@ class Trees(unittest.TestCase):
     def test_states(self):
         page = "<a href=x>1</a><a>2</a><a href=y id=y>3</a><map><area href>"
         tree = simplecss.Tree.from_html(page)
-        self.assertEqual(
-            [each.name for each in tree.select(":link")], ["a", "a", "area"]
-        )
+        self.assertEqual([each.name for each in tree.select(":link")], ["a", "a", "area"])
         self.assertEqual(tree.select("a:hover, a:visited"), [])
         tree = simplecss.Tree.from_html(page, {"#y": "visited", "a": ["hover"]})
         self.assertEqual([each.text for each in tree.select("a:link")], ["1"])
@@ -901,21 +836,15 @@ class Trees(unittest.TestCase):
 class OtherTrees(unittest.TestCase):
     """Trees of other packages, each left out where the package is missing."""
 
-    PAGE = (
-        "<!DOCTYPE html><title>t</title><P CLASS='a b' TYPE=X>one<A HREF=x>two</A></P>"
-    )
+    PAGE = "<!DOCTYPE html><title>t</title><P CLASS='a b' TYPE=X>one<A HREF=x>two</A></P>"
     EMPTY = "<div><p><!-- x --></p><b> </b><i></i>x<u><s></s></u></div>"
 
     def check(self, tree, other):
-        self.assertEqual(
-            [each.name for each in other.select("div :empty")], ["p", "i", "s"]
-        )
+        self.assertEqual([each.name for each in other.select("div :empty")], ["p", "i", "s"])
         link = tree.select_one(
             "p.a[type=x]:not(:last-child, .c) > A:link, p.a[type=x] > A:any-link"
         )
-        self.assertEqual(
-            (link.name, link.text, link.attributes["href"]), ("a", "two", "x")
-        )
+        self.assertEqual((link.name, link.text, link.attributes["href"]), ("a", "two", "x"))
         self.assertEqual(tree.select("p")[0].text, "onetwo")
         self.assertEqual(tree.select(".A"), [])
         return link.node
@@ -928,9 +857,7 @@ class OtherTrees(unittest.TestCase):
             self.skipTest("there is no lxml")
         root = lxml.html.document_fromstring(self.PAGE)
         other = simplecss.Tree.from_lxml(lxml.html.document_fromstring(self.EMPTY))
-        self.assertIs(
-            self.check(simplecss.Tree.from_lxml(root), other), root.find(".//a")
-        )
+        self.assertIs(self.check(simplecss.Tree.from_lxml(root), other), root.find(".//a"))
         root = lxml.etree.fromstring("<!-- --><r xmlns='x'><?y?><A b='c'>d</A>e</r>")
         tree = simplecss.Tree.from_lxml(root.getroottree())
         self.assertEqual([each.name for each in tree], ["r", "A"])
@@ -965,18 +892,12 @@ class Elements(unittest.TestCase):
 
     def test_what_an_element_has(self):
         first = self.tree.select_one("li")
-        self.assertEqual(
-            (first.index, first.name, first.attributes), (4, "li", {"class": "a b"})
-        )
+        self.assertEqual((first.index, first.name, first.attributes), (4, "li", {"class": "a b"}))
         self.assertEqual(first.parent, self.tree.select_one("ul"))
         self.assertEqual([each.name for each in first.parent.children], ["li", "li"])
-        self.assertEqual(
-            (first.text, first.source), ("one 1 ", "<li class='a b'>one <i>1</i> ")
-        )
+        self.assertEqual((first.text, first.source), ("one 1 ", "<li class='a b'>one <i>1</i> "))
         self.assertEqual(self.tree.select_one("body").text, "one 1 twothree")
-        self.assertEqual(
-            (first.row, first.column, repr(first)), (1, 10, '<li class="a b">')
-        )
+        self.assertEqual((first.row, first.column, repr(first)), (1, 10, '<li class="a b">'))
         self.assertIsNone(self.tree[0].parent)
 
     def test_searches(self):
@@ -985,9 +906,7 @@ class Elements(unittest.TestCase):
         self.assertFalse(inner.matches("ul > i"))
         self.assertEqual(inner.closest("ul, li").name, "li")
         self.assertIsNone(inner.closest("table"))
-        self.assertEqual(
-            self.tree.select_one("ul").select("*"), self.tree.select("li, i")
-        )
+        self.assertEqual(self.tree.select_one("ul").select("*"), self.tree.select("li, i"))
         self.assertEqual(self.tree.select_one("li").select("li"), [])
         self.assertEqual(list(self.tree.iselect("li")), self.tree.select("li"))
         self.assertIsNone(self.tree.select_one("table"))
@@ -1009,9 +928,7 @@ class Elements(unittest.TestCase):
 
     def test_values_can_be_pickled(self):
         first = pickle.loads(pickle.dumps(self.tree.select_one("li")))
-        self.assertEqual(
-            (first.text, first.row, len(first.tree.select("li"))), ("one 1 ", 1, 2)
-        )
+        self.assertEqual((first.text, first.row, len(first.tree.select("li"))), ("one 1 ", 1, 2))
         sheet = simplecss.StyleSheet("a{b:c}", "d{e:f}")
         self.assertEqual(pickle.loads(pickle.dumps(sheet)).rules, sheet.rules)
         for error in (
@@ -1095,9 +1012,7 @@ class Matching(unittest.TestCase):
         self.assertEqual(sheet.style(tree, "top")[tree.select_one("p")].value, "1px")
 
     def test_presentation(self):
-        tree = simplecss.Tree.from_html(
-            "<p align=right><p align='a;b: c'><p align='x !important'>"
-        )
+        tree = simplecss.Tree.from_html("<p align=right><p align='a;b: c'><p align='x !important'>")
         sheet = simplecss.StyleSheet(
             "* { text-align: inherit; a: b }",
             "@layer { .x { text-align: left } }",
@@ -1114,17 +1029,13 @@ class Matching(unittest.TestCase):
             # After what is the user's; a value alone is none.
             [["a: b", "text-align: right"]] + [["text-align: inherit", "a: b"]] * 2,
         )
-        found = sheet.style(
-            tree, "TEXT-align", specified=True, presentation=presentation
-        )
+        found = sheet.style(tree, "TEXT-align", specified=True, presentation=presentation)
         self.assertEqual(str(found[tree.select("p")[0]]), "text-align: right")
 
     def test_origins(self):
         text = "p { a: b !important; c: d }"
         tree = simplecss.Tree.from_html("<p>")
-        sheet = simplecss.StyleSheet(
-            text, text.replace("b", "e"), origins=["user-agent", "author"]
-        )
+        sheet = simplecss.StyleSheet(text, text.replace("b", "e"), origins=["user-agent", "author"])
         for each in (sheet, pickle.loads(pickle.dumps(sheet))):
             won = [str(one) for one in each.styles(tree)[-1]]
             self.assertEqual(won, ["a: b !important", "c: d"])
@@ -1139,18 +1050,14 @@ class Matching(unittest.TestCase):
             simplecss.StyleSheet(text, origins=("user", "user"))
 
     def test_inherit(self):
-        sheet = simplecss.StyleSheet(
-            "ul { color: red; top: 1px; left: 2px } .a { top: inherit }"
-        )
+        sheet = simplecss.StyleSheet("ul { color: red; top: 1px; left: 2px } .a { top: inherit }")
         tree = simplecss.Tree.from_html("<ul><li class=a><b>")
         styles = sheet.styles(tree, inherit=True)
         self.assertEqual(
             [str(each) for each in styles[tree.select_one("li")]],
             ["color: red", "top: 1px"],
         )
-        self.assertEqual(
-            [str(each) for each in styles[tree.select_one("b")]], ["color: red"]
-        )
+        self.assertEqual([str(each) for each in styles[tree.select_one("b")]], ["color: red"])
         found = sheet.style(tree, "left", inherit=["left"])
         self.assertEqual(found[tree.select_one("b")].value, "2px")
 
@@ -1169,9 +1076,7 @@ class LongTexts(unittest.TestCase):
     def test_long_texts(self):
         rule = "a{b:c}"
         for grammar, length in (("simplecss", 10_000_000), ("modern", 600_000)):
-            sheet = simplecss.StyleSheet(
-                rule * (length // len(rule)), limit=None, grammar=grammar
-            )
+            sheet = simplecss.StyleSheet(rule * (length // len(rule)), limit=None, grammar=grammar)
             self.assertEqual(len(str(sheet).split("\n")), length // len(rule))
 
 
@@ -1193,9 +1098,7 @@ class Inlining(unittest.TestCase):
             "<head><style>\na:hover { c: d }\n@media print { a { b: c } }\n</style></head>"
             '<b style="c: d">',
         )
-        self.assertEqual(
-            simplecss.inline("<style>b { c: d }</style><b/>"), '<b style="c: d"/>'
-        )
+        self.assertEqual(simplecss.inline("<style>b { c: d }</style><b/>"), '<b style="c: d"/>')
         self.assertEqual(
             simplecss.inline("<html><body><b>", "a:hover { c: d }"),
             "<html><style>\na:hover { c: d }\n</style><body><b>",
@@ -1206,9 +1109,7 @@ class Inlining(unittest.TestCase):
             simplecss.inline("<b style='c: d'>", 'b { e: "f\'&" }'),
             "<b style='e: \"f&#39;&amp;\"; c: d'>",
         )
-        self.assertEqual(
-            simplecss.inline("<b>", 'b { e: "f" }'), '<b style="e: &quot;f&quot;">'
-        )
+        self.assertEqual(simplecss.inline("<b>", 'b { e: "f" }'), '<b style="e: &quot;f&quot;">')
 
     def test_nothing_changes(self):
         text = "<!DOCTYPE html>\r\n<!-- <b> --><B a='x' >&amp;<br/><i\n>\t</i></b ><![CDATA[x]]>"
@@ -1249,16 +1150,12 @@ class CommandLine(unittest.TestCase):
             self.lines("select", "li", self.page)[0],
             f'{self.page}:1:5: <li class="a b">',
         )
-        self.assertEqual(
-            self.lines("select", "body", self.page), [f"{self.page}: <body>"]
-        )
+        self.assertEqual(self.lines("select", "body", self.page), [f"{self.page}: <body>"])
         self.assertEqual(
             self.lines("select", "--text", "li, p", self.page), ["one", "two", "three"]
         )
         self.assertEqual(self.lines("select", "--attr", "id", "li", self.page), ["x"])
-        self.assertEqual(
-            self.lines("select", "--html", "li", self.page)[1], "<li id=x>two"
-        )
+        self.assertEqual(self.lines("select", "--html", "li", self.page)[1], "<li id=x>two")
         self.assertEqual(self.lines("select", "--count", "li", self.page), ["2"])
         self.assertEqual(
             self.lines("select", "--count", "li", self.page, self.page),
@@ -1276,17 +1173,11 @@ class CommandLine(unittest.TestCase):
                 "attributes": {"id": "x"},
             },
         )
-        self.assertEqual(
-            self.run_command("select", "--quiet", "li", self.page), (0, "", "")
-        )
-        self.assertEqual(
-            self.run_command("select", "--quiet", "table", self.page), (1, "", "")
-        )
+        self.assertEqual(self.run_command("select", "--quiet", "li", self.page), (0, "", ""))
+        self.assertEqual(self.run_command("select", "--quiet", "table", self.page), (1, "", ""))
         self.assertEqual(self.lines("select", "--count", "li ~ li", self.page), ["1"])
         self.assertEqual(
-            self.run_command("select", "--grammar", "simplecss", "li ~ li", self.page)[
-                ::2
-            ],
+            self.run_command("select", "--grammar", "simplecss", "li ~ li", self.page)[::2],
             (1, "simplecss: selector refused: 1:4: invalid ident\n"),
         )
 
@@ -1312,15 +1203,13 @@ class CommandLine(unittest.TestCase):
             file.write(page)
         words = [sys.executable, "-m", "simplecss", "inline", self.page, self.sheet]
         folder = os.path.dirname(os.path.dirname(simplecss.__file__))
-        made = subprocess.run(
-            words, env={**os.environ, "PYTHONPATH": folder}, capture_output=True
-        )
+        made = subprocess.run(words, env={**os.environ, "PYTHONPATH": folder}, capture_output=True)
         self.assertEqual((made.returncode, made.stderr), (0, b""))
         self.assertEqual(
             made.stdout,
-            page.replace(
-                b"<p>", b"<style>\r\np:hover { top: 1px }\r\n</style><p>"
-            ).replace(b"<li>", b'<li style="color: red; margin: 0">'),
+            page.replace(b"<p>", b"<style>\r\np:hover { top: 1px }\r\n</style><p>").replace(
+                b"<li>", b'<li style="color: red; margin: 0">'
+            ),
         )
 
     def write(self, name, text):
@@ -1334,12 +1223,8 @@ class CommandLine(unittest.TestCase):
         self.assertEqual(self.run_command("lint", self.sheet), (1, finding, ""))
         status, out, err = self.run_command("lint", self.sheet + "x", self.sheet)
         self.assertEqual((status, out, err.count("\n")), (4, finding, 1))
-        self.assertEqual(
-            self.run_command("lint", "--ignore", "broken", self.sheet)[0], 0
-        )
-        self.assertEqual(
-            self.run_command("lint", "--select", "broken", self.sheet)[0], 1
-        )
+        self.assertEqual(self.run_command("lint", "--ignore", "broken", self.sheet)[0], 0)
+        self.assertEqual(self.run_command("lint", "--select", "broken", self.sheet)[0], 1)
 
     def kinds(self, text, *words, name=None):
         """The kinds that are reported, with what they are of. The names are made up."""
@@ -1448,9 +1333,7 @@ class CommandLine(unittest.TestCase):
         )
 
     def test_marks_around_a_sheet(self):
-        self.write(
-            self.page, "<style>\n<!-- p { color: green } a < b {} -->\n</style><p>"
-        )
+        self.write(self.page, "<style>\n<!-- p { color: green } a < b {} -->\n</style><p>")
         self.assertEqual(
             self.lines("style", "color", self.page),
             [f"{self.page}:3:9: <p> color: green"],
@@ -1472,9 +1355,7 @@ class CommandLine(unittest.TestCase):
         log = json.loads(out)
         self.assertEqual(log["version"], "2.1.0")
         result = log["runs"][0]["results"][0]
-        self.assertEqual(
-            result["ruleId"], log["runs"][0]["tool"]["driver"]["rules"][0]["id"]
-        )
+        self.assertEqual(result["ruleId"], log["runs"][0]["tool"]["driver"]["rules"][0]["id"])
         self.assertEqual(
             result["locations"][0]["physicalLocation"]["region"],
             {"startLine": 1, "startColumn": 1, "endLine": 3, "endColumn": 7},
@@ -1491,12 +1372,8 @@ class CommandLine(unittest.TestCase):
             self.run_command("select", "--grammar", word, "li", self.page)
             for word in ("modern", "today")
         )
-        self.assertEqual(
-            old, (*new[:2], "simplecss: --grammar today is now --grammar modern\n")
-        )
-        self.assertEqual(
-            self.run_command("select", "--grammar", "css", "li", self.page)[0], 2
-        )
+        self.assertEqual(old, (*new[:2], "simplecss: --grammar today is now --grammar modern\n"))
+        self.assertEqual(self.run_command("select", "--grammar", "css", "li", self.page)[0], 2)
 
     def test_statuses(self):
         self.assertEqual(self.run_command("select", "li,", self.page)[0], 1)
@@ -1519,9 +1396,7 @@ class CommandLine(unittest.TestCase):
             "PAGE": self.page,
             "RUN": f"{sys.executable} -m simplecss",
         }
-        made = subprocess.run(
-            ["sh", "-c", line], env=env, capture_output=True, text=True
-        )
+        made = subprocess.run(["sh", "-c", line], env=env, capture_output=True, text=True)
         return made.returncode, made.stdout, made.stderr
 
     def test_streams(self):
@@ -1555,9 +1430,7 @@ class Versions(unittest.TestCase):
         top = os.path.join(os.path.dirname(os.path.abspath(__file__)), "..", "..")
         header = os.path.join(top, "include", "simplecss.h")
         with open(header, encoding="utf-8") as file:
-            self.assertIn(
-                f'#define SIMPLECSS_VERSION "{simplecss.__version__}"\n', file.read()
-            )
+            self.assertIn(f'#define SIMPLECSS_VERSION "{simplecss.__version__}"\n', file.read())
 
 
 class OldNames(unittest.TestCase):
@@ -1581,9 +1454,7 @@ class OldNames(unittest.TestCase):
             bold.closest,
             bold.parent.select,
             lambda text, grammar: simplecss.Selector(text, grammar=grammar),
-            lambda text, grammar: simplecss.StyleSheet(
-                text + "{}", grammar=grammar
-            ).match(tree),
+            lambda text, grammar: simplecss.StyleSheet(text + "{}", grammar=grammar).match(tree),
         ):
             self.assertEqual(
                 self.warned(lambda: call("p > b", grammar="today")),
@@ -1605,12 +1476,8 @@ class Syntax(unittest.TestCase):
         found = {}
         for path in pathlib.Path(folder).rglob("*.py"):
             name = str(path.relative_to(folder))
-            found[name] = ast.parse(
-                path.read_text("utf-8"), name, feature_version=(3, 9)
-            )
-        self.assertLessEqual(
-            {"_sheet.py", os.path.join("html", "_builder.py")}, found.keys()
-        )
+            found[name] = ast.parse(path.read_text("utf-8"), name, feature_version=(3, 9))
+        self.assertLessEqual({"_sheet.py", os.path.join("html", "_builder.py")}, found.keys())
         return found
 
     def test_python_3_9(self):
@@ -1619,22 +1486,14 @@ class Syntax(unittest.TestCase):
     def test_private_names(self):
         """No module uses a name with an underscore that another one defines, but for modules."""
         modules = self.modules()
-        defined = {
-            name: set(_private(_defined(tree))) for name, tree in modules.items()
-        }
+        defined = {name: set(_private(_defined(tree))) for name, tree in modules.items()}
         for name, tree in modules.items():
-            others = set().union(
-                *(names for other, names in defined.items() if other != name)
-            )
-            self.assertEqual(
-                sorted(set(_private(_used(tree))) & others - defined[name]), [], name
-            )
+            others = set().union(*(names for other, names in defined.items() if other != name))
+            self.assertEqual(sorted(set(_private(_used(tree))) & others - defined[name]), [], name)
 
 
 def _private(names):
-    return (
-        name for name in names if name.startswith("_") and not name.startswith("__")
-    )
+    return (name for name in names if name.startswith("_") and not name.startswith("__"))
 
 
 def _defined(tree):
@@ -1642,9 +1501,7 @@ def _defined(tree):
     for node in ast.walk(tree):
         if isinstance(node, (ast.FunctionDef, ast.ClassDef)):
             yield node.name
-        elif isinstance(node, (ast.Name, ast.Attribute)) and isinstance(
-            node.ctx, ast.Store
-        ):
+        elif isinstance(node, (ast.Name, ast.Attribute)) and isinstance(node.ctx, ast.Store):
             yield node.id if isinstance(node, ast.Name) else node.attr
 
 

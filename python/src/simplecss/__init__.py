@@ -107,9 +107,7 @@ if not TYPE_CHECKING:
             return __getattr__("Unsupported")
         if name not in _MODULES:
             raise AttributeError(f"module {__name__!r} has no attribute {name!r}")
-        globals()[name] = found = getattr(
-            import_module("." + _MODULES[name], __name__), name
-        )
+        globals()[name] = found = getattr(import_module("." + _MODULES[name], __name__), name)
         return found
 
     def __dir__() -> "list[str]":

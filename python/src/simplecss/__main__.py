@@ -109,21 +109,14 @@ def _files_of(name: str, has_sheets: bool = False) -> List[_File]:
             if _is_wanted(each, has_sheets)
         ]
     found = sorted(glob.glob(name, recursive=True)) if glob.has_magic(name) else []
-    files = [
-        _File(each, os.path.basename(each)) for each in found if os.path.isfile(each)
-    ]
+    files = [_File(each, os.path.basename(each)) for each in found if os.path.isfile(each)]
     return files or [_File(name, os.path.basename(name))]
 
 
 def _is_pages(name: str) -> bool:
     """Whether a word names pages: by its extension, or as a folder or a pattern."""
     is_pattern = glob.has_magic(name) and not name.lower().endswith(".css")
-    return (
-        _lint.is_page(name)
-        or os.path.isdir(name)
-        or is_pattern
-        and not os.path.isfile(name)
-    )
+    return _lint.is_page(name) or os.path.isdir(name) or is_pattern and not os.path.isfile(name)
 
 
 def _parted(words: Sequence[str], page: int) -> Tuple[List[_File], List[str]]:
@@ -217,9 +210,7 @@ def _minify(words: argparse.Namespace) -> int:
     if pages:
         raise Failure(f"{pages[0]} is no style sheet", USAGE)
     files = [each for name in words.sheets for each in _files_of(name, True)]
-    return _write_each(
-        words, [each for each in files if not _lint.is_page(each.name)], "sheets"
-    )
+    return _write_each(words, [each for each in files if not _lint.is_page(each.name)], "sheets")
 
 
 def _write_each(words: argparse.Namespace, pages: Sequence[_File], kind: str) -> int:
@@ -230,9 +221,7 @@ def _write_each(words: argparse.Namespace, pages: Sequence[_File], kind: str) ->
             raise Failure(f"several {kind} need -o FOLDER", USAGE)
         return _show_each(words, pages)[0]
     output = Path(words.output)
-    is_folder = (
-        len(pages) != 1 or output.is_dir() or words.output.endswith(("/", os.sep))
-    )
+    is_folder = len(pages) != 1 or output.is_dir() or words.output.endswith(("/", os.sep))
     paths = [output / each.inner if is_folder else output for each in pages]
     if len(set(paths)) < len(paths):
         raise Failure(f"two of the {kind} have one name", USAGE)
@@ -246,9 +235,7 @@ def _write_each(words: argparse.Namespace, pages: Sequence[_File], kind: str) ->
                 path.parent.mkdir(parents=True, exist_ok=True)
                 path.write_bytes(outcome.output)
             except OSError as error:
-                raise Failure(
-                    f"cannot write {path}: {error.strerror}", UNREADABLE
-                ) from None
+                raise Failure(f"cannot write {path}: {error.strerror}", UNREADABLE) from None
     return status
 
 
@@ -286,9 +273,7 @@ def _lint_files(words: argparse.Namespace) -> int:
     return status or (REFUSED if found else DONE)
 
 
-def _linked_files(
-    words: argparse.Namespace, pages: Sequence[_File]
-) -> Tuple[int, List[str]]:
+def _linked_files(words: argparse.Namespace, pages: Sequence[_File]) -> Tuple[int, List[str]]:
     """Returns the status, and the files of the sheets that pages link to."""
     status, files = DONE, []
     for outcome in _each(_jobs.Linked(words, False), [each.name for each in pages]):
@@ -345,9 +330,7 @@ def _parser() -> argparse.ArgumentParser:
     parser = _ArgumentParser(
         prog="simplecss", description="Read, match, inline and check CSS in files."
     )
-    parser.add_argument(
-        "--version", action="version", version=f"simplecss {__version__}"
-    )
+    parser.add_argument("--version", action="version", version=f"simplecss {__version__}")
     commands = parser.add_subparsers(dest="command", required=True)
 
     def add(name: str, run: _Run, job: Type[Job], text: str) -> Any:
@@ -403,9 +386,7 @@ def _grammar(word: str) -> str:
 def _add_grammar(command: Any) -> None:
     text = "the grammar: that of browsers, or that of the Rust crate"
     choices = [MODERN, PORT]
-    command.add_argument(
-        "--grammar", type=_grammar, choices=choices, default=MODERN, help=text
-    )
+    command.add_argument("--grammar", type=_grammar, choices=choices, default=MODERN, help=text)
 
 
 def _add_folder(command: Any) -> None:
@@ -426,13 +407,9 @@ def _add_device(command: Any) -> None:
     text = "the media type (default: screen)"
     command.add_argument("--media", choices=TYPES, default=usual.type, help=text)
     text = "the width in pixels"
-    command.add_argument(
-        "--width", type=_pixels, default=usual.width, metavar="PX", help=text
-    )
+    command.add_argument("--width", type=_pixels, default=usual.width, metavar="PX", help=text)
     text = "the height in pixels"
-    command.add_argument(
-        "--height", type=_pixels, default=usual.height, metavar="PX", help=text
-    )
+    command.add_argument("--height", type=_pixels, default=usual.height, metavar="PX", help=text)
     command.add_argument("--dark", action="store_true", help="with dark colours")
 
 
@@ -446,21 +423,15 @@ def _add_reading(command: Any) -> None:
 
 def _add_select(command: Any) -> None:
     shown = command.add_mutually_exclusive_group()
-    shown.add_argument(
-        "--text", action="store_true", help="write the text of each element"
-    )
+    shown.add_argument("--text", action="store_true", help="write the text of each element")
     shown.add_argument("--attr", metavar="NAME", help="write the value of an attribute")
-    shown.add_argument(
-        "--html", action="store_true", help="write the source of each element"
-    )
+    shown.add_argument("--html", action="store_true", help="write the source of each element")
     shown.add_argument("--count", action="store_true", help="write how many there are")
     shown.add_argument(
         "--quiet", action="store_true", help="write nothing; status 1 if there are none"
     )
     _add_grammar(command)
-    command.add_argument(
-        "selectors", metavar="SELECTORS", help="a list, such as `a, b > c`"
-    )
+    command.add_argument("selectors", metavar="SELECTORS", help="a list, such as `a, b > c`")
     text = "a page, folder or pattern"
     command.add_argument("pages", nargs="+", metavar="PAGE", help=text)
 
@@ -469,15 +440,11 @@ def _add_inline(command: Any) -> None:
     _add_folder(command)
     text = "the file of the page, or a folder for those of several"
     command.add_argument("-o", dest="output", metavar="PATH", help=text)
-    command.add_argument(
-        "--base-url", metavar="URL", help="resolve relative urls against it"
-    )
+    command.add_argument("--base-url", metavar="URL", help="resolve relative urls against it")
     command.add_argument(
         "--preserve", metavar="SELECTORS", help="leave these style elements as they are"
     )
-    command.add_argument(
-        "--ignore", metavar="SELECTORS", help="leave these elements as they are"
-    )
+    command.add_argument("--ignore", metavar="SELECTORS", help="leave these elements as they are")
     for name, text in (
         ("keep-style", "leave all style elements"),
         ("remove-classes", "remove the classes that no rule needs any more"),
@@ -500,21 +467,15 @@ def _add_inline(command: Any) -> None:
 
 def _add_lint(command: Any) -> None:
     formats = ["text", *_lint.FORMATS]
-    command.add_argument(
-        "--format", choices=formats, default="text", help="the form of the report"
-    )
+    command.add_argument("--format", choices=formats, default="text", help="the form of the report")
     command.add_argument(
         "--select",
         action="append",
         metavar="KIND",
         help="report only these kinds, such as `unsupported`",
     )
-    command.add_argument(
-        "--ignore", action="append", metavar="KIND", help="leave these kinds out"
-    )
-    command.add_argument(
-        "--all", action="store_true", help="report what is unsupported, too"
-    )
+    command.add_argument("--ignore", action="append", metavar="KIND", help="leave these kinds out")
+    command.add_argument("--all", action="store_true", help="report what is unsupported, too")
     text = "correct mistakes that have one right answer in the sheets"
     command.add_argument("--fix", action="store_true", help=text)
     _add_grammar(command)
@@ -580,9 +541,7 @@ def _run_aside(words: argparse.Namespace) -> Tuple[int, str]:
     def work() -> None:
         try:
             answers.append(_run(words))
-        except (
-            BaseException
-        ) as error:  # what is no failure of ours is shown by the main thread
+        except BaseException as error:  # what is no failure of ours is shown by the main thread
             errors.append(error)
 
     thread = threading.Thread(target=work, daemon=True)

@@ -73,21 +73,15 @@ def says(condition: Condition, device: Device) -> str:
     """Returns whether the condition of a group rule holds on a device: "true", "false" or
     "unknown"."""
     if condition.name == "media":
-        return _word(
-            "simplecss_media", library.encode(condition.prelude), _numbers(device)
-        )
+        return _word("simplecss_media", library.encode(condition.prelude), _numbers(device))
     if condition.name == "supports":
-        return _word(
-            "simplecss_supports", library.encode(condition.prelude), *_properties()
-        )
+        return _word("simplecss_supports", library.encode(condition.prelude), *_properties())
     return UNKNOWN
 
 
 def _word(name: str, *arguments: Any) -> str:
     """Returns the word that a call writes."""
-    return library.output_of(
-        name, library.call(name, *arguments, room=len(UNKNOWN))
-    ).decode()
+    return library.output_of(name, library.call(name, *arguments, room=len(UNKNOWN))).decode()
 
 
 @functools.lru_cache(maxsize=64)

@@ -71,11 +71,7 @@ class TreeError(ValueError):
         self.column = column
 
     def __str__(self) -> str:
-        return (
-            self.reason
-            if self.row is None
-            else f"{self.row}:{self.column}: {self.reason}"
-        )
+        return self.reason if self.row is None else f"{self.row}:{self.column}: {self.reason}"
 
 
 class _Texts:
@@ -246,11 +242,7 @@ class Elements:
             self.places.append((tag.row, tag.column))
             if tag.is_link:
                 self.states[index] = LINK
-            if (
-                tag.space == SVG_SPACE
-                or not tag.space
-                and document.tags[0].name == "svg"
-            ):
+            if tag.space == SVG_SPACE or not tag.space and document.tags[0].name == "svg":
                 self.drawn.add(index)
         for begun, owner, value in document.texts:
             self.texts.add(begun, owner, value)
@@ -302,9 +294,7 @@ class Elements:
     def own_text_of(self, index: int) -> str:
         """Returns the text of an element without those of the elements in it."""
         found = self.texts.within(index, self.end_of(index))
-        return "".join(
-            self._text(owner, value) for owner, value in found if owner == index
-        )
+        return "".join(self._text(owner, value) for owner, value in found if owner == index)
 
     def text_at(self, at: int) -> str:
         """Returns a text by its number."""
@@ -315,11 +305,7 @@ class Elements:
         if isinstance(value, str):
             return value
         source, (start, end) = self.source or "", value
-        is_raw = (
-            self.names[owner] in RAW
-            and owner not in self.drawn
-            and owner not in self.formulas
-        )
+        is_raw = self.names[owner] in RAW and owner not in self.drawn and owner not in self.formulas
         if is_raw or source.endswith(_CDATA, 0, start):
             return with_line_feeds(source[start:end])
         return decode(source[start:end])
@@ -381,18 +367,14 @@ class Elements:
             return self.found(selectors, grammar)
         return self._find_in(scoped, selectors, MODERN)
 
-    def found_set_from(
-        self, index: int, selectors: str, grammar: str
-    ) -> FrozenSet[int]:
+    def found_set_from(self, index: int, selectors: str, grammar: str) -> FrozenSet[int]:
         """Returns what `found_set` returns where `:scope` matches the element at an index."""
         scoped = self._scoped(index, selectors, grammar)
         if scoped is None:
             return self.found_set(selectors, grammar)
         return frozenset(self._find_in(scoped, selectors, MODERN))
 
-    def _scoped(
-        self, index: int, selectors: str, grammar: str
-    ) -> Optional[library.TreeArrays]:
+    def _scoped(self, index: int, selectors: str, grammar: str) -> Optional[library.TreeArrays]:
         """Returns the arrays of the tree where `:scope` matches the element at an index, or `None` if
         no selector asks for it."""
         library.expect_text(selectors)
@@ -403,16 +385,12 @@ class Elements:
     def _find(self, selectors: str, grammar: str) -> List[int]:
         return self._find_in(self._arrays(grammar), selectors, grammar)
 
-    def _find_in(
-        self, arrays: library.TreeArrays, selectors: str, grammar: str
-    ) -> List[int]:
+    def _find_in(self, arrays: library.TreeArrays, selectors: str, grammar: str) -> List[int]:
         words = [library.encode(selectors), self._number_of(grammar), arrays]
         name = "simplecss_select"
         # Each element is written once at most.
         most = library.NO_LIMIT
-        answer = library.call(
-            name, *words, room=1024 + 8 * len(self), with_fault=True, most=most
-        )
+        answer = library.call(name, *words, room=1024 + 8 * len(self), with_fault=True, most=most)
         if answer.status == library.REFUSED:
             raise selector_error(selectors, grammar)
         return [int(number) - 1 for number in library.output_of(name, answer).split()]
@@ -426,14 +404,10 @@ class Elements:
             *(lower(each["id"]) for each in self.attributes if "id" in each),
         }
 
-    def matched(
-        self, selectors: Sequence[str], limit: int, grammar: str = MODERN
-    ) -> List[bytes]:
+    def matched(self, selectors: Sequence[str], limit: int, grammar: str = MODERN) -> List[bytes]:
         """Returns for each element the numbers of the selectors that match it, which begin at 1,
         with spaces between them. More numbers than `limit` raise `LimitError`."""
-        return matched(
-            self._arrays(grammar), selectors, self._number_of(grammar), limit
-        )
+        return matched(self._arrays(grammar), selectors, self._number_of(grammar), limit)
 
     def numbers(
         self,
@@ -456,9 +430,7 @@ class Elements:
         room = 1024 + _ROOM_FOR_ELEMENT * len(self)
         most = min(len(self) + width * limit, library.NO_LIMIT)
         try:
-            return library.numbers_of(
-                name, *words, room=room, with_fault=True, most=most
-            )
+            return library.numbers_of(name, *words, room=room, with_fault=True, most=most)
         except library.LimitError:
             raise library.Room(limit).passed() from None
 
@@ -474,9 +446,7 @@ class Elements:
             try:
                 arrays[grammar] = self._make_arrays(grammar)
             except UnicodeEncodeError as error:
-                raise TreeError(
-                    f"a text is not Unicode: {error.reason}", None, None
-                ) from None
+                raise TreeError(f"a text is not Unicode: {error.reason}", None, None) from None
         return arrays[grammar]
 
     def _make_arrays(self, grammar: str) -> library.TreeArrays:
@@ -498,9 +468,7 @@ class Elements:
         class."""
         reading = self.reading
         every = {id(attributes): attributes for attributes in self.attributes}
-        changing = reading.may_change(
-            set(itertools.chain.from_iterable(every.values()))
-        )
+        changing = reading.may_change(set(itertools.chain.from_iterable(every.values())))
         found: Dict[int, List[str]] = {}
         for key, attributes in every.items():
             if not changing.isdisjoint(attributes):
@@ -532,9 +500,5 @@ def _may_name_scope(selectors: str) -> bool:
 
 def _is_link(node: Node) -> bool:
     if node.name == "a":
-        return (
-            "href" in node.attributes
-            or node.space == SVG
-            and "xlink:href" in node.attributes
-        )
+        return "href" in node.attributes or node.space == SVG and "xlink:href" in node.attributes
     return node.name == "area" and node.space == HTML and "href" in node.attributes

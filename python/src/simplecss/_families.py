@@ -63,9 +63,7 @@ def _family_of(name: str) -> str:
         return EVERYTHING
     # Those that one shorthand sets are of one family, and so are logical and physical ones.
     first = first_set_with(name)
-    plain = without_prefix(
-        first_set_with(without_prefix(name)) if first == name else first
-    )
+    plain = without_prefix(first_set_with(without_prefix(name)) if first == name else first)
     words = plain.split("-")
     family = _LONG_FAMILIES.get("-".join(words[:2])) or _FAMILIES.get(words[0])
     return family or plain

@@ -56,9 +56,7 @@ def _right(finding: Finding) -> Optional[str]:
         return finding.text + ";"
     if finding.hint is None:
         return None
-    name = next(
-        (lower(each.value) for each in tokens(finding.text) if each.text != ":"), ""
-    )
+    name = next((lower(each.value) for each in tokens(finding.text) if each.text != ":"), "")
     known = {
         "unknown at-rule": names.at_rules,
         "unknown media feature": names.media_features,

@@ -65,9 +65,7 @@ def flattened(source: Source, statements: Iterable[Statement]) -> List[Statement
     find_names(one.text for _, sets in parts for each in sets for one in each.selectors)
     found: List[Statement] = []
     for statement, sets in parts:
-        are_known = all(
-            traits_of(one.text).is_known for each in sets for one in each.selectors
-        )
+        are_known = all(traits_of(one.text).is_known for each in sets for one in each.selectors)
         if sets and are_known:
             found += sets
         else:
@@ -77,11 +75,7 @@ def flattened(source: Source, statements: Iterable[Statement]) -> List[Statement
 
 def _sets_of(source: Source, statement: Statement) -> List[RuleSet]:
     """Returns the rule sets that a style rule with rules in it is, if that is clear."""
-    if (
-        isinstance(statement, RuleSet)
-        and statement.is_closed
-        and has_rules(statement.items)
-    ):
+    if isinstance(statement, RuleSet) and statement.is_closed and has_rules(statement.items):
         try:
             return _Flat(source, statement).sets()
         except (_Unclear, library.LimitError):
@@ -101,9 +95,7 @@ class _Flat:
     def sets(self) -> List[RuleSet]:
         """Returns its rule sets."""
         rule = self._rule
-        level = Level(
-            Condition(STYLE, self._source.at(rule.head)), rule.span, rule.head
-        )
+        level = Level(Condition(STYLE, self._source.at(rule.head)), rule.span, rule.head)
         within = _Within(tuple(rule.selectors), rule.head, (*rule.levels, level))
         return list(self._sets_in(within, rule.items, 0, 0))
 
@@ -118,14 +110,10 @@ class _Flat:
             elif has_rules((item,)):
                 yield from self._set_of(within, run)
                 run = []
-                yield from self._sets_of(
-                    within, inner_rule(self._source, item, by), depth
-                )
+                yield from self._sets_of(within, inner_rule(self._source, item, by), depth)
         yield from self._set_of(within, run)
 
-    def _set_of(
-        self, within: _Within, run: Sequence[ReadDeclaration]
-    ) -> Iterator[RuleSet]:
+    def _set_of(self, within: _Within, run: Sequence[ReadDeclaration]) -> Iterator[RuleSet]:
         """Yields the rule set of declarations that stand one after another, if there are any."""
         if run:
             span = run[0].span[0], run[-1].span[1]
@@ -133,13 +121,9 @@ class _Flat:
             if is_escaping(self._source.at(span)):
                 raise _Unclear
             items = MadeItems(run)
-            yield RuleSet(
-                within.selectors, items, within.levels, within.head, True, span, True
-            )
+            yield RuleSet(within.selectors, items, within.levels, within.head, True, span, True)
 
-    def _sets_of(
-        self, around: _Within, rule: Optional[InnerRule], depth: int
-    ) -> List[RuleSet]:
+    def _sets_of(self, around: _Within, rule: Optional[InnerRule], depth: int) -> List[RuleSet]:
         """Returns the rule sets of a rule in a style rule."""
         if rule is None or depth == DEEPEST:
             raise _Unclear
@@ -163,9 +147,7 @@ class _Flat:
         level = Level(rule.condition, rule.span, rule.head)
         return around._replace(levels=(*around.levels, level))
 
-    def _selectors_in(
-        self, head: str, around: Sequence[ReadSelector]
-    ) -> Sequence[ReadSelector]:
+    def _selectors_in(self, head: str, around: Sequence[ReadSelector]) -> Sequence[ReadSelector]:
         """Returns the selectors of a rule in style rules with these selectors, without `&`."""
         parts = (_without_nesting(each, around) for each in _parts_of(head))
         texts = list(itertools.chain.from_iterable(parts))
@@ -197,9 +179,7 @@ def _parts_of(head: str) -> List[List[Token]]:
     return parts
 
 
-def _without_nesting(
-    part: Sequence[Token], around: Sequence[ReadSelector]
-) -> List[str]:
+def _without_nesting(part: Sequence[Token], around: Sequence[ReadSelector]) -> List[str]:
     """Returns what a selector of a rule in style rules with these selectors is without `&`."""
     texts = [each.text for each in part]
     if not texts:
@@ -218,23 +198,14 @@ def _alone(around: Sequence[ReadSelector]) -> List[str]:
     """Returns the texts of selectors of which each may stand for all, with `&` in front: none is
     stronger than another. The blank after an escape would be a part of it."""
     specificities = {each.specificity for each in around}
-    is_plain = all(
-        each.pseudo_element is None and "\\" not in each.text for each in around
-    )
+    is_plain = all(each.pseudo_element is None and "\\" not in each.text for each in around)
     is_alike = len(specificities) == 1 and None not in specificities
-    return (
-        [each.text for each in around]
-        if is_plain and is_alike and len(around) <= _FEW
-        else []
-    )
+    return [each.text for each in around] if is_plain and is_alike and len(around) <= _FEW else []
 
 
 def _is_apart(rest: Sequence[Token]) -> bool:
     """Whether what follows a selector is no part of its last name."""
-    return all(
-        each.kind in GAPS or each.kind in _IDS or each.text in _APART
-        for each in rest[:1]
-    )
+    return all(each.kind in GAPS or each.kind in _IDS or each.text in _APART for each in rest[:1])
 
 
 def _replaced(texts: Iterable[str], parents: str) -> Iterator[str]:

@@ -91,11 +91,7 @@ def pseudo_names(selector: str) -> Names:
 
 def find_names(selectors: Iterable[str]) -> None:
     """Finds the names in selectors, of which `names_in` is asked later, at once."""
-    new = [
-        each
-        for each in dict.fromkeys(selectors)
-        if each not in _kept and len(each) <= _LONG
-    ]
+    new = [each for each in dict.fromkeys(selectors) if each not in _kept and len(each) <= _LONG]
     if new:
         _read(new)
 
@@ -105,9 +101,7 @@ def _read(texts: Sequence[str]) -> List[Names]:
     encoded = [library.encode(each) for each in texts]
     data = b"".join(encoded)
     ends = library.ends_of(map(len, encoded))
-    numbers = iter(
-        library.numbers_of("simplecss_names", data, ends, room=64 + 2 * len(data))
-    )
+    numbers = iter(library.numbers_of("simplecss_names", data, ends, room=64 + 2 * len(data)))
     rows = cast(List[_Row], list(zip(*[numbers] * 6)))
     found: List[Names] = []
     at = start = 0
@@ -119,15 +113,11 @@ def _read(texts: Sequence[str]) -> List[Names]:
         start = end
     if len(_kept) + len(texts) > _MOST_KEPT:
         _kept.clear()
-    _kept.update(
-        (text, names) for text, names in zip(texts, found) if len(text) <= _LONG
-    )
+    _kept.update((text, names) for text, names in zip(texts, found) if len(text) <= _LONG)
     return found
 
 
-def _names_at(
-    text: str, data: bytes, base: int, rows: Sequence[_Row]
-) -> Iterator[Name]:
+def _names_at(text: str, data: bytes, base: int, rows: Sequence[_Row]) -> Iterator[Name]:
     """Yields the names of a text by their numbers, which count bytes from `base` on."""
     after = _ends_of_functions(rows)
     index_of = _indices(text, data, base, rows)
@@ -143,17 +133,13 @@ def _names_at(
         yield Name(sort, name, *places, depth, negated > 0, is_function)
 
 
-def _indices(
-    text: str, data: bytes, base: int, rows: Sequence[_Row]
-) -> Callable[[int], int]:
+def _indices(text: str, data: bytes, base: int, rows: Sequence[_Row]) -> Callable[[int], int]:
     """Returns what returns the index of the character at an offset of the numbers of names."""
     if len(text) == len(data):
         return lambda offset: offset - base
     found: Dict[int, int] = {}
     last = index = 0
-    for offset in sorted(
-        {base + len(data), *(each for row in rows for each in row[1:4])}
-    ):
+    for offset in sorted({base + len(data), *(each for row in rows for each in row[1:4])}):
         index += len(data[last : offset - base].decode())
         last = offset - base
         found[offset] = index

@@ -35,10 +35,7 @@ class ReadSheet:
     def knows_layers(self) -> Optional[bool]:
         """Whether the order of its layers is known, whatever holds; `None` if it has none."""
         every = sum(map(count_layers, self._texts_with_layers()))
-        inner = [
-            each.knows_layers is not None or has_layer
-            for each, has_layer in self.staying
-        ]
+        inner = [each.knows_layers is not None or has_layer for each, has_layer in self.staying]
         if every or any(inner):
             return every == len(self._preludes) and not self.reasons
         return None
@@ -46,9 +43,7 @@ class ReadSheet:
     @functools.cached_property
     def layer_count(self) -> int:
         """How many layers it has at most."""
-        kinds = (
-            [each.kind for each in without_gaps(prelude)] for prelude in self._preludes
-        )
+        kinds = ([each.kind for each in without_gaps(prelude)] for prelude in self._preludes)
         return sum(max(1, each.count("ident")) for each in kinds)
 
     @functools.cached_property
@@ -57,9 +52,7 @@ class ReadSheet:
         groups: Dict[Tuple[Source, Span], str] = {}
         for source, statement in self.placed:
             layers = layers_of(source, statement.levels)
-            groups.update(
-                ((source, each.span), each.condition.prelude) for _, each in layers
-            )
+            groups.update(((source, each.span), each.condition.prelude) for _, each in layers)
             if len(layers) == len(statement.levels) and _is_order(statement):
                 assert isinstance(statement, ReadAtRule)
                 groups[source, statement.span] = statement.rule.prelude
@@ -116,9 +109,7 @@ class SheetReader:
         """Returns a sheet with its urls taken from the base."""
         return css if self._base_url is None else rebased(css, self._base_url)
 
-    def read(
-        self, css: str, url: Optional[str], above: Tuple[str, ...] = ()
-    ) -> ReadSheet:
+    def read(self, css: str, url: Optional[str], above: Tuple[str, ...] = ()) -> ReadSheet:
         """Reads a sheet, which is at a url if it is not in the page itself."""
         self.texts.append(css)
         above = (*above, self.shelf.place_of(url or ""))
@@ -128,9 +119,7 @@ class SheetReader:
         rules = imports_in(moved)
         inner = self._imports(css, url, above) if rules else []
         found.has_imports = bool(rules)
-        last = max(
-            (at for at, each in enumerate(inner) if not each.is_moved), default=-1
-        )
+        last = max((at for at, each in enumerate(inner) if not each.is_moved), default=-1)
         moving: Dict[Span, ReadSheet] = {}
         for at, (rule, each) in enumerate(zip(rules, inner)):
             if at > last and each.read is not None:
@@ -146,15 +135,11 @@ class SheetReader:
                 found.placed.append((source, statement))
         return found
 
-    def _imports(
-        self, css: str, url: Optional[str], above: Tuple[str, ...]
-    ) -> List["_InnerSheet"]:
+    def _imports(self, css: str, url: Optional[str], above: Tuple[str, ...]) -> List["_InnerSheet"]:
         """Returns what a sheet imports."""
         return [self._import(each, url, above) for each in imports_in(css)]
 
-    def _import(
-        self, rule: Import, url: Optional[str], above: Tuple[str, ...]
-    ) -> "_InnerSheet":
+    def _import(self, rule: Import, url: Optional[str], above: Tuple[str, ...]) -> "_InnerSheet":
         found = imported(rule, url, self.shelf, above)
         if found is None:
             why = self.shelf.unread.pop().reason

@@ -78,16 +78,12 @@ _URL_ATTRIBUTES = frozenset(("href", "src", "background", "action", "poster"))
 _CELLS = frozenset(("td", "th", "tr"))
 _TABLES = _CELLS | {"table"}
 _SIZED = frozenset(("table", "td", "th", "img"))
-_ATTRIBUTES: Dict[
-    str, Tuple[Tuple[str, FrozenSet[str], Callable[[str], Optional[str]]], ...]
-] = {
+_ATTRIBUTES: Dict[str, Tuple[Tuple[str, FrozenSet[str], Callable[[str], Optional[str]]], ...]] = {
     "width": (("width", _SIZED, size_in),),
     "height": (("height", _SIZED, size_in),),
     "background-color": (("bgcolor", _TABLES | {"body"}, color_in),),
     "text-align": (("align", _CELLS, one_of("left", "right", "center", "justify")),),
-    "vertical-align": (
-        ("valign", _CELLS, one_of("top", "middle", "bottom", "baseline")),
-    ),
+    "vertical-align": (("valign", _CELLS, one_of("top", "middle", "bottom", "baseline")),),
 }
 
 # How long a sheet is of which nothing is kept for the next document.
@@ -95,9 +91,7 @@ _MOST_KEPT = 1_000_000
 # How many layers the library orders.
 _MOST_LAYERS = 1024
 # What the names of properties that set a colour have.
-_COLORED = (
-    "color background border outline fill stroke column text caret -webkit --".split()
-)
+_COLORED = "color background border outline fill stroke column text caret -webkit --".split()
 
 Document = TypeVar("Document", str, bytes)
 _ALL_FAMILIES = frozenset((EVERYTHING,))
@@ -137,9 +131,7 @@ class _Found:
     def split(self, knows_layers: bool) -> SplitSheet:
         """Returns its statements, of which the first has the number 0."""
         if knows_layers not in self._split:
-            self._split[knows_layers] = SplitSheet(
-                statements_of(self.read, 0, knows_layers)
-            )
+            self._split[knows_layers] = SplitSheet(statements_of(self.read, 0, knows_layers))
         return self._split[knows_layers]
 
     def linked(self, knows_layers: bool) -> SplitSheet:
@@ -209,9 +201,7 @@ class _PageInliner:
         # How many declarations may yet be compared, and how many characters the page may yet grow
         # by.
         self.compared = library.Room(options.answer_limit)
-        self.growth = library.Room(
-            options.answer_limit, "characters of style attributes"
-        )
+        self.growth = library.Room(options.answer_limit, "characters of style attributes")
         # The statements of the rules that match an element, by their numbers.
         self.numbered: Dict[int, SplitStatement] = {}
         self.winners: List[List[Group]] = []
@@ -281,9 +271,7 @@ class _PageInliner:
             self.kept.extend(each.rules(number, self.animated, has_layer))
         return number + len(sheet.statements)
 
-    def _keep_whole(
-        self, read: ReadSheet, content: Content, number: int, may_mark: bool
-    ) -> None:
+    def _keep_whole(self, read: ReadSheet, content: Content, number: int, may_mark: bool) -> None:
         """Notes the rules of a sheet that stays where it is."""
         source = read.placed[0][0] if read.placed else Source("")
         is_alone = all(each is source for each, _ in read.placed) and not read.staying
@@ -293,9 +281,7 @@ class _PageInliner:
             return
         self.others.append((content, source, number))
         statements = (statement for _, statement in read.placed)
-        self.kept.extend(
-            rules_of(source, statements, Place(number, True, self.animated))
-        )
+        self.kept.extend(rules_of(source, statements, Place(number, True, self.animated)))
 
     def _read(self, content: Content) -> Optional[ReadSheet]:
         """Reads the sheet of an element. Returns `None` for a link to one that cannot be read."""
@@ -307,14 +293,8 @@ class _PageInliner:
     def _prepare(self) -> None:
         """Collects the rules that are written into attributes, and those that stay."""
         limit, sheets = self.options.limit, self.sheets
-        if (
-            sum(each.most for each in sheets)
-            > limit
-            < sum(each.count for each in sheets)
-        ):
-            raise library.LimitError(
-                "the rules would hold more declarations than the limit"
-            )
+        if sum(each.most for each in sheets) > limit < sum(each.count for each in sheets):
+            raise library.LimitError("the rules would hold more declarations than the limit")
         is_alone = len(self.sheets) == 1 and not self.kept
         for sheet in self.sheets:
             kept, animated = sheet.kept_rules
@@ -322,9 +302,7 @@ class _PageInliner:
             self.animated |= animated
         self.rules: List[Rule] = [rule for sheet in self.sheets for rule in sheet.rules]
         sheet = self.sheets[0]
-        self.selectors = (
-            sheet.selectors if is_alone else selectors_of(self.rules, self.kept)
-        )
+        self.selectors = sheet.selectors if is_alone else selectors_of(self.rules, self.kept)
 
     def _take_links(self) -> None:
         """Takes rules for links among those that are written, where visited links stay as they
@@ -372,8 +350,7 @@ class _PageInliner:
         return {
             index: attributes["style"]
             for index, attributes in enumerate(self.page.elements.attributes)
-            if "style" in attributes
-            and (self.is_marking or has_ident(attributes["style"], BACK))
+            if "style" in attributes and (self.is_marking or has_ident(attributes["style"], BACK))
         }
 
     def _has_attributes(self) -> bool:
@@ -408,9 +385,7 @@ class _PageInliner:
         every = {rule for rules in rule_sets for rule in rules}
         for each in every:
             self.numbered[self.rules[each].number] = self.rules[each].statement
-        self.order = self._ordered(
-            every, {rule for rules in rival_sets for rule in rules}
-        )
+        self.order = self._ordered(every, {rule for rules in rival_sets for rule in rules})
         self._find_winners(every)
         return map(found.__getitem__, lines)
 
@@ -436,8 +411,7 @@ class _PageInliner:
             for rule, those in groups.items()
         }
         self.winners = [
-            [groups[rule][at] for rule, at in won]
-            for won in Winners(names).of(self.rule_sets)
+            [groups[rule][at] for rule, at in won] for won in Winners(names).of(self.rule_sets)
         ]
 
     def _groups(self, rule: int) -> List[Group]:
@@ -483,9 +457,7 @@ class _PageInliner:
         found = {each for rule in rules for each in self._statement(rule).back}
         if rules and has_ident(kind.own, BACK):
             own = self._own(kind.own)
-            is_all = own is None or any(
-                each.name == "all" for each in self.winners[kind.rules]
-            )
+            is_all = own is None or any(each.name == "all" for each in self.winners[kind.rules])
             back = {family_of(each.name) for each in own or () if goes_back((each,))}
             found |= _ALL_FAMILIES if is_all else back
         return found
@@ -497,9 +469,7 @@ class _PageInliner:
             winners = self.winners[kind.rules]
             rivals = self._strongest(self.rival_sets[kind.rivals])
             rules = [rule for rule, _ in rivals]
-            self.compared.take(
-                len(winners) + sum(1 + len(each.block.declared) for each in rules)
-            )
+            self.compared.take(len(winners) + sum(1 + len(each.block.declared) for each in rules))
             declared = [_Rival(*each, self._families(each[0])) for each in rivals]
             self.as_it_is[key] = _left_families(winners, declared)
         return self.as_it_is[key]
@@ -509,11 +479,7 @@ class _PageInliner:
         if kind not in self.views:
             mine = self._written(kind)
             named = self._named(mine, kind)
-            mine += [
-                each
-                for group in mine
-                for each in _beaten(group, named.get(group.name, []))
-            ]
+            mine += [each for group in mine for each in _beaten(group, named.get(group.name, []))]
             rivals = self._rivals(kind)
             # Own declarations matter only where something stays.
             own = self._own(kind.own) if kind.own and rivals.every else []
@@ -541,13 +507,9 @@ class _PageInliner:
             return Rival(block, LAYERED, True)
         reaches = [self.order.reaches[each] for each in rules]
         least = [each.least for each in reaches]
-        definite = [
-            each for each, rule in zip(least, rules) if self.kept[rule].is_definite
-        ]
+        definite = [each for each, rule in zip(least, rules) if self.kept[rule].is_definite]
         most = max(each.most for each in reaches)
-        return Rival(
-            block, Reach(max(definite) if definite else min(least), most), False
-        )
+        return Rival(block, Reach(max(definite) if definite else min(least), most), False)
 
     def _strongest(self, rules: Iterable[int]) -> List[Tuple[StayingRule, Strength]]:
         """Returns of the rules that stay of each rule set the one that may be strongest, and how
@@ -648,12 +610,8 @@ class _PageInliner:
         if key not in self.families:
             found: Dict[Tuple[str, bool], List[Declaration]] = {}
             for each in rival.block.declared:
-                found.setdefault((family_of(each.name), each.important), []).append(
-                    each
-                )
-            self.families[key] = {
-                name: frozenset(those) for name, those in found.items()
-            }
+                found.setdefault((family_of(each.name), each.important), []).append(each)
+            self.families[key] = {name: frozenset(those) for name, those in found.items()}
         return self.families[key]
 
     def _rebase_attributes(self, base: str) -> None:
@@ -671,17 +629,13 @@ class _PageInliner:
             # What they name is in no text that is here.
             return
         kept = [sheet.kept("\n", self.leftover) for sheet in self.sheets]
-        kept += [
-            self.page.sheet_of(each) for each in self.page.styles if each not in written
-        ]
+        kept += [self.page.sheet_of(each) for each in self.page.styles if each not in written]
         named = None if self.options.keep_style else classes_in(kept)
         if named is None:
             return
         for index, attributes in enumerate(self.page.elements.attributes):
             if "class" in attributes and index not in self.ignored:
-                words = [
-                    each for each in words_of(attributes["class"]) if each in named
-                ]
+                words = [each for each in words_of(attributes["class"]) if each in named]
                 self.page.set_attribute(index, "class", " ".join(words) or None)
 
     def not_written(self) -> Iterator[NotWritten]:
@@ -718,9 +672,7 @@ class _PageInliner:
 
     def _named(self, groups: List[Group], kind: Kind) -> Dict[str, List[Group]]:
         """Returns what the rules of a kind have of the names whose values a browser may not know."""
-        unknown = {
-            each.name for each in groups if not is_known(each.declarations[0].value)
-        }
+        unknown = {each.name for each in groups if not is_known(each.declarations[0].value)}
         named: Dict[str, List[Group]] = {name: [] for name in unknown}
         rules = self.rule_sets[kind.rules] if unknown else ()
         groups = [each for rule in rules for each in self._groups(rule)]
@@ -742,17 +694,13 @@ class _PageInliner:
         know them, in the order of the cascade, and then the own ones; those that are important
         last."""
         named = self._named(groups, kind)
-        beaten = [
-            one for each in groups for one in _beaten(each, named.get(each.name, []))
-        ]
+        beaten = [one for each in groups for one in _beaten(each, named.get(each.name, []))]
         found: List[Tuple[int, Declaration]] = []
         for each, one in self._placed([*groups, *beaten]):
             is_raised = each.rank > raised.get(family_of(each.name), HIGHEST)
             is_demoted = (each.rank, each.name) in demoted
             found.append((_level(one, is_raised, is_demoted), one))
-        found += [
-            (_level(one, family_of(one.name) in raised, False), one) for one in own
-        ]
+        found += [(_level(one, family_of(one.name) in raised, False), one) for one in own]
         if raised or demoted:
             found.sort(key=lambda each: each[0])
         return [str(one._replace(important=level > _DEMOTED)) for level, one in found]
@@ -783,9 +731,7 @@ class _PageInliner:
 
     def _write_sheets(self) -> None:
         newline = self.page.newline
-        self.leftover.has_layers = any(
-            each.has_layers(self.leftover) for each in self.sheets
-        )
+        self.leftover.has_layers = any(each.has_layers(self.leftover) for each in self.sheets)
         for sheet in self.sheets:
             kept = sheet.kept(newline, self.leftover)
             if sheet.content is None:
@@ -800,9 +746,7 @@ class _PageInliner:
         for content, source, number in self.others:
             marks = self.leftover.marks.get(number)
             if marks:
-                self.page.set_sheet(
-                    content, marked(source, (0, len(source.data)), marks)
-                )
+                self.page.set_sheet(content, marked(source, (0, len(source.data)), marks))
 
 
 def _beaten(winner: Group, groups: List[Group]) -> List[Group]:
@@ -842,9 +786,7 @@ def _with_links(sheets: Sequence[SplitSheet]) -> List[SplitSheet]:
     ]
 
 
-def _linked(
-    statement: SplitStatement, later: Dict[str, SplitStatement]
-) -> SplitStatement:
+def _linked(statement: SplitStatement, later: Dict[str, SplitStatement]) -> SplitStatement:
     """Returns a statement whose rules for links are written, if visited links stay as they are."""
     going = []
     for each in statement.links if statement.staying else ():
@@ -859,9 +801,7 @@ def _is_of_links(statement: SplitStatement, visited: Optional[SplitStatement]) -
     of visited links only colours are taken, which another statement sets."""
     names = {each.name for each in statement.declarations if _has_color(each.name)}
     is_later = visited is not None and visited.number >= statement.number
-    others = (
-        {each.name for each in visited.declarations} if visited and is_later else set()
-    )
+    others = {each.name for each in visited.declarations} if visited and is_later else set()
     return names <= others
 
 
@@ -931,9 +871,7 @@ def _left_families(groups: List[Group], rivals: List[_Rival]) -> FrozenSet[str]:
     return frozenset(left)
 
 
-def _may_beat(
-    rank: Rank, number: int, declared: FrozenSet[Declaration], mine: List[_Mine]
-) -> bool:
+def _may_beat(rank: Rank, number: int, declared: FrozenSet[Declaration], mine: List[_Mine]) -> bool:
     """Whether declarations of a rule that stays may beat others that would be written, the weakest
     of which come first. Those of two names are never the same, so that few are looked at.
     """
@@ -954,11 +892,7 @@ def _set_attributes(page: Page, index: int, groups: Iterable[Group]) -> None:
         value = lower(group.declarations[-1].value)
         for attribute, names, form in _ATTRIBUTES.get(group.name, ()):
             found = form(value)
-            if (
-                found
-                and name in names
-                and attribute not in page.elements.attributes[index]
-            ):
+            if found and name in names and attribute not in page.elements.attributes[index]:
                 page.set_attribute(index, attribute, found)
 
 
@@ -1017,9 +951,7 @@ class Inliner:
         page = Page(html, is_xml=has_xml, is_part=is_part)
         return self._inlined(page, at, report)
 
-    def _inlined(
-        self, page: Page, at: Optional[Name], report: Optional[List[NotWritten]]
-    ) -> str:
+    def _inlined(self, page: Page, at: Optional[Name], report: Optional[List[NotWritten]]) -> str:
         if page.is_doubtful:
             raise ValueError(
                 "browsers read the document in different ways: NUL, `search` or end tags"

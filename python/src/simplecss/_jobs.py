@@ -169,9 +169,7 @@ class Match(Job):
                 value = {"element": element.index, "name": element.name, "rules": found}
                 self._write(json_line(value))
                 continue
-            selectors = ", ".join(
-                _taken(room, sheet.rules[rule].selector) for rule in found
-            )
+            selectors = ", ".join(_taken(room, sheet.rules[rule].selector) for rule in found)
             # A selector may be on several lines of its sheet.
             line = printable(f"{element} {' '.join(words_of(selectors))}")
             self._write(f"{self._position(name, element)}: {line}\n")
@@ -210,11 +208,7 @@ class Select(Job):
             raise Failure(f"selector refused: {error}", REFUSED) from None
         if self.words.count:
             count = str(len(found))
-            self._write(
-                f"{printable(name)}:{count}\n"
-                if self.words.is_of_many
-                else f"{count}\n"
-            )
+            self._write(f"{printable(name)}:{count}\n" if self.words.is_of_many else f"{count}\n")
         elif not self.words.quiet:
             self._show(name, found)
         return self._outcome(name, found=len(found))
@@ -230,15 +224,11 @@ class Select(Job):
             if words.json:
                 self._write(json_line(_described(name, element, places)))
             elif words.text:
-                self._write(
-                    self._shown(" ".join(words_of(_taken(room, element.text)))) + "\n"
-                )
+                self._write(self._shown(" ".join(words_of(_taken(room, element.text)))) + "\n")
             elif words.html:
                 self._write(self._shown(_taken(room, element.source or "")) + "\n")
             elif words.attr is None:
-                self._write(
-                    f"{self._position(name, element)}: {printable(str(element))}\n"
-                )
+                self._write(f"{self._position(name, element)}: {printable(str(element))}\n")
             elif words.attr in element.attributes:
                 self._write(self._shown(element.attributes[words.attr]) + "\n")
 
@@ -253,9 +243,7 @@ class Inline(Job):
             if self.words.report:
                 self._messages.append(f"{name}: '{each.text}': {each.reason}")
             elif each.reason.endswith(LOSES):
-                self._messages.append(
-                    f"{name}: '{each.text}' is not read: {each.reason}"
-                )
+                self._messages.append(f"{name}: '{each.text}' is not read: {each.reason}")
         if self.words.json:
             html, rest = decode_page(result)[0], [each._asdict() for each in left]
             self._write(json_line({"html": html, "left": rest}))
@@ -284,9 +272,7 @@ class Inline(Job):
                 report=left,
             )
         except UnicodeDecodeError as error:
-            raise Failure(
-                f"cannot read {name}: not {error.encoding}", UNREADABLE
-            ) from None
+            raise Failure(f"cannot read {name}: not {error.encoding}", UNREADABLE) from None
         except (LimitError, UnicodeEncodeError):
             raise
         except TreeError as error:
@@ -302,9 +288,7 @@ class Lint(Job):
         words = self.words
         if not _lint.is_page(name):
             text = self._fixed(name, read(name)) if words.fix else read(name)
-            return Outcome(
-                name, mistakes=_lint.findings(name, text, words.all, words.grammar)
-            )
+            return Outcome(name, mistakes=_lint.findings(name, text, words.all, words.grammar))
         shelf = Shelf(self._place(name), self._folder(name))
         try:
             text = read_page(name)
@@ -327,13 +311,9 @@ class Lint(Job):
         if result != text and name != INPUT:
             has_mark = read_bytes(name).startswith(codecs.BOM_UTF8)
             try:
-                Path(name).write_bytes(
-                    codecs.BOM_UTF8 * has_mark + result.encode("utf-8")
-                )
+                Path(name).write_bytes(codecs.BOM_UTF8 * has_mark + result.encode("utf-8"))
             except OSError as error:
-                raise Failure(
-                    f"cannot write {name}: {error.strerror}", UNREADABLE
-                ) from None
+                raise Failure(f"cannot write {name}: {error.strerror}", UNREADABLE) from None
         return result
 
 
@@ -342,9 +322,7 @@ class Minify(Job):
 
     def _do(self, name: str) -> Outcome:
         text = minify(read(name))
-        self._write(
-            json_line({"file": name, "css": text}) if self.words.json else f"{text}\n"
-        )
+        self._write(json_line({"file": name, "css": text}) if self.words.json else f"{text}\n")
         return self._outcome(name)
 
 
@@ -436,9 +414,7 @@ def _path(element: Element, places: List[int]) -> Optional[str]:
     room = _LONGEST_PATH
     for node in _with_ancestors(element):
         is_root = node.parent is None
-        steps.append(
-            node.name if is_root else f"{node.name}:nth-child({places[node.index]})"
-        )
+        steps.append(node.name if is_root else f"{node.name}:nth-child({places[node.index]})")
         room -= len(steps[-1]) + len(_CHILD)
         if room < 0:
             return None

@@ -40,9 +40,7 @@ _NAME = {"win32": "simplecss.dll", "darwin": "libsimplecss.dylib"}.get(
 _SIZES = ctypes.POINTER(ctypes.c_size_t)
 _NO_SIZES = ctypes.c_size_t * 0
 # The type code of arrays whose items are as wide as a `size_t`.
-SIZE = next(
-    c for c in "QLI" if array.array(c).itemsize == ctypes.sizeof(ctypes.c_size_t)
-)
+SIZE = next(c for c in "QLI" if array.array(c).itemsize == ctypes.sizeof(ctypes.c_size_t))
 # How many bytes such a number has.
 WIDTH = ctypes.sizeof(ctypes.c_size_t)
 
@@ -244,9 +242,7 @@ class TreeArrays:
         joined = "".join(strings).encode("utf-8")
         is_ascii = len(joined) == sum(map(len, strings))
         ends = ends_of(
-            map(len, strings)
-            if is_ascii
-            else (len(each.encode("utf-8")) for each in strings)
+            map(len, strings) if is_ascii else (len(each.encode("utf-8")) for each in strings)
         )
         self.structure = _Tree(
             ctypes.cast(self._elements, ctypes.POINTER(_Element)),
@@ -265,9 +261,7 @@ class TreeArrays:
         scoped._elements = type(self._elements).from_buffer_copy(self._elements)
         scoped._elements[index].states += _SCOPE
         scoped.structure = _Tree.from_buffer_copy(self.structure)
-        scoped.structure.elements = ctypes.cast(
-            scoped._elements, ctypes.POINTER(_Element)
-        )
+        scoped.structure.elements = ctypes.cast(scoped._elements, ctypes.POINTER(_Element))
         return scoped
 
 
@@ -310,9 +304,7 @@ def _library() -> ctypes.CDLL:
         raise LibraryError(f"{path}: {error}") from None
     version = _version_of(loaded)
     if version != __version__:
-        raise LibraryError(
-            f"{path} has version {version}, and this package {__version__}"
-        )
+        raise LibraryError(f"{path} has version {version}, and this package {__version__}")
     return loaded
 
 
@@ -404,16 +396,10 @@ def call(
             words.append(ctypes.c_size_t(argument))
             continue
         if isinstance(argument, (ctypes.Structure, *_ARRAYS)):
-            structure = (
-                argument
-                if isinstance(argument, ctypes.Structure)
-                else argument.structure
-            )
+            structure = argument if isinstance(argument, ctypes.Structure) else argument.structure
             words.append(ctypes.byref(structure))
             continue
-        words.append(
-            pointer_to(argument) if isinstance(argument, array.array) else argument
-        )
+        words.append(pointer_to(argument) if isinstance(argument, array.array) else argument)
         words.append(ctypes.c_size_t(len(argument)))
     if most is not None:
         words.append(ctypes.c_size_t(most))
@@ -422,9 +408,7 @@ def call(
     tail: Tuple[Any, ...] = (ctypes.byref(found),) if with_fault else ()
     while True:
         buffer = _buffer_type((room * width).bit_length())()
-        status = function(
-            *words, buffer, ctypes.c_size_t(room), ctypes.byref(length), *tail
-        )
+        status = function(*words, buffer, ctypes.c_size_t(room), ctypes.byref(length), *tail)
         if status != TOO_SMALL:
             break
         room = length.value
@@ -435,9 +419,7 @@ def call(
     if status == TOO_MANY_DECLARATIONS:
         what = "the rules would hold more declarations than the limit"
         unit = "bytes" if width == 1 else "numbers"
-        raise LimitError(
-            what if most is None else f"the answer would have more than {most} {unit}"
-        )
+        raise LimitError(what if most is None else f"the answer would have more than {most} {unit}")
     fault = TreeFault(found.fault, found.element) if status == TREE_FAULT else None
     output = ctypes.string_at(buffer, length.value * width) if status == DONE else b""
     return Answer(status, output, fault)
@@ -458,9 +440,7 @@ def numbers_of(
     most: Optional[int] = None,
 ) -> "array.array[int]":
     """Returns the numbers that a call wrote, which had no reason to fail."""
-    answer = call(
-        name, *arguments, room=room, with_fault=with_fault, most=most, width=WIDTH
-    )
+    answer = call(name, *arguments, room=room, with_fault=with_fault, most=most, width=WIDTH)
     return numbers_in(output_of(name, answer))
 
 

@@ -71,9 +71,7 @@ def _of_data(url: str) -> str:
     words = [each.strip(BLANKS) for each in lower(kind).split(";")]
     if not comma or words[0] != "text/css":
         raise _Refused("its type is not text/css")
-    return (base64.b64decode(data) if words[-1] == "base64" else data).decode(
-        "utf-8-sig"
-    )
+    return (base64.b64decode(data) if words[-1] == "base64" else data).decode("utf-8-sig")
 
 
 class Shelf:
@@ -207,9 +205,7 @@ class Import(NamedTuple):
         """What is to hold for the sheet to apply. A layer is not known to."""
         found: List[Condition] = []
         if self.layer is not None:
-            found.append(
-                Condition("import", f"layer({self.layer})" if self.layer else "layer")
-            )
+            found.append(Condition("import", f"layer({self.layer})" if self.layer else "layer"))
         if self.supports is not None:
             found.append(Condition("supports", f"({self.supports})"))
         return (*found, *condition_of(self.media))
@@ -254,11 +250,7 @@ def is_sheet_link(attributes: Dict[str, str]) -> bool:
     """Whether a `link` with these attributes is one to a style sheet."""
     words = words_of(lower(attributes.get("rel", "")))
     kind = lower(attributes.get("type", "")).partition(";")[0].strip(BLANKS)
-    return (
-        "stylesheet" in words
-        and "disabled" not in attributes
-        and kind in ("", "text/css")
-    )
+    return "stylesheet" in words and "disabled" not in attributes and kind in ("", "text/css")
 
 
 def is_alternate(attributes: Dict[str, str]) -> bool:
@@ -303,9 +295,7 @@ def in_use(elements: Elements) -> List[int]:
     titles = (title for index, title in found if index not in others)
     preferred = next(filter(None, titles), "")
     return [
-        index
-        for index, title in found
-        if (title == preferred if title else index not in others)
+        index for index, title in found if (title == preferred if title else index not in others)
     ]
 
 
@@ -314,18 +304,12 @@ def sheets_of(elements: Elements, shelf: Shelf) -> Iterator[PageSheet]:
     shelf.take_base(elements)
     for index in in_use(elements):
         attributes = elements.attributes[index]
-        url = (
-            attributes.get("href", "").strip(BLANKS)
-            if elements.names[index] == "link"
-            else None
-        )
+        url = attributes.get("href", "").strip(BLANKS) if elements.names[index] == "link" else None
         css = elements.own_text_of(index) if url is None else None
         if url:
             css = shelf.read(url)
         if css is not None:
-            yield from _with_imports(
-                css, url, condition_of(attributes.get("media", "")), shelf, ()
-            )
+            yield from _with_imports(css, url, condition_of(attributes.get("media", "")), shelf, ())
 
 
 def _with_imports(
@@ -355,17 +339,13 @@ class Imported(NamedTuple):
     conditions: Tuple[Condition, ...]
 
 
-def in_force(
-    statements: Iterable[Statement], imports: Iterable[Import]
-) -> Iterator[Statement]:
+def in_force(statements: Iterable[Statement], imports: Iterable[Import]) -> Iterator[Statement]:
     """Yields statements without each `@import` that is not one of these, and each `@namespace` that is
     too late to say anything: it would say it if what is before it were not there."""
     front = ["charset", "layer", "import", "namespace"]
     spans = {each.span for each in imports}
     for each in statements:
-        name = (
-            each.rule.name if isinstance(each, ReadAtRule) and not each.levels else ""
-        )
+        name = each.rule.name if isinstance(each, ReadAtRule) and not each.levels else ""
         is_late = each.span not in spans if name == "import" else name not in front
         if name in ("import", "namespace") and is_late:
             continue

@@ -108,9 +108,7 @@ def _reported_by_port(part: _SheetText) -> Iterator[_Report]:
     added = 2 * part.is_attribute
     css = "x{" + part.css + "}" if part.is_attribute else part.css
     for each in StyleSheet(css, grammar=PORT).skipped:
-        yield each.reason, max(each.start - added, 0), min(
-            each.end - added, len(part.css)
-        ), None
+        yield each.reason, max(each.start - added, 0), min(each.end - added, len(part.css)), None
 
 
 def _ignored(part: _SheetText) -> Dict[int, Set[str]]:
@@ -144,11 +142,7 @@ def _parts_of(page: Page) -> Iterator[_SheetText]:
         if tag is None:
             continue
         for each in attributes_of(text[tag[0] : tag[1]]):
-            name = (
-                text[tag[0] + each.start :][: len(each.name)]
-                if page.is_xml
-                else each.name
-            )
+            name = text[tag[0] + each.start :][: len(each.name)] if page.is_xml else each.name
             if name == "style" and each.value:
                 is_quoted = each.value[0] in "\"'"
                 value = each.value[1:-1] if is_quoted else each.value
@@ -156,9 +150,7 @@ def _parts_of(page: Page) -> Iterator[_SheetText]:
                 yield _SheetText(decode_value(value), *position(start), True)
 
 
-def _findings_of(
-    name: str, part: _SheetText, shows_all: bool, grammar: str
-) -> Iterator[Finding]:
+def _findings_of(name: str, part: _SheetText, shows_all: bool, grammar: str) -> Iterator[Finding]:
     source = Source(part.css)
 
     def position(offset: int) -> Tuple[int, int]:
@@ -189,11 +181,7 @@ def findings(
     """
 
     def found_in(file: str, parts: Iterable[_SheetText]) -> List[Finding]:
-        found = [
-            each
-            for part in parts
-            for each in _findings_of(file, part, shows_all, grammar)
-        ]
+        found = [each for part in parts for each in _findings_of(file, part, shows_all, grammar)]
         return sorted(found, key=lambda each: (each.row, each.column))
 
     if not is_page(name):
@@ -316,9 +304,7 @@ def as_checkstyle(found: Sequence[Finding]) -> str:
     for name, those in files.items():
         lines.append(f"<file name={quoteattr(_of_xml(name))}>")
         for each in those:
-            message, source = quoteattr(_of_xml(each.message)), quoteattr(
-                escape(each.kind)
-            )
+            message, source = quoteattr(_of_xml(each.message)), quoteattr(escape(each.kind))
             lines.append(
                 f'<error line="{each.row}" column="{each.column}" severity="warning"'
                 f" message={message} source={source}/>"

@@ -106,8 +106,7 @@ class Rivals:
     def may_lose(self, family: str, rank: Rank) -> bool:
         """Whether one that has a family, or all, may be below a rank, or is in a layer."""
         return any(
-            (each.is_layered or each.reach.least.normal < rank)
-            and each.block.has_plain(family)
+            (each.is_layered or each.reach.least.normal < rank) and each.block.has_plain(family)
             for each in (*self.by_family.get(family, ()), *self.whole)
         )
 
@@ -197,9 +196,7 @@ _Said = Tuple[Declaration, ...]
 def _said(declarations: Sequence[Declaration]) -> _Said:
     """Returns what declarations say."""
     first = declarations[:1]
-    return tuple(
-        first if all(each == first[0] for each in declarations) else declarations
-    )
+    return tuple(first if all(each == first[0] for each in declarations) else declarations)
 
 
 class _Ranked:
@@ -225,9 +222,7 @@ def goes_back(declarations: Iterable[Declaration]) -> bool:
 class _Problem:
     """One family on one kind of element."""
 
-    def __init__(
-        self, mine: List[Group], own: List[Declaration], clauses: _Clauses
-    ) -> None:
+    def __init__(self, mine: List[Group], own: List[Declaration], clauses: _Clauses) -> None:
         """Takes what would be written of the family, and the own declarations of it."""
         self._clauses = clauses
         # What must be important, and whether nothing can be.
@@ -248,9 +243,7 @@ class _Problem:
         every browser."""
         known = {each.name: each.important for each in own if is_known(each.value)}
         known_mine = {
-            each.name
-            for each in mine
-            if each.important and is_known(each.declarations[-1].value)
+            each.name for each in mine if each.important and is_known(each.declarations[-1].value)
         }
         for group in mine:
             over = known.get(group.name)
@@ -275,23 +268,18 @@ class _Problem:
         urgent = [each for each in declared if each.important]
         if urgent:
             self._important.append(_staying(rival, unit, urgent))
-        self._names.update(
-            each.name for each in declared if each.important or not rival.is_layered
-        )
+        self._names.update(each.name for each in declared if each.important or not rival.is_layered)
 
     def solve(self) -> None:
         """Finds what must be important, and what cannot be."""
         is_settled = any(
-            base.rank == _OWN and is_known(base.declarations[0].value)
-            for base in self._urgent
+            base.rank == _OWN and is_known(base.declarations[0].value) for base in self._urgent
         )
         if len(self._names) == 1 and is_settled:
             return
         if self._important:
             self._weigh_important()
-        if self.demoted or any(
-            goes_back(each.declarations) for each in self._bases + self._urgent
-        ):
+        if self.demoted or any(goes_back(each.declarations) for each in self._bases + self._urgent):
             self._clauses.forbidden.update(each.unit for each in self._normal)
         if self._normal:
             self._weigh_normal()
@@ -301,13 +289,9 @@ class _Problem:
         """What is important and stays is below what is important and written, which need not be
         important if all that stays and is so is above it."""
         written = [each for each in self._urgent if each.rank != _OWN]
-        above = _Ranked(
-            (-each.most, _said(each.declarations)) for each in self._important
-        )
+        above = _Ranked((-each.most, _said(each.declarations)) for each in self._important)
         is_needed = any(
-            above.has_other(
-                bisect.bisect_right(above.ranks, -base.rank), _said(base.declarations)
-            )
+            above.has_other(bisect.bisect_right(above.ranks, -base.rank), _said(base.declarations))
             for base in written
         )
         least = min((each.least for each in self._important), default=HIGHEST)
@@ -326,9 +310,7 @@ class _Problem:
         self.musts += (
             each.unit
             for each in self._normal
-            if bases.has_other(
-                bisect.bisect_left(bases.ranks, each.most), _said(each.declarations)
-            )
+            if bases.has_other(bisect.bisect_left(bases.ranks, each.most), _said(each.declarations))
         )
         weighed = (
             base.rank
@@ -349,11 +331,7 @@ class _Problem:
         in no order both or none are. Of two layers the order of what is important is the other
         one."""
         is_single = len(self._names) == 1
-        floor = (
-            min((each.rank for each in self._bases), default=LOWEST)
-            if is_single
-            else LOWEST
-        )
+        floor = min((each.rank for each in self._bases), default=LOWEST) if is_single else LOWEST
         units = sorted(
             (each for each in self._normal if each.most >= floor),
             key=lambda each: each.least,
@@ -395,9 +373,7 @@ class Marking:
         self.marks: Marks = {}
         self.demoted: Dict[Kind, Set[Tuple[Rank, str]]] = {}
 
-    def solve(
-        self, left_as_it_is: Callable[[Kind], FrozenSet[str]]
-    ) -> Dict[Kind, Set[str]]:
+    def solve(self, left_as_it_is: Callable[[Kind], FrozenSet[str]]) -> Dict[Kind, Set[str]]:
         """Decides for what is not left yet. Returns the families that have to be left, of which all
         is decided again; `left_as_it_is` are those of a kind if nothing is made important.
         """
@@ -420,9 +396,7 @@ class Marking:
         if EVERYTHING not in left and not families <= left:
             self._conflicts.setdefault(kind, set()).update(families)
 
-    def _look_at(
-        self, kind: Kind, left_as_it_is: Callable[[Kind], FrozenSet[str]]
-    ) -> None:
+    def _look_at(self, kind: Kind, left_as_it_is: Callable[[Kind], FrozenSet[str]]) -> None:
         """Takes what a kind of element says."""
         view = self._view_of(kind)
         names = view.names()
@@ -482,11 +456,7 @@ def raised_by(view: View, marked: Set[Unit]) -> Dict[str, Rank]:
     found: Dict[str, Rank] = {}
     for family in view.names():
         those = view.rivals.by_family.get(family, ())
-        ranks = [
-            rival.reach.most.normal
-            for rival in those
-            if (rival.block, family) in marked
-        ]
+        ranks = [rival.reach.most.normal for rival in those if (rival.block, family) in marked]
         if ranks:
             found[family] = min(ranks)
     return found

@@ -55,9 +55,7 @@ def minify(text: str) -> str:
     if len(short) >= len(text):
         return text
     is_same = written == [each.text for each in without_gaps(short)]
-    return (
-        short if is_same and list(_Sheet(short).said()) == list(sheet.said()) else text
-    )
+    return short if is_same and list(_Sheet(short).said()) == list(sheet.said()) else text
 
 
 class _Sheet:
@@ -66,17 +64,13 @@ class _Sheet:
     def __init__(self, text: str) -> None:
         self._source, statements = read_sheet(text)
         # What is before an `@import` may be why it is too late.
-        fixed = max(
-            (at for at, each in enumerate(statements) if _is_of_front(each)), default=-1
-        )
+        fixed = max((at for at, each in enumerate(statements) if _is_of_front(each)), default=-1)
         self._kept: List[Statement] = []
         others: List[Statement] = []
         for at, each in enumerate(statements):
             is_dropped = _is_late_charset(each, text) or at > fixed and _is_empty(each)
             (others if is_dropped else self._kept).append(each)
-        self._dropped = {each.span for each in others} | _unused_groups(
-            self._kept, others
-        )
+        self._dropped = {each.span for each in others} | _unused_groups(self._kept, others)
 
     # ---- what it says
 
@@ -128,11 +122,7 @@ class _Sheet:
         for token in tokens(self._source.text):
             while at < len(parts) and parts[at].end <= token.start:
                 at += 1
-            part = (
-                parts[at]
-                if at < len(parts) and parts[at].start <= token.start
-                else None
-            )
+            part = parts[at] if at < len(parts) and parts[at].start <= token.start else None
             writer.add(token, _USUAL if part is None else part.way)
         return writer.end()
 
@@ -189,9 +179,7 @@ def _is_empty(statement: Statement) -> bool:
     if isinstance(statement, Fault):
         return False
     rule = statement.rule
-    return (
-        rule.name in GROUPS and rule.block is not None and not without_gaps(rule.block)
-    )
+    return rule.name in GROUPS and rule.block is not None and not without_gaps(rule.block)
 
 
 def _unused_groups(kept: List[Statement], others: List[Statement]) -> Set[Span]:

@@ -165,9 +165,7 @@ def _misspelt_feature(level: Level) -> Optional[Problem]:
         right = prelude[: token.start] + hint + prelude[token.end :]
         if says(level.condition._replace(prelude=right), Device()) != UNKNOWN:
             start = level.head[1] - len(encode(prelude[token.start :]))
-            return Problem(
-                "unknown media feature", (start, start + len(encode(token.text))), hint
-            )
+            return Problem("unknown media feature", (start, start + len(encode(token.text))), hint)
     return None
 
 
@@ -253,19 +251,14 @@ def _open_groups(source: Source, statements: Sequence[Statement]) -> Iterator[Pr
     ends = [each.span[1] for each in statements[-1:]]
     for level in reversed(statements[-1].levels if statements else ()):
         # Its last byte is that of what is in it, or it is no brace.
-        if (
-            level.span[1] in ends
-            or source.data[level.span[1] - 1 : level.span[1]] != b"}"
-        ):
+        if level.span[1] in ends or source.data[level.span[1] - 1 : level.span[1]] != b"}":
             yield Problem("block not closed", level.head)
         ends.append(level.span[1])
 
 
 def _end_of(statements: Sequence[Statement]) -> int:
     """Returns where the last statement ends, or the group rule that it is in."""
-    ends = (
-        each.levels[0].span[1] if each.levels else each.span[1] for each in statements
-    )
+    ends = (each.levels[0].span[1] if each.levels else each.span[1] for each in statements)
     return max(ends, default=0)
 
 
@@ -286,9 +279,7 @@ def _open_comment(source: Source, start: int) -> Iterator[Problem]:
 def _unknown_in(text: str, start: int) -> Iterator[Problem]:
     """Yields the names in selectors that no pseudo-class and no pseudo-element has. The selectors begin
     at an offset."""
-    unknown = (
-        each for each in pseudo_names(text) if not _kind_of(each).knows(each.name)
-    )
+    unknown = (each for each in pseudo_names(text) if not _kind_of(each).knows(each.name))
     for name in itertools.islice(unknown, _MOST_NAMES):
         first = start + len(encode(text[: name.start]))
         yield _unknown(name, (first, first + len(encode(text[name.start : name.end]))))
@@ -451,17 +442,13 @@ def _merged(text: str, start: int) -> Iterator[Problem]:
     if name.kind != "ident" or lower(name.value) not in names.properties():
         return
     if _is_whole(text[: before.end]) and _is_whole(text[name.start :]):
-        yield Problem(
-            "semicolon missing", (start, start + len(encode(text[: before.end])))
-        )
+        yield Problem("semicolon missing", (start, start + len(encode(text[: before.end]))))
 
 
 def _is_whole(text: str) -> bool:
     """Whether a text is one declaration, of which nothing is open at its end."""
     items = read_block(text)[1]
-    return (
-        len(items) == 1 and isinstance(items[0], ReadDeclaration) and items[0].is_closed
-    )
+    return len(items) == 1 and isinstance(items[0], ReadDeclaration) and items[0].is_closed
 
 
 def _is_open(token: Token) -> bool:
@@ -470,11 +457,7 @@ def _is_open(token: Token) -> bool:
         return len(token.text) < 4 or not token.text.endswith("*/")
     if token.kind == "string":
         return len(token.text) - len(token.inside) < 2
-    return (
-        token.kind in ("bad-string", "bad-url")
-        or token.kind == "url"
-        and token.text[-1] != ")"
-    )
+    return token.kind in ("bad-string", "bad-url") or token.kind == "url" and token.text[-1] != ")"
 
 
 def _opened(text: str, kinds: FrozenSet[str]) -> int:
@@ -490,9 +473,7 @@ def _not_closed(text: str, span: Span) -> Problem:
     """Returns what the end of the text closes of a declaration: a comment, a string or a bracket."""
     at = _opened(text, _COMMENTS)
     if at and _is_whole(text + "*/"):
-        return Problem(
-            "comment not closed", (span[0] + len(encode(text[:at])), span[1])
-        )
+        return Problem("comment not closed", (span[0] + len(encode(text[:at])), span[1]))
     at = _opened(text, _STRINGS)
     before = text[:at] if _is_whole(text + text[at : at + 1]) else ""
     return Problem("value not closed", (span[0] + len(encode(before)), span[1]))
@@ -509,15 +490,10 @@ def _repeated(items: Sequence[BlockItem]) -> Iterator[Problem]:
             count += 1
             continue
         name, before = item.declaration.name, last.get(item.declaration.name)
-        if (
-            before is not None
-            and before.declaration.important > item.declaration.important
-        ):
+        if before is not None and before.declaration.important > item.declaration.important:
             yield Problem("repeated declaration", item.span)
             continue
-        if before is not None and _is_lost(
-            before.declaration, item.declaration, count, places
-        ):
+        if before is not None and _is_lost(before.declaration, item.declaration, count, places):
             yield Problem("repeated declaration", before.span)
         for part in _parts_of(item.declaration) & last.keys():
             if item.declaration.important >= last[part].declaration.important:
@@ -526,9 +502,7 @@ def _repeated(items: Sequence[BlockItem]) -> Iterator[Problem]:
         last[name], places[name] = item, count
 
 
-def _is_lost(
-    before: Declaration, after: Declaration, count: int, places: Dict[str, int]
-) -> bool:
+def _is_lost(before: Declaration, after: Declaration, count: int, places: Dict[str, int]) -> bool:
     """Whether a declaration is lost by another one of its property. Browsers take the last value
     that they support: two different ones side by side are meant, and so is a later one of a
     function, or one with a prefix."""

@@ -30,9 +30,7 @@ class Names:
         """Returns the name that an unknown one is a slip of the pen for. Of several, the first by
         the alphabet of those with the same first letter, if there is one."""
         near = self.near(name)
-        return next(
-            (each for each in near if each[0] == name[0]), near[0] if near else None
-        )
+        return next((each for each in near if each[0] == name[0]), near[0] if near else None)
 
     def near(self, name: str) -> List[str]:
         """Returns the names that an unknown one may be a slip of the pen for: a character too many,
@@ -66,11 +64,7 @@ def _is_slip(name: str, other: str) -> bool:
     if len(name) != len(other):
         return True
     differing = [pair for pair in zip(name, other) if pair[0] != pair[1]]
-    return (
-        len(differing) == 1
-        or len(differing) == 2
-        and differing[0] == differing[1][::-1]
-    )
+    return len(differing) == 1 or len(differing) == 2 and differing[0] == differing[1][::-1]
 
 
 @functools.lru_cache(maxsize=None)

@@ -45,9 +45,7 @@ def has_rules(items: Iterable[BlockItem]) -> bool:
     if isinstance(items, Items) and items.are_whole:
         return False
     return any(
-        each.rule.block is not None
-        if isinstance(each, ReadAtRule)
-        else each.reason in _SKIPPED
+        each.rule.block is not None if isinstance(each, ReadAtRule) else each.reason in _SKIPPED
         for each in items
         if not isinstance(each, ReadDeclaration)
     )
@@ -77,9 +75,7 @@ def inner_rule(source: Source, item: BlockItem, by: int) -> Optional[InnerRule]:
     if len(found) != 1 or not isinstance(found[0], ReadAtRule):
         return None
     end = span[0] + len(found[0].rule.prelude.encode("utf-8"))
-    return InnerRule(
-        None, span, (span[0], end), moved(found[0].inner, span[0] - len(_AT_RULE))
-    )
+    return InnerRule(None, span, (span[0], end), moved(found[0].inner, span[0] - len(_AT_RULE)))
 
 
 def contents_of(source: Source, inner: Span) -> Tuple[Iterable[BlockItem], int]:
@@ -120,9 +116,7 @@ class _Reader:
                 inner = Block(rule.inner, own, block.conditions)
                 yield from self._inside(inner, inside, rule.head, within, depth + 1)
             else:
-                inner = Block(
-                    rule.inner, block.parents, (*block.conditions, rule.condition)
-                )
+                inner = Block(rule.inner, block.parents, (*block.conditions, rule.condition))
                 yield from self._inside(inner, inside, head, within, depth + 1)
 
 
@@ -144,10 +138,7 @@ class Places:
 
     def at(self, offset: int) -> Optional[Block]:
         """Returns the innermost block at an offset, if there is one."""
-        while (
-            self._next < len(self._blocks)
-            and self._blocks[self._next].span[0] <= offset
-        ):
+        while self._next < len(self._blocks) and self._blocks[self._next].span[0] <= offset:
             self._leave(self._blocks[self._next].span[0])
             self._open.append(self._blocks[self._next])
             self._next += 1

@@ -62,9 +62,7 @@ class LayeredText:
     def enter(self, layers: Layers) -> None:
         """Opens the blocks of layers, and closes others."""
         pairs = zip(self._open, layers)
-        shared = sum(
-            1 for _ in itertools.takewhile(lambda pair: pair[0] == pair[1], pairs)
-        )
+        shared = sum(1 for _ in itertools.takewhile(lambda pair: pair[0] == pair[1], pairs))
         self._parts += ["}"] * (len(self._open) - shared)
         self._parts += (f"{level.condition} {{" for _, level in layers[shared:])
         self._open = layers
@@ -100,9 +98,7 @@ def reaches_of(parts: Sequence["Ordered | Tuple[Layers, str]"]) -> List[Reach]:
     for part in parts:
         if isinstance(part, Ordered):
             every.append(part)
-            text.add(
-                part.layers, f"{part.selector if part.is_ranked else EVERY} {{a:0}}"
-            )
+            text.add(part.layers, f"{part.selector if part.is_ranked else EVERY} {{a:0}}")
         else:
             text.add(*part)
     places = _places_in(text.closed(), len(every))
@@ -130,9 +126,7 @@ def _places_in(text: str, count: int) -> List[_Place]:
     room = _OF_RULE * count + 1
     numbers = library.numbers_of("simplecss_rules", sheets, library.NO_LIMIT, room=room)
     if len(numbers) != _OF_RULE * count:
-        raise library.LibraryError(
-            "simplecss_rules: other rules than those of the sheet"
-        )
+        raise library.LibraryError("simplecss_rules: other rules than those of the sheet")
     rows = zip(numbers[1::_OF_RULE], numbers[2::_OF_RULE])
     found: List[_Place] = []
     # What is important in an earlier layer is stronger.
@@ -156,9 +150,7 @@ def _reach(place: _Place, first: _Place, last: _Place, is_ranked: bool) -> Reach
         strength = Strength(2 * place.normal, 2 * place.important, place.layer)
         return Reach(strength, strength)
     least = Strength(2 * first.normal - 1, 2 * first.important - 1, place.layer)
-    return Reach(
-        least, Strength(2 * last.normal + 1, 2 * last.important + 1, place.layer)
-    )
+    return Reach(least, Strength(2 * last.normal + 1, 2 * last.important + 1, place.layer))
 
 
 class Grouped(NamedTuple):
@@ -179,9 +171,7 @@ class Winners:
         """Takes rules by their numbers: how strong each is, and what it has."""
         self._numbers = sorted(rules, key=lambda number: rules[number][0])
         text: List[str] = []
-        by_layer = itertools.groupby(
-            self._numbers, lambda number: rules[number][0].layer
-        )
+        by_layer = itertools.groupby(self._numbers, lambda number: rules[number][0].layer)
         last = max((strength.layer for strength, _ in rules.values()), default=0)
         for layer, numbers in by_layer:
             blocks = (f".r{number}{{{_block(rules[number][1])}}}" for number in numbers)
@@ -200,9 +190,7 @@ class Winners:
         words = (self._sheets, 0, library.NO_LIMIT, tree, library.OwnArrays([]))
         room = 1024 + 64 * len(sets)
         name, most = "simplecss_winners", library.NO_LIMIT
-        numbers = library.numbers_of(
-            name, *words, room=room, with_fault=True, most=most
-        )
+        numbers = library.numbers_of(name, *words, room=room, with_fault=True, most=most)
         return list(self._won(numbers))
 
     def _won(self, numbers: "array.array[int]") -> Iterator[List[Tuple[int, int]]]:
@@ -214,6 +202,4 @@ class Winners:
 
 
 def _block(groups: Iterable[Grouped]) -> str:
-    return "".join(
-        f"{each.name}:0{'!important' if each.important else ''};" for each in groups
-    )
+    return "".join(f"{each.name}:0{'!important' if each.important else ''};" for each in groups)

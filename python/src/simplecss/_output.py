@@ -22,9 +22,7 @@ def printable_lines(text: str) -> str:
     """Returns a text of any number of lines, with U+FFFD for each other control character. A
     carriage return alone is one: what comes after it would be written over the line."""
     is_plain = text.isprintable()
-    return (
-        text if is_plain else text.replace("\r\n", "\n").translate(_REPLACED_IN_LINES)
-    )
+    return text if is_plain else text.replace("\r\n", "\n").translate(_REPLACED_IN_LINES)
 
 
 def json_line(value: Any) -> str:

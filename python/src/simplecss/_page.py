@@ -41,13 +41,9 @@ from .html import (
     decode,
 )
 
-_HEAD_PARTS = frozenset(
-    "head title meta link base style script noscript template".split()
-)
+_HEAD_PARTS = frozenset("head title meta link base style script noscript template".split())
 # The elements of HTML whose content is text up to an end tag of theirs, for some browsers at least.
-_RAW = frozenset(
-    "iframe noembed noframes noscript script style textarea title xmp".split()
-)
+_RAW = frozenset("iframe noembed noframes noscript script style textarea title xmp".split())
 # The element of which older browsers take the tags of a `style` away.
 _SELECT = "select"
 _NOTED = _RAW | {_SELECT}
@@ -104,11 +100,7 @@ def written(css: str, lacking: FrozenSet[str] = _NONE) -> str:
     """Returns css with escapes for its control characters and for those that are lacking, which are
     not ASCII, and with a newline for each form feed."""
     if lacking:
-        found = (
-            each
-            for each in _FOREIGN.finditer(css)
-            if _is_unwritten(each.group(), lacking)
-        )
+        found = (each for each in _FOREIGN.finditer(css) if _is_unwritten(each.group(), lacking))
         css = replaced(css, map(_escaped, found))
     elif not css.translate(_WITHOUT_BLANKS).isprintable():
         css = replaced(css, map(_escaped, _CONTROL.finditer(css)))
@@ -133,32 +125,25 @@ def style_text(css: str, names: FrozenSet[str], is_drawn: bool = False) -> str:
     if "<" not in css:
         return css
     if is_drawn:
-        text = _with_escapes(
-            css, lambda text: replaced(text, map(_marked, _MARKUP.finditer(text)))
-        )
+        text = _with_escapes(css, lambda text: replaced(text, map(_marked, _MARKUP.finditer(text))))
         # As in `(400px<width)`.
         text = _MARKUP_OF_NAME.sub("< ", text)
         found = _MARKUP.search(text)
         if found:
-            raise ValueError(
-                f"`<{text[found.end()]}` outside of a string could begin markup"
-            )
+            raise ValueError(f"`<{text[found.end()]}` outside of a string could begin markup")
         return text
     end = re.compile(f"<(?=(/(?:{'|'.join(sorted(names))})))", re.IGNORECASE | re.ASCII)
     text = _with_escapes(css, lambda text: end.sub(r"<\\", text))
     found = end.search(text)
     if found:
-        raise ValueError(
-            f"`<{found[1]}` outside of a string would end the element that it is in"
-        )
+        raise ValueError(f"`<{found[1]}` outside of a string would end the element that it is in")
     return text
 
 
 def _with_escapes(css: str, escaped: Callable[[str], str]) -> str:
     """Returns css with escapes in those of its tokens that may have some for markup."""
     return "".join(
-        escaped(each.text) if each.kind in _ESCAPABLE else each.text
-        for each in tokens(css)
+        escaped(each.text) if each.kind in _ESCAPABLE else each.text for each in tokens(css)
     )
 
 
@@ -169,8 +154,7 @@ def _marked(found: Match[str]) -> Tuple[int, int, str]:
 def _content(text: str) -> str:
     """Returns the sheet that the text of a `style` element is where references are read."""
     return "".join(
-        part if index % 2 else decode(part)
-        for index, part in enumerate(_SECTION.split(text))
+        part if index % 2 else decode(part) for index, part in enumerate(_SECTION.split(text))
     )
 
 
@@ -208,9 +192,7 @@ class _Other:
         """Whether it reads the tag of an element alike, and where a `style` ends."""
         node = self._nodes.get(tag)
         if node is None or name != "style":
-            return node is not None and (
-                space == _XML or (node.name, node.space) == (name, space)
-            )
+            return node is not None and (space == _XML or (node.name, node.space) == (name, space))
         return (node.name, node.space, node.end) == (
             name,
             SVG if space == _XML else space,
@@ -308,9 +290,7 @@ class Page:
             raise TreeError(str(error), None, None) from None
         self.is_doubtful = builder.is_doubtful
         nodes = self.elements.take_nodes(builder)
-        self._head_end = (
-            len(self.text) if builder.head_end is None else builder.head_end
-        )
+        self._head_end = len(self.text) if builder.head_end is None else builder.head_end
         self._head_end = max(self._head_end, self._front[1])
         self._spaces = bytearray(node.space for node in nodes)
         self._inner_ends.extend(node.inner_end for node in nodes)
@@ -334,9 +314,7 @@ class Page:
         """Notes which elements of raw text each element is or is in, of which `texts` are in the text
         of a `noscript`."""
         raw = self._raw
-        for index, (name, parent) in enumerate(
-            zip(self.elements.names, self.elements.parents)
-        ):
+        for index, (name, parent) in enumerate(zip(self.elements.names, self.elements.parents)):
             found = raw[parent] if parent >= 0 else _NONE
             if name in _NOTED and self._spaces[index] == HTML:
                 found |= {name}
@@ -345,9 +323,7 @@ class Page:
     def _drawn_sheet(self, index: int) -> str:
         """Returns the sheet of a `style` element of SVG."""
         found = self.elements.texts.within(index, self.elements.end_of(index))
-        return "".join(
-            self._foreign_text(*text) for owner, text in found if owner == index
-        )
+        return "".join(self._foreign_text(*text) for owner, text in found if owner == index)
 
     def _compared(self, nodes: List[Node], other: _Other) -> Set[int]:
         """Leaves out the tags that another reader reads otherwise. Returns the elements that are in
@@ -417,11 +393,7 @@ class Page:
             for index, (name, tag) in enumerate(zip(self.elements.names, self.tags))
             if name == "link" and tag is not None and self._is_sheet_link(index)
         ]
-        found = (
-            each
-            for each in (*self.styles, *links)
-            if _SELECT not in self._raw[each.element]
-        )
+        found = (each for each in (*self.styles, *links) if _SELECT not in self._raw[each.element])
         return sorted(found, key=lambda each: each.element)
 
     def _is_sheet_link(self, index: int) -> bool:
@@ -486,9 +458,7 @@ class Page:
         if parent < 0 or self._spaces[parent] not in (HTML, _XML):
             return False
         is_drawing = self._spaces[0] == _XML and self.elements.names[0] == "svg"
-        return self.elements.names[parent] in (
-            ("svg", "defs") if is_drawing else ("head",)
-        )
+        return self.elements.names[parent] in (("svg", "defs") if is_drawing else ("head",))
 
     def _may_go(self, content: Content) -> bool:
         """Whether no selector notices that an element is missing, and no text joins another
@@ -521,11 +491,7 @@ class Page:
             if parent != _HEAD or tag is None:
                 continue
             is_closed = names[index] in VOID or self._has_end(index)
-            if (
-                index in sheets
-                or names[index] in ("noscript", "template")
-                or not is_closed
-            ):
+            if index in sheets or names[index] in ("noscript", "template") or not is_closed:
                 return min(tag[0], self._head_end)
         return self._head_end
 
@@ -541,9 +507,7 @@ class Page:
                 return self._inner_ends[index], self._prefix(tag[0])
         root = self.tags[0]
         if root is None or self.text.endswith("/>", 0, root[1]):
-            raise ValueError(
-                "the document has no content that a style element could be in"
-            )
+            raise ValueError("the document has no content that a style element could be in")
         return root[1], self._prefix(root[0])
 
     def _prefix(self, start: int) -> str:
@@ -569,9 +533,7 @@ class Page:
         return lower(kind) in ("", "text/css")
 
     def _media(self, content: Content) -> str:
-        return lower(
-            self.elements.attributes[content.element].get("media", "").strip(BLANKS)
-        )
+        return lower(self.elements.attributes[content.element].get("media", "").strip(BLANKS))
 
     # ---- attributes
 
@@ -651,9 +613,7 @@ class Page:
         has_own = index in self._with_own
         key = (text, None if has_own else own, id(declared), *changes.items())
         if key not in made:
-            made[key] = _new_tag(
-                text, declared, changes, None if has_own else own, self.is_xml
-            )
+            made[key] = _new_tag(text, declared, changes, None if has_own else own, self.is_xml)
         return made[key]
 
 
@@ -675,8 +635,7 @@ def _new_tag(
     attributes = attributes_of(tag)
     if has_case:
         attributes = [
-            each._replace(name=tag[each.start : each.start + len(each.name)])
-            for each in attributes
+            each._replace(name=tag[each.start : each.start + len(each.name)]) for each in attributes
         ]
     name = _TAG_NAME.match(tag)
     last = name.end() if name else 1
@@ -693,9 +652,7 @@ def _new_tag(
             continue
         value = missing.pop(each.name)
         if each.name == "style":
-            parts.append(
-                before + _with_declarations(each, declarations, own is not None)
-            )
+            parts.append(before + _with_declarations(each, declarations, own is not None))
         elif value is not None:
             parts.append(f'{before}{each.name}="{_escape(value, chr(34))}"')
         else:
@@ -714,9 +671,7 @@ def _new_tag(
     return "".join(parts) + tag[last:]
 
 
-def _with_declarations(
-    own: Attribute, declarations: Tuple[str, ...], has_both: bool
-) -> str:
+def _with_declarations(own: Attribute, declarations: Tuple[str, ...], has_both: bool) -> str:
     """Returns an attribute `style` with declarations before its own, or in place of these."""
     value = own.value or ""
     quote = value[0] if value[:1] in ("'", '"') else '"'

@@ -30,9 +30,7 @@ _GEOMETRY: Dict[str, FrozenSet[str]] = {
     **dict.fromkeys(("foreignObject", "image", "svg", "symbol", "use"), _PLACED),
 }
 # Of these `fill` is something else.
-_ANIMATIONS: FrozenSet[str] = frozenset(
-    ("animate", "animateMotion", "animateTransform", "set")
-)
+_ANIMATIONS: FrozenSet[str] = frozenset(("animate", "animateMotion", "animateTransform", "set"))
 
 # Of which an attribute is written in another way, or is none in browsers.
 _OTHERWISE: FrozenSet[str] = frozenset(
@@ -67,6 +65,4 @@ def is_presentable(group: Group) -> bool:
     value = declaration.value
     if len(group.declarations) > 1 or declaration.important or has_ident(value, _BACK):
         return False
-    return (
-        declaration.name not in _LENGTHS or value == "0" or not ends_with_number(value)
-    )
+    return declaration.name not in _LENGTHS or value == "0" or not ends_with_number(value)

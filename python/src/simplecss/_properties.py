@@ -34,9 +34,7 @@ def longhands(name: str) -> Tuple[str, ...]:
 @functools.lru_cache(maxsize=4096)
 def shorthands(name: str) -> Tuple[str, ...]:
     """Returns the shorthands that set a longhand."""
-    answer = library.call(
-        "simplecss_shorthands", library.encode(lower(name)), room=1024
-    )
+    answer = library.call("simplecss_shorthands", library.encode(lower(name)), room=1024)
     found = library.output_of("simplecss_shorthands", answer)
     return tuple(found.decode("utf-8").split())
 
@@ -76,8 +74,6 @@ def first_set_with(name: str) -> str:
     found, new = set(), {name}
     while new:
         found |= new
-        others = {
-            each for part in new for each in (*longhands(part), *shorthands(part))
-        }
+        others = {each for part in new for each in (*longhands(part), *shorthands(part))}
         new = others - found - {"all"}
     return min((each for each in found if not longhands(each)), default=name)

@@ -101,11 +101,7 @@ class Source:
     def at(self, span: Sequence[int]) -> str:
         """Returns the text between two offsets."""
         start, end = span
-        return (
-            self.text[start:end]
-            if self._is_ascii
-            else self.data[start:end].decode("utf-8")
-        )
+        return self.text[start:end] if self._is_ascii else self.data[start:end].decode("utf-8")
 
     def offset(self, at: int) -> int:
         """Returns the offset of the character whose first byte is at an offset."""
@@ -199,9 +195,7 @@ class _Parts(Sequence[_Part]):
     # How many numbers each has.
     _width: int
 
-    def __init__(
-        self, reader: "_Reader", numbers: "array.array[int]", place: Span
-    ) -> None:
+    def __init__(self, reader: "_Reader", numbers: "array.array[int]", place: Span) -> None:
         """Takes what makes them of numbers, and where among these their own are."""
         self._reader = reader
         self._numbers = numbers
@@ -317,9 +311,7 @@ def conditions_of(levels: Iterable[Level]) -> Tuple[Condition, ...]:
 
 def declarations_in(items: Iterable[BlockItem]) -> Tuple[Declaration, ...]:
     """Returns the declarations of a block."""
-    return tuple(
-        [item.declaration for item in items if isinstance(item, ReadDeclaration)]
-    )
+    return tuple([item.declaration for item in items if isinstance(item, ReadDeclaration)])
 
 
 class _Names(Dict[str, str]):
@@ -377,19 +369,13 @@ class _Reader(DeclarationReader):
         """Yields the statements that the library writes."""
         data = self.source.data
         most = library.most_numbers(len(data))
-        numbers = library.numbers_of(
-            "simplecss_read", data, room=1024 + len(data), most=most
-        )
+        numbers = library.numbers_of("simplecss_read", data, room=1024 + len(data), most=most)
         at, end = 0, len(numbers)
         while at < end:
             row = numbers[at : at + _OF_STATEMENT]
             at_selectors = at + _OF_STATEMENT + row[10]
             at_items = at_selectors + row[11]
-            levels = (
-                self._levels_of(numbers[at + _OF_STATEMENT : at_selectors])
-                if row[10]
-                else ()
-            )
+            levels = self._levels_of(numbers[at + _OF_STATEMENT : at_selectors]) if row[10] else ()
             at = at_items + row[12]
             if row[0] == _RULE:
                 selectors = Selectors(self, numbers, (at_selectors, at_items))
@@ -402,9 +388,7 @@ class _Reader(DeclarationReader):
     def block_items(self) -> List[BlockItem]:
         """Returns what the text has as a style attribute."""
         data = self.source.data
-        numbers = library.numbers_of(
-            "simplecss_declarations", data, room=256 + 2 * len(data)
-        )
+        numbers = library.numbers_of("simplecss_declarations", data, room=256 + 2 * len(data))
         return self.items(numbers, ())
 
     def selectors(self, numbers: "array.array[int]") -> List[ReadSelector]:
@@ -412,15 +396,10 @@ class _Reader(DeclarationReader):
         firsts = range(0, len(numbers), _OF_SELECTOR)
         return [self._selector(numbers[at : at + _OF_SELECTOR]) for at in firsts]
 
-    def items(
-        self, numbers: "array.array[int]", levels: Tuple[Level, ...]
-    ) -> List[BlockItem]:
+    def items(self, numbers: "array.array[int]", levels: Tuple[Level, ...]) -> List[BlockItem]:
         """Returns the items of these numbers."""
         rows = [numbers[at : at + _OF_ITEM] for at in range(0, len(numbers), _OF_ITEM)]
-        return [
-            self._other(row, levels) if row[0] else self._declaration(row)
-            for row in rows
-        ]
+        return [self._other(row, levels) if row[0] else self._declaration(row) for row in rows]
 
     def _groups_between(self, start: int, end: int) -> Iterator[ReadAtRule]:
         """Yields the group rules between two statements."""
@@ -448,9 +427,7 @@ class _Reader(DeclarationReader):
             lower(at((name, name + name_length))),
             at((prelude, prelude + prelude_length)),
         )
-        return Level(
-            condition, (start, start + length), (start, prelude + prelude_length)
-        )
+        return Level(condition, (start, start + length), (start, prelude + prelude_length))
 
     def _rule(
         self,
@@ -499,13 +476,9 @@ class _Reader(DeclarationReader):
         declaration = self.declared(
             (name, name + name_length), (value, end), is_important == 1, is_closed == 1
         )
-        return ReadDeclaration(
-            declaration, is_closed == 1, (start, start + length), end
-        )
+        return ReadDeclaration(declaration, is_closed == 1, (start, start + length), end)
 
-    def _other(
-        self, row: Sequence[int], levels: Tuple[Level, ...]
-    ) -> Union[ReadAtRule, Fault]:
+    def _other(self, row: Sequence[int], levels: Tuple[Level, ...]) -> Union[ReadAtRule, Fault]:
         """Makes an at-rule, or something that is skipped."""
         kind, start, length = row[:3]
         if kind in _FAULTS:
@@ -534,9 +507,7 @@ class _Reader(DeclarationReader):
 
 def before_element(text: str, at: int) -> str:
     """Returns the selector of the elements that a pseudo-element is of, whose name is from an index on."""
-    return originating(
-        text[: max(each.start for each in names_in(text) if each.start <= at)]
-    )
+    return originating(text[: max(each.start for each in names_in(text) if each.start <= at)])
 
 
 def ended(text: str) -> Optional[str]:
@@ -603,10 +574,6 @@ def declarations(text: str) -> List[Declaration]:
 def is_supported(text: str) -> Optional[bool]:
     """Whether the library matches elements by a selector, or `None` if a text is none."""
     found = read_sheet(text + "{}")[1]
-    if (
-        len(found) != 1
-        or not isinstance(found[0], RuleSet)
-        or len(found[0].selectors) != 1
-    ):
+    if len(found) != 1 or not isinstance(found[0], RuleSet) or len(found[0].selectors) != 1:
         return None
     return found[0].selectors[0].specificity is not None

@@ -49,11 +49,7 @@ def computed(
     properties among the pairs, and else by those inherited, or as registered by `@property` rules, of
     which the prelude and the block are given. `None` is a value that is invalid at computed-value time. A
     longer one than `longest` is, and more bytes than `most` raise `LimitError`."""
-    words = [
-        library.encode(word)
-        for pair in (*pairs, *registered, *inherited)
-        for word in pair
-    ]
+    words = [library.encode(word) for pair in (*pairs, *registered, *inherited) for word in pair]
     name = "simplecss_values"
     ends = library.ends_of(map(len, words))
     room = 1024 + sum(map(len, words[: 2 * len(pairs)]))
@@ -136,12 +132,8 @@ class _Resolver:
         pairs = [(each.name, _asked_for(each)) for each in asked]
         pairs += self._undeclared(denoted(each.name) for each in asked)
         self._handed.take(len(inherited) + len(self._names))
-        self._read.take(
-            sum(map(len, itertools.chain(*inherited.values(), *self._registered)))
-        )
-        values = computed(
-            pairs, inherited.values(), self._registered, most=self._room.left
-        )
+        self._read.take(sum(map(len, itertools.chain(*inherited.values(), *self._registered))))
+        values = computed(pairs, inherited.values(), self._registered, most=self._room.left)
         self._room.take(sum(map(len, filter(None, values))))
         custom = self._custom(inherited, zip((name for name, _ in pairs), values))
         return _Element(_with_values(declared, dict(zip(asked, values))), custom)
@@ -153,9 +145,7 @@ class _Resolver:
             names.pop(name, None)
         return [(name, _UNSET) for name in names.values()]
 
-    def _custom(
-        self, inherited: Custom, values: Iterable[Tuple[str, Optional[str]]]
-    ) -> Custom:
+    def _custom(self, inherited: Custom, values: Iterable[Tuple[str, Optional[str]]]) -> Custom:
         """Returns the custom properties of an element, which has these values."""
         custom = dict(inherited)
         for name, value in values:
@@ -171,9 +161,7 @@ class _Resolver:
 
 def _asked_for(declaration: Declaration) -> str:
     """Returns a value as the library is asked for it, which knows of no earlier declarations."""
-    is_undeclared = lower(declaration.value) == _UNDECLARED and is_custom(
-        declaration.name
-    )
+    is_undeclared = lower(declaration.value) == _UNDECLARED and is_custom(declaration.name)
     return _UNSET if is_undeclared else declaration.value
 
 
@@ -193,10 +181,7 @@ def registered_in(
     """Yields the prelude and the block of each `@property` of a sheet whose conditions hold, as those of
     the whole sheet do."""
     for each in statements:
-        if (
-            isinstance(each, ReadAtRule)
-            and lower(denoted(each.rule.name)) == "property"
-        ):
+        if isinstance(each, ReadAtRule) and lower(denoted(each.rule.name)) == "property":
             conditions = (*outer, *each.rule.conditions)
             if each.rule.block is not None and all(map(applies, conditions)):
                 yield each.rule.prelude, each.rule.block

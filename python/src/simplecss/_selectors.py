@@ -98,9 +98,7 @@ class Reading(enum.IntEnum):
     def may_change(self, keys: Iterable[str]) -> FrozenSet[str]:
         """Returns the names of attributes that are compared as others, or whose values are."""
         caseless = _CASELESS[self]
-        return frozenset(
-            key for key in keys if key in caseless or self.compared_name(key) != key
-        )
+        return frozenset(key for key in keys if key in caseless or self.compared_name(key) != key)
 
 
 # The attributes whose values compare without case.
@@ -158,9 +156,7 @@ def listed(text: str, grammar: str = MODERN) -> List[Listed]:
         text = texts[at : at + printed_length].decode("utf-8")
         at += printed_length
         end = start + length
-        pseudo_element = (
-            None if element == end else decoded(data[name:end].decode("utf-8"))
-        )
+        pseudo_element = None if element == end else decoded(data[name:end].decode("utf-8"))
         found.append(Listed(text, (ids, classes, types), pseudo_element))
     return found
 
@@ -174,9 +170,7 @@ class SelectorTexts(List[str]):
         joined = "".join(self)
         # The length of a text of ASCII is that of its bytes.
         is_ascii = joined.isascii()
-        ends = library.ends_of(
-            len(each if is_ascii else library.encode(each)) for each in self
-        )
+        ends = library.ends_of(len(each if is_ascii else library.encode(each)) for each in self)
         return library.encode(joined), ends
 
     @functools.cached_property
@@ -226,9 +220,7 @@ def matched(
     """Returns for each element the numbers of the selectors that match it, which begin at 1, with
     spaces between them. The selectors are of the grammar of this number. More numbers than `limit`
     raise `LimitError`."""
-    texts = (
-        selectors if isinstance(selectors, SelectorTexts) else SelectorTexts(selectors)
-    )
+    texts = selectors if isinstance(selectors, SelectorTexts) else SelectorTexts(selectors)
     name = "simplecss_match_selectors"
     words = [*texts.encoded, number, tree]
     # A line is the number of an element, a colon, the numbers with a space before each, and its
@@ -237,9 +229,7 @@ def matched(
     most = min(tree.count * (2 + len(str(tree.count))) + numbers, library.NO_LIMIT)
     room = library.Room(limit)
     try:
-        answer = library.call(
-            name, *words, room=1024 + 32 * tree.count, with_fault=True, most=most
-        )
+        answer = library.call(name, *words, room=1024 + 32 * tree.count, with_fault=True, most=most)
     except library.LimitError:
         raise room.passed() from None
     output = library.output_of(name, answer)

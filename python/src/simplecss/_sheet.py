@@ -246,9 +246,7 @@ class StyleSheet:
         texts = (each.source.text for each in found)
         sheet = cls(*texts, grammar=grammar, limit=limit, answer_limit=answer_limit)
         sheet._read = [(each.source, each.statements) for each in found]
-        return sheet._of_page(
-            tuple(each.conditions for each in found), tuple(shelf.unread)
-        )
+        return sheet._of_page(tuple(each.conditions for each in found), tuple(shelf.unread))
 
     def _of_page(
         self, outer: Tuple[Tuple[Condition, ...], ...], unread: Tuple[Unread, ...]
@@ -288,15 +286,11 @@ class StyleSheet:
     def _all(self) -> _Contents:
         if self._contents is None:
             is_port = self._grammar == PORT
-            self._contents = (
-                self._contents_of_port() if is_port else self._contents_of_modern()
-            )
+            self._contents = self._contents_of_port() if is_port else self._contents_of_modern()
         return self._contents
 
     def _contents_of_port(self) -> _Contents:
-        output = self._call(
-            "simplecss_port_rules", 1024 + 8 * sum(map(len, self._texts))
-        )
+        output = self._call("simplecss_port_rules", 1024 + 8 * sum(map(len, self._texts)))
         return _Contents(tuple(_rules_of_port(Lines(output))), (), (), {})
 
     def _blocks(self) -> List[List[Block]]:
@@ -324,9 +318,7 @@ class StyleSheet:
             if place in starts:
                 indices.setdefault(place, []).append(index)
         at_rules = (
-            each.rule._replace(conditions=outer + each.rule.conditions)
-            if outer
-            else each.rule
+            each.rule._replace(conditions=outer + each.rule.conditions) if outer else each.rule
             for statement, outer in statements
             for each in _at_rules_of(statement)
         )
@@ -363,9 +355,7 @@ class StyleSheet:
 
     def _read_sheets(self) -> Iterator[ReadSheet]:
         """Yields what each text has, with the conditions of all of it."""
-        for (source, found), blocks, outer in zip(
-            self._statements(), self._blocks(), self._outer
-        ):
+        for (source, found), blocks, outer in zip(self._statements(), self._blocks(), self._outer):
             yield source, found, blocks, outer
 
     def _check_limit(self) -> None:
@@ -374,14 +364,8 @@ class StyleSheet:
         sets = [each for each in every if isinstance(each, RuleSet)]
         # How many items there are is known sooner than how many of them are declarations.
         most = sum(len(each.selectors) * len(each.items) for each in sets)
-        if (
-            most
-            > self._limit
-            < sum(len(each.selectors) * len(each.declarations) for each in sets)
-        ):
-            raise library.LimitError(
-                "the rules would hold more declarations than the limit"
-            )
+        if most > self._limit < sum(len(each.selectors) * len(each.declarations) for each in sets):
+            raise library.LimitError("the rules would hold more declarations than the limit")
 
     @property
     def rules(self) -> Tuple[Rule, ...]:
@@ -407,11 +391,7 @@ class StyleSheet:
     @property
     def skipped(self) -> List[Skipped]:
         """What is skipped of the texts, in order."""
-        each = (
-            self._skipped_of_port()
-            if self._grammar == PORT
-            else self._skipped_of_modern()
-        )
+        each = self._skipped_of_port() if self._grammar == PORT else self._skipped_of_modern()
         return list(each)
 
     def _skipped_of_modern(self) -> Iterator[Skipped]:
@@ -425,18 +405,14 @@ class StyleSheet:
     def _skipped_of_port(self) -> Iterator[Skipped]:
         for number, text in enumerate(self._texts):
             source = Source(text.decode("utf-8"))
-            answer = library.call(
-                "simplecss_port_skipped", text, room=1024 + 2 * len(text)
-            )
+            answer = library.call("simplecss_port_skipped", text, room=1024 + 2 * len(text))
             lines = Lines(library.output_of("simplecss_port_skipped", answer))
             while lines.are_left():
                 (row, column, length), reason = lines.numbers_and_rest(3)
                 part = lines.text(length)
                 lines.end_line()
                 start = source.lines[row - 1] + column - 1
-                yield Skipped(
-                    row, column, reason, part, number, start, start + len(part)
-                )
+                yield Skipped(row, column, reason, part, number, start, start + len(part))
 
     def __str__(self) -> str:
         if self._grammar == PORT:
@@ -546,9 +522,7 @@ class StyleSheet:
         """
         if self._grammar == PORT:
             _expect_none(ua=ua)
-            found = self._styles_of_port(
-                tree, media, presentation if specified else None
-            )
+            found = self._styles_of_port(tree, media, presentation if specified else None)
         else:
             winning = self._compared_winning(tree, media, ua)
             own = Own(tree, presentation) if specified else NO_OWN
@@ -563,9 +537,7 @@ class StyleSheet:
     def _registered(self, media: Media) -> Iterator[Pair]:
         """Yields the prelude and the block of each `@property` that holds."""
         if self._grammar != PORT:
-            applies = functools.lru_cache(maxsize=None)(
-                functools.partial(holds, media=media)
-            )
+            applies = functools.lru_cache(maxsize=None)(functools.partial(holds, media=media))
             for (_, found), outer in zip(self._statements(), self._outer):
                 yield from registered_in(found, outer, applies)
 
@@ -580,10 +552,7 @@ class StyleSheet:
         found = self._winners_of_port(*self._match(tree, media), name)
         if presentation is None:
             return found
-        every = [
-            specified_by(element, each, presentation)
-            for element, each in zip(tree, found)
-        ]
+        every = [specified_by(element, each, presentation) for element, each in zip(tree, found)]
         return every if name is None else _with_name(every, name)
 
     def _compared_winning(self, tree: Tree, media: Media, ua: bool) -> Winning:
@@ -596,20 +565,14 @@ class StyleSheet:
             self._check_compared(tree, media, sheets)
         return winning
 
-    def _check_compared(
-        self, tree: Tree, media: Media, sheets: Sequence["StyleSheet"]
-    ) -> None:
+    def _check_compared(self, tree: Tree, media: Media, sheets: Sequence["StyleSheet"]) -> None:
         """Raises `LimitError` if more rules match elements than the limit, or if the rules that match one
         together hold more declarations."""
         compared = library.Room(self._answer_limit)
-        matched = (
-            (tuple(each) for each in sheet._matched(tree, media)) for sheet in sheets
-        )
+        matched = ((tuple(each) for each in sheet._matched(tree, media)) for sheet in sheets)
         for found in set(zip(*matched)):
             for sheet, indices in zip(sheets, found):
-                compared.take(
-                    sum(len(sheet.rules[each].declarations) for each in indices)
-                )
+                compared.take(sum(len(sheet.rules[each].declarations) for each in indices))
 
     def _winning(self, media: Media, sheets: Tuple["StyleSheet", ...]) -> Winning:
         """Returns the rules of this sheet, and of others with it, that apply on a device."""
@@ -634,18 +597,14 @@ class StyleSheet:
         """Returns for each line what wins of the rules of its numbers, or of it what has the
         name."""
         winners: Dict[bytes, List[Declaration]] = {}
-        compared, answered = library.Room(self._answer_limit), library.Room(
-            self._answer_limit
-        )
+        compared, answered = library.Room(self._answer_limit), library.Room(self._answer_limit)
         found: List[List[Declaration]] = []
         for line in lines:
             if line not in winners:
                 rules = [self.rules[each] for each in selectors.rules[line]]
                 compared.take(sum(len(rule.declarations) for rule in rules))
                 every = (each for rule in rules for each in rule.declarations)
-                winners[line] = cascaded(
-                    each for each in every if name in (None, each.name)
-                )
+                winners[line] = cascaded(each for each in every if name in (None, each.name))
             answered.take(len(winners[line]))
             found.append(winners[line].copy())
         return found
@@ -695,9 +654,7 @@ def _expect_none(**words: bool) -> None:
             raise ValueError(f"{word} is of the modern grammar")
 
 
-def _with_name(
-    styles: Iterable[List[Declaration]], name: str
-) -> List[List[Declaration]]:
+def _with_name(styles: Iterable[List[Declaration]], name: str) -> List[List[Declaration]]:
     return [[each for each in found if each.name == name] for found in styles]
 
 
@@ -748,9 +705,7 @@ class _Selectors:
         self.rules = Numbers(indices)
 
 
-def _said(
-    rules: Iterable[Union[Rule, Unsupported, AtRule]]
-) -> "collections.Counter[object]":
+def _said(rules: Iterable[Union[Rule, Unsupported, AtRule]]) -> "collections.Counter[object]":
     """Returns what rules say, apart from their order and specificity. One without declarations says
     nothing."""
     return collections.Counter(
@@ -794,16 +749,12 @@ def _rules_of(
                 continue
             if has_rules:
                 element = each.pseudo_element
-                rule = Rule(
-                    each.front, each.specificity, declarations, conditions, element
-                )
+                rule = Rule(each.front, each.specificity, declarations, conditions, element)
                 rules.append((place, rule))
     return rules, unsupported
 
 
-def _nested_rule(
-    placed: PlacedRule, text: str, block: Block, outer: Tuple[Condition, ...]
-) -> Rule:
+def _nested_rule(placed: PlacedRule, text: str, block: Block, outer: Tuple[Condition, ...]) -> Rule:
     """Returns a rule in this block, whose selector has this text."""
     element = None
     if placed.element_length:
@@ -888,10 +839,7 @@ def _lines_of(source: Source, statements: Iterable[Statement]) -> Iterator[str]:
             pairs = zip(before, statement.levels)
             # Where two group rules begin, they are two.
             shared = sum(
-                1
-                for _ in itertools.takewhile(
-                    lambda pair: pair[0].span == pair[1].span, pairs
-                )
+                1 for _ in itertools.takewhile(lambda pair: pair[0].span == pair[1].span, pairs)
             )
             yield from _closed(len(before), shared)
             for depth, level in enumerate(statement.levels[shared:], shared):

@@ -112,9 +112,7 @@ class NotWritten(NamedTuple):
 class SplitStatement:
     """A statement of a sheet: what of it is written into attributes, and what stays."""
 
-    def __init__(
-        self, number: int, source: Source, span: Span, title: str, reason: str
-    ) -> None:
+    def __init__(self, number: int, source: Source, span: Span, title: str, reason: str) -> None:
         self.number = number
         # What it is called in a report, and why all of it stays.
         self.title = title
@@ -150,9 +148,7 @@ class SplitStatement:
     @functools.cached_property
     def back(self) -> FrozenSet[str]:
         """The families in which a declaration goes back to what sheets say."""
-        return frozenset(
-            family_of(each.name) for each in self.declarations if goes_back((each,))
-        )
+        return frozenset(family_of(each.name) for each in self.declarations if goes_back((each,)))
 
     @functools.cached_property
     def grouped(self) -> List[List[Declaration]]:
@@ -203,16 +199,12 @@ class SplitStatement:
     @property
     def has_layer(self) -> bool:
         """Whether it is in a layer, or is one."""
-        return bool(self.layers) or any(
-            layers_of(self.source, each.levels) for each in self.inner
-        )
+        return bool(self.layers) or any(layers_of(self.source, each.levels) for each in self.inner)
 
     def has_text(self, leftover: Leftover) -> bool:
         """Whether something of it stays."""
         is_left = self.number in leftover.families or self.number in leftover.unmatched
-        return (self.has_kept() or is_left) and not (
-            self.is_order and not leftover.has_layers
-        )
+        return (self.has_kept() or is_left) and not (self.is_order and not leftover.has_layers)
 
     def orders(self) -> Iterator[Tuple[Layers, str]]:
         """Yields what says the order of layers: those that it is in and has, and it itself."""
@@ -246,9 +238,7 @@ class SplitStatement:
 
     def with_going(self, chosen: List[ReadSelector]) -> "SplitStatement":
         """Returns the statement with some of the selectors that stay among those that go."""
-        found = SplitStatement(
-            self.number, self.source, self.span, self.title, self.reason
-        )
+        found = SplitStatement(self.number, self.source, self.span, self.title, self.reason)
         found.inner, found.is_whole = self.inner, self.is_whole
         found.block, found.brackets, found.items = self.block, self.brackets, self.items
         found.layers, found.knows_layers = self.layers, self.knows_layers
@@ -270,9 +260,7 @@ class SplitStatement:
             return []
         staying = ", ".join(each.text for each in self.staying)
         first, last = self.brackets
-        return [
-            f"{staying} {first}{marked(self.source, self.block, marks).strip(BLANKS)}{last}"
-        ]
+        return [f"{staying} {first}{marked(self.source, self.block, marks).strip(BLANKS)}{last}"]
 
     def kept(self, leftover: Leftover) -> List[str]:
         """Returns the text that stays."""
@@ -284,20 +272,12 @@ class SplitStatement:
             each._replace(important=each.important or family_of(each.name) in important)
             for each in self.left_declarations(leftover)
         ]
-        return (
-            [*texts, f"{self._selectors()} {{ {'; '.join(map(str, left))} }}"]
-            if left
-            else texts
-        )
+        return [*texts, f"{self._selectors()} {{ {'; '.join(map(str, left))} }}"] if left else texts
 
     def left_declarations(self, leftover: Leftover) -> List[Declaration]:
         """Returns the declarations that stay, too."""
         families = leftover.families.get(self.number, ())
-        return [
-            each
-            for each in self.declarations
-            if families and family_of(each.name) in families
-        ]
+        return [each for each in self.declarations if families and family_of(each.name) in families]
 
     def not_written(self, leftover: Leftover) -> Iterator[NotWritten]:
         """Yields what of it is not written into attributes, and why."""
@@ -309,9 +289,7 @@ class SplitStatement:
             yield NotWritten(each.text, _reason_of(each))
         if leftover.families.get(self.number):
             is_untouched = self.number in leftover.untouched
-            yield NotWritten(
-                self._selectors(), _UNTOUCHED if is_untouched else _OVERRIDDEN
-            )
+            yield NotWritten(self._selectors(), _UNTOUCHED if is_untouched else _OVERRIDDEN)
 
     def _selectors(self) -> str:
         return ", ".join(self.going)
@@ -336,9 +314,7 @@ class SplitSheet:
     """A sheet with those that it imports: its statements, and the `style` element that it is in, if
     any."""
 
-    def __init__(
-        self, statements: List[SplitStatement], content: Optional[Content] = None
-    ) -> None:
+    def __init__(self, statements: List[SplitStatement], content: Optional[Content] = None) -> None:
         self.statements = statements
         self.content = content
 
@@ -464,8 +440,7 @@ class Order:
         ]
         first = len(parts)
         parts += (
-            (each.number, Ordered(each.statement.layers, each.selector))
-            for each in rules.values()
+            (each.number, Ordered(each.statement.layers, each.selector)) for each in rules.values()
         )
         # Those that stay come after those that are written of their statement.
         parts += ((each.number, each.ordered) for each in kept.values())
@@ -476,9 +451,7 @@ class Order:
         self.reaches = {rule: found[at] for at, rule in enumerate(kept, len(rules))}
 
 
-def statements_of(
-    read: ReadSheet, start: int, knows_layers: bool
-) -> List[SplitStatement]:
+def statements_of(read: ReadSheet, start: int, knows_layers: bool) -> List[SplitStatement]:
     """Returns the statements of a sheet, of which the first has a number. Where the places of layers
     are not known, these stay as they are."""
     rules = (each for _, each in read.placed if isinstance(each, RuleSet))
@@ -494,19 +467,13 @@ _Placed = Tuple[Source, Statement]
 
 def heads_of(levels: Iterable[Level]) -> Tuple[str, ...]:
     """Returns what is before the blocks of the style rules among levels."""
-    return tuple(
-        each.condition.prelude for each in levels if each.condition.name == STYLE
-    )
+    return tuple(each.condition.prelude for each in levels if each.condition.name == STYLE)
 
 
 def _group_of(placed: _Placed, depth: int) -> Optional[Tuple[Source, Span]]:
     """Returns the group rule of a depth that a statement is in."""
     source, statement = placed
-    return (
-        (source, statement.levels[depth].span)
-        if len(statement.levels) > depth
-        else None
-    )
+    return (source, statement.levels[depth].span) if len(statement.levels) > depth else None
 
 
 def _statements_at(
@@ -564,11 +531,7 @@ def _whole(
 def _reason_within(member: Statement, depth: int) -> str:
     """Returns why a level of this depth stays whose first statement this is."""
     is_style = all(each.condition.name == STYLE for each in member.levels[depth:])
-    return (
-        _reason_of(member.selectors[0])
-        if is_style and isinstance(member, RuleSet)
-        else _AT_RULE
-    )
+    return _reason_of(member.selectors[0]) if is_style and isinstance(member, RuleSet) else _AT_RULE
 
 
 def _taken(source: Source, found: Statement, reason: str) -> Iterator[SplitStatement]:
@@ -623,17 +586,13 @@ def _sort(statement: SplitStatement, found: RuleSet, source: Source) -> None:
             statement.going.append(each.text)
     statement.block = found.span if found.is_part else (found.head[1], found.span[1])
     block = source.at(statement.block).strip(BLANKS)
-    if statement.staying and (
-        _is_open(found) or not found.is_closed and is_escaping(block)
-    ):
+    if statement.staying and (_is_open(found) or not found.is_closed and is_escaping(block)):
         # No brace would close what stays.
         statement.going, statement.staying = [], []
         statement.reason = "the end of the text closes it"
         return
     statement.is_whole = False
-    statement.brackets = (
-        ("{ ", " }") if found.is_part else ("", "}" * (not found.is_closed))
-    )
+    statement.brackets = ("{ ", " }") if found.is_part else ("", "}" * (not found.is_closed))
     statement.items = found.items
 
 

@@ -208,9 +208,7 @@ def marked(source: Source, span: Span, marks: Iterable[int]) -> str:
     return "".join(parts) + source.at((start, end))
 
 
-def ends_of(
-    items: Iterable[BlockItem], source: Source, offset: int = 0
-) -> Dict[str, List[int]]:
+def ends_of(items: Iterable[BlockItem], source: Source, offset: int = 0) -> Dict[str, List[int]]:
     """Returns where declarations end, by family, but for families of which one is not closed."""
     found: Dict[str, List[int]] = {}
     is_open: Set[str] = set()
@@ -253,9 +251,7 @@ def _block_of(text: str) -> Optional[str]:
     """Returns the block of a rule that the library skips, or `None` if it has other text, too."""
     items = read_block(_AS_AT_RULE + text)[1]
     is_alone = len(items) == 1 and isinstance(items[0], ReadAtRule)
-    return (
-        items[0].rule.block if is_alone and isinstance(items[0], ReadAtRule) else None
-    )
+    return items[0].rule.block if is_alone and isinstance(items[0], ReadAtRule) else None
 
 
 def _within(text: str) -> Tuple[Source, Sequence[BlockItem]]:
@@ -273,11 +269,7 @@ def _declared_within(
     for each in items:
         if isinstance(each, ReadDeclaration) or not has_rules((each,)):
             continue
-        block = (
-            each.rule.block
-            if isinstance(each, ReadAtRule)
-            else _block_of(source.at(each.span))
-        )
+        block = each.rule.block if isinstance(each, ReadAtRule) else _block_of(source.at(each.span))
         if block is None or level > _DEEPEST:
             return None
         inner, inside = _within(block)
@@ -340,9 +332,7 @@ def rules_of(
             yield from _rules_in(found, found.rule.block, inner)
 
 
-def _rules_of_set(
-    source: Source, found: RuleSet, place: Place
-) -> Iterator[StayingRule]:
+def _rules_of_set(source: Source, found: RuleSet, place: Place) -> Iterator[StayingRule]:
     """Yields the rules of a rule set."""
     within = [] if found.items.are_whole else _declared_within(found.items, source)
     if within is None:
@@ -371,9 +361,7 @@ def _rules_in(found: ReadAtRule, text: str, place: Place) -> Iterator[StayingRul
         yield place.of_any(_ANYTHING)
     else:
         level, offset = place.level + 1, place.offset + found.inner[0]
-        yield from rules_of(
-            source, statements, place._replace(level=level, offset=offset)
-        )
+        yield from rules_of(source, statements, place._replace(level=level, offset=offset))
 
 
 def _framed(source: Source, found: Statement) -> Iterator[str]:
@@ -402,6 +390,4 @@ def rules_with(
             wider = _wider(each)
             ordered = Ordered(place.layers, each.text, each.specificity is not None)
             is_definite = wider == each.text
-            yield StayingRule(
-                wider, ordered, place.number, place.is_layered, is_definite, block
-            )
+            yield StayingRule(wider, ordered, place.number, place.is_layered, is_definite, block)

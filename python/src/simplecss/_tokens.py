@@ -21,9 +21,7 @@ GAPS = frozenset(("whitespace", "comment"))
 COMBINATORS = frozenset((">", "+", "~"))
 _MEASURED = frozenset(("percentage", "dimension"))
 _STRINGS = frozenset(("string", "bad-string"))
-_HAS_VALUE = frozenset(
-    ("ident", "function", "at-keyword", "hash", "id", "url", "dimension")
-)
+_HAS_VALUE = frozenset(("ident", "function", "at-keyword", "hash", "id", "url", "dimension"))
 
 
 class Token(NamedTuple):
@@ -55,11 +53,7 @@ class Token(NamedTuple):
         This is a name, the text of a string, a url, or the unit of a dimension; of another token,
         its text.
         """
-        if (
-            "\\" not in self.text
-            or self.kind not in _HAS_VALUE
-            and self.kind not in _STRINGS
-        ):
+        if "\\" not in self.text or self.kind not in _HAS_VALUE and self.kind not in _STRINGS:
             return self.inside
         return decoded(self.inside, self.kind in _STRINGS)
 
@@ -80,9 +74,7 @@ def tokens(text: str) -> Iterator[Token]:
     It may be a sheet, a value or a selector. Their texts, one after another, are the text. A lone surrogate raises `ValueError`.
     """
     data = library.encode(text)
-    return _tokens_at(
-        text, data, library.numbers_of("simplecss_tokens", data, room=64 + len(data))
-    )
+    return _tokens_at(text, data, library.numbers_of("simplecss_tokens", data, room=64 + len(data)))
 
 
 def _tokens_at(text: str, data: bytes, numbers: "array.array[int]") -> Iterator[Token]:
@@ -90,16 +82,12 @@ def _tokens_at(text: str, data: bytes, numbers: "array.array[int]") -> Iterator[
     each = iter(numbers)
     if len(text) == len(data):
         for kind, start, end, inside, inside_end in zip(each, each, each, each, each):
-            yield Token(
-                _KINDS[kind], text[start:end], start, text[inside:inside_end], inside
-            )
+            yield Token(_KINDS[kind], text[start:end], start, text[inside:inside_end], inside)
         return
     at = 0
     for kind, start, end, inside, inside_end in zip(each, each, each, each, each):
         whole, within = data[start:end].decode(), data[inside:inside_end].decode()
-        yield Token(
-            _KINDS[kind], whole, at, within, at + len(data[start:inside].decode())
-        )
+        yield Token(_KINDS[kind], whole, at, within, at + len(data[start:inside].decode()))
         at += len(whole)
 
 

@@ -20,9 +20,7 @@ _KNOWN = frozenset(
     " enabled disabled checked required optional valid invalid read-only read-write".split()
 )
 _KNOWN_FUNCTIONS = frozenset(("not", "has", "is", "where"))
-_NUMBERED = frozenset(
-    ("nth-child", "nth-last-child", "nth-of-type", "nth-last-of-type")
-)
+_NUMBERED = frozenset(("nth-child", "nth-last-child", "nth-of-type", "nth-last-of-type"))
 # What namespaces and parentheses have, and pseudo-classes.
 _SPECIAL = frozenset(":|(")
 # The ids, classes and attributes that mail clients add to a page, whose rules match nothing yet, and
@@ -116,9 +114,7 @@ def _has_other(selector: str) -> bool:
     functions = sum(each.is_function for each in pseudo_names(selector))
     opened = sum(each.kind == "function" or each.text == "(" for each in found)
     bars = zip(texts, [*texts[1:], ""])
-    return opened != functions or any(
-        one == "|" and other != "=" for one, other in bars
-    )
+    return opened != functions or any(one == "|" and other != "=" for one, other in bars)
 
 
 def _is_of_client(selector: str) -> bool:

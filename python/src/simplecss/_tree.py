@@ -107,10 +107,7 @@ class Element:
     @property
     def children(self) -> List["Element"]:
         """The children, in order."""
-        return [
-            Element(self.tree, index)
-            for index in self.tree._elements.children_of(self.index)
-        ]
+        return [Element(self.tree, index) for index in self.tree._elements.children_of(self.index)]
 
     @property
     def text(self) -> str:
@@ -140,9 +137,7 @@ class Element:
 
     def matches(self, selectors: str, *, grammar: str = MODERN) -> bool:
         """Whether one of the selectors matches the element, which is also what `:scope` matches."""
-        return self.index in self.tree._elements.found_set_from(
-            self.index, selectors, grammar
-        )
+        return self.index in self.tree._elements.found_set_from(self.index, selectors, grammar)
 
     def closest(self, selectors: str, *, grammar: str = MODERN) -> Optional["Element"]:
         """Returns the closest of the element and its ancestors that matches, or `None`. `:scope`
@@ -164,11 +159,7 @@ class Element:
         return [Element(self.tree, index) for index in found[first:last]]
 
     def __eq__(self, other: object) -> bool:
-        return (
-            isinstance(other, Element)
-            and self.tree is other.tree
-            and self.index == other.index
-        )
+        return isinstance(other, Element) and self.tree is other.tree and self.index == other.index
 
     def __hash__(self) -> int:
         return hash((id(self.tree), self.index))
@@ -193,9 +184,7 @@ class Tree:
         last: List[int] = []
         for index, item in enumerate(items):
             self._check(index, item, last)
-            elements.add(
-                item.name, item.attributes, -1 if item.parent is None else item.parent
-            )
+            elements.add(item.name, item.attributes, -1 if item.parent is None else item.parent)
             elements.places.append((item.row, item.column))
             states = states_of(item.states)
             if states:
@@ -209,20 +198,14 @@ class Tree:
         if not isinstance(item, Item):
             raise TypeError(f"an Item is expected, not {type(item).__name__}")
         if not isinstance(item.name, str) or not isinstance(item.attributes, Mapping):
-            raise TypeError(
-                "an element has a text as its name and a mapping as its attributes"
-            )
+            raise TypeError("an element has a text as its name and a mapping as its attributes")
         library.expect_text(item.text)
         if item.parent is not None:
             if not 0 <= item.parent < index:
-                raise TreeError(
-                    "the parent is not an earlier element", item.row, item.column
-                )
+                raise TreeError("the parent is not an earlier element", item.row, item.column)
             depth = self._elements.depths[item.parent] + 1
             if depth > len(last) or last[depth - 1] != item.parent:
-                raise TreeError(
-                    "the elements are not in document order", item.row, item.column
-                )
+                raise TreeError("the elements are not in document order", item.row, item.column)
         del last[depth:]
         last.append(index)
         if not item.name:
@@ -285,9 +268,7 @@ class Tree:
         if hasattr(root, "getroot"):
             root = root.getroot()
         if not hasattr(root, "tag") or not hasattr(root, "attrib"):
-            raise TypeError(
-                f"an element of ElementTree is expected, not {type(root).__name__}"
-            )
+            raise TypeError(f"an element of ElementTree is expected, not {type(root).__name__}")
         tree = cls()
         elements = tree._elements
         elements.nodes = []
@@ -310,13 +291,8 @@ class Tree:
         """Takes an element or a whole tree of lxml. One that `lxml.html` made is HTML."""
         tree = cls.from_etree(root, None)
         top = root.getroot() if hasattr(root, "getroot") else root
-        if (
-            type(top).__module__.partition(".")[0] == "lxml"
-            and "html" in type(top).__module__
-        ):
-            doctype = getattr(
-                getattr(top.getroottree(), "docinfo", None), "doctype", ""
-            )
+        if type(top).__module__.partition(".")[0] == "lxml" and "html" in type(top).__module__:
+            doctype = getattr(getattr(top.getroottree(), "docinfo", None), "doctype", "")
             tree._elements.reading = Reading.HTML if doctype else Reading.QUIRKS
         return tree._with_states(states)
 
@@ -327,9 +303,7 @@ class Tree:
         It is HTML unless it was read as XML.
         """
         if not hasattr(root, "contents") or not hasattr(root, "attrs"):
-            raise TypeError(
-                f"an element of BeautifulSoup is expected, not {type(root).__name__}"
-            )
+            raise TypeError(f"an element of BeautifulSoup is expected, not {type(root).__name__}")
         tree = cls()
         elements = tree._elements
         elements.nodes = []
@@ -343,11 +317,7 @@ class Tree:
                 if kind not in _NO_TEXTS and node:
                     elements.texts.add(len(elements), parent, str(node))
                 continue
-            index = (
-                parent
-                if node.name == "[document]"
-                else _take_tag(elements, node, parent)
-            )
+            index = parent if node.name == "[document]" else _take_tag(elements, node, parent)
             waiting.extend((child, index) for child in reversed(node.contents))
         if not getattr(root, "_is_xml", False):
             tree._elements.reading = Reading.HTML if has_doctype else Reading.QUIRKS
@@ -391,9 +361,7 @@ class Tree:
 
     def iselect(self, selectors: str, *, grammar: str = MODERN) -> Iterator[Element]:
         """Yields the elements that one of the selectors matches, in order."""
-        return (
-            Element(self, index) for index in self._elements.found(selectors, grammar)
-        )
+        return (Element(self, index) for index in self._elements.found(selectors, grammar))
 
     def select_one(self, selectors: str, *, grammar: str = MODERN) -> Optional[Element]:
         """Returns the first element that one of the selectors matches, or `None`."""

@@ -50,20 +50,14 @@ class Usage:
     """Which selectors of texts match an element of the pages that are seen. Pseudo-elements and
     states are taken as met, and so are the conditions of group rules."""
 
-    def __init__(
-        self, texts: Sequence[Tuple[Source, List[Statement]]], limit: int
-    ) -> None:
+    def __init__(self, texts: Sequence[Tuple[Source, List[Statement]]], limit: int) -> None:
         self._texts = texts
         self._limit = limit
         every = [each for _, rule in self._rules() for each in rule.selectors]
         find_names(each.front for each in every)
-        self._asked: Dict[ReadSelector, Optional[str]] = {
-            each: _asked(each) for each in every
-        }
+        self._asked: Dict[ReadSelector, Optional[str]] = {each: _asked(each) for each in every}
         # What matches nothing so far.
-        self._left: Set[str] = {
-            each for each in self._asked.values() if each is not None
-        }
+        self._left: Set[str] = {each for each in self._asked.values() if each is not None}
 
     def _rules(self) -> Iterator[Tuple[int, RuleSet]]:
         """Yields the rules, each with the index of its text."""
@@ -76,9 +70,7 @@ class Usage:
         """Takes the elements of a page."""
         asked = sorted(self._left)
         lines = set(_with_states_met(elements).matched(asked, self._limit))
-        self._left -= {
-            asked[int(number) - 1] for line in lines for number in line.split()
-        }
+        self._left -= {asked[int(number) - 1] for line in lines for number in line.split()}
 
     def _is_unused(self, selector: ReadSelector) -> bool:
         return self._asked[selector] in self._left
@@ -91,9 +83,7 @@ class Usage:
             for each in found:
                 start, end = map(source.offset, each.span)
                 is_whole = len(found) == len(rule.selectors)
-                yield Unused(
-                    each.text, *source.position(start), is_whole, number, start, end
-                )
+                yield Unused(each.text, *source.position(start), is_whole, number, start, end)
 
     def used(self) -> Iterator[str]:
         """Yields each text without the rules that match nothing."""
@@ -147,7 +137,5 @@ def _state(selector: str, name: Name) -> Optional[str]:
     in it that is not known."""
     if not name.is_negated:
         return _OF_LINKS if name.name == "visited" else _MET
-    around = [
-        each.name for each in pseudo_names(selector) if each.end + 1 == name.start
-    ]
+    around = [each.name for each in pseudo_names(selector) if each.end + 1 == name.start]
     return _UNMET if around == ["not"] else None

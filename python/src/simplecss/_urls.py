@@ -66,9 +66,7 @@ def _related(base: str, url: str) -> str:
     if found.scheme or not above:
         moved = urllib.parse.urljoin(base, url)
         is_lost = base.startswith("/") and not urllib.parse.urlsplit(moved).scheme
-        return (
-            f"/{moved.lstrip('/')}" if is_lost and not moved.startswith("/") else moved
-        )
+        return f"/{moved.lstrip('/')}" if is_lost and not moved.startswith("/") else moved
     names = urllib.parse.urljoin("/" + _ABOVE * above + base, url)[1:].split("/")
     kept = 0
     while kept < above and names[kept] + "/" == _ABOVE:

@@ -20,9 +20,7 @@ def _sheet_of(names: Tuple[str, ...]) -> StyleSheet:
     """Returns the sheet of these files."""
     from ._sheet import StyleSheet
 
-    texts = [
-        Path(__file__).with_name(name).read_text(encoding="utf-8") for name in names
-    ]
+    texts = [Path(__file__).with_name(name).read_text(encoding="utf-8") for name in names]
     origins = ("user-agent",) * len(texts)
     return StyleSheet(*texts, origins=origins, limit=None, answer_limit=None)
 

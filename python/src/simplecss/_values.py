@@ -50,9 +50,7 @@ def has_ident(value: str, words: FrozenSet[str]) -> bool:
     plain = lower(value)
     if "\\" not in value and not any(word in plain for word in words):
         return False
-    return any(
-        each.kind == "ident" and lower(each.value) in words for each in tokens(value)
-    )
+    return any(each.kind == "ident" and lower(each.value) in words for each in tokens(value))
 
 
 @_kept
@@ -101,15 +99,8 @@ def color_in(value: str) -> Optional[str]:
     if token is None:
         return None
     if token.kind in ("hash", "id"):
-        return (
-            value if len(token.inside) == 6 and _HEX.issuperset(token.inside) else None
-        )
-    is_word = (
-        token.kind == "ident"
-        and value.isascii()
-        and value.isalpha()
-        and value.islower()
-    )
+        return value if len(token.inside) == 6 and _HEX.issuperset(token.inside) else None
+    is_word = token.kind == "ident" and value.isascii() and value.isalpha() and value.islower()
     return value if is_word else None
 
 
@@ -132,9 +123,7 @@ def is_known(value: str) -> bool:
             is_apart = True
         elif is_apart and _is_plain(token):
             parts, is_apart = parts + 1, False
-            arguments = (
-                _ARGUMENTS[lower(token.value)] if token.kind == "function" else None
-            )
+            arguments = _ARGUMENTS[lower(token.value)] if token.kind == "function" else None
         else:
             return False
     return 0 < parts <= _MOST_PARTS and arguments is None

@@ -108,22 +108,13 @@ class Winning:
     ) -> None:
         """Reads the sheets, of these origins. Rules with more declarations than `limit` raise
         `LimitError`."""
-        applies = functools.lru_cache(maxsize=None)(
-            functools.partial(holds, media=media)
-        )
-        used = [
-            (n, each) for n, each in enumerate(sheets) if all(map(applies, each[3]))
-        ]
+        applies = functools.lru_cache(maxsize=None)(functools.partial(holds, media=media))
+        used = [(n, each) for n, each in enumerate(sheets) if all(map(applies, each[3]))]
         groups: Dict[Condition, None] = {}
         for _, (_, statements, blocks, _) in used:
             groups.update(dict.fromkeys(_held(statements, blocks, applies)))
         texts = [source.data for _, (source, _, _, _) in used]
-        words = [
-            library.encode(word)
-            for each in groups
-            if each.name != LAYER
-            for word in each
-        ]
+        words = [library.encode(word) for each in groups if each.name != LAYER for word in each]
         # The numbers of the sheets that apply, among all.
         self._numbers = [number for number, _ in used]
         self._sheets = library.SheetArrays(
@@ -187,9 +178,7 @@ class Winning:
         """Returns what wins on each element, which have these of their own, in the order of the cascade.
         More declarations than `limit` raise `LimitError`."""
         words = (own.arrays,)
-        numbers = elements.numbers(
-            "simplecss_winners", self._sheets, words, _OF_WINNER, limit
-        )
+        numbers = elements.numbers("simplecss_winners", self._sheets, words, _OF_WINNER, limit)
         return list(self._winners(numbers, own))
 
     def named(
@@ -204,9 +193,7 @@ class Winning:
         pairs = zip(numbers[::_OF_WINNER], numbers[1::_OF_WINNER])
         return [self._at(own, index, *pair) for index, pair in enumerate(pairs)]
 
-    def _at(
-        self, own: Own, index: int, source: int, place: int
-    ) -> Optional[Declaration]:
+    def _at(self, own: Own, index: int, source: int, place: int) -> Optional[Declaration]:
         """Returns the declaration that the library says wins on an element."""
         if source < len(self.rules):
             return self.rules[source].declarations.at(place)
@@ -214,9 +201,7 @@ class Winning:
             return own.styled(index)[place]
         return own.presented(index)[place] if source == len(self.rules) + 1 else None
 
-    def _winners(
-        self, numbers: "array.array[int]", own: Own
-    ) -> Iterator[List[Declaration]]:
+    def _winners(self, numbers: "array.array[int]", own: Own) -> Iterator[List[Declaration]]:
         """Yields the declarations that win on each element. Many have the same."""
         at = 0
         known: Dict[Tuple[bytes, ...], List[Declaration]] = {}
@@ -228,10 +213,7 @@ class Winning:
             found = known.get(key)
             if found is None:
                 pairs = zip(numbers[at + 1 : end : 2], numbers[at + 2 : end : 2])
-                each = (
-                    self._at(own, index, *pair)
-                    for pair in sorted(pairs, key=self._turn)
-                )
+                each = (self._at(own, index, *pair) for pair in sorted(pairs, key=self._turn))
                 found = known[key] = [one for one in each if one is not None]
             yield found.copy()
             at = end

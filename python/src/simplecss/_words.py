@@ -15,9 +15,7 @@ def lower(name: str) -> str:
     """Returns the name with the letters A to Z in lower case."""
     if name.isascii():
         return name.lower()
-    return (
-        name.encode("utf-8", "surrogatepass").lower().decode("utf-8", "surrogatepass")
-    )
+    return name.encode("utf-8", "surrogatepass").lower().decode("utf-8", "surrogatepass")
 
 
 def words_of(text: str) -> List[str]:

@@ -133,13 +133,9 @@ class _Reader:
     def _refused(self, reason: str) -> XmlError:
         """Returns an error at the place that is read."""
         parser = self.parser
-        return XmlError(
-            reason, parser.CurrentLineNumber, parser.CurrentColumnNumber + 1
-        )
+        return XmlError(reason, parser.CurrentLineNumber, parser.CurrentColumnNumber + 1)
 
-    def _declare(
-        self, name: str, is_parameter: bool, value: Optional[str], *_: object
-    ) -> None:
+    def _declare(self, name: str, is_parameter: bool, value: Optional[str], *_: object) -> None:
         """Notes an entity. One with markup or with other entities is refused."""
         if value is None or is_parameter:
             return
@@ -157,9 +153,7 @@ class _Reader:
 
     def _name_space(self, _: Optional[str], space: Optional[str]) -> None:
         if space is not None and len(space) > _LONGEST_SPACE:
-            raise self._refused(
-                f"a namespace has more than {_LONGEST_SPACE} characters"
-            )
+            raise self._refused(f"a namespace has more than {_LONGEST_SPACE} characters")
 
     def _start(self, name: str, attributes: List[str]) -> None:
         space, local, prefix = _cut(name)
@@ -176,16 +170,10 @@ class _Reader:
             self.room -= 1 + len(value)
             (spaced if key_space else tag.attributes)[key_name] = value
         if self.room < 0:
-            raise self._refused(
-                f"attributes without a text add more than {_MOST_ADDED} characters"
-            )
+            raise self._refused(f"attributes without a text add more than {_MOST_ADDED} characters")
         for key, value in spaced.items():
             tag.attributes.setdefault(key, value)
-        tag.is_link = (
-            local in ("a", "area")
-            and "href" in tag.attributes
-            and space in _LINK_SPACES
-        )
+        tag.is_link = local in ("a", "area") and "href" in tag.attributes and space in _LINK_SPACES
         self.open.append(len(self.tags))
         self.tags.append(tag)
 

@@ -90,9 +90,7 @@ _ENDED_OTHERWISE = _OBJECTS | _words(
 )
 _IMPLIED = _words("dd dt li optgroup option p rb rp rt rtc")
 _THOROUGHLY = _IMPLIED | _words("caption colgroup tbody td tfoot th thead tr")
-_HEAD_PARTS = _words(
-    "base basefont bgsound link meta noframes script style template title"
-)
+_HEAD_PARTS = _words("base basefont bgsound link meta noframes script style template title")
 _TABLE_PARTS = _words("caption col colgroup tbody td tfoot th thead tr")
 _BODIES = _words("tbody tfoot thead")
 _CELLS = _words("td th")
@@ -171,9 +169,7 @@ _DOCTYPE = pattern(
     re.IGNORECASE | re.ASCII,
 )
 # A newline, or what stands for one.
-_NEWLINE = pattern(
-    r"\r\n?|\n|&NewLine;|&#0*10(?:;|(?![0-9]))|&#[xX]0*[aA](?:;|(?![0-9A-Fa-f]))"
-)
+_NEWLINE = pattern(r"\r\n?|\n|&NewLine;|&#0*10(?:;|(?![0-9]))|&#[xX]0*[aA](?:;|(?![0-9A-Fa-f]))")
 
 
 def is_quirky(doctype: str) -> bool:
@@ -277,9 +273,7 @@ class Node:
 class Builder:
     """Builds the elements of a document."""
 
-    def __init__(
-        self, text: str, is_part: bool = False, has_scripts: bool = False
-    ) -> None:
+    def __init__(self, text: str, is_part: bool = False, has_scripts: bool = False) -> None:
         """Takes a document, or a part of one, as the content of a `body`. Where scripts run, what
         is in a `noscript` is text."""
         self.text = text
@@ -428,9 +422,7 @@ class Builder:
             parent.children.append(node)
         else:
             nodes = made.nodes
-            node = Node(
-                name, token.attributes, parent, HTML, token.start, token.end, len(nodes)
-            )
+            node = Node(name, token.attributes, parent, HTML, token.start, token.end, len(nodes))
             nodes.append(node)
         opened.append(node)
         self.counts[name] += 1
@@ -439,11 +431,7 @@ class Builder:
 
     def _is_body(self) -> bool:
         """Whether a text, and a tag as it is most often, are taken by the rules for a body."""
-        return (
-            self.mode in _BODY_MODES
-            and not self.may_be_frames
-            and self.open[-1].space == HTML
-        )
+        return self.mode in _BODY_MODES and not self.may_be_frames and self.open[-1].space == HTML
 
     # ---- the open elements
 
@@ -546,9 +534,7 @@ class Builder:
     def _place(self, target: Node) -> Tuple[Node, Optional[Node]]:
         """Returns the parent of what is to go into an element, and the child before which it goes,
         if any."""
-        if not (
-            self.is_fostering and target.space == HTML and target.name in _FOSTERING
-        ):
+        if not (self.is_fostering and target.space == HTML and target.name in _FOSTERING):
             return target, None
         for index in range(len(self.open) - 1, -1, -1):
             node = self.open[index]
@@ -613,9 +599,7 @@ class Builder:
         for owner, text in zip(owners[at:], texts[at:]):
             (nodes[owner] if owner >= 0 else self.root).children.append(text)
 
-    def _move(
-        self, child: Union[Node, Text], parent: Node, before: Optional[Node]
-    ) -> None:
+    def _move(self, child: Union[Node, Text], parent: Node, before: Optional[Node]) -> None:
         """Adds an element or a text before a child, or as the last one."""
         if isinstance(child, Node):
             child.parent = parent
@@ -753,9 +737,7 @@ class Builder:
 
     def _clone(self, node: Node) -> Node:
         """Returns another element of the same tag. Each has its attributes, however long."""
-        self._spend(
-            20 + sum(len(key) + len(value) for key, value in node.attributes.items())
-        )
+        self._spend(20 + sum(len(key) + len(value) for key, value in node.attributes.items()))
         clone = Node(node.name, node.attributes, None, HTML, node.start, node.inner)
         clone.children = []
         clone.key = node.key
@@ -860,9 +842,7 @@ class Builder:
         self.counts[clone.name] += 1
         return True
 
-    def _adopt_between(
-        self, formatted: Node, block: Node, mark: int
-    ) -> Tuple[Node, int]:
+    def _adopt_between(self, formatted: Node, block: Node, mark: int) -> Tuple[Node, int]:
         """Clones the formatting elements between a formatting element and the block within it.
 
         Returns the outermost element to be moved, and where the new formatting element goes.
@@ -1084,9 +1064,7 @@ class Builder:
             if token.name in ("body", "frameset"):
                 self._insert(token)
                 self.may_be_frames = self.may_be_frames and token.name != "body"
-                self.mode = (
-                    Builder._in_body if token.name == "body" else Builder._in_frameset
-                )
+                self.mode = Builder._in_body if token.name == "body" else Builder._in_frameset
                 return
             if token.name in _HEAD_PARTS and self.head is not None:
                 self._push(self.head)
@@ -1474,9 +1452,7 @@ class Builder:
                 self._reset_mode()
         elif token.kind == END and token.name == "template":
             self._end_template(token)
-        elif token.kind == END and (
-            token.name in _TABLE_PARTS or token.name in ("body", "html")
-        ):
+        elif token.kind == END and (token.name in _TABLE_PARTS or token.name in ("body", "html")):
             return
         elif token.kind == EOF:
             self._in_body(token)
@@ -1607,11 +1583,7 @@ class Builder:
             self._insert(token)
             self.mode = Builder._in_cell
             self.formatting.append(None)
-        elif (
-            token.kind == END
-            and name == "tr"
-            or self._ends_part(token, _TABLE_PARTS - _CELLS)
-        ):
+        elif token.kind == END and name == "tr" or self._ends_part(token, _TABLE_PARTS - _CELLS):
             self._end_row(token)
         elif token.kind == END and name in _BODIES:
             if self._has(name, _TABLE_SCOPE):
@@ -1693,10 +1665,7 @@ class Builder:
         name, attributes = token.name, token.attributes
         if space == SVG:
             name = _SVG_NAMES.get(name, name)
-            attributes = {
-                _SVG_ATTRIBUTES.get(key, key): value
-                for key, value in attributes.items()
-            }
+            attributes = {_SVG_ATTRIBUTES.get(key, key): value for key, value in attributes.items()}
         elif "definitionurl" in attributes:
             attributes = dict(attributes)
             attributes["definitionURL"] = attributes.pop("definitionurl")
@@ -1738,9 +1707,7 @@ class Builder:
             self._spend(1)
             if node.space == HTML:
                 # Some browsers give the name its capitals first, and find no such element.
-                self.is_doubtful |= (
-                    token.name in _SVG_NAMES and token.name in self.counts
-                )
+                self.is_doubtful |= token.name in _SVG_NAMES and token.name in self.counts
                 self.mode(self, token)
                 return
             if lower(node.name) == token.name:
@@ -1847,13 +1814,7 @@ def _way_of(kind: int, name: str) -> int:
     """Returns in which way a plain tag is taken in a body."""
     if kind == END:
         is_plain = name not in _ENDED_OTHERWISE
-        return (
-            _ENDING_FORMATTING
-            if name in _FORMATTING
-            else _ENDING
-            if is_plain
-            else _OTHERWISE
-        )
+        return _ENDING_FORMATTING if name in _FORMATTING else _ENDING if is_plain else _OTHERWISE
     if name not in _STARTS:
         return _STARTING
     if name in _BLOCKS:

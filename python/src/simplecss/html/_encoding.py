@@ -115,9 +115,7 @@ _LABELS: Dict[str, str] = {
 }
 # How far a page is looked through for what names its encoding, whether or not that is an element.
 _FRONT = 1024
-_XML = pattern(
-    r"""<\?xml[\t\n\f\r ][^>]*?encoding[\t\n\f\r ]*=[\t\n\f\r ]*("[^">]*"|'[^'>]*')"""
-)
+_XML = pattern(r"""<\?xml[\t\n\f\r ][^>]*?encoding[\t\n\f\r ]*=[\t\n\f\r ]*("[^">]*"|'[^'>]*')""")
 # Of what is passed over: a comment, the front of a tag, and another declaration.
 _PASSED = pattern(
     r"<!--(?:>|->|.*?(?:-->|\Z))|<(meta)(?=[\t\n\f\r /])|</?[a-z][^\t\n\f\r >]*|<[!/?][^>]*",

@@ -282,11 +282,7 @@ class Tokenizer:
         """Returns the text up to the end tag of the name, if there is any."""
         start = self.offset
         self.raw_name = None
-        end = (
-            self._end_of_script(start)
-            if name == "script"
-            else self._end_of_raw(name, start)
-        )
+        end = self._end_of_script(start) if name == "script" else self._end_of_raw(name, start)
         self.offset = end
         return Token(TEXT, start, end) if start < end else None
 
@@ -368,9 +364,7 @@ class Tokenizer:
         if self.has_cdata and text.startswith("<![CDATA[", start):
             end = text.find("]]>", start)
             self._skip_to(end, 3)
-            return Token(
-                TEXT, start + 9, self.offset - 3 if end >= 0 else self.offset, "cdata"
-            )
+            return Token(TEXT, start + 9, self.offset - 3 if end >= 0 else self.offset, "cdata")
         is_doctype = lower(text[start + 2 : start + 9]) == "doctype"
         self._skip_to(text.find(">", start), 1)
         return Token(DOCTYPE, start, self.offset) if is_doctype else None
@@ -381,9 +375,7 @@ class Tokenizer:
                 self.offset = offset + len(mark)
                 return
         found = _COMMENT_END.search(self.text, offset)
-        self._skip_to(
-            found.start() if found else -1, len(found.group()) if found else 0
-        )
+        self._skip_to(found.start() if found else -1, len(found.group()) if found else 0)
 
     def _named(self, text: str) -> str:
         """Returns the name that a text of a tag is."""
@@ -418,6 +410,4 @@ class Tokenizer:
             self._skip_rest()
             return None
         self.offset = end.end()
-        return Token(
-            kind, start, end.end(), name, attributes, end.group().endswith("/>")
-        )
+        return Token(kind, start, end.end(), name, attributes, end.group().endswith("/>"))
