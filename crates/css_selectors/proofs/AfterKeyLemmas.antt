@@ -9,8 +9,8 @@ use Rattle.css_matching.specs.declared.Combinator.{Combinator}
 use Rattle.css_selectors.specs.AfterKeys.{have_no_greater, begin_with_key, is_led_by_key, begins_with_key, after_first, conditions_after_key, MatchesAfterKey, MatchesFoundBy}
 use Rattle.css_selectors.specs.AncestorKeys.{is_exact_condition, is_exact_key, keys_among}
 use Rattle.css_selectors.specs.Components.{Condition, Conditions, Part, Selector, conditions_from, parts_from}
-use Rattle.css_selectors.specs.Components.Simple.{universal, type_name, id, class, has_attribute, attribute, structure, language, state, function, named_element, nesting, namespaced, nth_of}
-use Rattle.css_selectors.specs.Components.Condition.{simple, negation, any_of, where_any}
+use Rattle.css_selectors.specs.Components.Simple.{universal, type_name, id, class, has_attribute, attribute, structure, language, state, function, named_element, nesting, namespaced}
+use Rattle.css_selectors.specs.Components.Condition.{simple, negation, any_of, where_any, nth_of}
 use Rattle.css_selectors.specs.Components.Parts.{end_of_selector, with_part}
 use Rattle.css_selectors.specs.Costs.{compound_cost, dearest_part, most_questions, most_tests}
 use Rattle.css_selectors.specs.Documents.{Document}
@@ -67,10 +67,10 @@ first_better (simple (function name argument)) h = absurd (cc)
 first_better (simple (named_element name argument)) h = absurd (cc)
 first_better (simple (nesting list)) h = absurd (cc)
 first_better (simple (namespaced namespace local)) h = absurd (cc)
-first_better (simple (nth_of last p selectors)) h = absurd (cc)
 first_better (negation selectors) h = absurd (cc)
 first_better (any_of selectors) h = absurd (cc)
 first_better (where_any selectors) h = absurd (cc)
+first_better (nth_of last p selectors) h = absurd (cc)
 
 first_exact : (c : Condition) → is_exact_condition c ≡ true
     → IsTrue (list_all is_exact_key (condition_keys c))
@@ -87,10 +87,10 @@ first_exact (simple (function name argument)) h = absurd (cc)
 first_exact (simple (named_element name argument)) h = absurd (cc)
 first_exact (simple (nesting list)) h = absurd (cc)
 first_exact (simple (namespaced namespace local)) h = absurd (cc)
-first_exact (simple (nth_of last p selectors)) h = absurd (cc)
 first_exact (negation selectors) h = absurd (cc)
 first_exact (any_of selectors) h = absurd (cc)
 first_exact (where_any selectors) h = absurd (cc)
+first_exact (nth_of last p selectors) h = absurd (cc)
 
 first_keys : (c : Condition) (cs : List Condition) → begin_with_key (c ∷ cs) ≡ true
     → keys_among (c ∷ cs) ≡ condition_keys c
@@ -150,10 +150,10 @@ module _ {Node : Type 0} (d : Document Node) (n : Node) where
   first_met (simple (named_element name argument)) h k = absurd (cc)
   first_met (simple (nesting list)) h k = absurd (cc)
   first_met (simple (namespaced namespace local)) h k = absurd (cc)
-  first_met (simple (nth_of last p selectors)) h k = absurd (cc)
   first_met (negation selectors) h k = absurd (cc)
   first_met (any_of selectors) h k = absurd (cc)
   first_met (where_any selectors) h k = absurd (cc)
+  first_met (nth_of last p selectors) h k = absurd (cc)
 
   all_met : (cs : List Condition) → begin_with_key cs ≡ true
       → IsTrue (list_any (has_key d n) (keys_among cs))

@@ -13,19 +13,22 @@ use Rattle.css_matching.specs.declared.Combinator.{Combinator}
 use Rattle.css_matching.specs.declared.Combinator.TheVariants.{Descendant, Child, Adjacent, Sibling}
 use Rattle.css_selectors.specs.declared.components.ListKind.{ListKind}
 use Rattle.css_selectors.specs.declared.components.ListKind.TheVariants.{Not, Is, Where}
-use Rattle.css_selectors.specs.Components.{Namespace, Simple, Condition, Selectors, Part, selectors_from}
+use Rattle.css_selectors.specs.declared.components.Numbering.{Numbering}
+use Rattle.css_selectors.specs.declared.components.Numbering.TheVariants.{Child as OfChild, LastChild as OfLastChild}
+use Rattle.css_selectors.specs.declared.components.Function.TheVariants.{Numbered}
+use Rattle.css_selectors.specs.Components.{Progression, Namespace, Simple, Condition, Selectors, Part, selectors_from}
 use Rattle.css_selectors.specs.Components.Local.{any_type, a_type, some_attribute, an_attribute}
-use Rattle.css_selectors.specs.Components.Simple.{universal, type_name, id, class, has_attribute, attribute, structure, language, state, function, named_element, nesting, namespaced, nth_of}
-use Rattle.css_selectors.specs.Components.Condition.{simple, negation, any_of, where_any}
+use Rattle.css_selectors.specs.Components.Simple.{universal, type_name, id, class, has_attribute, attribute, structure, language, state, function, named_element, nesting, namespaced}
+use Rattle.css_selectors.specs.Components.Condition.{simple, negation, any_of, where_any, nth_of}
 use Rattle.css_selectors.specs.Readings.{Reading, got, refused, follow, give, ◌>>=◌, ◌>>◌, Step, item, none, stop, step_after, as_item, with_first, items}
-use Rattle.css_selectors.specs.Grammar.{gap, past_comments, begins_name, past_any_name, is_bar, at_bar, prefix, namespace, in_namespace, ampersand, any_or_name, type_after, begins_compound, closing, one_more, list_kind, function_named, is_list_text, with_argument, type_selector, next_simple, after_type, some_of, Finder, ListReader, compound, ends_part, part_value, past_part, no_selector, part_end, judged, listed_part, next_listed, kept, keep, selectors_after, is_forgiving, list_by, listed, begins_pseudo_class, simple_item, condition_here, condition_by, too_deep, next_condition, deepest, after_type_name, some_or_element, conditions, CompoundReader, sign_combinator, first_sign, joined_by, by_sign, part_after, next_part_in, complex, complex_list}
-use Rattle.css_selectors.specs.Printing.{identifier_text, namespace_text, further_text, list_text, condition_text, selectors_text, combinator_text, part_text, parts_text}
-use Rattle.css_selectors.specs.WellFormed.{IsName, IsNamespace, IsListText, IsFurtherCondition, IsFirstCondition, IsList, AreConditions}
+use Rattle.css_selectors.specs.Grammar.{gap, past_comments, begins_name, past_any_name, is_bar, at_bar, prefix, namespace, in_namespace, ampersand, any_or_name, type_after, begins_compound, closing, one_more, list_kind, function_named, from_last, with_argument, type_selector, next_simple, after_type, some_of, Finder, ListReader, compound, ends_part, part_value, past_part, no_selector, part_end, judged, listed_part, next_listed, kept, keep, selectors_after, is_forgiving, list_by, listed, begins_pseudo_class, simple_item, condition_here, condition_by, too_deep, next_condition, deepest, after_type_name, some_or_element, conditions, CompoundReader, sign_combinator, first_sign, joined_by, by_sign, part_after, next_part_in, complex, complex_list}
+use Rattle.css_selectors.specs.Printing.{identifier_text, progression_text, nth_of_text, namespace_text, further_text, list_text, condition_text, selectors_text, combinator_text, part_text, parts_text}
+use Rattle.css_selectors.specs.WellFormed.{IsName, IsNamespace, IsProgression, IsFurtherCondition, IsFirstCondition, IsList, AreConditions}
 use Rattle.css_selectors.proofs.GapLemmas.{no_comments}
 use Rattle.css_selectors.proofs.SpelledAgain.{name-again}
 use Rattle.css_selectors.proofs.NumbersAgain.{no_gap, one_blank}
 use Rattle.css_selectors.proofs.NestedLists.{selectors_in, selectors_from-in, row_text, rows_text, IsRow, IsLink, IsChain, AreChains, chains_out}
-use Rattle.css_selectors.proofs.SimplesAgain.{EachReads, items-again, ends, ends_name, ends_calm, ends_barless, bare-again, namespace-again, namespace_begins, namespace_name, begins_solid, differ, name_other, name_compound, named_text, is_start, by_start, further_starts, call-again, further-again}
+use Rattle.css_selectors.proofs.SimplesAgain.{EachReads, items-again, ends, ends_name, ends_calm, ends_barless, bare-again, namespace-again, namespace_begins, namespace_name, begins_solid, nth_assoc, of_argument, differ, name_other, name_compound, named_text, is_start, by_start, further_starts, call-again, further-again}
 
 -- ---- how conditions begin
 
@@ -72,10 +75,12 @@ start_begins (b ∷ text) rest h =
     by_start (λ d. begins_compound d ≡ true) refl refl refl refl refl b h
 
 condition_starts : (n : ℕ) (c : Condition) → IsFurtherCondition n c → Starts (condition_text c)
-condition_starts n (simple s) w = further_starts n s w
+condition_starts n (simple s) w = further_starts s w
 condition_starts n (negation _) w = refl
 condition_starts n (any_of _) w = refl
 condition_starts n (where_any _) w = refl
+condition_starts n (nth_of true _ _) w = refl
+condition_starts n (nth_of false _ _) w = refl
 
 -- `*` or a type, without a namespace and with one
 star_bare : (rest : List ℕ) → ends rest ≡ true
@@ -171,10 +176,10 @@ first_kind n (simple (namespaced p (a_type name))) rest w h =
     })
 first_kind n (simple (namespaced p (some_attribute name))) rest w h = inr w
 first_kind n (simple (namespaced p (an_attribute name c v ignores))) rest w h = inr w
-first_kind n (simple (nth_of last p selectors)) rest w h = inr w
 first_kind n (negation _) rest w h = inr w
 first_kind n (any_of _) rest w h = inr w
 first_kind n (where_any _) rest w h = inr w
+first_kind n (nth_of _ _ _) rest w h = inr w
 
 -- ---- compound selectors, at a depth
 
@@ -559,6 +564,45 @@ module _ (n : ℕ) (reads : ReadsFurther n) (f : Bool) where
       ∙ ap (λ b. no_selector b text NoSelector text) is
       ∙ ap (got None) (part_stays rest)
 
+  -- a list with something in it, after a gap
+  some-again : (text : List ℕ) (spaced : Bool) (s : List Part) (ss : List (List Part)) (rest : List ℕ)
+      → gap text ≡ got spaced (parts_text s ++ (flat_map (further_text parts_text) ss
+      ++ (close_parenthesis ∷ rest)))
+      → IsChain n s → All (IsChain n) ss
+      → complex_list f (next_condition n) text ≡ got (s ∷ ss) rest
+  unfolding complex_list
+  some-again text spaced s ss rest begins one more =
+      let next : Finder = next_condition n in
+      let others : List ℕ = flat_map (further_text parts_text) ss ++ (close_parenthesis ∷ rest) in
+      ap (λ r. follow r (λ first. selectors_after f next first >>= λ all.
+      closing close_parenthesis >> give all))
+      (listed-again n reads f text spaced s others begins one (list_stops n ss rest)
+      (after_calm ss rest) (after_ends ss rest))
+      ∙ ap (λ r. follow (keep (with_first (Some s) r)) (λ all.
+      closing close_parenthesis >> give all))
+      (parts-again ss rest more)
+      ∙ ap (λ l. got (s ∷ l) rest) (kept_all ss)
+
+  list_begins : (s : List Part) (ss : List (List Part)) (rest : List ℕ) → IsChain n s
+      → NoGap (parts_text s ++ (flat_map (further_text parts_text) ss ++ (close_parenthesis ∷ rest)))
+  list_begins s ss rest w =
+      let others : List ℕ = flat_map (further_text parts_text) ss ++ (close_parenthesis ∷ rest) in
+      begins_solid (parts_text s ++ others) (chain_begins n reads s others w (list_stops n ss rest))
+
+  -- after a blank
+  spaced-again : (rest : List ℕ) (s : List Part) (ss : List (List Part)) → IsChain n s
+      → All (IsChain n) ss
+      → complex_list f (next_condition n)
+      (space ∷ (list_text parts_text (s ∷ ss) ++ (close_parenthesis ∷ rest)))
+      ≡ got (s ∷ ss) rest
+  spaced-again rest s ss one more =
+      let end : List ℕ = close_parenthesis ∷ rest in
+      let others : List ℕ = flat_map (further_text parts_text) ss ++ end in
+      ap (λ l. complex_list f (next_condition n) (space ∷ l))
+      (append_assoc (parts_text s) (flat_map (further_text parts_text) ss) end)
+      ∙ some-again (space ∷ (parts_text s ++ others)) true s ss rest
+      (one_blank (parts_text s ++ others) (list_begins s ss rest one)) one more
+
   complexes-again : (rest : List ℕ) (ss : List (List Part)) → AreChains f n ss
       → complex_list f (next_condition n) (list_text parts_text ss ++ (close_parenthesis ∷ rest))
       ≡ got ss rest
@@ -569,22 +613,11 @@ module _ (n : ℕ) (reads : ReadsFurther n) (f : Bool) where
       ∙ ap (λ r. follow (keep (with_first None r)) (λ all. closing close_parenthesis >> give all))
       (parts-again [] rest (All-nil (IsChain n)))
   complexes-again rest (s ∷ ss) w =
-      let next : Finder = next_condition n in
       let end : List ℕ = close_parenthesis ∷ rest in
-      let others : List ℕ = flat_map (further_text parts_text) ss ++ end in
-      let stops = list_stops n ss rest in
-      let text : List ℕ = parts_text s ++ others in
-      ap (complex_list f next)
+      let text : List ℕ = parts_text s ++ (flat_map (further_text parts_text) ss ++ end) in
+      ap (complex_list f (next_condition n))
       (append_assoc (parts_text s) (flat_map (further_text parts_text) ss) end)
-      ∙ ap (λ r. follow r (λ first. selectors_after f next first >>= λ all.
-      closing close_parenthesis >> give all))
-      (listed-again n reads f text false s others
-      (no_gap text (begins_solid text (chain_begins n reads s others w.0 stops)))
-      w.0 stops (after_calm ss rest) (after_ends ss rest))
-      ∙ ap (λ r. follow (keep (with_first (Some s) r)) (λ all.
-      closing close_parenthesis >> give all))
-      (parts-again ss rest w.1)
-      ∙ ap (λ l. got (s ∷ l) rest) (kept_all ss)
+      ∙ some-again text false s ss rest (no_gap text (list_begins s ss rest w.0)) w.0 w.1
 
 -- ---- conditions
 
@@ -595,8 +628,43 @@ ReadsLists n list = (kind : ListKind) (opened rest : List ℕ) (selectors : Sele
     → list kind opened (selectors_text selectors ++ (close_parenthesis ∷ rest))
     ≡ got (selectors_in selectors) rest
 
-module _ (n : ℕ) (list : ListReader) (reads : ReadsLists n list)
-    (checks : (a : List ℕ) → IsListText n a → is_list_text list a ≡ true) where
+-- so is one that is not forgiving after a blank
+abbrev ReadsSpaced : ℕ → ListReader → Type 0
+ReadsSpaced n list = (opened rest : List ℕ) (selectors : Selectors) → IsList false n selectors
+    → list Not opened (space ∷ (selectors_text selectors ++ (close_parenthesis ∷ rest)))
+    ≡ got (selectors_in selectors) rest
+
+module _ (n : ℕ) (list : ListReader) (reads : ReadsLists n list) (spaced : ReadsSpaced n list) where
+  nth-again : (name rest : List ℕ) (kind : Numbering) (last : Bool) (p : Progression)
+      (selectors : Selectors) → IsName name → list_kind name ≡ None
+      → function_named name ≡ Some (Numbered kind) → from_last kind ≡ Some last
+      → IsProgression p × IsList false n selectors
+      → condition_by list (colon ∷ (identifier_text name ++ (open_parenthesis ∷
+      ((nth_of_text p (selectors_text selectors) ++ (close_parenthesis ∷ [])) ++ rest))))
+      ≡ item (nth_of last p selectors) rest
+  nth-again name rest kind last p selectors some no_list is is_last w =
+      call-again list name argument rest (nth_of last p selectors) some argument_reads
+    where
+      argument : List ℕ
+      argument = (nth_of_text p (selectors_text selectors) ++ (close_parenthesis ∷ [])) ++ rest
+
+      listed_text : List ℕ
+      listed_text = selectors_text selectors ++ (close_parenthesis ∷ rest)
+
+      argument_reads : (opened : List ℕ)
+          → with_argument list opened name (list_kind name) (function_named name) argument
+          ≡ got (nth_of last p selectors) rest
+      argument_reads opened =
+          ap (λ k. with_argument list opened name k (function_named name) argument) no_list
+          ∙ ap (λ f. with_argument list opened name None f argument) is
+          ∙ ap (with_argument list opened name None (Some (Numbered kind)))
+          (nth_assoc (progression_text p) (codes " of ") (selectors_text selectors)
+          (close_parenthesis ∷ []) rest)
+          ∙ of_argument list opened name listed_text kind last p is_last w.0
+          ∙ ap (λ r. follow r (λ all. give (nth_of last p (selectors_from all))))
+          (spaced opened rest selectors w.1)
+          ∙ ap (λ l. got (nth_of last p l) rest) (selectors_from-in selectors)
+
   list-again : (name rest : List ℕ) (kind : ListKind) (selectors : Selectors) → IsName name
       → list_kind name ≡ Some kind → IsList (is_forgiving kind) n selectors
       → condition_by list (colon ∷ (identifier_text name ++ (open_parenthesis ∷
@@ -614,7 +682,7 @@ module _ (n : ℕ) (list : ListReader) (reads : ReadsLists n list)
 
   condition_by-again : (c : Condition) (rest : List ℕ) → IsFurtherCondition n c
       → ends rest ≡ true → condition_by list (condition_text c ++ rest) ≡ item c rest
-  condition_by-again (simple s) rest w h = further-again list n checks s rest w h
+  condition_by-again (simple s) rest w h = further-again list s rest w h
   condition_by-again (negation selectors) rest w h =
       list-again (codes "not") rest Not selectors (omega arith, refl) refl w
       ∙ ap (λ cs. item (negation cs) rest) (selectors_from-in selectors)
@@ -624,6 +692,11 @@ module _ (n : ℕ) (list : ListReader) (reads : ReadsLists n list)
   condition_by-again (where_any selectors) rest w h =
       list-again (codes "where") rest Where selectors (omega arith, refl) refl w
       ∙ ap (λ cs. item (where_any cs) rest) (selectors_from-in selectors)
+  condition_by-again (nth_of false p selectors) rest w h =
+      nth-again (codes "nth-child") rest OfChild false p selectors (omega arith, refl) refl refl refl w
+  condition_by-again (nth_of true p selectors) rest w h =
+      nth-again (codes "nth-last-child") rest OfLastChild true p selectors (omega arith, refl) refl refl
+      refl w
 
 complex_list-again : (n : ℕ) → ReadsFurther n → ReadsLists (suc n) (list_by (next_condition n))
 complex_list-again n reads kind opened rest selectors w =
@@ -634,13 +707,29 @@ complex_list-again n reads kind opened rest selectors w =
     (ap selectors_text same ∙ rows_text ss)
     ∙ complexes-again n reads f rest ss (chains_out n f ss (subst (IsList f (suc n)) same w))
 
+spaced_list-again : (n : ℕ) → ReadsFurther n → ReadsSpaced (suc n) (list_by (next_condition n))
+spaced_list-again n reads opened rest selectors w =
+    let ss : List (List Part) = selectors_in selectors in
+    let same : selectors ≡ selectors_from ss = sym (selectors_from-in selectors) in
+    ap (λ l. complex_list false (next_condition n) (space ∷ (l ++ (close_parenthesis ∷ rest))))
+    (ap selectors_text same ∙ rows_text ss)
+    ∙ by ss (chains_out n false ss (subst (IsList false (suc n)) same w))
+  where
+    by : (all : List (List Part)) → AreChains false n all
+        → complex_list false (next_condition n)
+        (space ∷ (list_text parts_text all ++ (close_parenthesis ∷ rest)))
+        ≡ got all rest
+    by [] v = absurd (cc)
+    by (s ∷ all) v = spaced-again n reads false rest s all v.0 v.1
+
 pub condition-again : (n : ℕ) → ReadsFurther n
 unfolding next_condition
 condition-again zero c rest w h =
-    condition_by-again zero too_deep (λ kind opened end selectors v. absurd v) (λ a e. e) c rest w h
+    condition_by-again zero too_deep (λ kind opened end selectors v. absurd v)
+    (λ opened end selectors v. absurd v) c rest w h
 condition-again (suc n) c rest w h =
     condition_by-again (suc n) (list_by (next_condition n))
-    (complex_list-again n (condition-again n)) (λ a e. e) c rest w h
+    (complex_list-again n (condition-again n)) (spaced_list-again n (condition-again n)) c rest w h
 
 -- ---- the compound selectors of a selector
 

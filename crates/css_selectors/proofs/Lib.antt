@@ -26,6 +26,7 @@ mod NestedLists
 mod SimplesAgain
 mod CompoundsAgain
 mod SelectorsAgain
+mod SiblingCountLemmas
 mod ReadSimples
 mod ReadWellFormed
 mod ListLaws

@@ -7,11 +7,12 @@ use Rattle.std.proofs.lemmas.Grind.{flat_map-append}
 use Rattle.std.specs.Prelude.{codes}
 use Rattle.std.specs.List.{flat_map}
 use Rattle.css_selectors.specs.declared.components.Complex.{Complex}
-use Rattle.css_selectors.specs.declared.components.Condition.{Condition as ConditionOf, Not, Is, Where}
+use Rattle.css_selectors.specs.declared.components.Condition.{Condition as ConditionOf, Not, Is, Where, NthOf}
+use Rattle.css_selectors.specs.declared.components.NthOf.{NthOf as NthOfOf}
 use Rattle.css_selectors.specs.Components.{Condition, Part, conditions_from, parts_from, selectors_from}
-use Rattle.css_selectors.specs.Printing.{condition_text, compound_text, complex_text, further_parts_text, selectors_text, further_selectors_text, further_text, list_text, function_text, part_text, parts_text}
-use Rattle.css_selectors.specs.Views.{condition_of, complex_of}
-use Rattle.css_selectors.proofs.ConditionViews.{condition_not, condition_is, condition_where}
+use Rattle.css_selectors.specs.Printing.{condition_text, compound_text, complex_text, further_parts_text, selectors_text, further_selectors_text, further_text, list_text, function_text, nth_name, nth_of_text, part_text, parts_text}
+use Rattle.css_selectors.specs.Views.{condition_of, complex_of, progression_of}
+use Rattle.css_selectors.proofs.ConditionViews.{condition_not, condition_is, condition_where, condition_nth}
 
 pub compound_text_conditions : (cs : List Condition)
     → compound_text (conditions_from cs) ≡ flat_map condition_text cs
@@ -65,6 +66,17 @@ module _ (c : ConditionOf) (v : Vec Complex Global) (xs : List Complex) where
   pub text_where : c ≡ Where v → xs ≡ v.items
       → function_text (codes ":where(") (list_text selector_shown xs) ≡ condition_text (condition_of c)
   text_where is = shown_by (codes ":where(") (ap (λ x. condition_text (condition_of x)) is ∙ ap condition_text (condition_where v))
+
+  pub text_nth : (k : NthOfOf) → c ≡ NthOf k v → xs ≡ v.items
+      → function_text (nth_name k.from_last) (nth_of_text (progression_of k.progression)
+      (list_text selector_shown xs))
+      ≡ condition_text (condition_of c)
+  text_nth k is same =
+      let shown : List ℕ → List ℕ =
+      λ t. function_text (nth_name k.from_last) (nth_of_text (progression_of k.progression) t) in
+      sym (ap (λ x. condition_text (condition_of x)) is ∙ ap condition_text (condition_nth k v)
+      ∙ ap (λ ys. shown (selectors_text (selectors_from (map complex_of ys)))) (sym same)
+      ∙ ap shown (text_selectors xs))
 
 -- what the code writes before an item of a list, of which there are so many before it
 abbrev pub separator : ℕ → List ℕ

@@ -10,20 +10,20 @@ use Rattle.css_matching.specs.Placements.{Relates}
 use Rattle.css_selectors.specs.declared.components.Nesting.{Nesting}
 use Rattle.css_selectors.specs.Documents.{Document, shape}
 use Rattle.css_selectors.specs.Components.{Simple, Condition, Conditions, Parts, Selectors, Part, PseudoElement, Selector, conditions_from, parts_from}
-use Rattle.css_selectors.specs.Components.Simple.{universal, type_name, id, class, has_attribute, attribute, structure, language, state, function, named_element, nesting, namespaced, nth_of}
-use Rattle.css_selectors.specs.Components.Condition.{simple, negation, any_of, where_any}
+use Rattle.css_selectors.specs.Components.Simple.{universal, type_name, id, class, has_attribute, attribute, structure, language, state, function, named_element, nesting, namespaced}
+use Rattle.css_selectors.specs.Components.Condition.{simple, negation, any_of, where_any, nth_of}
 use Rattle.css_selectors.specs.Components.Conditions.{end_of_compound, with_condition}
 use Rattle.css_selectors.specs.Components.Parts.{end_of_selector, with_part}
 use Rattle.css_selectors.specs.Components.Selectors.{end_of_list, with_selector}
 use Rattle.css_selectors.specs.Meanings.{MatchesAny, IsPlaced, Matches}
 use Rattle.css_selectors.specs.Nested.{simple_under, selector_under}
-use Rattle.css_selectors.specs.Printing.{simple_text, condition_text, compound_text, complex_text, further_parts_text, selectors_text, further_selectors_text, part_text, parts_text, combinator_text, function_text, pseudo_element_text, selector_text}
+use Rattle.css_selectors.specs.Printing.{simple_text, condition_text, compound_text, complex_text, further_parts_text, selectors_text, further_selectors_text, part_text, parts_text, combinator_text, function_text, nth_name, nth_of_text, pseudo_element_text, selector_text}
 use Rattle.css_selectors.specs.Simples.{condition_with, compound_with, complex_with, selectors_with, part_with, pseudo_element_with}
-use Rattle.css_selectors.specs.Specificities.{Counts, nothing, one_name, plus, greater, of_simple, of_condition, of_compound, of_parts, greatest, of_pseudo_element, specificity}
+use Rattle.css_selectors.specs.Specificities.{Counts, nothing, one_class, one_name, plus, greater, of_simple, of_condition, of_compound, of_parts, greatest, of_pseudo_element, specificity}
 use Rattle.css_selectors.specs.SpecificityViews.{counts_of}
 use Rattle.css_selectors.specs.SpelledOut.{as_list, spelled_simple, spelled_condition, spelled_compound, spelled_complex, spelled_list, spelled_part, spelled_element, spelled_selector}
 use Rattle.css_selectors.proofs.AlikeSelectors.{Alike, CompoundsAlike, PartsAlike, ListsAlike, AsksSame, complex_alike}
-use Rattle.css_selectors.proofs.AlikeSelectors.Alike.{simples, negations, anys, wheres}
+use Rattle.css_selectors.proofs.AlikeSelectors.Alike.{simples, negations, anys, wheres, nths}
 use Rattle.css_selectors.proofs.AlikeSelectors.CompoundsAlike.{no_condition, one_condition}
 use Rattle.css_selectors.proofs.AlikeSelectors.PartsAlike.{no_part, one_part}
 use Rattle.css_selectors.proofs.AlikeSelectors.ListsAlike.{no_selector, one_selector}
@@ -74,7 +74,6 @@ module _ (list : Nesting) (all : Selectors) where
     simple_same (named_element name argument) n is = (λ h. h, λ h. h)
     simple_same (nesting other) n is = answers n is
     simple_same (namespaced namespace local) n is = (λ h. h, λ h. h)
-    simple_same (nth_of last p selectors) n is = (λ h. h, λ h. h)
 
     mutual
       condition_same : (c : Condition) → Alike (AsksSame d Is)
@@ -83,6 +82,7 @@ module _ (list : Nesting) (all : Selectors) where
       condition_same (negation ss) = negations (list_same ss)
       condition_same (any_of ss) = anys (list_same ss)
       condition_same (where_any ss) = wheres (list_same ss)
+      condition_same (nth_of last p ss) = nths (list_same ss)
 
       compound_same : (cs : Conditions) → CompoundsAlike (AsksSame d Is)
           (compound_with (simple_under list) cs) (spelled_compound (as_list all) cs)
@@ -140,7 +140,6 @@ module _ (list : Nesting) (all : Selectors) where
     simple_counts (named_element name argument) = refl
     simple_counts (nesting other) = counts
     simple_counts (namespaced namespace local) = refl
-    simple_counts (nth_of last p selectors) = refl
 
     mutual
       condition_counts : (c : Condition)
@@ -150,6 +149,7 @@ module _ (list : Nesting) (all : Selectors) where
       condition_counts (negation ss) = list_counts ss nothing
       condition_counts (any_of ss) = list_counts ss nothing
       condition_counts (where_any ss) = refl
+      condition_counts (nth_of last p ss) = ap (plus one_class) (list_counts ss nothing)
 
       compound_counts : (cs : Conditions) (so_far : Counts)
           → of_compound so_far (compound_with (simple_under list) cs)
@@ -214,7 +214,6 @@ module _ (list : Nesting) where
   simple_prints (named_element name argument) = refl
   simple_prints (nesting other) = refl
   simple_prints (namespaced namespace local) = refl
-  simple_prints (nth_of last p selectors) = refl
 
   mutual
     condition_prints : (c : Condition)
@@ -223,6 +222,8 @@ module _ (list : Nesting) where
     condition_prints (negation ss) = ap (function_text (codes ":not(")) (list_prints ss)
     condition_prints (any_of ss) = ap (function_text (codes ":is(")) (list_prints ss)
     condition_prints (where_any ss) = ap (function_text (codes ":where(")) (list_prints ss)
+    condition_prints (nth_of last p ss) =
+        ap (λ t. function_text (nth_name last) (nth_of_text p t)) (list_prints ss)
 
     compound_prints : (cs : Conditions)
         → compound_text (compound_with (simple_under list) cs) ≡ compound_text cs

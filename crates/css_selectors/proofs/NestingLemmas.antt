@@ -3,15 +3,16 @@
 -- Serves `nesting` and `nesting_laws`.
 use Rattle.std.proofs.Common.{◌≡◌, List, [], ◌∷◌, map, Vec, Global, refl, ap, sym, ◌∙◌}
 use Rattle.css_selectors.specs.declared.components.Complex.{Complex}
-use Rattle.css_selectors.specs.declared.components.Condition.{Condition as ConditionOf, Not, Is, Where}
+use Rattle.css_selectors.specs.declared.components.Condition.{Condition as ConditionOf, Not, Is, Where, NthOf}
+use Rattle.css_selectors.specs.declared.components.NthOf.{NthOf as NthOfOf}
 use Rattle.css_selectors.specs.Components.{Simple, Condition, Part, conditions_from, parts_from, selectors_from}
-use Rattle.css_selectors.specs.Components.Condition.{negation, any_of, where_any}
+use Rattle.css_selectors.specs.Components.Condition.{negation, any_of, where_any, nth_of}
 use Rattle.css_selectors.specs.Components.Conditions.{with_condition}
 use Rattle.css_selectors.specs.Components.Parts.{with_part}
 use Rattle.css_selectors.specs.Components.Selectors.{with_selector}
 use Rattle.css_selectors.specs.Simples.{condition_with, compound_with, complex_with, selectors_with, part_with}
-use Rattle.css_selectors.specs.Views.{complex_of, condition_of}
-use Rattle.css_selectors.proofs.ConditionViews.{condition_not, condition_is, condition_where}
+use Rattle.css_selectors.specs.Views.{complex_of, condition_of, progression_of}
+use Rattle.css_selectors.proofs.ConditionViews.{condition_not, condition_is, condition_where, condition_nth}
 
 module _ (change : Simple → Simple) where
   pub compound_with-from : (cs : List Condition)
@@ -63,3 +64,10 @@ module _ (change : Simple → Simple) where
         condition_where new ∙ ap where_any lists
         ∙ sym (ap (λ x. condition_with change (condition_of x)) is
         ∙ ap (condition_with change) (condition_where old))
+
+    pub nth_with : (k : NthOfOf) → c ≡ NthOf k old
+        → condition_of (NthOf k new) ≡ condition_with change (condition_of c)
+    nth_with k is =
+        condition_nth k new ∙ ap (nth_of k.from_last (progression_of k.progression)) lists
+        ∙ sym (ap (λ x. condition_with change (condition_of x)) is
+        ∙ ap (condition_with change) (condition_nth k old))

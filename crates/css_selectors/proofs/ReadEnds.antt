@@ -21,6 +21,7 @@ use Rattle.css_matching.specs.declared.Combinator.TheVariants.{Descendant}
 use Rattle.css_selectors.specs.declared.components.Function.{Function}
 use Rattle.css_selectors.specs.declared.components.Function.TheVariants.{Numbered, Language}
 use Rattle.css_selectors.specs.declared.components.ListKind.{ListKind}
+use Rattle.css_selectors.specs.declared.components.ListKind.TheVariants.{Not}
 use Rattle.css_selectors.specs.declared.components.Numbering.{Numbering}
 use Rattle.css_selectors.specs.declared.reading.Start.{Start}
 use Rattle.css_selectors.specs.declared.reading.Start.TheVariants.{Plain, Relative}
@@ -621,43 +622,42 @@ module _ (forgiving : Bool) (next : Grammar.Finder) (each : FinderLeaves next) w
 abbrev ListLeaves : Grammar.ListReader → Type 0
 ListLeaves list = (kind : ListKind) (opened text : List ℕ) → Leaves text (list kind opened text)
 
-of_list-leaves : (list : Grammar.ListReader) (last : Bool) (p : Progression) (text : List ℕ)
-    → Leaves text (Grammar.of_list list last p text)
-unfolding Grammar.of_list
-of_list-leaves list last p text =
-    follow-leaves text (Grammar.argument text) _ (argument-leaves text)
-    (λ a t. if-leaves t (Grammar.is_list_text list a) (got _ t) _ (ends-same t) tt)
+module _ (list : Grammar.ListReader) (lists : ListLeaves list) (opened : List ℕ) where
+  of_list-leaves : (last : Bool) (p : Progression) (text : List ℕ)
+      → Leaves text (Grammar.of_list list last p opened text)
+  of_list-leaves last p text =
+      follow-leaves text (list Not opened text) _ (lists Not opened text) (λ selectors. ends-same)
 
-after_progression-leaves : (list : Grammar.ListReader) (kind : Numbering) (p : Progression)
-    (o : Option Bool) (text : List ℕ) → Leaves text (Grammar.after_progression list kind p o text)
-after_progression-leaves list kind p None text = closed_with close_parenthesis _ text
-after_progression-leaves list kind p (Some last) text =
-    if-leaves text (Grammar.begins_name text)
-    (follow (Grammar.name text) (Grammar.after_word list last p text))
-    (Grammar.without_list kind p text)
-    (follow-leaves text (Grammar.name text) (Grammar.after_word list last p text) (name-leaves text)
-    (λ word t. if-leaves t (Grammar.is_word (codes "of") word) (Grammar.of_list list last p t) _
-    (of_list-leaves list last p t) tt))
-    (closed_with close_parenthesis _ text)
+  after_progression-leaves : (kind : Numbering) (p : Progression) (o : Option Bool) (text : List ℕ)
+      → Leaves text (Grammar.after_progression list opened kind p o text)
+  after_progression-leaves kind p None text = closed_with close_parenthesis _ text
+  after_progression-leaves kind p (Some last) text =
+      if-leaves text (Grammar.begins_name text)
+      (follow (Grammar.name text) (Grammar.after_word list opened last p text))
+      (Grammar.without_list kind p text)
+      (follow-leaves text (Grammar.name text) (Grammar.after_word list opened last p text)
+      (name-leaves text)
+      (λ word t. if-leaves t (Grammar.is_word (codes "of") word) (Grammar.of_list list last p opened t) _
+      (of_list-leaves last p t) tt))
+      (closed_with close_parenthesis _ text)
 
-functional-leaves : (list : Grammar.ListReader) (opened n : List ℕ) (kind : Option Function)
-    (text : List ℕ) → Leaves text (Grammar.functional list opened n kind text)
-functional-leaves list opened n None text =
-    follow-leaves text (Grammar.argument_of functions opened n text) _
-    (argument_of-leaves functions opened n text) (λ a. ends-same)
-functional-leaves list opened n (Some Language) text =
-    follow-leaves text (Grammar.language_ranges text) _ (language_ranges-leaves text)
-    (λ ranges. ends-same)
-functional-leaves list opened n (Some (Numbered kind)) text =
-    after_gap text _ (λ t. follow-leaves t (Grammar.progression t) _ (progression-leaves t)
-    (λ p t2. after_gap t2 _ (after_progression-leaves list kind p (Grammar.from_last kind))))
+  functional-leaves : (n : List ℕ) (kind : Option Function) (text : List ℕ)
+      → Leaves text (Grammar.functional list opened n kind text)
+  functional-leaves n None text =
+      follow-leaves text (Grammar.argument_of functions opened n text) _
+      (argument_of-leaves functions opened n text) (λ a. ends-same)
+  functional-leaves n (Some Language) text =
+      follow-leaves text (Grammar.language_ranges text) _ (language_ranges-leaves text)
+      (λ ranges. ends-same)
+  functional-leaves n (Some (Numbered kind)) text =
+      after_gap text _ (λ t. follow-leaves t (Grammar.progression t) _ (progression-leaves t)
+      (λ p t2. after_gap t2 _ (after_progression-leaves kind p (Grammar.from_last kind))))
 
 module _ (list : Grammar.ListReader) (lists : ListLeaves list) where
   with_argument-leaves : (opened n : List ℕ) (kind : Option ListKind) (other : Option Function)
       (text : List ℕ) → Leaves text (Grammar.with_argument list opened n kind other text)
   with_argument-leaves opened n None other text =
-      follow-leaves text (Grammar.functional list opened n other text) _
-      (functional-leaves list opened n other text) (λ s. ends-same)
+      functional-leaves list lists opened n other text
   with_argument-leaves opened n (Some kind) other text =
       follow-leaves text (list kind opened text) _ (lists kind opened text) (λ selectors. ends-same)
 

@@ -9,7 +9,7 @@ use Rattle.css_text.specs.Bytes.{starts_by, starts, past_one, is_digit}
 use Rattle.css_text.specs.Characters.{is_letter}
 use Rattle.css_text.specs.Reading.{before}
 use Rattle.css_text.specs.Strings.{is_quote}
-use Rattle.css_syntax.specs.Tokens.{is_wide_byte, is_name_byte, begins_escape, past_gap, past_word, past_string_parts}
+use Rattle.css_syntax.specs.Tokens.{is_wide_byte, is_name_byte, begins_escape, past_word, past_string_parts}
 use Rattle.css_syntax.specs.Statements.{begins_cdc}
 use Rattle.css_syntax.specs.Escapes.{unescaped_in, decoded_in}
 use Rattle.css_syntax.proofs.Decoding.{decoded-some_bytes}
@@ -21,16 +21,17 @@ use Rattle.css_selectors.specs.declared.components.Numbering.TheVariants.{Child 
 use Rattle.css_selectors.specs.declared.components.Function.{Function}
 use Rattle.css_selectors.specs.declared.components.Function.TheVariants.{Numbered, Language}
 use Rattle.css_selectors.specs.declared.components.ListKind.TheVariants.{Not}
-use Rattle.css_selectors.specs.Components.{Comparison, Signed, Progression, Structure, Namespace, Local, Simple, outermost}
+use Rattle.css_selectors.specs.Components.{Comparison, Signed, Progression, Structure, Namespace, Local, Simple, Condition, Part, selectors_from, outermost}
 use Rattle.css_selectors.specs.Components.Structure.{root, scope, empty, first_child, last_child, only_child, first_of_type, last_of_type, only_of_type}
 use Rattle.css_selectors.specs.Components.Namespace.{absent, any_namespace, of_prefix}
 use Rattle.css_selectors.specs.Components.Local.{any_type, a_type, some_attribute, an_attribute}
-use Rattle.css_selectors.specs.Components.Simple.{universal, type_name, id, class, has_attribute, attribute, structure, language, state, function, named_element, nesting, namespaced, nth_of}
+use Rattle.css_selectors.specs.Components.Simple.{universal, type_name, id, class, has_attribute, attribute, structure, language, state, function, named_element, nesting, namespaced}
+use Rattle.css_selectors.specs.Components.Condition.{simple, nth_of}
 use Rattle.css_selectors.specs.Readings.{Reading, got, refused, follow, give, ◌>>=◌, ◌>>◌, Step, item, none, stop, step_after, as_item, with_first, go_on, items, items_up_to}
 use Rattle.css_selectors.specs.declared.refusal.Why.TheVariants.{NoName, BrokenString, NoProgression, UnknownName, UnknownFunction, Unexpected}
-use Rattle.css_selectors.specs.Grammar.{gap, past_comments, ident_sequence, name, begins_name, begins_plain_name, begins_word, string, closed_string, value, comparison, flag, compared, by_comparison, is_bar, at_bar, prefix, namespace, in_namespace, attribute_from_name, attribute_selector, any_or_name, type_after, closing, progression, digits, with_digit, sign, is_sign, is_n, signed, stepping, offset_after, offset_or_none, with_offset, is_number, subtracted, by_tail, n_word, numbered, is_lone_plus, unsigned, odd_or_even, word_progression, one_more, is_word, plain_structure, plain_pseudo, numbered_by, next_range, range_after, language_ranges, list_kind, function_named, argument, argument_of, is_list_text, no_list, of_list, after_word, without_list, from_last, after_progression, functional, is_old_element, ListReader, named_pseudo, type_selector, next_simple, ampersand}
+use Rattle.css_selectors.specs.Grammar.{gap, past_comments, ident_sequence, name, begins_name, begins_plain_name, begins_word, string, closed_string, value, comparison, flag, compared, by_comparison, is_bar, at_bar, prefix, namespace, in_namespace, attribute_from_name, attribute_selector, any_or_name, type_after, closing, progression, digits, with_digit, sign, is_sign, is_n, signed, stepping, offset_after, offset_or_none, with_offset, is_number, subtracted, by_tail, n_word, numbered, is_lone_plus, unsigned, odd_or_even, word_progression, one_more, is_word, plain_structure, plain_pseudo, numbered_by, next_range, range_after, language_ranges, list_kind, function_named, argument, argument_of, of_list, after_word, without_list, from_last, after_progression, functional, is_old_element, ListReader, named_pseudo, type_selector, next_simple, ampersand}
 use Rattle.css_selectors.specs.KnownNames.{is_one_of, states, functions}
-use Rattle.css_selectors.specs.WellFormed.{IsDenoted, IsName, IsArgument, IsArgumentOf, IsListText, IsSize, IsProgression, IsStructure, IsNamespace, IsAttribute, IsLocal, IsFurther, IsFirst}
+use Rattle.css_selectors.specs.WellFormed.{IsDenoted, IsName, IsArgumentOf, IsSize, IsProgression, IsStructure, IsNamespace, IsAttribute, IsLocal, IsFurther, IsFirst, IsFurtherCondition, IsList}
 use Rattle.css_selectors.proofs.ArgumentLemmas.{argument-again}
 use Rattle.css_selectors.proofs.ReadingLemmas.{followed}
 
@@ -439,18 +440,18 @@ from_name_well text l rest h =
     k.second
 
 -- an attribute selector, with a namespace or without one
-attribute_in_well : (d : ℕ) (o : Option Namespace) (text mid : List ℕ) → namespace text ≡ got o mid
-    → (l : Local) → IsAttribute l → IsFurther d (in_namespace o l)
-attribute_in_well d (Some p) text mid h l w = (namespace_well text p mid h, w)
-attribute_in_well d None text mid h any_type w = absurd w
-attribute_in_well d None text mid h (a_type n) w = absurd w
-attribute_in_well d None text mid h (some_attribute n) w = w
-attribute_in_well d None text mid h (an_attribute n c v ignores) w = w
+attribute_in_well : (o : Option Namespace) (text mid : List ℕ) → namespace text ≡ got o mid
+    → (l : Local) → IsAttribute l → IsFurther (in_namespace o l)
+attribute_in_well (Some p) text mid h l w = (namespace_well text p mid h, w)
+attribute_in_well None text mid h any_type w = absurd w
+attribute_in_well None text mid h (a_type n) w = absurd w
+attribute_in_well None text mid h (some_attribute n) w = w
+attribute_in_well None text mid h (an_attribute n c v ignores) w = w
 
-attribute_well : (d : ℕ) (text : List ℕ) (s : Simple) (rest : List ℕ)
-    → attribute_selector text ≡ got s rest → IsFurther d s
+attribute_well : (text : List ℕ) (s : Simple) (rest : List ℕ)
+    → attribute_selector text ≡ got s rest → IsFurther s
 unfolding attribute_selector
-attribute_well d text s rest h =
+attribute_well text s rest h =
     let f = followed (gap text) (λ x. namespace >>= λ n. attribute_from_name >>= λ l.
     give (in_namespace n l)) s rest h in
     let g = followed (namespace f.middle) (λ n. attribute_from_name >>= λ l.
@@ -458,8 +459,8 @@ attribute_well d text s rest h =
     let k = followed (attribute_from_name g.middle) (λ l. give (in_namespace g.value l)) s rest
     g.second in
     let is : in_namespace g.value k.value ≡ s = (let e = k.second in cc) in
-    subst (IsFurther d) is
-    (attribute_in_well d g.value f.middle g.middle g.first k.value
+    subst IsFurther is
+    (attribute_in_well g.value f.middle g.middle g.first k.value
     (from_name_well g.middle k.value k.middle k.first))
 
 -- ---- arguments of pseudo-classes
@@ -512,80 +513,29 @@ argument_of_well names opened n text a rest h = by (is_one_of names n) refl h
     by false e k = absurd (cc)
     by true e k = (e, argument-again text a rest k [])
 
-of_list_well : (d : ℕ) (list : ListReader)
-    → ((a : List ℕ) → is_list_text list a ≡ true → IsListText d a) → (last : Bool) (p : Progression)
-    (text : List ℕ) (s : Simple) (rest : List ℕ) → IsProgression p
-    → of_list list last p text ≡ got s rest → IsFurther d s
-unfolding of_list
-of_list_well d list checks last p text s rest fits h =
-    let f = followed (argument text) (λ a end. if is_list_text list a then got (nth_of last p a) end
-    else refused (no_list (list Not a a)) (past_gap text)) s rest h in
-    by f.value f.middle (argument-again text f.value f.middle f.first []) (is_list_text list f.value)
-    refl f.second
-  where
-    by : (a mid : List ℕ) → IsArgument a → (t : Bool) → is_list_text list a ≡ t
-        → (if t then got (nth_of last p a) mid else refused (no_list (list Not a a)) (past_gap text))
-        ≡ got s rest → IsFurther d s
-    by a mid w true e k =
-        let is : nth_of last p a ≡ s = cc in
-        subst (IsFurther d) is (fits, w, checks a e)
-    by a mid w false e k = absurd (cc)
-
-without_list_well : (d : ℕ) (kind : Numbering) (p : Progression) (text : List ℕ) (s : Simple)
-    (rest : List ℕ) → IsProgression p → without_list kind p text ≡ got s rest → IsFurther d s
-without_list_well d kind p text s rest fits h =
-    let f = followed (closing close_parenthesis text) (λ x. give (structure (numbered_by kind p))) s
-    rest h in
-    let is : structure (numbered_by kind p) ≡ s = (let e = f.second in cc) in
-    subst (IsFurther d) is (by kind)
-  where
-    by : (k : Numbering) → IsFurther d (structure (numbered_by k p))
-    by OfChild = fits
-    by OfLastChild = fits
-    by OfType = fits
-    by OfLastType = fits
-
-after_progression_well : (d : ℕ) (list : ListReader)
-    → ((a : List ℕ) → is_list_text list a ≡ true → IsListText d a) → (kind : Numbering)
-    (p : Progression) (o : Option Bool) (text : List ℕ) (s : Simple) (rest : List ℕ)
-    → IsProgression p → after_progression list kind p o text ≡ got s rest → IsFurther d s
-after_progression_well d list checks kind p None text s rest fits h =
-    without_list_well d kind p text s rest fits h
-after_progression_well d list checks kind p (Some last) text s rest fits h = by (begins_name text) h
-  where
-    word : (n mid : List ℕ) (t : Bool) → (if t then of_list list last p mid
-        else refused Unexpected text) ≡ got s rest → IsFurther d s
-    word n mid true k = of_list_well d list checks last p mid s rest fits k
-    word n mid false k = absurd (cc)
-
-    by : (t : Bool) → (if t then follow (name text) (after_word list last p text)
-        else without_list kind p text) ≡ got s rest → IsFurther d s
-    by true k =
-        let f = followed (name text) (after_word list last p text) s rest k in
-        word f.value f.middle (is_word (codes "of") f.value) f.second
-    by false k = without_list_well d kind p text s rest fits k
+-- ---- functional pseudo-classes, by what reads a list
 
 -- what was read as `An+B`, and what after it
-pub record NumberedRead (list : ListReader) (kind : Numbering) (s : Simple) (rest : List ℕ)
-    : Type 0 where
+pub record NumberedRead (list : ListReader) (opened : List ℕ) (kind : Numbering) (c : Condition)
+    (rest : List ℕ) : Type 0 where
   pub value : Progression
   pub start : List ℕ
   pub middle : List ℕ
   pub after : List ℕ
   pub first : progression start ≡ got value middle
-  pub last : after_progression list kind value (from_last kind) after ≡ got s rest
+  pub last : after_progression list opened kind value (from_last kind) after ≡ got c rest
 
-pub numbered_read : (list : ListReader) (kind : Numbering) (text : List ℕ) (s : Simple)
-    (rest : List ℕ)
-    → (gap >> (progression >>= λ p. gap >> after_progression list kind p (from_last kind))) text
-    ≡ got s rest
-    → NumberedRead list kind s rest
-numbered_read list kind text s rest h =
+pub numbered_read : (list : ListReader) (opened : List ℕ) (kind : Numbering) (text : List ℕ)
+    (c : Condition) (rest : List ℕ)
+    → (gap >> (progression >>= λ p. gap >> after_progression list opened kind p (from_last kind))) text
+    ≡ got c rest
+    → NumberedRead list opened kind c rest
+numbered_read list opened kind text c rest h =
     let f = followed (gap text) (λ x. progression >>= λ p. gap >>
-    after_progression list kind p (from_last kind)) s rest h in
+    after_progression list opened kind p (from_last kind)) c rest h in
     let g = followed (progression f.middle) (λ p. gap >>
-    after_progression list kind p (from_last kind)) s rest f.second in
-    let i = followed (gap g.middle) (λ x. after_progression list kind g.value (from_last kind)) s
+    after_progression list opened kind p (from_last kind)) c rest f.second in
+    let i = followed (gap g.middle) (λ x. after_progression list opened kind g.value (from_last kind)) c
     rest g.second in
     record {
       value = g.value;
@@ -596,24 +546,67 @@ numbered_read list kind text s rest h =
       last = i.second;
     }
 
-pub functional_well : (d : ℕ) (list : ListReader)
-    → ((a : List ℕ) → is_list_text list a ≡ true → IsListText d a)
-    → (opened n text : List ℕ) (kind : Option Function) (s : Simple)
-    (rest : List ℕ) → IsName n → list_kind n ≡ None → function_named n ≡ kind
-    → functional list opened n kind text ≡ got s rest → IsFurther d s
-functional_well d list checks opened n text None s rest some no_list no_kind h =
-    let f = followed (argument_of functions opened n text) (λ a. give (function n a)) s rest h in
-    let is : function n f.value ≡ s = (let e = f.second in cc) in
-    subst (IsFurther d) is
-    (some, no_list, no_kind, argument_of_well functions opened n text f.value f.middle f.first)
-functional_well d list checks opened n text (Some Language) s rest some no_list is_kind h =
-    let f = followed (language_ranges text) (λ ranges. give (language ranges)) s rest h in
-    let is : language f.value ≡ s = (let e = f.second in cc) in
-    subst (IsFurther d) is (ranges_well text f.value f.middle f.first)
-functional_well d list checks opened n text (Some (Numbered kind)) s rest some no_list is_kind h =
-    let r = numbered_read list kind text s rest h in
-    after_progression_well d list checks kind r.value (from_last kind) r.after s rest
-    (progression_well r.start r.value r.middle r.first) r.last
+-- where each list that is not forgiving is well-formed
+module _ (d : ℕ) (list : ListReader) (opened : List ℕ)
+    (lists : (text : List ℕ) (ss : List (List Part)) (rest : List ℕ) → list Not opened text ≡ got ss rest
+    → IsList false d (selectors_from ss)) where
+  of_list_well : (last : Bool) (p : Progression) (text : List ℕ) (c : Condition) (rest : List ℕ)
+      → IsProgression p → of_list list last p opened text ≡ got c rest → IsFurtherCondition d c
+  of_list_well last p text c rest fits h =
+      let f = followed (list Not opened text) (λ ss. give (nth_of last p (selectors_from ss))) c rest h in
+      let is : nth_of last p (selectors_from f.value) ≡ c = (let e = f.second in cc) in
+      subst (IsFurtherCondition d) is (fits, lists text f.value f.middle f.first)
+
+  without_list_well : (kind : Numbering) (p : Progression) (text : List ℕ) (c : Condition)
+      (rest : List ℕ) → IsProgression p → without_list kind p text ≡ got c rest
+      → IsFurtherCondition d c
+  without_list_well kind p text c rest fits h =
+      let f = followed (closing close_parenthesis text)
+      (λ x. give (simple (structure (numbered_by kind p)))) c rest h in
+      let is : simple (structure (numbered_by kind p)) ≡ c = (let e = f.second in cc) in
+      subst (IsFurtherCondition d) is (by kind)
+    where
+      by : (k : Numbering) → IsFurtherCondition d (simple (structure (numbered_by k p)))
+      by OfChild = fits
+      by OfLastChild = fits
+      by OfType = fits
+      by OfLastType = fits
+
+  after_progression_well : (kind : Numbering) (p : Progression) (o : Option Bool) (text : List ℕ)
+      (c : Condition) (rest : List ℕ) → IsProgression p
+      → after_progression list opened kind p o text ≡ got c rest → IsFurtherCondition d c
+  after_progression_well kind p None text c rest fits h = without_list_well kind p text c rest fits h
+  after_progression_well kind p (Some last) text c rest fits h = by (begins_name text) h
+    where
+      word : (n mid : List ℕ) (t : Bool) → (if t then of_list list last p opened mid
+          else refused Unexpected text) ≡ got c rest → IsFurtherCondition d c
+      word n mid true k = of_list_well last p mid c rest fits k
+      word n mid false k = absurd (cc)
+
+      by : (t : Bool) → (if t then follow (name text) (after_word list opened last p text)
+          else without_list kind p text) ≡ got c rest → IsFurtherCondition d c
+      by true k =
+          let f = followed (name text) (after_word list opened last p text) c rest k in
+          word f.value f.middle (is_word (codes "of") f.value) f.second
+      by false k = without_list_well kind p text c rest fits k
+
+  pub functional_well : (n text : List ℕ) (kind : Option Function) (c : Condition) (rest : List ℕ)
+      → IsName n → list_kind n ≡ None → function_named n ≡ kind
+      → functional list opened n kind text ≡ got c rest → IsFurtherCondition d c
+  functional_well n text None c rest some no_list no_kind h =
+      let f = followed (argument_of functions opened n text) (λ a. give (simple (function n a))) c rest h
+      in
+      let is : simple (function n f.value) ≡ c = (let e = f.second in cc) in
+      subst (IsFurtherCondition d) is
+      (some, no_list, no_kind, argument_of_well functions opened n text f.value f.middle f.first)
+  functional_well n text (Some Language) c rest some no_list is_kind h =
+      let f = followed (language_ranges text) (λ ranges. give (simple (language ranges))) c rest h in
+      let is : simple (language f.value) ≡ c = (let e = f.second in cc) in
+      subst (IsFurtherCondition d) is (ranges_well text f.value f.middle f.first)
+  functional_well n text (Some (Numbered kind)) c rest some no_list is_kind h =
+      let r = numbered_read list opened kind text c rest h in
+      after_progression_well kind r.value (from_last kind) r.after c rest
+      (progression_well r.start r.value r.middle r.first) r.last
 
 -- a pseudo-class that is only a name
 PlainWell : Option Structure → Type 0
@@ -638,64 +631,64 @@ plain_well n =
     (either_plain (is_word (codes "last-of-type") n) (Some last_of_type) _ tt
     (either_plain (is_word (codes "only-of-type") n) (Some only_of_type) None tt tt))))))))
 
-plain_pseudo_well : (d : ℕ) (opened n text : List ℕ) (s : Simple) (rest : List ℕ) → IsName n
+plain_pseudo_well : (opened n text : List ℕ) (s : Simple) (rest : List ℕ) → IsName n
     → is_old_element n ≡ false → plain_pseudo opened n (plain_structure n) text ≡ got s rest
-    → IsFurther d s
+    → IsFurther s
 unfolding PlainWell
-plain_pseudo_well d opened n text s rest some other h = by (plain_structure n) refl (plain_well n) h
+plain_pseudo_well opened n text s rest some other h = by (plain_structure n) refl (plain_well n) h
   where
     known : plain_structure n ≡ None → (t : Bool) → is_one_of states n ≡ t
-        → (if t then got (state n) text else refused UnknownName opened) ≡ got s rest → IsFurther d s
+        → (if t then got (state n) text else refused UnknownName opened) ≡ got s rest → IsFurther s
     known e true q k =
-        let is : state n ≡ s = cc in subst (IsFurther d) is (some, e, other, q)
+        let is : state n ≡ s = cc in subst IsFurther is (some, e, other, q)
     known e false q k = absurd (cc)
 
     by : (o : Option Structure) → plain_structure n ≡ o → PlainWell o
-        → plain_pseudo opened n o text ≡ got s rest → IsFurther d s
+        → plain_pseudo opened n o text ≡ got s rest → IsFurther s
     by None e w k = known e (is_one_of states n) refl k
-    by (Some t) e w k = let is : structure t ≡ s = cc in subst (IsFurther d) is w
+    by (Some t) e w k = let is : structure t ≡ s = cc in subst IsFurther is w
 
-pub named_pseudo_well : (d : ℕ) (opened n text : List ℕ) (s : Simple) (rest : List ℕ) → IsName n
-    → named_pseudo opened n text ≡ item s rest → IsFurther d s
-named_pseudo_well d opened n text s rest some h = by (is_old_element n) refl h
+pub named_pseudo_well : (opened n text : List ℕ) (s : Simple) (rest : List ℕ) → IsName n
+    → named_pseudo opened n text ≡ item s rest → IsFurther s
+named_pseudo_well opened n text s rest some h = by (is_old_element n) refl h
   where
     by : (t : Bool) → is_old_element n ≡ t
         → (if t then none else as_item (λ x. x) (plain_pseudo opened n (plain_structure n) text))
         ≡ item s rest
-        → IsFurther d s
+        → IsFurther s
     by true e k = absurd (cc)
     by false e k =
         let m = made (λ x. x) (plain_pseudo opened n (plain_structure n) text) s rest k in
-        subst (IsFurther d) m.is (plain_pseudo_well d opened n text m.value rest some e m.first)
+        subst IsFurther m.is (plain_pseudo_well opened n text m.value rest some e m.first)
 
 -- what is a name after a sign
-named_well : (d : ℕ) (make : List ℕ → Simple) → ((n : List ℕ) → IsName n → IsFurther d (make n))
+named_well : (make : List ℕ → Simple) → ((n : List ℕ) → IsName n → IsFurther (make n))
     → (r : Reading (List ℕ)) → ((n rest : List ℕ) → r ≡ got n rest → IsName n) → (s : Simple)
-    (rest : List ℕ) → as_item make r ≡ item s rest → IsFurther d s
-named_well d make well r are s rest h =
+    (rest : List ℕ) → as_item make r ≡ item s rest → IsFurther s
+named_well make well r are s rest h =
     let m = made make r s rest h in
-    subst (IsFurther d) m.is (well m.value (are m.value rest m.first))
+    subst IsFurther m.is (well m.value (are m.value rest m.first))
 
-pub next_simple_well : (d : ℕ) (text : List ℕ) (s : Simple) (rest : List ℕ)
-    → next_simple text ≡ item s rest → IsFurther d s
+pub next_simple_well : (text : List ℕ) (s : Simple) (rest : List ℕ)
+    → next_simple text ≡ item s rest → IsFurther s
 unfolding next_simple
-next_simple_well d [] s rest h = absurd (cc)
-next_simple_well d (b ∷ text) s rest h =
+next_simple_well [] s rest h = absurd (cc)
+next_simple_well (b ∷ text) s rest h =
     by (b == full_stop) (b == number_sign) (b == open_bracket) (b == ampersand) h
   where
     by : (c i o a : Bool) → (if c then as_item class (name (past_comments text))
         else (if i then as_item id (ident_sequence text)
         else (if o then as_item (λ s. s) (attribute_selector text)
-        else (if a then item (nesting outermost) text else none)))) ≡ item s rest → IsFurther d s
+        else (if a then item (nesting outermost) text else none)))) ≡ item s rest → IsFurther s
     by true i o a k =
-        named_well d class (λ n some. some) (name (past_comments text))
+        named_well class (λ n some. some) (name (past_comments text))
         (name_well (past_comments text)) s rest k
     by false true o a k =
-        named_well d id (λ n some. some) (ident_sequence text) (ident_well text) s rest k
+        named_well id (λ n some. some) (ident_sequence text) (ident_well text) s rest k
     by false false true a k =
         let m = made (λ x. x) (attribute_selector text) s rest k in
-        subst (IsFurther d) m.is (attribute_well d text m.value rest m.first)
-    by false false false true k = let is : nesting outermost ≡ s = cc in subst (IsFurther d) is refl
+        subst IsFurther m.is (attribute_well text m.value rest m.first)
+    by false false false true k = let is : nesting outermost ≡ s = cc in subst IsFurther is refl
     by false false false false k = absurd (cc)
 
 any_or_name_well : (text : List ℕ) (l : Local) (rest : List ℕ) → any_or_name text ≡ got l rest
@@ -711,54 +704,53 @@ any_or_name_well text l rest h = by (starts asterisk text) h
         let is : a_type f.value ≡ l = (let e = f.second in cc) in
         subst IsLocal is (name_well text f.value f.middle f.first)
 
-type_in_well : (d : ℕ) (o : Option Namespace) (text mid : List ℕ) → namespace text ≡ got o mid
-    → (l : Local) → IsLocal l → IsFirst d (in_namespace o l)
-type_in_well d (Some p) text mid h l w = (namespace_well text p mid h, w)
-type_in_well d None text mid h any_type w = tt
-type_in_well d None text mid h (a_type n) w = w
-type_in_well d None text mid h (some_attribute n) w = w
-type_in_well d None text mid h (an_attribute n c v ignores) w = w
+type_in_well : (o : Option Namespace) (text mid : List ℕ) → namespace text ≡ got o mid
+    → (l : Local) → IsLocal l → IsFirst (in_namespace o l)
+type_in_well (Some p) text mid h l w = (namespace_well text p mid h, w)
+type_in_well None text mid h any_type w = tt
+type_in_well None text mid h (a_type n) w = w
+type_in_well None text mid h (some_attribute n) w = w
+type_in_well None text mid h (an_attribute n c v ignores) w = w
 
-pub type_well : (d : ℕ) (text : List ℕ) (s : Simple) (rest : List ℕ) → type_selector text ≡ item s rest
-    → IsFirst d s
+pub type_well : (text : List ℕ) (s : Simple) (rest : List ℕ) → type_selector text ≡ item s rest
+    → IsFirst s
 unfolding type_selector
-type_well d text s rest h =
+type_well text s rest h =
     let f = found_after (namespace text) type_after s rest h in
     by f.value f.middle f.first f.second
   where
     here : (o : Option Namespace) (mid : List ℕ) → namespace text ≡ got o mid
-        → as_item (in_namespace o) (any_or_name mid) ≡ item s rest → IsFirst d s
+        → as_item (in_namespace o) (any_or_name mid) ≡ item s rest → IsFirst s
     here o mid e k =
         let m = made (in_namespace o) (any_or_name mid) s rest k in
-        subst (IsFirst d) m.is
-        (type_in_well d o text mid e m.value (any_or_name_well mid m.value rest m.first))
+        subst IsFirst m.is
+        (type_in_well o text mid e m.value (any_or_name_well mid m.value rest m.first))
 
     by : (o : Option Namespace) (mid : List ℕ) → namespace text ≡ got o mid
-        → type_after o mid ≡ item s rest → IsFirst d s
+        → type_after o mid ≡ item s rest → IsFirst s
     by (Some p) mid e k = here (Some p) mid e k
     by None mid e k = there (starts asterisk mid || begins_name mid) k
       where
         there : (t : Bool) → (if t then as_item (in_namespace None) (any_or_name mid) else none)
-            ≡ item s rest → IsFirst d s
+            ≡ item s rest → IsFirst s
         there true k = here None mid e k
         there false k = absurd (cc)
 
 -- what may follow others may be the first
-pub first_of_further : (d : ℕ) (s : Simple) → IsFurther d s → IsFirst d s
-first_of_further d universal w = tt
-first_of_further d (type_name n) w = absurd w
-first_of_further d (id n) w = w
-first_of_further d (class n) w = w
-first_of_further d (has_attribute n) w = w
-first_of_further d (attribute n c v ignores) w = w
-first_of_further d (structure s) w = w
-first_of_further d (language ranges) w = w
-first_of_further d (state n) w = w
-first_of_further d (function n a) w = w
-first_of_further d (named_element n a) w = absurd w
-first_of_further d (nesting list) w = w
-first_of_further d (namespaced p any_type) w = absurd w.1
-first_of_further d (namespaced p (a_type n)) w = absurd w.1
-first_of_further d (namespaced p (some_attribute n)) w = w
-first_of_further d (namespaced p (an_attribute n c v ignores)) w = w
-first_of_further d (nth_of last p selectors) w = w
+pub first_of_further : (s : Simple) → IsFurther s → IsFirst s
+first_of_further universal w = tt
+first_of_further (type_name n) w = absurd w
+first_of_further (id n) w = w
+first_of_further (class n) w = w
+first_of_further (has_attribute n) w = w
+first_of_further (attribute n c v ignores) w = w
+first_of_further (structure s) w = w
+first_of_further (language ranges) w = w
+first_of_further (state n) w = w
+first_of_further (function n a) w = w
+first_of_further (named_element n a) w = absurd w
+first_of_further (nesting list) w = w
+first_of_further (namespaced p any_type) w = absurd w.1
+first_of_further (namespaced p (a_type n)) w = absurd w.1
+first_of_further (namespaced p (some_attribute n)) w = w
+first_of_further (namespaced p (an_attribute n c v ignores)) w = w

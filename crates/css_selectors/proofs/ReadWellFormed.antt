@@ -7,7 +7,6 @@ use Rattle.std.proofs.lemmas.List.Elements.{All-nil, All-cons, All-head, All-tai
 use Rattle.css_text.specs.AsciiBytes.{comma, close_parenthesis, colon, open_parenthesis}
 use Rattle.css_text.specs.Bytes.{starts_by, starts, past_one}
 use Rattle.css_text.specs.Comments.{opens_comment}
-use Rattle.css_syntax.specs.Tokens.{past_gap}
 use Rattle.css_matching.specs.declared.Combinator.{Combinator}
 use Rattle.css_matching.specs.declared.Combinator.TheVariants.{Descendant}
 use Rattle.css_selectors.specs.declared.refusal.Why.{Why}
@@ -20,12 +19,12 @@ use Rattle.css_selectors.specs.declared.reading.Start.{Start}
 use Rattle.css_selectors.specs.declared.reading.Start.TheVariants.{Plain, Relative}
 use Rattle.css_selectors.specs.declared.components.Function.TheVariants.{Numbered, Language}
 use Rattle.css_selectors.specs.Components.{Progression, Structure, Simple, outermost, Condition, selectors_from, Part, PseudoElement, Placed, Selector}
-use Rattle.css_selectors.specs.Components.Simple.{universal, type_name, id, class, has_attribute, attribute, structure, language, state, function, named_element, nesting, namespaced, nth_of}
-use Rattle.css_selectors.specs.Components.Condition.{simple, negation, any_of, where_any}
+use Rattle.css_selectors.specs.Components.Simple.{universal, type_name, id, class, has_attribute, attribute, structure, language, state, function, named_element, nesting, namespaced}
+use Rattle.css_selectors.specs.Components.Condition.{simple, negation, any_of, where_any, nth_of}
 use Rattle.css_selectors.specs.Readings.{Reading, got, refused, follow, give, ◌>>=◌, ◌>>◌, Step, item, none, stop, step_after, as_item, go_on, items, items_up_to, with_first}
-use Rattle.css_selectors.specs.Grammar.{gap, past_comments, past_colon, condition_here, name, begins_compound, closing, one_more, numbered_by, language_ranges, plain_structure, plain_pseudo, is_old_element, list_kind, function_named, argument_of, argument, is_word, begins_name, is_list_text, no_list, of_list, after_word, without_list, from_last, after_progression, functional, named_pseudo, type_selector, next_simple, some_of, Finder, compound, listed, ListReader, begins_pseudo_class, simple_item, with_argument, pseudo_condition, condition_by, deepest, too_deep, next_condition, some_or_element, conditions, first_sign, joined_by, signed_part, by_sign, part_after, next_part, element_argument, element_name, element_named, named_condition, class_or_element, after_element, with_after, pseudo_element, at_end, parts, nesting_part, after_sign, relative_parts, start_parts, placed_as, placed_by, placed, next_placed, list_by, placed_selector, selector, CompoundReader, next_part_in, complex, complex_list, ends_part, past_part, is_lasting, no_selector, part_end, judged, listed_part, next_listed, kept, keep, selectors_after, is_forgiving, placed_list_by}
+use Rattle.css_selectors.specs.Grammar.{gap, past_comments, past_colon, condition_here, name, begins_compound, closing, one_more, numbered_by, language_ranges, plain_structure, plain_pseudo, is_old_element, list_kind, function_named, argument_of, is_word, begins_name, of_list, after_word, without_list, from_last, after_progression, functional, named_pseudo, type_selector, next_simple, some_of, Finder, compound, listed, ListReader, begins_pseudo_class, simple_item, with_argument, pseudo_condition, condition_by, deepest, too_deep, next_condition, some_or_element, conditions, first_sign, joined_by, signed_part, by_sign, part_after, next_part, element_argument, element_name, element_named, named_condition, class_or_element, after_element, with_after, pseudo_element, at_end, parts, nesting_part, after_sign, relative_parts, start_parts, placed_as, placed_by, placed, next_placed, list_by, placed_selector, selector, CompoundReader, next_part_in, complex, complex_list, ends_part, past_part, is_lasting, no_selector, part_end, judged, listed_part, next_listed, kept, keep, selectors_after, is_forgiving, placed_list_by}
 use Rattle.css_selectors.specs.KnownNames.{is_one_of, states, functions, is_element, element_functions}
-use Rattle.css_selectors.specs.WellFormed.{IsName, IsListText, IsElementArgument, IsElementName, is_pseudo_class, IsAfterElement, IsPseudoElement, IsFurther, IsFurtherCondition, IsFirstCondition, IsList, AreConditions, is_last, AreParts, BeginsPlain, IsWellFormed}
+use Rattle.css_selectors.specs.WellFormed.{IsName, IsElementArgument, IsElementName, is_pseudo_class, IsAfterElement, IsPseudoElement, IsFurther, IsFurtherCondition, IsFirstCondition, IsList, AreConditions, is_last, AreParts, BeginsPlain, IsWellFormed}
 use Rattle.css_text.proofs.bytes.GapLemmas.{no_gap-byte}
 use Rattle.css_selectors.proofs.NestedLists.{IsRow, IsLink, IsChain, AreChains, chains_in}
 use Rattle.css_selectors.proofs.CompoundsAgain.{Accept, row_after, some_after, some_or_element_after, no_part_at}
@@ -36,10 +35,11 @@ use Rattle.css_selectors.proofs.ReadSimples.{numbered_read, found_after, made, a
 -- ---- compound selectors, at a depth
 
 first_of_condition : (n : ℕ) (c : Condition) → IsFurtherCondition n c → IsFirstCondition n c
-first_of_condition n (simple s) w = first_of_further n s w
+first_of_condition n (simple s) w = first_of_further s w
 first_of_condition n (negation _) w = w
 first_of_condition n (any_of _) w = w
 first_of_condition n (where_any _) w = w
+first_of_condition n (nth_of _ _ _) w = w
 
 some_keeps : (text : List ℕ) (r : Reading (List Condition)) (cs : List Condition) (rest : List ℕ)
     → some_of text r ≡ got cs rest → r ≡ got cs rest
@@ -90,7 +90,7 @@ module _ (n : ℕ) (well : FurtherWell n) where
           let f = first_of_all (simple s) (items (next_condition n) t) cs rest k in
           let all =
           all_items (next_condition n) (IsFurtherCondition n) well t f.others rest f.reads in
-          inl (subst (IsRow n) f.is (type_well n text s t e, all))
+          inl (subst (IsRow n) f.is (type_well text s t e, all))
       by none e k =
           let kept = keeps text (items (next_condition n) text) cs rest k in
           untyped cs kept (ap (accept text) (sym kept) ∙ k)
@@ -271,19 +271,14 @@ module _ (n : ℕ) (well : FurtherWell n) where
 
 module _ (n : ℕ) (list : ListReader) (well : (kind : ListKind) (opened text : List ℕ)
     (ss : List (List Part)) (rest : List ℕ) → list kind opened text ≡ got ss rest
-    → IsList (is_forgiving kind) n (selectors_from ss))
-    (checks : (a : List ℕ) → is_list_text list a ≡ true → IsListText n a) where
+    → IsList (is_forgiving kind) n (selectors_from ss)) where
   argument_well : (opened name text : List ℕ) (kind : Option ListKind) (c : Condition)
       (rest : List ℕ) → IsName name → list_kind name ≡ kind
       → with_argument list opened name kind (function_named name) text ≡ got c rest
       → IsFurtherCondition n c
   argument_well opened name text None c rest some no_list h =
-      let f = followed (functional list opened name (function_named name) text)
-      (λ s. give (simple s)) c rest h in
-      let is : simple f.value ≡ c = (let e = f.second in cc) in
-      subst (IsFurtherCondition n) is
-      (functional_well n list checks opened name text (function_named name) f.value f.middle some
-      no_list refl f.first)
+      functional_well n list opened (well Not opened) name text (function_named name) c rest some
+      no_list refl h
   argument_well opened name text (Some kind) c rest some is_list h =
       let f = followed (list kind opened text) (λ all. give (listed kind all)) c rest h in
       let is : listed kind f.value ≡ c = (let e = f.second in cc) in
@@ -300,7 +295,7 @@ module _ (n : ℕ) (list : ListReader) (well : (kind : ListKind) (opened text : 
       → condition_here list text ≡ item c rest → IsFurtherCondition n c
   condition_here_well text c rest h = by (begins_pseudo_class text) h
     where
-      further : (step : Step Simple) → ((s : Simple) (t : List ℕ) → step ≡ item s t → IsFurther n s)
+      further : (step : Step Simple) → ((s : Simple) (t : List ℕ) → step ≡ item s t → IsFurther s)
           → simple_item step ≡ item c rest → IsFurtherCondition n c
       further (item s t) well k =
           let is : simple s ≡ c = cc in
@@ -318,14 +313,14 @@ module _ (n : ℕ) (list : ListReader) (well : (kind : ListKind) (opened text : 
           subst (IsFurtherCondition n) f.is
           (argument_well text m (past_one t) (list_kind m) f.value rest some refl f.first)
       after m t some false k =
-          further (named_pseudo text m t) (λ s u e. named_pseudo_well n text m t s u some e) k
+          further (named_pseudo text m t) (λ s u e. named_pseudo_well text m t s u some e) k
 
       named : List ℕ
       named = past_comments (past_one text)
 
       by : (t : Bool) → (if t then step_after (name named) (pseudo_condition list text)
           else simple_item (next_simple text)) ≡ item c rest → IsFurtherCondition n c
-      by false k = further (next_simple text) (next_simple_well n text) k
+      by false k = further (next_simple text) (next_simple_well text) k
       by true k =
           let f = found_after (name named) (pseudo_condition list text) c rest k in
           after f.value f.middle (name_well named f.value f.middle f.first)
@@ -338,11 +333,11 @@ module _ (n : ℕ) (list : ListReader) (well : (kind : ListKind) (opened text : 
 next_condition_well : (n : ℕ) → FurtherWell n
 unfolding next_condition
 next_condition_well zero text c rest h =
-    condition_by_well zero too_deep (λ kind opened t ss u e. absurd (cc)) (λ a e. e) text c rest h
+    condition_by_well zero too_deep (λ kind opened t ss u e. absurd (cc)) text c rest h
 next_condition_well (suc n) text c rest h =
     condition_by_well (suc n) (list_by (next_condition n)) (λ kind opened t ss u e.
     chains_in n (is_forgiving kind) ss
-    (complexes_well n (next_condition_well n) (is_forgiving kind) t ss u e)) (λ a e. e) text c rest h
+    (complexes_well n (next_condition_well n) (is_forgiving kind) t ss u e)) text c rest h
 
 -- the conditions of a compound selector, of which there may be none before a pseudo-element
 abbrev Conditions : List Condition → List ℕ → Type 0
@@ -502,61 +497,52 @@ abbrev IsClass : Condition → Type 0
 IsClass (simple s) = is_pseudo_class s ≡ true
 IsClass c = Unit {0}
 
-class_of_numbered : (list : ListReader) (kind : Numbering) (p : Progression) (o : Option Bool)
-    (text : List ℕ) (s : Simple) (rest : List ℕ)
-    → after_progression list kind p o text ≡ got s rest → is_pseudo_class s ≡ true
-unfolding of_list
-class_of_numbered list kind p o text s rest h = by o h
+class_of_numbered : (list : ListReader) (opened : List ℕ) (kind : Numbering) (p : Progression)
+    (o : Option Bool) (text : List ℕ) (c : Condition) (rest : List ℕ)
+    → after_progression list opened kind p o text ≡ got c rest → IsClass c
+class_of_numbered list opened kind p o text c rest h = by o h
   where
-    without : without_list kind p text ≡ got s rest → is_pseudo_class s ≡ true
+    without : without_list kind p text ≡ got c rest → IsClass c
     without k =
         let f = followed (closing close_parenthesis text)
-        (λ x. give (structure (numbered_by kind p))) s rest k in
-        let is : structure (numbered_by kind p) ≡ s = (let e = f.second in cc) in
-        subst (λ (x : Simple). is_pseudo_class x ≡ true) is refl
+        (λ x. give (simple (structure (numbered_by kind p)))) c rest k in
+        let is : simple (structure (numbered_by kind p)) ≡ c = (let e = f.second in cc) in
+        subst IsClass is refl
 
-    listed_there : (last : Bool) (a mid here : List ℕ) (t : Bool)
-        → (if t then got (nth_of last p a) mid else refused (no_list (list Not a a)) here)
-        ≡ got s rest → is_pseudo_class s ≡ true
-    listed_there last a mid here true k =
-        let is : nth_of last p a ≡ s = cc in
-        subst (λ (x : Simple). is_pseudo_class x ≡ true) is refl
-    listed_there last a mid here false k = absurd (cc)
-
-    word : (last : Bool) (mid : List ℕ) (t : Bool) → (if t then of_list list last p mid
-        else refused Unexpected text) ≡ got s rest → is_pseudo_class s ≡ true
+    word : (last : Bool) (mid : List ℕ) (t : Bool) → (if t then of_list list last p opened mid
+        else refused Unexpected text) ≡ got c rest → IsClass c
     word last mid true k =
-        let f = followed (argument mid) (λ a end. if is_list_text list a then got (nth_of last p a) end
-        else refused (no_list (list Not a a)) (past_gap mid)) s rest k in
-        listed_there last f.value f.middle (past_gap mid) (is_list_text list f.value) f.second
+        let f = followed (list Not opened mid) (λ ss. give (nth_of last p (selectors_from ss))) c rest k
+        in
+        let is : nth_of last p (selectors_from f.value) ≡ c = (let e = f.second in cc) in
+        subst IsClass is tt
     word last mid false k = absurd (cc)
 
-    named : (last t : Bool) → (if t then follow (name text) (after_word list last p text)
-        else without_list kind p text) ≡ got s rest → is_pseudo_class s ≡ true
+    named : (last t : Bool) → (if t then follow (name text) (after_word list opened last p text)
+        else without_list kind p text) ≡ got c rest → IsClass c
     named last true k =
-        let f = followed (name text) (after_word list last p text) s rest k in
+        let f = followed (name text) (after_word list opened last p text) c rest k in
         word last f.middle (is_word (codes "of") f.value) f.second
     named last false k = without k
 
-    by : (o : Option Bool) → after_progression list kind p o text ≡ got s rest
-        → is_pseudo_class s ≡ true
+    by : (o : Option Bool) → after_progression list opened kind p o text ≡ got c rest → IsClass c
     by None k = without k
     by (Some last) k = named last (begins_name text) k
 
 class_of_functional : (list : ListReader) (opened n text : List ℕ) (kind : Option Function)
-    (s : Simple) (rest : List ℕ) → functional list opened n kind text ≡ got s rest
-    → is_pseudo_class s ≡ true
-class_of_functional list opened n text None s rest h =
-    let f = followed (argument_of functions opened n text) (λ a. give (function n a)) s rest h in
-    let is : function n f.value ≡ s = (let e = f.second in cc) in
-    subst (λ (x : Simple). is_pseudo_class x ≡ true) is refl
-class_of_functional list opened n text (Some Language) s rest h =
-    let f = followed (language_ranges text) (λ ranges. give (language ranges)) s rest h in
-    let is : language f.value ≡ s = (let e = f.second in cc) in
-    subst (λ (x : Simple). is_pseudo_class x ≡ true) is refl
-class_of_functional list opened n text (Some (Numbered kind)) s rest h =
-    let r = numbered_read list kind text s rest h in
-    class_of_numbered list kind r.value (from_last kind) r.after s rest r.last
+    (c : Condition) (rest : List ℕ) → functional list opened n kind text ≡ got c rest → IsClass c
+class_of_functional list opened n text None c rest h =
+    let f = followed (argument_of functions opened n text) (λ a. give (simple (function n a))) c rest h
+    in
+    let is : simple (function n f.value) ≡ c = (let e = f.second in cc) in
+    subst IsClass is refl
+class_of_functional list opened n text (Some Language) c rest h =
+    let f = followed (language_ranges text) (λ ranges. give (simple (language ranges))) c rest h in
+    let is : simple (language f.value) ≡ c = (let e = f.second in cc) in
+    subst IsClass is refl
+class_of_functional list opened n text (Some (Numbered kind)) c rest h =
+    let r = numbered_read list opened kind text c rest h in
+    class_of_numbered list opened kind r.value (from_last kind) r.after c rest r.last
 
 class_of_name : (opened n text : List ℕ) (c : Condition) (rest : List ℕ)
     → simple_item (named_pseudo opened n text) ≡ item c rest → IsClass c
@@ -578,10 +564,7 @@ class_of_argument : (list : ListReader) (opened n text : List ℕ) (kind : Optio
     (c : Condition) (rest : List ℕ)
     → with_argument list opened n kind (function_named n) text ≡ got c rest → IsClass c
 class_of_argument list opened n text None c rest h =
-    let f = followed (functional list opened n (function_named n) text) (λ s. give (simple s)) c rest h in
-    let is : simple f.value ≡ c = (let e = f.second in cc) in
-    subst IsClass is
-    (class_of_functional list opened n text (function_named n) f.value f.middle f.first)
+    class_of_functional list opened n text (function_named n) c rest h
 class_of_argument list opened n text (Some kind) c rest h =
     let f = followed (list kind opened text) (λ all. give (listed kind all)) c rest h in
     let is : listed kind f.value ≡ c = (let e = f.second in cc) in
@@ -645,10 +628,10 @@ class_after (simple (function n a)) k w = (k, w)
 class_after (simple (named_element n a)) k w = absurd w
 class_after (simple (nesting list)) k w = (k, w)
 class_after (simple (namespaced namespace local)) k w = (k, w)
-class_after (simple (nth_of last p selectors)) k w = (k, w)
 class_after (negation selectors) k w = w
 class_after (any_of selectors) k w = w
 class_after (where_any selectors) k w = w
+class_after (nth_of last p selectors) k w = w
 
 -- what follows a pseudo-element
 after_element_well : (text : List ℕ) (c : Condition) (rest : List ℕ)

@@ -10,10 +10,10 @@ use Rattle.css_text.proofs.bytes.GapLemmas.{NoGap, no_gap-byte}
 use Rattle.css_text.proofs.reading.EachLemmas.{each-none}
 use Rattle.css_matching.specs.declared.Combinator.{Combinator}
 use Rattle.css_matching.specs.declared.Combinator.TheVariants.{Descendant, Child, Adjacent, Sibling}
-use Rattle.css_selectors.specs.Components.{Progression, Structure, Condition, Part, PseudoElement, Selector}
+use Rattle.css_selectors.specs.Components.{Progression, Structure, Condition, Part, PseudoElement, Selector, Selectors}
 use Rattle.css_selectors.specs.Components.Structure.{root, scope, empty, first_child, last_child, only_child, first_of_type, last_of_type, only_of_type, nth_child, nth_last_child, nth_of_type, nth_last_of_type}
-use Rattle.css_selectors.specs.Components.Simple.{universal, type_name, id, class, has_attribute, attribute, structure, language, state, function, named_element, nesting, namespaced, nth_of}
-use Rattle.css_selectors.specs.Components.Condition.{simple, negation, any_of, where_any}
+use Rattle.css_selectors.specs.Components.Simple.{universal, type_name, id, class, has_attribute, attribute, structure, language, state, function, named_element, nesting, namespaced}
+use Rattle.css_selectors.specs.Components.Condition.{simple, negation, any_of, where_any, nth_of}
 use Rattle.css_selectors.specs.Readings.{got, follow, give, ◌>>=◌, item, none, as_item, with_first, items}
 use Rattle.css_selectors.specs.Grammar.{gap, past_comments, past_colon, name, begins_pseudo_class, next_condition, next_simple, deepest, conditions, joined_by, part_after, next_part, one_more, element_argument, element_name, element_named, named_condition, class_or_element, after_element_here, after_element, with_after, pseudo_element, selector_with, parts, placed_by, placed_selector, selector}
 use Rattle.css_selectors.specs.Printing.{identifier_text, argument_text, structure_text, simple_text, condition_text, combinator_text, part_text, parts_text, pseudo_element_text, selector_text}
@@ -213,8 +213,8 @@ structure_colon (nth_last_child p) = refl
 structure_colon (nth_of_type p) = refl
 structure_colon (nth_last_of_type p) = refl
 
-nth_colon : (last : Bool) (p : Progression) (selectors : List ℕ)
-    → starts colon (simple_text (nth_of last p selectors)) ≡ true
+nth_colon : (last : Bool) (p : Progression) (selectors : Selectors)
+    → starts colon (condition_text (nth_of last p selectors)) ≡ true
 nth_colon true p selectors = refl
 nth_colon false p selectors = refl
 
@@ -232,10 +232,10 @@ after_colon (simple (function n a)) w = refl
 after_colon (simple (named_element n a)) w = refl
 after_colon (simple (nesting list)) w = absurd (let k = w.0 in cc)
 after_colon (simple (namespaced namespace local)) w = absurd (let k = w.0 in cc)
-after_colon (simple (nth_of last p selectors)) w = nth_colon last p selectors
 after_colon (negation selectors) w = refl
 after_colon (any_of selectors) w = refl
 after_colon (where_any selectors) w = refl
+after_colon (nth_of last p selectors) w = nth_colon last p selectors
 
 colon_front : (text rest : List ℕ) → starts colon text ≡ true → starts colon (text ++ rest) ≡ true
 colon_front [] rest h = absurd (cc)
@@ -305,11 +305,11 @@ after-again (simple (function n a)) rest w h = class-again (simple (function n a
 after-again (simple (named_element n a)) rest w h = further_element-again n a rest w h
 after-again (simple (nesting list)) rest w h = absurd (let k = w.0 in cc)
 after-again (simple (namespaced namespace local)) rest w h = absurd (let k = w.0 in cc)
-after-again (simple (nth_of last p selectors)) rest w h =
-    class-again (simple (nth_of last p selectors)) rest w.1 (nth_colon last p selectors) h
 after-again (negation selectors) rest w h = class-again (negation selectors) rest w refl h
 after-again (any_of selectors) rest w h = class-again (any_of selectors) rest w refl h
 after-again (where_any selectors) rest w h = class-again (where_any selectors) rest w refl h
+after-again (nth_of last p selectors) rest w h =
+    class-again (nth_of last p selectors) rest w (nth_colon last p selectors) h
 
 nothing_after : after_element [] ≡ none
 unfolding after_element

@@ -7,24 +7,23 @@ use Rattle.css_text.specs.AsciiBytes.{backslash, asterisk, close_bracket, close_
 use Rattle.css_text.specs.Bytes.{starts_by, starts, past_one}
 use Rattle.css_text.specs.Comments.{opens_comment}
 use Rattle.css_text.proofs.bytes.GapLemmas.{NoGap, no_gap-byte}
-use Rattle.css_syntax.specs.Tokens.{is_name_byte, past_gap}
+use Rattle.css_syntax.specs.Tokens.{is_name_byte}
 use Rattle.css_selectors.specs.declared.components.Numbering.{Numbering}
 use Rattle.css_selectors.specs.declared.components.Numbering.TheVariants.{Child as OfChild, LastChild as OfLastChild, OfType, LastOfType as OfLastType}
 use Rattle.css_selectors.specs.declared.components.Function.TheVariants.{Numbered, Language}
-use Rattle.css_selectors.specs.declared.components.ListKind.TheVariants.{Not}
 use Rattle.css_selectors.specs.Components.{Comparison, Progression, Structure, Namespace, Local, Simple, Condition}
 use Rattle.css_selectors.specs.Components.Comparison.{equals, has_word, has_subtag, starts as starts_with, ends as ends_with, contains}
 use Rattle.css_selectors.specs.Components.Structure.{root, scope, empty, first_child, last_child, only_child, first_of_type, last_of_type, only_of_type, nth_child, nth_last_child, nth_of_type, nth_last_of_type}
 use Rattle.css_selectors.specs.Components.Namespace.{absent, any_namespace, of_prefix}
 use Rattle.css_selectors.specs.Components.Local.{any_type, a_type, some_attribute, an_attribute}
-use Rattle.css_selectors.specs.Components.Simple.{universal, type_name, id, class, has_attribute, attribute, structure, language, state, function, named_element, nesting, namespaced, nth_of}
+use Rattle.css_selectors.specs.Components.Simple.{universal, type_name, id, class, has_attribute, attribute, structure, language, state, function, named_element, nesting, namespaced}
 use Rattle.css_selectors.specs.Components.Condition.{simple}
-use Rattle.css_selectors.specs.Readings.{got, refused, follow, give, ◌>>=◌, ◌>>◌, Step, item, none, as_item, with_first, go_on, items, items_up_to}
-use Rattle.css_selectors.specs.Grammar.{gap, past_comments, name, begins_name, begins_word, begins_compound, ampersand, value, comparison, flag, flag_named, compared, by_comparison, is_bar, at_bar, prefix, namespace, in_namespace, attribute_from_name, attribute_selector, closing, progression, one_more, plain_structure, plain_pseudo, list_kind, function_named, numbered_by, next_range, range_after, language_ranges, argument_of, is_list_text, no_list, of_list, after_word, from_last, after_progression, functional, is_old_element, next_simple, simple_item, ListReader, with_argument, pseudo_condition, condition_here, condition_by}
-use Rattle.css_selectors.specs.Printing.{identifier_text, string_text, progression_text, comparison_text, flag_text, structure_text, further_text, list_text, namespace_text, nth_of_text, simple_text}
+use Rattle.css_selectors.specs.Readings.{got, follow, give, ◌>>=◌, ◌>>◌, Step, item, none, as_item, with_first, go_on, items, items_up_to}
+use Rattle.css_selectors.specs.Grammar.{gap, past_comments, name, begins_name, begins_word, begins_compound, ampersand, value, comparison, flag, flag_named, compared, by_comparison, is_bar, at_bar, prefix, namespace, in_namespace, attribute_from_name, attribute_selector, closing, progression, one_more, plain_structure, plain_pseudo, list_kind, function_named, numbered_by, next_range, range_after, language_ranges, argument_of, of_list, after_word, from_last, after_progression, functional, is_old_element, next_simple, simple_item, ListReader, with_argument, pseudo_condition, condition_here, condition_by}
+use Rattle.css_selectors.specs.Printing.{identifier_text, string_text, progression_text, comparison_text, flag_text, structure_text, further_text, list_text, namespace_text, simple_text}
 use Rattle.css_selectors.specs.KnownNames.{functions}
-use Rattle.css_selectors.specs.WellFormed.{IsDenoted, IsName, IsArgument, IsArgumentOf, IsListText, IsProgression, IsStructure, IsNamespace, IsFurther}
-use Rattle.css_selectors.proofs.ArgumentLemmas.{argument-again, argument_spaced}
+use Rattle.css_selectors.specs.WellFormed.{IsDenoted, IsName, IsArgumentOf, IsProgression, IsStructure, IsNamespace, IsFurther}
+use Rattle.css_selectors.proofs.ArgumentLemmas.{argument-again}
 use Rattle.css_selectors.proofs.GapLemmas.{no_comments}
 use Rattle.css_selectors.proofs.SpelledAgain.{EndsName, ident-again, name-again, begins-again, word-again, decoded-again, value-again, all_below, passes, either_fails}
 use Rattle.css_selectors.proofs.NumbersAgain.{no_gap, one_blank, gapped_next, closed_end, of_end, progression-again, progression_calm}
@@ -452,57 +451,41 @@ attribute_in p n after rest local w some e reads =
 numbered_argument : (list : ListReader) (opened n rest : List ℕ) (kind : Numbering) (p : Progression)
     → IsProgression p
     → functional list opened n (Some (Numbered kind)) (progression_text p ++ (close_parenthesis ∷ rest))
-    ≡ got (structure (numbered_by kind p)) rest
+    ≡ got (simple (structure (numbered_by kind p))) rest
 numbered_argument list opened n rest kind p w =
     let end : List ℕ = close_parenthesis ∷ rest in
     ap (λ r. follow r (λ x. progression >>= λ q. gap >>
-    after_progression list kind q (from_last kind)))
+    after_progression list opened kind q (from_last kind)))
     (no_gap _ (progression_calm p end w.0 w.1))
     ∙ gapped_next (progression (progression_text p ++ end))
-    (λ q. after_progression list kind q (from_last kind)) p end
+    (λ q. after_progression list opened kind q (from_last kind)) p end
     (progression-again p end end w.0 w.1 (closed_end rest))
     ∙ by (from_last kind)
   where
     by : (o : Option Bool)
-        → after_progression list kind p o (close_parenthesis ∷ rest)
-        ≡ got (structure (numbered_by kind p)) rest
+        → after_progression list opened kind p o (close_parenthesis ∷ rest)
+        ≡ got (simple (structure (numbered_by kind p))) rest
     by None = refl
     by (Some last) = refl
 
--- the list after `of`
-of_list-again : (list : ListReader) (last : Bool) (p : Progression) (a rest : List ℕ) → IsArgument a
-    → is_list_text list a ≡ true
-    → of_list list last p (space ∷ (a ++ (close_parenthesis ∷ rest))) ≡ got (nth_of last p a) rest
-unfolding of_list
-of_list-again list last p a rest w is =
-    let text : List ℕ = space ∷ (a ++ (close_parenthesis ∷ rest)) in
-    ap (λ r. follow r (λ b end. if is_list_text list b then got (nth_of last p b) end
-    else refused (no_list (list Not b b)) (past_gap text)))
-    (argument_spaced (a ++ (close_parenthesis ∷ rest))
-    ∙ argument-again (a ++ (close_parenthesis ∷ [])) a [] w rest)
-    ∙ ap (λ (t : Bool). if t then got (nth_of last p a) rest
-    else refused (no_list (list Not a a)) (past_gap text)) is
-
-of_argument : (list : ListReader) (opened n rest : List ℕ) (kind : Numbering) (last : Bool)
-    (p : Progression) (a : List ℕ) → from_last kind ≡ Some last → IsProgression p → IsArgument a
-    → is_list_text list a ≡ true
-    → functional list opened n (Some (Numbered kind)) (progression_text p
-    ++ (codes " of " ++ (a ++ (close_parenthesis ∷ rest))))
-    ≡ got (nth_of last p a) rest
-of_argument list opened n rest kind last p a is_last w is_a is =
-    let listed : List ℕ = space ∷ (a ++ (close_parenthesis ∷ rest)) in
+-- a list after it is read by what reads lists, from the blank after `of` on
+pub of_argument : (list : ListReader) (opened n a : List ℕ) (kind : Numbering) (last : Bool)
+    (p : Progression) → from_last kind ≡ Some last → IsProgression p
+    → functional list opened n (Some (Numbered kind)) (progression_text p ++ (codes " of " ++ a))
+    ≡ of_list list last p opened (space ∷ a)
+of_argument list opened n a kind last p is_last w =
+    let listed : List ℕ = space ∷ a in
     let left : List ℕ = 111 ∷ 102 ∷ listed in
     let end : List ℕ = space ∷ left in
     ap (λ r. follow r (λ x. progression >>= λ q. gap >>
-    after_progression list kind q (from_last kind)))
+    after_progression list opened kind q (from_last kind)))
     (no_gap _ (progression_calm p end w.0 w.1))
     ∙ gapped_next (progression (progression_text p ++ end))
-    (λ q. after_progression list kind q (from_last kind)) p left
+    (λ q. after_progression list opened kind q (from_last kind)) p left
     (progression-again p end left w.0 w.1 (of_end (102 ∷ listed)))
-    ∙ ap (λ o. after_progression list kind p o left) is_last
-    ∙ ap (λ r. follow r (after_word list last p left))
+    ∙ ap (λ o. after_progression list opened kind p o left) is_last
+    ∙ ap (λ r. follow r (after_word list opened last p left))
     (name-again (codes "of") listed (omega arith, refl) (record { bare = refl; calm = refl; apart = refl }))
-    ∙ of_list-again list last p a rest is_a is
 
 -- a further language range
 range-again : (range rest : List ℕ) → IsDenoted range
@@ -556,9 +539,9 @@ ranges-again rest (range ∷ ranges) some all =
 language_argument : (list : ListReader) (opened n rest : List ℕ) (ranges : List (List ℕ))
     → 0 < length ranges × All IsDenoted ranges
     → functional list opened n (Some Language) (list_text string_text ranges ++ (close_parenthesis ∷ rest))
-    ≡ got (language ranges) rest
+    ≡ got (simple (language ranges)) rest
 language_argument list opened n rest ranges w =
-    ap (λ r. follow r (λ all. give (language all))) (ranges-again rest ranges w.0 w.1)
+    ap (λ r. follow r (λ all. give (simple (language all)))) (ranges-again rest ranges w.0 w.1)
 
 -- ---- pseudo-classes without a list
 
@@ -584,14 +567,14 @@ by_start P pn pf po pc pa b h =
     by false false false false false en ef eo ec ea h = absurd (cc)
 
 -- a further simple selector is no type
-pub further_starts : (d : ℕ) (s : Simple) → IsFurther d s → starts_by is_start (simple_text s) ≡ true
-further_starts d universal w = absurd w
-further_starts d (type_name n) w = absurd w
-further_starts d (id n) w = refl
-further_starts d (class n) w = refl
-further_starts d (has_attribute n) w = refl
-further_starts d (attribute n c v ignores) w = refl
-further_starts d (structure s) w = by s
+pub further_starts : (s : Simple) → IsFurther s → starts_by is_start (simple_text s) ≡ true
+further_starts universal w = absurd w
+further_starts (type_name n) w = absurd w
+further_starts (id n) w = refl
+further_starts (class n) w = refl
+further_starts (has_attribute n) w = refl
+further_starts (attribute n c v ignores) w = refl
+further_starts (structure s) w = by s
   where
     by : (s : Structure) → starts_by is_start (structure_text s) ≡ true
     by root = refl
@@ -607,17 +590,15 @@ further_starts d (structure s) w = by s
     by (nth_last_child p) = refl
     by (nth_of_type p) = refl
     by (nth_last_of_type p) = refl
-further_starts d (language ranges) w = refl
-further_starts d (state n) w = refl
-further_starts d (function n a) w = refl
-further_starts d (named_element n a) w = absurd w
-further_starts d (nesting list) w = refl
-further_starts d (namespaced p any_type) w = absurd w.1
-further_starts d (namespaced p (a_type n)) w = absurd w.1
-further_starts d (namespaced p (some_attribute n)) w = refl
-further_starts d (namespaced p (an_attribute n c v ignores)) w = refl
-further_starts d (nth_of true p a) w = refl
-further_starts d (nth_of false p a) w = refl
+further_starts (language ranges) w = refl
+further_starts (state n) w = refl
+further_starts (function n a) w = refl
+further_starts (named_element n a) w = absurd w
+further_starts (nesting list) w = refl
+further_starts (namespaced p any_type) w = absurd w.1
+further_starts (namespaced p (a_type n)) w = absurd w.1
+further_starts (namespaced p (some_attribute n)) w = refl
+further_starts (namespaced p (an_attribute n c v ignores)) w = refl
 
 pub call_end : (argument : List ℕ) → EndsName (open_parenthesis ∷ argument)
 call_end argument = record { bare = refl; calm = refl; apart = refl }
@@ -626,7 +607,7 @@ attribute_assoc : (a b c d e f : List ℕ)
     → (((((a ++ b) ++ c) ++ d) ++ e)) ++ f ≡ a ++ (b ++ (c ++ (d ++ (e ++ f))))
 attribute_assoc a b c d e f = simp append_assoc
 
-nth_assoc : (a b c d e : List ℕ) → (((a ++ b) ++ c) ++ d) ++ e ≡ a ++ (b ++ (c ++ (d ++ e)))
+pub nth_assoc : (a b c d e : List ℕ) → (((a ++ b) ++ c) ++ d) ++ e ≡ a ++ (b ++ (c ++ (d ++ e)))
 nth_assoc a b c d e = simp append_assoc
 
 some_assoc : (a b c d : List ℕ) → ((a ++ b) ++ c) ++ d ≡ a ++ (b ++ (c ++ d))
@@ -701,7 +682,7 @@ module _ (list : ListReader) where
           ∙ ap (λ f. with_argument list opened n None f argument) is
           ∙ ap (with_argument list opened n None (Some (Numbered kind)))
           (append_assoc (progression_text p) (close_parenthesis ∷ []) rest)
-          ∙ ap (λ r. follow r (λ s. give (simple s))) (numbered_argument list opened n rest kind p w)
+          ∙ numbered_argument list opened n rest kind p w
 
   structure-again : (s : Structure) (rest : List ℕ) → IsStructure s → ends rest ≡ true
       → condition_by list (structure_text s ++ rest) ≡ item (simple (structure s)) rest
@@ -737,12 +718,12 @@ module _ (list : ListReader) where
       rest (simple (language ranges)) (omega arith, refl) (λ opened.
       ap (with_argument list opened (codes "lang") None (Some Language))
       (append_assoc (list_text string_text ranges) (close_parenthesis ∷ []) rest)
-      ∙ ap (λ r. follow r (λ s. give (simple s))) (language_argument list opened (codes "lang") rest ranges some))
+      ∙ language_argument list opened (codes "lang") rest ranges some)
 
   -- one that has no meaning here
-  called-again : (d : ℕ) (n a rest : List ℕ) → IsFurther d (function n a)
+  called-again : (n a rest : List ℕ) → IsFurther (function n a)
       → condition_by list (simple_text (function n a) ++ rest) ≡ item (simple (function n a)) rest
-  called-again d n a rest w =
+  called-again n a rest w =
       ap (λ l. condition_by list (colon ∷ l)) (call_assoc (identifier_text n) a rest)
       ∙ call-again n (a ++ (close_parenthesis ∷ rest)) rest (simple (function n a)) w.0 reads
     where
@@ -750,57 +731,32 @@ module _ (list : ListReader) where
           → with_argument list opened n (list_kind n) (function_named n)
           (a ++ (close_parenthesis ∷ rest)) ≡ got (simple (function n a)) rest
       reads opened =
-          rw (w.1, w.2) (ap (λ r. follow (follow r (λ b. give (function n b)))
-          (λ s. give (simple s))) (argument_of-again functions opened n a rest w.3))
-
-  -- one with a list after `An+B`
-  nth-again : (n rest : List ℕ) (kind : Numbering) (last : Bool) (p : Progression) (a : List ℕ)
-      → IsName n → list_kind n ≡ None → function_named n ≡ Some (Numbered kind)
-      → from_last kind ≡ Some last → IsProgression p → IsArgument a → is_list_text list a ≡ true
-      → condition_by list (colon ∷ (identifier_text n ++ (open_parenthesis ∷ ((nth_of_text p a
-      ++ (close_parenthesis ∷ [])) ++ rest))))
-      ≡ item (simple (nth_of last p a)) rest
-  nth-again n rest kind last p a some no_list is is_last w is_a listed =
-      call-again n argument rest (simple (nth_of last p a)) some reads
-    where
-      argument : List ℕ
-      argument = (nth_of_text p a ++ (close_parenthesis ∷ [])) ++ rest
-
-      reads : (opened : List ℕ)
-          → with_argument list opened n (list_kind n) (function_named n) argument
-          ≡ got (simple (nth_of last p a)) rest
-      reads opened =
-          ap (λ k. with_argument list opened n k (function_named n) argument) no_list
-          ∙ ap (λ f. with_argument list opened n None f argument) is
-          ∙ ap (with_argument list opened n None (Some (Numbered kind)))
-          (nth_assoc (progression_text p) (codes " of ") a (close_parenthesis ∷ []) rest)
-          ∙ ap (λ r. follow r (λ s. give (simple s)))
-          (of_argument list opened n rest kind last p a is_last w is_a listed)
+          rw (w.1, w.2) (ap (λ r. follow r (λ b. give (simple (function n b))))
+          (argument_of-again functions opened n a rest w.3))
 
   -- a simple selector that is no type
-  pub further-again : (d : ℕ) → ((a : List ℕ) → IsListText d a → is_list_text list a ≡ true)
-      → (s : Simple) (rest : List ℕ) → IsFurther d s → ends rest ≡ true
+  pub further-again : (s : Simple) (rest : List ℕ) → IsFurther s → ends rest ≡ true
       → condition_by list (simple_text s ++ rest) ≡ item (simple s) rest
   unfolding next_simple
-  further-again d checks universal rest w h = absurd w
-  further-again d checks (type_name n) rest w h = absurd w
-  further-again d checks (id n) rest w h =
+  further-again universal rest w h = absurd w
+  further-again (type_name n) rest w h = absurd w
+  further-again (id n) rest w h =
       ap (condition_here list) (no_comments (number_sign ∷ (identifier_text n ++ rest)) refl)
       ∙ ap (λ r. simple_item (as_item id r)) (ident-again n rest w (ends_name rest h))
-  further-again d checks (class n) rest w h =
+  further-again (class n) rest w h =
       ap (condition_here list) (no_comments (full_stop ∷ (identifier_text n ++ rest)) refl)
       ∙ ap (λ l. simple_item (as_item class (name l))) (no_comments (identifier_text n ++ rest)
       (no_comment_here (identifier_text n ++ rest)
       (name_other slash (identifier_text n ++ rest) (named_text n rest w h) refl)))
       ∙ ap (λ r. simple_item (as_item class r)) (name-again n rest w (ends_name rest h))
-  further-again d checks (has_attribute n) rest w h =
+  further-again (has_attribute n) rest w h =
       ap (condition_here list) (no_comments (simple_text (has_attribute n) ++ rest) refl)
       ∙ ap (λ l. simple_item (next_simple (open_bracket ∷ l)))
       (append_assoc (identifier_text n) (close_bracket ∷ []) rest)
       ∙ ap (λ r. simple_item (as_item (λ s. s) r))
       (attribute_bare n (close_bracket ∷ rest) rest (some_attribute n) w (bracket_end rest) refl refl
       (some_attribute-again n rest w))
-  further-again d checks (attribute n c v ignores) rest w h =
+  further-again (attribute n c v ignores) rest w h =
       ap (condition_here list)
       (no_comments (simple_text (attribute n c v ignores) ++ rest) refl)
       ∙ ap (λ l. simple_item (next_simple (open_bracket ∷ l)))
@@ -810,20 +766,20 @@ module _ (list : ListReader) where
       (attribute_bare n (tested c v ignores rest) rest (an_attribute n c v ignores) w.0
       (tested_end c v ignores rest) (operator_calm c _) (operator_bare c _)
       (an_attribute-again n v rest c ignores w.0 w.1))
-  further-again d checks (structure s) rest w h = structure-again s rest w h
-  further-again d checks (language ranges) rest w h = language-again ranges rest w
-  further-again d checks (state n) rest w h =
+  further-again (structure s) rest w h = structure-again s rest w h
+  further-again (language ranges) rest w h = language-again ranges rest w
+  further-again (state n) rest w h =
       let known = w.3 in
       plain-again n rest (state n) w.0 w.2 h
       (λ opened. ap (λ o. plain_pseudo opened n o rest) w.1 ∙ rw known refl)
-  further-again d checks (function n a) rest w h = called-again d n a rest w
-  further-again d checks (named_element n a) rest w h = absurd w
-  further-again d checks (nesting stands) rest w h =
+  further-again (function n a) rest w h = called-again n a rest w
+  further-again (named_element n a) rest w h = absurd w
+  further-again (nesting stands) rest w h =
       ap (condition_here list) (no_comments (ampersand ∷ rest) refl)
       ∙ ap (λ l. item (simple (nesting l)) rest) (sym w)
-  further-again d checks (namespaced p any_type) rest w h = absurd w.1
-  further-again d checks (namespaced p (a_type n)) rest w h = absurd w.1
-  further-again d checks (namespaced p (some_attribute n)) rest w h =
+  further-again (namespaced p any_type) rest w h = absurd w.1
+  further-again (namespaced p (a_type n)) rest w h = absurd w.1
+  further-again (namespaced p (some_attribute n)) rest w h =
       ap (condition_here list)
       (no_comments (simple_text (namespaced p (some_attribute n)) ++ rest) refl)
       ∙ ap (λ l. simple_item (next_simple (open_bracket ∷ l)))
@@ -831,7 +787,7 @@ module _ (list : ListReader) where
       ∙ ap (λ r. simple_item (as_item (λ s. s) r))
       (attribute_in p n (close_bracket ∷ rest) rest (some_attribute n) w.0 w.1 (bracket_end rest)
       (some_attribute-again n rest w.1))
-  further-again d checks (namespaced p (an_attribute n c v ignores)) rest w h =
+  further-again (namespaced p (an_attribute n c v ignores)) rest w h =
       ap (condition_here list)
       (no_comments (simple_text (namespaced p (an_attribute n c v ignores)) ++ rest) refl)
       ∙ ap (λ l. simple_item (next_simple (open_bracket ∷ l)))
@@ -841,9 +797,3 @@ module _ (list : ListReader) where
       ∙ ap (λ r. simple_item (as_item (λ s. s) r))
       (attribute_in p n (tested c v ignores rest) rest (an_attribute n c v ignores) w.0
       w.1.0 (tested_end c v ignores rest) (an_attribute-again n v rest c ignores w.1.0 w.1.1))
-  further-again d checks (nth_of false p a) rest w h =
-      nth-again (codes "nth-child") rest OfChild false p a (omega arith, refl) refl refl refl w.0 w.1
-      (checks a w.2)
-  further-again d checks (nth_of true p a) rest w h =
-      nth-again (codes "nth-last-child") rest OfLastChild true p a (omega arith, refl) refl refl refl w.0 w.1
-      (checks a w.2)

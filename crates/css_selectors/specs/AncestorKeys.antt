@@ -6,8 +6,8 @@ use Rattle.css_matching.specs.declared.Combinator.{Combinator}
 use Rattle.css_matching.specs.declared.Combinator.TheVariants.{Descendant, Child, Adjacent, Sibling}
 use Rattle.css_selectors.specs.Documents.{Document}
 use Rattle.css_selectors.specs.Components.{Simple, Condition, Conditions, Parts, Selectors, Part, Selector, parts_from}
-use Rattle.css_selectors.specs.Components.Simple.{universal, type_name, id, class, has_attribute, attribute, structure, language, state, function, named_element, nesting, namespaced, nth_of}
-use Rattle.css_selectors.specs.Components.Condition.{simple, negation, any_of, where_any}
+use Rattle.css_selectors.specs.Components.Simple.{universal, type_name, id, class, has_attribute, attribute, structure, language, state, function, named_element, nesting, namespaced}
+use Rattle.css_selectors.specs.Components.Condition.{simple, negation, any_of, where_any, nth_of}
 use Rattle.css_selectors.specs.Components.Conditions.{end_of_compound, with_condition}
 use Rattle.css_selectors.specs.Components.Parts.{end_of_selector, with_part}
 use Rattle.css_selectors.specs.Components.Selectors.{end_of_list, with_selector}
@@ -85,7 +85,6 @@ is_exact (function name argument) = false
 is_exact (named_element name argument) = false
 is_exact (nesting list) = false
 is_exact (namespaced namespace local) = false
-is_exact (nth_of last p selectors) = false
 
 -- whether it is an id, a class or `*`
 abbrev pub is_whole : Simple → Bool
@@ -102,7 +101,6 @@ is_whole (function name argument) = false
 is_whole (named_element name argument) = false
 is_whole (nesting list) = false
 is_whole (namespaced namespace local) = false
-is_whole (nth_of last p selectors) = false
 
 -- whether the key is an id, a class or no condition
 abbrev pub is_exact_key : Key → Bool
@@ -117,6 +115,7 @@ is_exact_condition (simple s) = is_exact s
 is_exact_condition (negation selectors) = false
 is_exact_condition (any_of selectors) = false
 is_exact_condition (where_any selectors) = false
+is_exact_condition (nth_of last p selectors) = false
 
 -- whether it is one id or one class
 abbrev pub is_one_id_or_class : Conditions → Bool
@@ -141,6 +140,7 @@ is_only_key (simple s) = is_whole s
 is_only_key (negation selectors) = false
 is_only_key (any_of selectors) = are_exact selectors
 is_only_key (where_any selectors) = are_exact selectors
+is_only_key (nth_of last p selectors) = false
 
 -- whether it is one such condition
 abbrev pub are_only_keys : List Condition → Bool

@@ -1,12 +1,13 @@
 -- How the logic stores a condition: as a list of marks, each before what it makes of what follows.
-use Rattle.std.specs.Prelude.{◌≡◌, ℕ, ◌==◌, if◌then◌else◌, List, [], ◌∷◌, refl}
+use Rattle.std.specs.Prelude.{◌≡◌, ℕ, Bool, true, false, ◌==◌, if◌then◌else◌, List, [], ◌∷◌, refl}
 use Rattle.std.specs.Coded.{Coded, code_by, coded_list, coded⊎, coded_ℕ}
 use Rattle.std.proofs.Common.{◌⊎◌, inl, inr, ap, ◌∙◌}
 use Rattle.css_matching.specs.declared.Combinator.{Combinator}
 use Rattle.css_matching.specs.declared.Combinator.TheVariants.{Descendant, Child, Adjacent, Sibling}
-use Rattle.css_selectors.specs.Components.{Simple, Condition, Conditions, Parts, Selectors}
-use Rattle.css_selectors.specs.Components.Simple.{universal}
-use Rattle.css_selectors.specs.Components.Condition.{simple, negation, any_of, where_any}
+use Rattle.css_selectors.specs.Components.{Structure, Progression, Simple, Condition, Conditions, Parts, Selectors}
+use Rattle.css_selectors.specs.Components.Structure.{nth_child}
+use Rattle.css_selectors.specs.Components.Simple.{universal, structure}
+use Rattle.css_selectors.specs.Components.Condition.{simple, negation, any_of, where_any, nth_of}
 use Rattle.css_selectors.specs.Components.Conditions.{end_of_compound, with_condition}
 use Rattle.css_selectors.specs.Components.Parts.{end_of_selector, with_part}
 use Rattle.css_selectors.specs.Components.Selectors.{end_of_list, with_selector}
@@ -21,12 +22,21 @@ joined_mark Child = inr 8
 joined_mark Adjacent = inr 9
 joined_mark Sibling = inr 10
 
+abbrev nth_mark : Bool → Mark
+nth_mark last = inr (if last then 12 else 13)
+
+-- `An+B`, as a condition before the list to which it belongs
+abbrev counted : Progression → Simple
+counted p = structure (nth_child p)
+
 abbrev mutual
   marks_of : Condition → List Mark → List Mark
   marks_of (simple s) rest = inl s ∷ rest
   marks_of (negation selectors) rest = inr 0 ∷ list_marks selectors rest
   marks_of (any_of selectors) rest = inr 1 ∷ list_marks selectors rest
   marks_of (where_any selectors) rest = inr 2 ∷ list_marks selectors rest
+  marks_of (nth_of last p selectors) rest =
+      nth_mark last ∷ inl (counted p) ∷ list_marks selectors rest
 
   compound_marks : Conditions → List Mark → List Mark
   compound_marks end_of_compound rest = inr 3 ∷ rest
@@ -55,6 +65,15 @@ abbrev make_listed
 make_listed kind a b c [] = made a b c []
 make_listed kind a b c (l ∷ d) = made (kind l ∷ a) b c d
 
+abbrev make_nth_by
+    : Bool → Simple → List Condition → List Conditions → List Parts → List Selectors → Made
+make_nth_by last (structure (nth_child p)) a b c (l ∷ d) = made (nth_of last p l ∷ a) b c d
+make_nth_by last s a b c d = made a b c d
+
+abbrev make_nth : Bool → List Condition → List Conditions → List Parts → List Selectors → Made
+make_nth last (simple s ∷ a) b c d = make_nth_by last s a b c d
+make_nth last a b c d = made a b c d
+
 abbrev make_condition : List Condition → List Conditions → List Parts → List Selectors → Made
 make_condition (x ∷ a) (y ∷ b) c d = made a (with_condition x y ∷ b) c d
 make_condition a b c d = made a b c d
@@ -81,7 +100,9 @@ make_by n a b c d =
     else (if n == 8 then make_part Child a b c d
     else (if n == 9 then make_part Adjacent a b c d
     else (if n == 10 then make_part Sibling a b c d
-    else made a b (end_of_selector ∷ c) d))))))))))
+    else (if n == 11 then made a b (end_of_selector ∷ c) d
+    else (if n == 12 then make_nth true a b c d
+    else make_nth false a b c d))))))))))))
 
 abbrev make : Mark → Made → Made
 make (inl s) m = made (simple s ∷ m.0) m.1.0 m.1.1.0 m.1.1.1
@@ -114,6 +135,12 @@ made_joined Child c parts m = refl
 made_joined Adjacent c parts m = refl
 made_joined Sibling c parts m = refl
 
+made_nth : (last : Bool) (p : Progression) (l : Selectors) (m : Made)
+    → make (nth_mark last) (make (inl (counted p)) (more_list l m))
+    ≡ more_condition (nth_of last p l) m
+made_nth true p l m = refl
+made_nth false p l m = refl
+
 mutual
   made_condition : (c : Condition) (rest : List Mark)
       → made_of (marks_of c rest) ≡ more_condition c (made_of rest)
@@ -121,6 +148,9 @@ mutual
   made_condition (negation selectors) rest = ap (make (inr 0)) (made_list selectors rest)
   made_condition (any_of selectors) rest = ap (make (inr 1)) (made_list selectors rest)
   made_condition (where_any selectors) rest = ap (make (inr 2)) (made_list selectors rest)
+  made_condition (nth_of last p selectors) rest =
+      ap (λ m. make (nth_mark last) (make (inl (counted p)) m)) (made_list selectors rest)
+      ∙ made_nth last p selectors (made_of rest)
 
   made_compound : (c : Conditions) (rest : List Mark)
       → made_of (compound_marks c rest) ≡ more_compound c (made_of rest)

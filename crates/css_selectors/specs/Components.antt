@@ -87,9 +87,6 @@ pub data Simple : Type 0 where
   nesting : Nesting → Simple
   -- a type or attribute selector with a namespace: it has no meaning here
   namespaced : Namespace → Local → Simple
-  -- `:nth-child(An+B of S)`, or `:nth-last-child(An+B of S)` if elements are numbered from the last,
-  -- with its list as it is written: it has no meaning here
-  nth_of : (from_last : Bool) → Progression → (selectors : List ℕ) → Simple
 
 -- What `&` stands for outside of nested rules: `:scope`, which is the list of number 0, and it counts
 -- nothing (CSS Nesting 1, section 3).
@@ -106,6 +103,8 @@ mutual
     any_of : Selectors → Condition
     -- `:where(..)`, which counts nothing
     where_any : Selectors → Condition
+    -- `:nth-child(An+B of S)`, or `:nth-last-child(An+B of S)` if elements are numbered from the last
+    nth_of : (from_last : Bool) → Progression → Selectors → Condition
 
   -- a compound selector: its conditions, one after another
   pub data Conditions : Type 0 where

@@ -34,8 +34,8 @@ use Rattle.css_selectors.specs.Components.Comparison.{equals, has_word, has_subt
 use Rattle.css_selectors.specs.Components.Structure.{root, scope, empty, first_child, last_child, only_child, first_of_type, last_of_type, only_of_type, nth_child, nth_last_child, nth_of_type, nth_last_of_type}
 use Rattle.css_selectors.specs.Components.Namespace.{absent, any_namespace, of_prefix}
 use Rattle.css_selectors.specs.Components.Local.{any_type, a_type, some_attribute, an_attribute}
-use Rattle.css_selectors.specs.Components.Simple.{universal, type_name, id, class, has_attribute, attribute, structure, language, state, function, named_element, nesting, namespaced, nth_of}
-use Rattle.css_selectors.specs.Components.Condition.{simple, negation, any_of, where_any}
+use Rattle.css_selectors.specs.Components.Simple.{universal, type_name, id, class, has_attribute, attribute, structure, language, state, function, named_element, nesting, namespaced}
+use Rattle.css_selectors.specs.Components.Condition.{simple, negation, any_of, where_any, nth_of}
 use Rattle.css_selectors.specs.KnownNames.{is_one_of, states, functions, is_element, element_functions}
 use Rattle.css_selectors.specs.Readings.{Reading, got, refused, Reader, follow, ◌>>=◌, ◌>>◌, give, Step, item, none, stop, step_after, as_item, with_first, items}
 
@@ -651,34 +651,20 @@ list_by next kind opened = complex_list (is_forgiving kind) next
 
 -- ---- functional pseudo-classes
 
--- the text was read as a list, to its end
-abbrev pub is_read_whole : Reading (List (List Part)) → Bool
-is_read_whole (got selectors rest) = is_empty_text rest
-is_read_whole (refused why rest) = false
-
--- the text is a list of selectors, by what reads one
-abbrev pub is_list_text : ListReader → List ℕ → Bool
-is_list_text list text = is_read_whole (list Not text text)
-
--- why it is none: the refusal begins where the list does
-abbrev pub no_list : Reading (List (List Part)) → Why
-no_list (got selectors rest) = Unexpected
-no_list (refused why rest) = why
-
--- the list after `of`, which is kept as it is written
-unfoldable pub of_list : ListReader → Bool → Progression → Reader Simple
-of_list list last p text =
-    follow (argument text) (λ a rest. if is_list_text list a then got (nth_of last p a) rest
-    else refused (no_list (list Not a a)) (past_gap text))
+-- the list after `of`
+abbrev pub of_list : ListReader → Bool → Progression → List ℕ → Reader Condition
+of_list list last p opened =
+    list Not opened >>= λ selectors. give (nth_of last p (selectors_from selectors))
 
 -- a word after `An+B`: only `of` may be one
-abbrev pub after_word : ListReader → Bool → Progression → List ℕ → List ℕ → Reader Simple
-after_word list last p text word rest =
-    if is_word (codes "of") word then of_list list last p rest else refused Unexpected text
+abbrev pub after_word
+    : ListReader → List ℕ → Bool → Progression → List ℕ → List ℕ → Reader Condition
+after_word list opened last p text word rest =
+    if is_word (codes "of") word then of_list list last p opened rest else refused Unexpected text
 
 -- no list is after `An+B`
-abbrev pub without_list : Numbering → Progression → Reader Simple
-without_list kind p = closing close_parenthesis >> give (structure (numbered_by kind p))
+abbrev pub without_list : Numbering → Progression → Reader Condition
+without_list kind p = closing close_parenthesis >> give (simple (structure (numbered_by kind p)))
 
 -- whether elements are numbered from the last, if all siblings are: only then a list may be after `An+B`
 -- (Selectors 4, section 14.3)
@@ -689,21 +675,25 @@ from_last OfType = None
 from_last OfLastType = None
 
 -- what is after `An+B`
-abbrev pub after_progression : ListReader → Numbering → Progression → Option Bool → Reader Simple
-after_progression list kind p None text = without_list kind p text
-after_progression list kind p (Some last) text =
-    if begins_name text then follow (name text) (after_word list last p text)
+abbrev pub after_progression
+    : ListReader → List ℕ → Numbering → Progression → Option Bool → Reader Condition
+after_progression list opened kind p None text = without_list kind p text
+after_progression list opened kind p (Some last) text =
+    if begins_name text then follow (name text) (after_word list opened last p text)
     else without_list kind p text
 
--- the argument of a pseudo-class with this name, by what reads a list
-abbrev pub functional : ListReader → List ℕ → List ℕ → Option Function → Reader Simple
-functional list opened n None = argument_of functions opened n >>= λ a. give (function n a)
-functional list opened n (Some Language) = language_ranges >>= λ ranges. give (language ranges)
+-- the argument of a pseudo-class with this name, by what reads a list; `opened` is the text from its
+-- colon on
+abbrev pub functional : ListReader → List ℕ → List ℕ → Option Function → Reader Condition
+functional list opened n None =
+    argument_of functions opened n >>= λ a. give (simple (function n a))
+functional list opened n (Some Language) =
+    language_ranges >>= λ ranges. give (simple (language ranges))
 functional list opened n (Some (Numbered kind)) = do
   gap
   p ← progression
   gap
-  after_progression list kind p (from_last kind)
+  after_progression list opened kind p (from_last kind)
 
 -- one colon
 abbrev pub begins_pseudo_class : List ℕ → Bool
@@ -718,7 +708,7 @@ simple_item (stop why rest) = stop why rest
 -- the argument of a functional pseudo-class, from after its parenthesis, by what reads a list
 abbrev pub with_argument
     : ListReader → List ℕ → List ℕ → Option ListKind → Option Function → Reader Condition
-with_argument list opened n None kind = functional list opened n kind >>= λ s. give (simple s)
+with_argument list opened n None kind = functional list opened n kind
 with_argument list opened n (Some kind) other =
     list kind opened >>= λ selectors. give (listed kind selectors)
 

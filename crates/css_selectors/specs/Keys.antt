@@ -4,8 +4,8 @@ use Rattle.std.specs.Prelude.{ℕ, ◌-◌, Bool, true, List, [], ◌∷◌, len
 use Rattle.std.specs.Option.{option_map_or}
 use Rattle.css_selectors.specs.Documents.{Document}
 use Rattle.css_selectors.specs.Components.{Simple, Condition, Conditions, Parts, Selectors, Part, Selector}
-use Rattle.css_selectors.specs.Components.Simple.{universal, type_name, id, class, has_attribute, attribute, structure, language, state, function, named_element, nesting, namespaced, nth_of}
-use Rattle.css_selectors.specs.Components.Condition.{simple, negation, any_of, where_any}
+use Rattle.css_selectors.specs.Components.Simple.{universal, type_name, id, class, has_attribute, attribute, structure, language, state, function, named_element, nesting, namespaced}
+use Rattle.css_selectors.specs.Components.Condition.{simple, negation, any_of, where_any, nth_of}
 use Rattle.css_selectors.specs.Components.Conditions.{end_of_compound, with_condition}
 use Rattle.css_selectors.specs.Components.Parts.{end_of_selector, with_part}
 use Rattle.css_selectors.specs.Components.Selectors.{end_of_list, with_selector}
@@ -42,7 +42,6 @@ simple_key (function name argument) = by_nothing
 simple_key (named_element name argument) = by_nothing
 simple_key (nesting list) = by_nothing
 simple_key (namespaced namespace local) = by_nothing
-simple_key (nth_of last p selectors) = by_nothing
 
 -- how few elements have a key: the greater, the fewer
 abbrev pub rank : Key → ℕ
@@ -62,6 +61,7 @@ lone_key (simple s) = simple_key s
 lone_key (negation selectors) = by_nothing
 lone_key (any_of selectors) = by_nothing
 lone_key (where_any selectors) = by_nothing
+lone_key (nth_of last p selectors) = by_nothing
 
 -- the first key of the greatest rank among this one and those of conditions
 abbrev pub best_key : Key → Conditions → Key
@@ -93,6 +93,7 @@ condition_keys (simple s) = simple_key s ∷ []
 condition_keys (negation selectors) = by_nothing ∷ []
 condition_keys (any_of selectors) = selector_keys selectors
 condition_keys (where_any selectors) = selector_keys selectors
+condition_keys (nth_of last p selectors) = selector_keys selectors
 
 -- the least rank of keys
 abbrev pub least_rank : List Key → ℕ

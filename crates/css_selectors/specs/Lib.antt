@@ -23,6 +23,7 @@ pub mod Readings
 pub mod RefusalWords
 pub mod Nested
 pub mod Simples
+pub mod SiblingCounts
 pub mod Specificities
 pub mod SpelledOut
 pub mod Supported

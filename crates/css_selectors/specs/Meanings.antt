@@ -9,13 +9,14 @@ use Rattle.css_selectors.specs.Documents.{Document, shape}
 use Rattle.css_selectors.specs.Components.{Comparison, Structure, Simple, Condition, Conditions, Parts, Selectors, Selector, parts_from}
 use Rattle.css_selectors.specs.Components.Comparison.{equals, has_word}
 use Rattle.css_selectors.specs.Components.Structure.{root, scope, empty, first_child, last_child, only_child, first_of_type, last_of_type, only_of_type, nth_child, nth_last_child, nth_of_type, nth_last_of_type}
-use Rattle.css_selectors.specs.Components.Simple.{universal, type_name, id, class, has_attribute, attribute, structure, language, state, function, named_element, nesting, namespaced, nth_of}
-use Rattle.css_selectors.specs.Components.Condition.{simple, negation, any_of, where_any}
+use Rattle.css_selectors.specs.Components.Simple.{universal, type_name, id, class, has_attribute, attribute, structure, language, state, function, named_element, nesting, namespaced}
+use Rattle.css_selectors.specs.Components.Condition.{simple, negation, any_of, where_any, nth_of}
 use Rattle.css_selectors.specs.Components.Conditions.{end_of_compound, with_condition}
 use Rattle.css_selectors.specs.Components.Parts.{end_of_selector, with_part}
 use Rattle.css_selectors.specs.Components.Selectors.{end_of_list, with_selector}
 use Rattle.css_selectors.specs.AttributeTests.{is_satisfied}
 use Rattle.css_selectors.specs.Numbers.{is_numbered}
+use Rattle.css_selectors.specs.SiblingCounts.{IsNumberedAmong}
 
 -- there is a value, and it satisfies the comparison
 abbrev pub satisfies : Comparison → Bool → List ℕ → Option (List ℕ) → Bool
@@ -55,7 +56,6 @@ holds document n (function name argument) = false
 holds document n (named_element name argument) = false
 holds document n (nesting list) = document.is_in_list n list.number
 holds document n (namespaced namespace local) = false
-holds document n (nth_of last p selectors) = false
 
 -- how the part at an index is joined to the part before it
 abbrev pub combinator_at : Parts → ℕ → Combinator
@@ -68,12 +68,17 @@ part_count end_of_selector = 0
 part_count (with_part c conditions parts) = part_count parts + 1
 
 abbrev mutual
-  -- the node satisfies the condition
+  -- The node satisfies the condition. `:nth-child(An+B of S)` is true of the elements that S matches,
+  -- of which the number among those siblings that S matches is one of `An+B` (Selectors 4, section
+  -- 13.3.1). From the last on it has no meaning here.
   pub IsMet : {Node : Type 0} → Document Node → Condition → Node → Type 0
   IsMet document (simple s) n = IsTrue (holds document n s)
   IsMet document (negation selectors) n = MatchesAny document selectors n → ⊥
   IsMet document (any_of selectors) n = MatchesAny document selectors n
   IsMet document (where_any selectors) n = MatchesAny document selectors n
+  IsMet document (nth_of last p selectors) n =
+      (last ≡ false) × MatchesAny document selectors n
+      × IsNumberedAmong document.previous_sibling (MatchesAny document selectors) p n
 
   -- it satisfies all conditions of a compound selector
   pub AreMet : {Node : Type 0} → Document Node → Conditions → Node → Type 0

@@ -6,8 +6,8 @@ use Rattle.std.specs.Option.{option_map_or}
 use Rattle.css_selectors.specs.declared.components.Nesting.{Nesting}
 use Rattle.css_selectors.specs.declared.reading.Start.TheVariants.{Relative}
 use Rattle.css_selectors.specs.Components.{Simple, Condition, Conditions, Parts, Selectors, PseudoElement, Selector, Placed, outermost, conditions_from, parts_from}
-use Rattle.css_selectors.specs.Components.Simple.{function, named_element, nesting, nth_of}
-use Rattle.css_selectors.specs.Components.Condition.{simple, negation, any_of, where_any}
+use Rattle.css_selectors.specs.Components.Simple.{function, named_element, nesting}
+use Rattle.css_selectors.specs.Components.Condition.{simple, negation, any_of, where_any, nth_of}
 use Rattle.css_selectors.specs.Components.Conditions.{end_of_compound, with_condition}
 use Rattle.css_selectors.specs.Components.Parts.{end_of_selector, with_part}
 use Rattle.css_selectors.specs.Components.Selectors.{end_of_list, with_selector}
@@ -25,7 +25,6 @@ has_ampersand argument = list_any (λ b. b == ampersand) argument
 abbrev pub is_nesting : Simple → Bool
 is_nesting (nesting list) = true
 is_nesting (function name argument) = has_ampersand argument
-is_nesting (nth_of last p selectors) = has_ampersand selectors
 is_nesting (named_element name argument) = option_map_or has_ampersand argument false
 is_nesting s = false
 
@@ -36,6 +35,7 @@ abbrev mutual
   nests so_far (negation selectors) = list_nests so_far selectors
   nests so_far (any_of selectors) = list_nests so_far selectors
   nests so_far (where_any selectors) = list_nests so_far selectors
+  nests so_far (nth_of last p selectors) = list_nests so_far selectors
 
   -- or in a compound selector
   pub compound_nests : Bool → Conditions → Bool

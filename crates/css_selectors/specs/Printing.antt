@@ -16,8 +16,8 @@ use Rattle.css_selectors.specs.Components.Comparison.{equals, has_word, has_subt
 use Rattle.css_selectors.specs.Components.Structure.{root, scope, empty, first_child, last_child, only_child, first_of_type, last_of_type, only_of_type, nth_child, nth_last_child, nth_of_type, nth_last_of_type}
 use Rattle.css_selectors.specs.Components.Namespace.{absent, any_namespace, of_prefix}
 use Rattle.css_selectors.specs.Components.Local.{any_type, a_type, some_attribute, an_attribute}
-use Rattle.css_selectors.specs.Components.Simple.{universal, type_name, id, class, has_attribute, attribute, structure, language, state, function, named_element, nesting, namespaced, nth_of}
-use Rattle.css_selectors.specs.Components.Condition.{simple, negation, any_of, where_any}
+use Rattle.css_selectors.specs.Components.Simple.{universal, type_name, id, class, has_attribute, attribute, structure, language, state, function, named_element, nesting, namespaced}
+use Rattle.css_selectors.specs.Components.Condition.{simple, negation, any_of, where_any, nth_of}
 use Rattle.css_selectors.specs.Components.Conditions.{end_of_compound, with_condition}
 use Rattle.css_selectors.specs.Components.Parts.{end_of_selector, with_part}
 use Rattle.css_selectors.specs.Components.Selectors.{end_of_list, with_selector}
@@ -151,7 +151,7 @@ argument_text (Some argument) = codes "(" ++ argument ++ codes ")"
 abbrev pub nth_name : Bool → List ℕ
 nth_name last = if last then codes ":nth-last-child(" else codes ":nth-child("
 
--- `An+B of` and a list, as it is written
+-- `An+B of` and a list
 abbrev pub nth_of_text : Progression → List ℕ → List ℕ
 nth_of_text p selectors = progression_text p ++ codes " of " ++ selectors
 
@@ -197,7 +197,6 @@ simple_text (named_element name argument) =
     codes "::" ++ identifier_text name ++ argument_text argument
 simple_text (nesting n) = codes "&"
 simple_text (namespaced namespace local) = local_text (namespace_text namespace) local
-simple_text (nth_of last p selectors) = function_text (nth_name last) (nth_of_text p selectors)
 
 abbrev pub combinator_text : Combinator → List ℕ
 combinator_text Descendant = codes " "
@@ -211,6 +210,8 @@ abbrev mutual
   condition_text (negation selectors) = function_text (codes ":not(") (selectors_text selectors)
   condition_text (any_of selectors) = function_text (codes ":is(") (selectors_text selectors)
   condition_text (where_any selectors) = function_text (codes ":where(") (selectors_text selectors)
+  condition_text (nth_of last p selectors) =
+      function_text (nth_name last) (nth_of_text p (selectors_text selectors))
 
   -- a compound selector in a list
   pub compound_text : Conditions → List ℕ

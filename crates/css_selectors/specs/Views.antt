@@ -9,7 +9,7 @@ use Rattle.css_selectors.specs.declared.components.Progression.{Progression as P
 use Rattle.css_selectors.specs.declared.components.Structure.{Structure as StructureOf}
 use Rattle.css_selectors.specs.declared.components.Structure.TheVariants.{Root, Scope, Empty, FirstChild, LastChild, OnlyChild, FirstOfType, LastOfType, OnlyOfType, NthChild, NthLastChild, NthOfType, NthLastOfType}
 use Rattle.css_selectors.specs.declared.components.Simple.{Simple as SimpleOf}
-use Rattle.css_selectors.specs.declared.components.Simple.TheVariants.{Universal, TypeName, Id, Class, HasAttribute, Attribute, Structure as StructureIs, Language, State, Function, Element, Nesting as NestingIs, Namespaced as NamespacedIs, NthOf as NthOfIs}
+use Rattle.css_selectors.specs.declared.components.Simple.TheVariants.{Universal, TypeName, Id, Class, HasAttribute, Attribute, Structure as StructureIs, Language, State, Function, Element, Nesting as NestingIs, Namespaced as NamespacedIs}
 use Rattle.css_selectors.specs.declared.components.Namespace.{Namespace as NamespaceOf}
 use Rattle.css_selectors.specs.declared.components.Namespace.TheVariants.{Absent, Any, Prefix}
 use Rattle.css_selectors.specs.declared.components.Local.{Local as LocalOf}
@@ -25,8 +25,8 @@ use Rattle.css_selectors.specs.Components.Comparison.{equals, has_word, has_subt
 use Rattle.css_selectors.specs.Components.Structure.{root, scope, empty, first_child, last_child, only_child, first_of_type, last_of_type, only_of_type, nth_child, nth_last_child, nth_of_type, nth_last_of_type}
 use Rattle.css_selectors.specs.Components.Namespace.{absent, any_namespace, of_prefix}
 use Rattle.css_selectors.specs.Components.Local.{any_type, a_type, some_attribute, an_attribute}
-use Rattle.css_selectors.specs.Components.Simple.{universal, type_name, id, class, has_attribute, attribute, structure, language, state, function, named_element, nesting, namespaced, nth_of}
-use Rattle.css_selectors.specs.Components.Condition.{simple, negation, any_of, where_any}
+use Rattle.css_selectors.specs.Components.Simple.{universal, type_name, id, class, has_attribute, attribute, structure, language, state, function, named_element, nesting, namespaced}
+use Rattle.css_selectors.specs.Components.Condition.{simple, negation, any_of, where_any, nth_of}
 
 abbrev pub comparison_of : ComparisonOf → Comparison
 comparison_of Equals = equals
@@ -86,7 +86,6 @@ simple_of (Function call) = function (cow_str_bytes call.name) (cow_str_bytes ca
 simple_of (Element e) = named_element (cow_str_bytes e.name) (option_map cow_str_bytes e.argument)
 simple_of (NestingIs n) = nesting n
 simple_of (NamespacedIs n) = namespaced (namespace_of n.namespace) (local_of n.local)
-simple_of (NthOfIs n) = nth_of n.from_last (progression_of n.progression) (cow_str_bytes n.selectors)
 
 -- one level, with what is within its lists already seen as the definitions see it
 abbrev pub condition_step : Condition-F Condition (List Part) Part → Condition
@@ -94,6 +93,8 @@ condition_step (Condition-F.Simple s) = simple (simple_of s)
 condition_step (Condition-F.Not selectors) = negation (selectors_from selectors.items)
 condition_step (Condition-F.Is selectors) = any_of (selectors_from selectors.items)
 condition_step (Condition-F.Where selectors) = where_any (selectors_from selectors.items)
+condition_step (Condition-F.NthOf numbered selectors) =
+    nth_of numbered.from_last (progression_of numbered.progression) (selectors_from selectors.items)
 
 abbrev pub complex_step : Complex-F Condition (List Part) Part → List Part
 complex_step s = s.parts.items

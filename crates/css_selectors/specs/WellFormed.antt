@@ -7,14 +7,14 @@ use Rattle.css_selectors.specs.Components.{Signed, Progression, Structure, Names
 use Rattle.css_selectors.specs.Components.Structure.{nth_child, nth_last_child, nth_of_type, nth_last_of_type}
 use Rattle.css_selectors.specs.Components.Namespace.{absent, any_namespace, of_prefix}
 use Rattle.css_selectors.specs.Components.Local.{any_type, a_type, some_attribute, an_attribute}
-use Rattle.css_selectors.specs.Components.Simple.{universal, type_name, id, class, has_attribute, attribute, structure, language, state, function, named_element, nesting, namespaced, nth_of}
-use Rattle.css_selectors.specs.Components.Condition.{simple, negation, any_of, where_any}
+use Rattle.css_selectors.specs.Components.Simple.{universal, type_name, id, class, has_attribute, attribute, structure, language, state, function, named_element, nesting, namespaced}
+use Rattle.css_selectors.specs.Components.Condition.{simple, negation, any_of, where_any, nth_of}
 use Rattle.css_selectors.specs.Components.Conditions.{end_of_compound, with_condition}
 use Rattle.css_selectors.specs.Components.Parts.{end_of_selector, with_part}
 use Rattle.css_selectors.specs.Components.Selectors.{end_of_list, with_selector}
 use Rattle.css_selectors.specs.KnownNames.{is_one_of, states, functions, is_element, element_functions}
 use Rattle.css_selectors.specs.Readings.{got}
-use Rattle.css_selectors.specs.Grammar.{argument, plain_structure, is_old_element, list_kind, function_named, is_list_text, list_within, deepest}
+use Rattle.css_selectors.specs.Grammar.{argument, plain_structure, is_old_element, list_kind, function_named, deepest}
 
 -- a text that is denoted has no U+0000
 abbrev pub IsDenoted : List ℕ → Type 0
@@ -64,55 +64,51 @@ IsLocal any_type = Unit {0}
 IsLocal (a_type name) = IsName name
 IsLocal local = IsAttribute local
 
--- the text is a list of selectors, with lists nested at most `n` deep, itself included
-abbrev pub IsListText : ℕ → List ℕ → Type 0
-IsListText n selectors = is_list_text (list_within n) selectors ≡ true
-
--- A simple selector that may follow others, with lists nested at most `n` deep. `*`, a type and a
--- pseudo-element may not. A pseudo-class that is a structural one by its name is no other, and none has
--- the name of a pseudo-element that may have one colon, or an unknown one. `&` stands for what it does outside of nested
--- rules.
-abbrev pub IsFurther : ℕ → Simple → Type 0
-IsFurther n universal = ⊥
-IsFurther n (type_name name) = ⊥
-IsFurther n (id name) = IsName name
-IsFurther n (class name) = IsName name
-IsFurther n (has_attribute name) = IsName name
-IsFurther n (attribute name comparison value ignores_case) = IsName name × IsDenoted value
-IsFurther n (structure s) = IsStructure s
-IsFurther n (language ranges) = 0 < length ranges × All IsDenoted ranges
-IsFurther n (state name) =
+-- A simple selector that may follow others. `*`, a type and a pseudo-element may not. A pseudo-class that
+-- is a structural one by its name is no other, and none has the name of a pseudo-element that may have
+-- one colon, or an unknown one. `&` stands for what it does outside of nested rules.
+abbrev pub IsFurther : Simple → Type 0
+IsFurther universal = ⊥
+IsFurther (type_name name) = ⊥
+IsFurther (id name) = IsName name
+IsFurther (class name) = IsName name
+IsFurther (has_attribute name) = IsName name
+IsFurther (attribute name comparison value ignores_case) = IsName name × IsDenoted value
+IsFurther (structure s) = IsStructure s
+IsFurther (language ranges) = 0 < length ranges × All IsDenoted ranges
+IsFurther (state name) =
     IsName name × (plain_structure name ≡ None) × (is_old_element name ≡ false)
     × (is_one_of states name ≡ true)
-IsFurther n (function name a) =
+IsFurther (function name a) =
     IsName name × (list_kind name ≡ None) × (function_named name ≡ None)
     × IsArgumentOf functions name a
-IsFurther n (named_element name a) = ⊥
-IsFurther n (nesting list) = list ≡ outermost
-IsFurther n (namespaced namespace local) = IsNamespace namespace × IsAttribute local
-IsFurther n (nth_of last p selectors) = IsProgression p × IsArgument selectors × IsListText n selectors
+IsFurther (named_element name a) = ⊥
+IsFurther (nesting list) = list ≡ outermost
+IsFurther (namespaced namespace local) = IsNamespace namespace × IsAttribute local
 
 -- a simple selector that may be the first
-abbrev pub IsFirst : ℕ → Simple → Type 0
-IsFirst n universal = Unit {0}
-IsFirst n (type_name name) = IsName name
-IsFirst n (namespaced namespace local) = IsNamespace namespace × IsLocal local
-IsFirst n s = IsFurther n s
+abbrev pub IsFirst : Simple → Type 0
+IsFirst universal = Unit {0}
+IsFirst (type_name name) = IsName name
+IsFirst (namespaced namespace local) = IsNamespace namespace × IsLocal local
+IsFirst s = IsFurther s
 
 abbrev mutual
   -- a condition that may follow others, with lists nested at most `n` deep
   pub IsFurtherCondition : ℕ → Condition → Type 0
-  IsFurtherCondition n (simple s) = IsFurther n s
+  IsFurtherCondition n (simple s) = IsFurther s
   IsFurtherCondition n (negation selectors) = IsList false n selectors
   IsFurtherCondition n (any_of selectors) = IsList true n selectors
   IsFurtherCondition n (where_any selectors) = IsList true n selectors
+  IsFurtherCondition n (nth_of last p selectors) = IsProgression p × IsList false n selectors
 
   -- a condition that may be the first
   pub IsFirstCondition : ℕ → Condition → Type 0
-  IsFirstCondition n (simple s) = IsFirst n s
+  IsFirstCondition n (simple s) = IsFirst s
   IsFirstCondition n (negation selectors) = IsList false n selectors
   IsFirstCondition n (any_of selectors) = IsList true n selectors
   IsFirstCondition n (where_any selectors) = IsList true n selectors
+  IsFirstCondition n (nth_of last p selectors) = IsProgression p × IsList false n selectors
 
   -- a list is one of those that are nested; only a forgiving one may be empty
   pub IsList : Bool → ℕ → Selectors → Type 0
@@ -169,7 +165,6 @@ is_pseudo_class (structure s) = true
 is_pseudo_class (language ranges) = true
 is_pseudo_class (state name) = true
 is_pseudo_class (function name a) = true
-is_pseudo_class (nth_of last p selectors) = true
 is_pseudo_class s = false
 
 -- the argument of a pseudo-element of this name, which has one or none
@@ -184,7 +179,7 @@ IsElementName name a = IsName name × IsElementArgument name a
 -- what may follow a pseudo-element
 abbrev pub IsAfterElement : Condition → Type 0
 IsAfterElement (simple (named_element name a)) = IsElementName name a
-IsAfterElement (simple s) = (is_pseudo_class s ≡ true) × IsFurther deepest s
+IsAfterElement (simple s) = (is_pseudo_class s ≡ true) × IsFurther s
 IsAfterElement c = IsFurtherCondition deepest c
 
 abbrev pub IsPseudoElement : PseudoElement → Type 0

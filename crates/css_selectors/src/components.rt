@@ -166,15 +166,13 @@ pub struct ElementName<'a> {
     pub argument: Option<CowStr<'a>>,
 }
 
-/// `:nth-child(An+B of S)` or `:nth-last-child(An+B of S)`.
-#[derive(Drop)]
-pub struct NthOf<'a> {
-    /// Whether elements are numbered from the last.
+/// What is before the list in `:nth-child(An+B of S)` or `:nth-last-child(An+B of S)`.
+#[derive(Clone, Copy, Debug, PartialEq)]
+pub struct NthOf {
+    /// Whether elements are numbered from the last. Then no element satisfies the condition.
     pub from_last: bool,
     /// `An+B`.
     pub progression: Progression,
-    /// The list, as written, without blanks at either end.
-    pub selectors: CowStr<'a>,
 }
 
 /// What `&` stands for: a list of selectors.
@@ -221,8 +219,6 @@ pub enum Simple<'a> {
     Nesting(Nesting),
     /// A type or attribute selector with a namespace. No element satisfies it.
     Namespaced(Namespaced<'a>),
-    /// `:nth-child(..)` or `:nth-last-child(..)` with a list. No element satisfies it.
-    NthOf(NthOf<'a>),
 }
 
 /// A simple selector, or a pseudo-class with a list of complex selectors.
@@ -237,6 +233,8 @@ pub enum Condition<'a> {
     Is(Vec<Complex<'a>>),
     /// `:where(..)`
     Where(Vec<Complex<'a>>),
+    /// `:nth-child(..)` or `:nth-last-child(..)` with a list.
+    NthOf(NthOf, Vec<Complex<'a>>),
 }
 
 /// A compound selector, and how it is joined to the one before it.

@@ -14,7 +14,6 @@ ghost use Rattle.css_selectors.specs.internal.Reads.{Reads, Finds};
 ghost use Rattle.css_selectors.specs.Views.{progression_of, simple_of, condition_of, part_of, complex_of};
 
 use crate::Combinator;
-use crate::arguments::read_kept;
 use crate::attribute_selectors::read_attribute;
 use crate::components::{
     Complex, Condition, Function, FunctionCall, ListKind, NthOf, Numbering, OUTERMOST, Part,
@@ -33,7 +32,7 @@ use crate::texts::split_ascii;
 use crate::words::{
     begins_name, past_comments, read_closing, read_gap, read_ident_sequence, read_name,
 };
-use css_syntax::texts::{past_ascii, past_gap, read_value};
+use css_syntax::texts::{past_ascii, read_value};
 use css_text::readers;
 use std::alloc::{AllocFailed, Global};
 use std::borrow::CowStr;
@@ -375,59 +374,54 @@ fn read_list<'a>(
     Ok((selectors, rest))
 }
 
-/// Reads the list after `of`, which is kept as it is written.
+/// Reads the list after `of`. `opened` is the text from the colon of the pseudo-class on.
 #[cycle(lists)]
-#[tactic(auto, unfolding(crate::specs::Grammar::of_list))]
 fn read_of<'a>(
     alloc: Global,
     depth: usize,
+    opened: &'a str,
     from_last: bool,
     progression: Progression,
     text: &'a str,
-) -> Result<(Simple<'a>, &'a str), Refusal<'a>>
-    ensures { Reads simple_of result
-        (of_list (list_within depth) from_last (progression_of progression) text.now) }
+) -> Result<(Condition<'a>, &'a str), Refusal<'a>>
+    ensures { Reads condition_of result
+        (of_list (list_within depth) from_last (progression_of progression) opened.now text.now) }
 {
-    let (argument, rest) = read_kept(text)?;
-    match read_list(alloc, depth, ListKind::Not, argument, argument) {
-        Ok((_, after)) if after.is_empty() => {
-            let numbered = NthOf {
-                from_last,
-                progression,
-                selectors: CowStr::Borrowed(argument),
-            };
-            Ok((Simple::NthOf(numbered), rest))
-        }
-        Ok(_) => Err(Refusal::new(Why::Unexpected, past_gap(text))),
-        Err(refusal) => Err(Refusal::new(refusal.why, past_gap(text))),
-    }
+    let (selectors, rest) = read_list(alloc, depth, ListKind::Not, opened, text)?;
+    let numbered = NthOf {
+        from_last,
+        progression,
+    };
+    Ok((Condition::NthOf(numbered, selectors), rest))
 }
 
-/// Reads what is after `An+B`.
+/// Reads what is after `An+B`. `opened` is the text from the colon of the pseudo-class on.
 #[cycle(lists)]
 fn read_after_progression<'a>(
     alloc: Global,
     depth: usize,
+    opened: &'a str,
     numbering: Numbering,
     progression: Progression,
     text: &'a str,
-) -> Result<(Simple<'a>, &'a str), Refusal<'a>>
-    ensures { Reads simple_of result
-        (after_progression (list_within depth) numbering (progression_of progression)
+) -> Result<(Condition<'a>, &'a str), Refusal<'a>>
+    ensures { Reads condition_of result
+        (after_progression (list_within depth) opened.now numbering (progression_of progression)
         (from_last_of numbering) text.now) }
 {
     match from_last(numbering) {
         Some(from_last) if begins_name(text) => {
             let (word, rest) = read_name(alloc, text)?;
             if word.as_str().eq_ignore_ascii_case("of") {
-                read_of(alloc, depth, from_last, progression, rest)
+                read_of(alloc, depth, opened, from_last, progression, rest)
             } else {
                 Err(Refusal::new(Why::Unexpected, text))
             }
         }
         _ => {
             let (_, rest) = read_closing(b')', text)?;
-            Ok((Simple::Structure(numbered_by(numbering, progression)), rest))
+            let structure = numbered_by(numbering, progression);
+            Ok((Condition::Simple(Simple::Structure(structure)), rest))
         }
     }
 }
@@ -442,24 +436,25 @@ fn read_functional<'a>(
     name: CowStr<'a>,
     function: Option<Function>,
     text: &'a str,
-) -> Result<(Simple<'a>, &'a str), Refusal<'a>>
-    ensures { Reads simple_of result
+) -> Result<(Condition<'a>, &'a str), Refusal<'a>>
+    ensures { Reads condition_of result
         (functional (list_within depth) opened.now (cow_str_bytes name.entry) function text.now) }
 {
     match function {
         None => {
             let (argument, rest) = read_argument_of(opened, name.as_str(), text)?;
-            Ok((Simple::Function(FunctionCall { name, argument }), rest))
+            let call = FunctionCall { name, argument };
+            Ok((Condition::Simple(Simple::Function(call)), rest))
         }
         Some(Function::Language) => {
             let (ranges, rest) = read_ranges(alloc, text)?;
-            Ok((Simple::Language(ranges), rest))
+            Ok((Condition::Simple(Simple::Language(ranges)), rest))
         }
         Some(Function::Numbered(numbering)) => {
             let (_, rest) = read_gap(text);
             let (progression, rest) = read_progression(alloc, rest)?;
             let (_, rest) = read_gap(rest);
-            read_after_progression(alloc, depth, numbering, progression, rest)
+            read_after_progression(alloc, depth, opened, numbering, progression, rest)
         }
     }
 }
@@ -485,8 +480,7 @@ fn read_argument<'a>(
         }
         None => {
             let function = function_named(name.as_str());
-            let (simple, rest) = read_functional(alloc, depth, opened, name, function, text)?;
-            Ok((Condition::Simple(simple), rest))
+            read_functional(alloc, depth, opened, name, function, text)
         }
     }
 }

@@ -59,8 +59,7 @@ fn key_of_simple<'s>(simple: &'s Simple<'_>) -> Key<'s>
         | Simple::Function(_)
         | Simple::Element(_)
         | Simple::Nesting(_)
-        | Simple::Namespaced(_)
-        | Simple::NthOf(_) => Key::Any,
+        | Simple::Namespaced(_) => Key::Any,
     }
 }
 
@@ -70,7 +69,9 @@ fn lone_key_of<'s>(condition: &'s Condition<'_>) -> Key<'s>
 {
     match condition {
         Condition::Simple(simple) => key_of_simple(simple),
-        Condition::Not(_) | Condition::Is(_) | Condition::Where(_) => Key::Any,
+        Condition::Not(_) | Condition::Is(_) | Condition::Where(_) | Condition::NthOf(..) => {
+            Key::Any
+        }
     }
 }
 
@@ -124,6 +125,7 @@ pub(crate) fn rank_of_condition(condition: &Condition<'_>) -> u8
         Condition::Simple(simple) => key_of_simple(simple).rank(),
         Condition::Not(_) => 0,
         Condition::Is(selectors) | Condition::Where(selectors) => least_of(selectors.as_slice()),
+        Condition::NthOf(_, selectors) => least_of(selectors.as_slice()),
     }
 }
 
@@ -180,6 +182,7 @@ fn push_condition<'s>(
         Condition::Is(selectors) | Condition::Where(selectors) => {
             push_selectors(selectors.as_slice(), keys)
         }
+        Condition::NthOf(_, selectors) => push_selectors(selectors.as_slice(), keys),
     }
 }
 

@@ -1,16 +1,18 @@
 //! Whether an element satisfies conditions.
-ghost use Rattle.std.specs.Prelude.{◌≡◌, ◌+◌, ◌≤◌, ◌<◌, ◌↔◌, map, length, IsTrue, Option, option_map};
+ghost use Rattle.std.specs.Prelude.{◌≡◌, ◌+◌, ◌*◌, ◌≤◌, ◌<◌, ◌↔◌, map, length, IsTrue, Option, option_map};
 ghost use Rattle.std.specs.List.{list_any};
 ghost use Rattle.std.specs.Cow.{cow_str_bytes};
 ghost use Rattle.css_selectors.specs.Meanings.{satisfies, is_placed as is_placed_at, holds as holds_on};
 ghost use Rattle.css_selectors.specs.Components.{conditions_from, parts_from, selectors_from};
 ghost use Rattle.css_selectors.specs.Costs.{condition_cost, compound_cost, dearest_part, list_cost, selector_cost, most_tests as most};
 ghost use Rattle.css_selectors.specs.Meanings.{IsMet, AreMet, MeetsPart, MatchesAny, IsPlaced};
+ghost use Rattle.css_selectors.specs.Components.Condition.{nth_of};
+ghost use Rattle.css_selectors.specs.SiblingCounts.{HasCount};
 ghost use Rattle.css_selectors.specs.TriedElements.{element_of};
-ghost use Rattle.css_selectors.specs.Views.{comparison_of, structure_of, simple_of, condition_of, part_of, complex_of};
+ghost use Rattle.css_selectors.specs.Views.{comparison_of, progression_of, structure_of, simple_of, condition_of, part_of, complex_of};
 
 use crate::attributes::is_satisfied;
-use crate::{Comparison, Complex, Condition, Element, Part, Simple, Structure};
+use crate::{Comparison, Complex, Condition, Element, NthOf, Part, Simple, Structure};
 use css_matching::{Candidate, Combinator, Parts, Tests, matches};
 use std::borrow::CowStr;
 
@@ -92,8 +94,7 @@ fn holds<E: Element>(simple: &Simple<'_>, element: &E) -> bool
         Simple::Structure(structure) => is_placed_on(*structure, element),
         Simple::Language(ranges) => is_in_any(ranges.as_slice(), element),
         Simple::State(name) => element.is_in_state(name.as_str()),
-        Simple::Function(_) | Simple::Element(_) | Simple::Namespaced(_) | Simple::NthOf(_) =>
-            false,
+        Simple::Function(_) | Simple::Element(_) | Simple::Namespaced(_) => false,
         Simple::Nesting(list) => element.is_in_list(list.number),
     }
 }
@@ -255,6 +256,55 @@ fn is_placed_any<E: Element>(selectors: &[Complex<'_>], element: &E, tests: &mut
     false
 }
 
+/// Returns how many of the element's earlier siblings match one of the complex selectors.
+#[cycle(meeting)]
+fn count_earlier<E: Element>(selectors: &[Complex<'_>], element: &E, tests: &mut Tests) -> u32
+    ensures answer { HasCount E.document.previous_sibling
+        (MatchesAny E.document (selectors_from (map complex_of selectors.now)))
+        (E.document.previous_sibling (E.node element.now)) result }
+    ensures bounded { tests.new ≤ tests.old + E.document.earlier (E.node element.now)
+        * (list_cost E.document (selectors_from (map complex_of selectors.now)) (E.node element.now) + 1) }
+    ensures counts { tests.old ≤ tests.new }
+{
+    let mut count = 0;
+    let mut next = element.previous_sibling();
+    'siblings: for _ in 0..element.earlier_siblings() {
+        let Some(sibling) = next else {
+            return count;
+        };
+        tests.tick();
+        if is_placed_any(selectors, &sibling, tests) {
+            count += 1;
+        }
+        next = sibling.previous_sibling();
+    }
+    count
+}
+
+/// Whether the element matches one of the complex selectors, and its number among those siblings that
+/// do is one of `An+B`.
+#[cycle(meeting)]
+fn is_numbered_among<E: Element>(
+    numbered: NthOf,
+    selectors: &[Complex<'_>],
+    element: &E,
+    tests: &mut Tests,
+) -> bool
+    ensures answer { IsTrue result ↔ IsMet E.document (nth_of numbered.from_last
+        (progression_of numbered.progression) (selectors_from (map complex_of selectors.now)))
+        (E.node element.now) }
+    ensures bounded { tests.new ≤ tests.old + condition_cost E.document (nth_of numbered.from_last
+        (progression_of numbered.progression) (selectors_from (map complex_of selectors.now)))
+        (E.node element.now) }
+    ensures counts { tests.old ≤ tests.new }
+{
+    if numbered.from_last || !is_placed_any(selectors, element, tests) {
+        return false;
+    }
+    let earlier = count_earlier(selectors, element, tests);
+    numbered.progression.contains(u64::from(earlier) + 1)
+}
+
 /// Whether the element satisfies the condition.
 #[cycle(meeting)]
 fn is_met<E: Element>(condition: &Condition<'_>, element: &E, tests: &mut Tests) -> bool
@@ -268,6 +318,9 @@ fn is_met<E: Element>(condition: &Condition<'_>, element: &E, tests: &mut Tests)
         Condition::Not(selectors) => !is_placed_any(selectors.as_slice(), element, tests),
         Condition::Is(selectors) | Condition::Where(selectors) => {
             is_placed_any(selectors.as_slice(), element, tests)
+        }
+        Condition::NthOf(numbered, selectors) => {
+            is_numbered_among(*numbered, selectors.as_slice(), element, tests)
         }
     }
 }

@@ -40,7 +40,6 @@ fn is_nesting(simple: &Simple<'_>) -> bool
         Simple::Nesting(_) => true,
         Simple::Function(call) => has_ampersand(call.argument.as_str()),
         Simple::Element(element) => is_nesting_element(element),
-        Simple::NthOf(numbered) => has_ampersand(numbered.selectors.as_str()),
         Simple::Universal
         | Simple::TypeName(_)
         | Simple::Id(_)
@@ -71,6 +70,7 @@ fn nests(so_far: bool, condition: &Condition<'_>) -> bool
         Condition::Not(selectors) | Condition::Is(selectors) | Condition::Where(selectors) => {
             list_nests(so_far, selectors.as_slice())
         }
+        Condition::NthOf(_, selectors) => list_nests(so_far, selectors.as_slice()),
     }
 }
 
@@ -176,6 +176,9 @@ fn condition_under<'a>(
         Condition::Not(all) => Ok(Condition::Not(selectors_under(alloc, list, all)?)),
         Condition::Is(all) => Ok(Condition::Is(selectors_under(alloc, list, all)?)),
         Condition::Where(all) => Ok(Condition::Where(selectors_under(alloc, list, all)?)),
+        Condition::NthOf(numbered, all) => {
+            Ok(Condition::NthOf(numbered, selectors_under(alloc, list, all)?))
+        }
     }
 }
 

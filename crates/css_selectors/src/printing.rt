@@ -11,7 +11,7 @@ ghost use Rattle.css_selectors.specs.Printing.{comparison_text, flag_text, funct
 ghost use Rattle.css_selectors.specs.Printing.{nth_name, nth_of_text, namespace_text, some_attribute_text, attribute_text, local_text, simple_text, condition_text, combinator_text, part_text, parts_text};
 ghost use Rattle.css_selectors.specs.Printing.{pseudo_element_text, selector_text};
 ghost use Rattle.css_selectors.specs.Views.{comparison_of, signed_of, progression_of, structure_of, namespace_of, local_of, simple_of, complex_of, condition_of, part_of, pseudo_element_of};
-ghost use Rattle.css_selectors.specs.declared.components.Simple.TheVariants.{Function, Element, NthOf as NthOfIs};
+ghost use Rattle.css_selectors.specs.declared.components.Simple.TheVariants.{Function, Element};
 
 use crate::components::{
     AttributeTest, Comparison, Complex, Condition, ElementName, FunctionCall, Local, Namespace,
@@ -404,30 +404,6 @@ fn nth_start(from_last: bool) -> &'static str
     }
 }
 
-/// Writes `An+B` and a list as it is written.
-fn write_of<W: fmt::Write>(
-    f: &mut fmt::Formatter<W>,
-    progression: Progression,
-    selectors: &str,
-) -> fmt::Result
-    ensures { WritesStyledOnOk W.write_str_gives f.old result
-        (nth_of_text (progression_of progression) selectors.now) f.new }
-{
-    write_progression(f, progression)?;
-    f.write_str(" of ")?;
-    f.write_str(selectors)
-}
-
-/// Writes `:nth-child(..)` or `:nth-last-child(..)` with a list.
-fn write_nth_of<W: fmt::Write>(f: &mut fmt::Formatter<W>, numbered: &NthOf) -> fmt::Result
-    ensures { WritesStyledOnOk W.write_str_gives f.old result
-        (simple_text (simple_of (NthOfIs numbered.now))) f.new }
-{
-    f.write_str(nth_start(numbered.from_last))?;
-    write_of(f, numbered.progression, numbered.selectors.as_str())?;
-    f.write_str(")")
-}
-
 /// Writes a simple selector.
 fn write_simple<W: fmt::Write>(f: &mut fmt::Formatter<W>, simple: &Simple) -> fmt::Result
     ensures { WritesStyledOnOk W.write_str_gives f.old result
@@ -447,7 +423,6 @@ fn write_simple<W: fmt::Write>(f: &mut fmt::Formatter<W>, simple: &Simple) -> fm
         Simple::Element(element) => write_element(f, element),
         Simple::Nesting(_) => f.write_str("&"),
         Simple::Namespaced(namespaced) => write_namespaced(f, namespaced),
-        Simple::NthOf(numbered) => write_nth_of(f, numbered),
     }
 }
 
@@ -482,6 +457,39 @@ fn write_list<W: fmt::Write>(
     f.write_str(")")
 }
 
+/// Writes `An+B` and a list.
+#[cycle(printing)]
+fn write_of<W: fmt::Write>(
+    f: &mut fmt::Formatter<W>,
+    progression: Progression,
+    selectors: &[Complex],
+) -> fmt::Result
+    ensures { WritesStyledOnOk W.write_str_gives f.old result
+        (nth_of_text (progression_of progression)
+        (list_text (λ s. parts_text (complex_of s)) selectors.now)) f.new }
+{
+    write_progression(f, progression)?;
+    f.write_str(" of ")?;
+    write_selectors(f, selectors)
+}
+
+/// Writes `:nth-child(..)` or `:nth-last-child(..)` with a list.
+#[cycle(printing)]
+fn write_nth_of<W: fmt::Write>(
+    f: &mut fmt::Formatter<W>,
+    numbered: NthOf,
+    selectors: &[Complex],
+) -> fmt::Result
+    ensures { WritesStyledOnOk W.write_str_gives f.old result
+        (function_text (nth_name numbered.from_last)
+        (nth_of_text (progression_of numbered.progression)
+        (list_text (λ s. parts_text (complex_of s)) selectors.now))) f.new }
+{
+    f.write_str(nth_start(numbered.from_last))?;
+    write_of(f, numbered.progression, selectors)?;
+    f.write_str(")")
+}
+
 /// Writes a condition.
 #[cycle(printing)]
 fn write_condition<W: fmt::Write>(f: &mut fmt::Formatter<W>, condition: &Condition) -> fmt::Result
@@ -493,6 +501,7 @@ fn write_condition<W: fmt::Write>(f: &mut fmt::Formatter<W>, condition: &Conditi
         Condition::Not(selectors) => write_list(f, ":not(", selectors.as_slice()),
         Condition::Is(selectors) => write_list(f, ":is(", selectors.as_slice()),
         Condition::Where(selectors) => write_list(f, ":where(", selectors.as_slice()),
+        Condition::NthOf(numbered, selectors) => write_nth_of(f, *numbered, selectors.as_slice()),
     }
 }
 

@@ -29,6 +29,13 @@ pub const NOTHING: Specificity = Specificity {
     names: 0,
 };
 
+/// What a class counts.
+const ONE_CLASS: Specificity = Specificity {
+    ids: 0,
+    classes: 1,
+    names: 0,
+};
+
 /// Returns the sum, each count of which stops at the greatest number.
 fn plus(one: Specificity, other: Specificity) -> Specificity
     ensures { counts_of result ≡ sum_of (counts_of one) (counts_of other) }
@@ -71,10 +78,7 @@ fn of_local(local: &Local<'_>) -> Specificity
             names: 1,
             ..NOTHING
         },
-        Local::HasAttribute(_) | Local::Attribute(_) => Specificity {
-            classes: 1,
-            ..NOTHING
-        },
+        Local::HasAttribute(_) | Local::Attribute(_) => ONE_CLASS,
     }
 }
 
@@ -97,11 +101,7 @@ fn of_simple(simple: &Simple<'_>) -> Specificity
         | Simple::Structure(_)
         | Simple::Language(_)
         | Simple::State(_)
-        | Simple::Function(_)
-        | Simple::NthOf(_) => Specificity {
-            classes: 1,
-            ..NOTHING
-        },
+        | Simple::Function(_) => ONE_CLASS,
     }
 }
 
@@ -127,6 +127,7 @@ fn of_condition(condition: &Condition<'_>) -> Specificity
         Condition::Simple(simple) => of_simple(simple),
         Condition::Not(selectors) | Condition::Is(selectors) => greatest(selectors.as_slice()),
         Condition::Where(_) => NOTHING,
+        Condition::NthOf(_, selectors) => plus(ONE_CLASS, greatest(selectors.as_slice())),
     }
 }
 
@@ -174,8 +175,8 @@ impl<'a> Selector<'a> {
     ghost use Rattle.css_selectors.specs.Specificities.{specificity as specificity_of};
     ghost use Rattle.css_selectors.specs.SpecificityViews.{counts_of};
 
-    /// Returns the specificity. `:is()` and `:not()` count as the most specific of their lists, and
-    /// `:where()` counts nothing.
+    /// Returns the specificity. `:is()` and `:not()` count as the most specific of their lists, a list
+    /// after `An+B` counts so besides its pseudo-class, and `:where()` counts nothing.
     pub fn specificity(&self) -> Specificity
         ensures { counts_of result ≡ specificity_of self.now }
     {

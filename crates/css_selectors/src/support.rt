@@ -9,8 +9,8 @@ ghost use Rattle.css_selectors.specs.Views.{simple_of, complex_of, condition_of,
 
 use crate::{Complex, Condition, Part, PseudoElement, Selector, Simple};
 
-/// How many selectors with combinators that stand in lists may be within one another. Their tests
-/// multiply.
+/// How many selectors with combinators that stand in lists, and lists after `An+B`, may be within one
+/// another. Their tests multiply.
 const DEEPEST_JOINED: usize = 1;
 
 /// Whether the simple selector has a meaning.
@@ -19,8 +19,7 @@ fn is_supported_simple(simple: &Simple<'_>) -> bool
 {
     match simple {
         Simple::State(name) => !name.as_str().eq_ignore_ascii_case("host"),
-        Simple::Function(_) | Simple::Element(_) | Simple::Namespaced(_) | Simple::NthOf(_) =>
-            false,
+        Simple::Function(_) | Simple::Element(_) | Simple::Namespaced(_) => false,
         Simple::Universal
         | Simple::TypeName(_)
         | Simple::Id(_)
@@ -77,6 +76,13 @@ fn is_supported(left: usize, condition: &Condition<'_>) -> bool
         Condition::Not(selectors) | Condition::Is(selectors) | Condition::Where(selectors) => {
             are_supported(left, selectors.as_slice())
         }
+        Condition::NthOf(numbered, selectors) => both(
+            !numbered.from_last,
+            both(
+                1 <= left,
+                are_supported(left.saturating_sub(1), selectors.as_slice()),
+            ),
+        ),
     }
 }
 
@@ -120,9 +126,9 @@ impl<'a> Selector<'a> {
     ghost use Rattle.css_selectors.specs.Supported.{is_supported_selector};
 
     /// Whether the selector has a meaning here. A pseudo-class or a pseudo-element with an argument that
-    /// is kept as it is written has none, nor has `:host`, what has a namespace, or what follows a
-    /// pseudo-element. Nor has a selector with combinators in a list of another that is in a list: their
-    /// tests multiply.
+    /// is kept as it is written has none, nor has `:host`, `:nth-last-child()` with a list, what has a
+    /// namespace, or what follows a pseudo-element. Nor has a selector with combinators in a list of
+    /// another that is in a list, nor either with a list after `An+B`: their tests multiply.
     pub fn is_supported(&self) -> bool
         ensures { result ≡ is_supported_selector self.now }
     {

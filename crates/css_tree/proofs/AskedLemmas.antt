@@ -8,19 +8,62 @@ use Rattle.css_matching.specs.declared.Combinator.{Combinator}
 use Rattle.css_matching.specs.declared.Combinator.TheVariants.{Descendant, Child, Adjacent, Sibling}
 use Rattle.css_matching.specs.ListTrees.{spot}
 use Rattle.css_matching.specs.Placements.{IsBeyond, is_next, is_further, Relates, HasPlacement}
-use Rattle.css_selectors.specs.Components.{Structure, Simple, Condition, Conditions, Parts, Selectors, Selector, parts_from}
+use Rattle.css_selectors.specs.Components.{Progression, Structure, Simple, Condition, Conditions, Parts, Selectors, Selector, parts_from}
 use Rattle.css_selectors.specs.Components.Structure.{root, scope, empty, first_child, last_child, only_child, first_of_type, last_of_type, only_of_type, nth_child, nth_last_child, nth_of_type, nth_last_of_type}
-use Rattle.css_selectors.specs.Components.Simple.{universal, type_name, id, class, has_attribute, attribute, structure, language, state, function, named_element, nesting, namespaced, nth_of}
-use Rattle.css_selectors.specs.Components.Condition.{simple, negation, any_of, where_any}
+use Rattle.css_selectors.specs.Components.Simple.{universal, type_name, id, class, has_attribute, attribute, structure, language, state, function, named_element, nesting, namespaced}
+use Rattle.css_selectors.specs.Components.Condition.{simple, negation, any_of, where_any, nth_of}
 use Rattle.css_selectors.specs.Components.Conditions.{end_of_compound, with_condition}
 use Rattle.css_selectors.specs.Components.Parts.{end_of_selector, with_part}
 use Rattle.css_selectors.specs.Components.Selectors.{end_of_list, with_selector}
 use Rattle.css_selectors.specs.Documents.{shape}
+use Rattle.css_selectors.specs.SiblingCounts.{HasCount, IsNumberedAmong}
+use Rattle.css_selectors.specs.SiblingCounts.HasCount.{no_node, one_more, another}
 use Rattle.css_selectors.specs.Meanings.{combinator_at, part_count, IsMet, AreMet, MeetsPart, MatchesAny, IsPlaced, Matches, is_placed}
 use Rattle.css_selectors.proofs.AlikeSelectors.{either_so}
 use Rattle.css_tree.specs.Asked.{SimpleAsksBelow, AsksBelow, CompoundAsksBelow, PartsAskBelow, ListAsksBelow, SelectorAsksBelow, AskEarlier}
+use Rattle.css_tree.specs.Counts.{last_below}
 use Rattle.css_tree.specs.Marks.{AreMarked, MatchesOne, with_marks}
-use Rattle.css_tree.specs.Pages.{Page, page_document, parent_index, is_in_list, is_marked, is_scope}
+use Rattle.css_tree.specs.Pages.{Page, page_document, parent_index, is_sibling, is_in_list, is_marked, is_scope}
+
+-- ---- elements are numbered the same, whatever the marks
+
+module _ (page : Page) (m n : List (List Bool)) (ss : Selectors) where
+  abbrev SameMatches : Type 0
+  SameMatches =
+      (j : ℕ) → MatchesAny page_document ss (spot (with_marks page m) j)
+      ↔ MatchesAny page_document ss (spot (with_marks page n) j)
+
+  count_moved : SameMatches → (x : Option (Page × ℕ)) (k : ℕ)
+      → HasCount page_document.previous_sibling (MatchesAny page_document ss) x k
+      → (o : Option ℕ) → x ≡ option_map (spot (with_marks page m)) o
+      → HasCount page_document.previous_sibling (MatchesAny page_document ss)
+      (option_map (spot (with_marks page n)) o) k
+  count_moved same None _ no_node None e = no_node
+  count_moved same None _ no_node (Some j) e = absurd (cc)
+  count_moved same (Some x) (suc k) (one_more here more) None e = absurd (cc)
+  count_moved same (Some x) (suc k) (one_more here more) (Some j) e =
+      let is : x ≡ spot (with_marks page m) j = cc in
+      one_more ((same j).0 (subst (MatchesAny page_document ss) is here))
+      (count_moved same (page_document.previous_sibling x) k more
+      (last_below (is_sibling page.rows j) j) (ap page_document.previous_sibling is))
+  count_moved same (Some x) k (another not_here more) None e = absurd (cc)
+  count_moved same (Some x) k (another not_here more) (Some j) e =
+      let is : x ≡ spot (with_marks page m) j = cc in
+      another (λ h. not_here (subst (MatchesAny page_document ss) (sym is) ((same j).1 h)))
+      (count_moved same (page_document.previous_sibling x) k more
+      (last_below (is_sibling page.rows j) j) (ap page_document.previous_sibling is))
+
+  numbered_moved : (p : Progression) → SameMatches → (i : ℕ)
+      → IsNumberedAmong page_document.previous_sibling (MatchesAny page_document ss) p
+      (spot (with_marks page m) i)
+      → IsNumberedAmong page_document.previous_sibling (MatchesAny page_document ss) p
+      (spot (with_marks page n) i)
+  numbered_moved p same i h = (
+    h.0,
+    count_moved same (page_document.previous_sibling (spot (with_marks page m) i)) h.0 h.1
+        (last_below (is_sibling page.rows i) i) refl,
+    h.2,
+  )
 
 -- ---- steps stay on a page, whatever its marks
 
@@ -168,7 +211,6 @@ module _ (page : Page) (m n : List (List Bool)) (limit : ℕ)
   simple_same (named_element name argument) i asks = (λ h. h, λ h. h)
   simple_same (nesting list) i asks = same_true _ _ (asked_same list.number i asks)
   simple_same (namespaced namespace local) i asks = (λ h. h, λ h. h)
-  simple_same (nth_of last p selectors) i asks = (λ h. h, λ h. h)
 
   placed_both : (ps : Parts) (i : ℕ)
       → ((k j : ℕ) → MeetsPart page_document ps k (spot (with_marks page m) j)
@@ -191,6 +233,12 @@ module _ (page : Page) (m n : List (List Bool)) (limit : ℕ)
         let k = list_same ss i asks in (λ f h. f (k.1 h), λ f h. f (k.0 h))
     condition_same (any_of ss) i asks = list_same ss i asks
     condition_same (where_any ss) i asks = list_same ss i asks
+    condition_same (nth_of last p ss) i asks =
+        let same : SameMatches page m n ss = λ j. list_same ss j asks in
+        let back : SameMatches page n m ss = λ j. (let k = list_same ss j asks in (k.1, k.0)) in (
+          λ h. (h.0, (same i).0 h.1, numbered_moved page m n ss p same i h.2),
+          λ h. (h.0, (back i).0 h.1, numbered_moved page n m ss p back i h.2),
+        )
 
     compound_same : (cs : Conditions) (i : ℕ) → CompoundAsksBelow (suc limit) cs
         → AreMet page_document cs (spot (with_marks page m) i)

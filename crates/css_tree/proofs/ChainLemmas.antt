@@ -10,15 +10,15 @@ use Rattle.std.proofs.Math.Seq.{get_or-append_seam}
 use Rattle.css_matching.specs.ListTrees.{spot}
 use Rattle.css_selectors.specs.declared.components.Nesting.{Nesting}
 use Rattle.css_selectors.specs.Components.{Simple, Condition, Conditions, Part, Parts, Selectors, PseudoElement, Selector, parts_from, selectors_from}
-use Rattle.css_selectors.specs.Components.Simple.{universal, type_name, id, class, has_attribute, attribute, structure, language, state, function, named_element, nesting, namespaced, nth_of}
-use Rattle.css_selectors.specs.Components.Condition.{simple, negation, any_of, where_any}
+use Rattle.css_selectors.specs.Components.Simple.{universal, type_name, id, class, has_attribute, attribute, structure, language, state, function, named_element, nesting, namespaced}
+use Rattle.css_selectors.specs.Components.Condition.{simple, negation, any_of, where_any, nth_of}
 use Rattle.css_selectors.specs.Components.Conditions.{end_of_compound, with_condition}
 use Rattle.css_selectors.specs.Components.Parts.{end_of_selector, with_part}
 use Rattle.css_selectors.specs.Components.Selectors.{end_of_list, with_selector}
 use Rattle.css_selectors.specs.Meanings.{IsMet, MatchesAny, IsPlaced, Matches}
 use Rattle.css_selectors.specs.SpelledOut.{spelled_simple, spelled_condition, spelled_compound, spelled_complex, spelled_list, spelled_part, spelled_element, spelled_by}
 use Rattle.css_selectors.proofs.AlikeSelectors.{Alike, CompoundsAlike, PartsAlike, ListsAlike, AsksSame, complex_alike, either_so}
-use Rattle.css_selectors.proofs.AlikeSelectors.Alike.{simples, negations, anys, wheres}
+use Rattle.css_selectors.proofs.AlikeSelectors.Alike.{simples, negations, anys, wheres, nths}
 use Rattle.css_selectors.proofs.AlikeSelectors.CompoundsAlike.{no_condition, one_condition}
 use Rattle.css_selectors.proofs.AlikeSelectors.PartsAlike.{no_part, one_part}
 use Rattle.css_selectors.proofs.AlikeSelectors.ListsAlike.{no_selector, one_selector}
@@ -57,7 +57,6 @@ module _ (lists : List Selectors) (silent : AskNothing lists) where
   simple_silent (named_element name argument) asks = tt
   simple_silent (nesting list) asks = number_silent list list.number refl asks
   simple_silent (namespaced namespace local) asks = tt
-  simple_silent (nth_of last p selectors) asks = tt
 
   mutual
     condition_silent : (c : Condition) → AsksBelow (suc (length lists)) c
@@ -66,6 +65,7 @@ module _ (lists : List Selectors) (silent : AskNothing lists) where
     condition_silent (negation ss) asks = list_silent ss asks
     condition_silent (any_of ss) asks = list_silent ss asks
     condition_silent (where_any ss) asks = list_silent ss asks
+    condition_silent (nth_of last p ss) asks = list_silent ss asks
 
     compound_silent : (cs : Conditions) → CompoundAsksBelow (suc (length lists)) cs
         → CompoundAsksBelow 1 (spelled_compound (ampersand_of lists) cs)
@@ -134,7 +134,6 @@ module _ (page : Page) (lists : List Selectors) (answers : Answer page lists) wh
   simple_same (named_element name argument) asks n at = (λ h. h, λ h. h)
   simple_same (nesting list) asks n at = number_same list list.number refl asks n at
   simple_same (namespaced namespace local) asks n at = (λ h. h, λ h. h)
-  simple_same (nth_of last p selectors) asks n at = (λ h. h, λ h. h)
 
   mutual
     condition_same : (c : Condition) → AsksBelow (suc (length lists)) c
@@ -144,6 +143,7 @@ module _ (page : Page) (lists : List Selectors) (answers : Answer page lists) wh
     condition_same (negation ss) asks = negations (list_same ss asks)
     condition_same (any_of ss) asks = anys (list_same ss asks)
     condition_same (where_any ss) asks = wheres (list_same ss asks)
+    condition_same (nth_of last p ss) asks = nths (list_same ss asks)
 
     compound_same : (cs : Conditions) → CompoundAsksBelow (suc (length lists)) cs
         → CompoundsAlike (AsksSame page_document (IsElement page)) cs

@@ -7,14 +7,15 @@ use Rattle.std.specs.List.{list_any}
 use Rattle.std.proofs.lemmas.Bool.Decides.{nat_tests}
 use Rattle.std.proofs.lemmas.List.{map_more, map-append, take_all}
 use Rattle.css_selectors.specs.declared.components.Complex.{Complex}
-use Rattle.css_selectors.specs.declared.components.Condition.{Condition as ConditionOf, Not, Is, Where}
+use Rattle.css_selectors.specs.declared.components.Condition.{Condition as ConditionOf, Not, Is, Where, NthOf}
+use Rattle.css_selectors.specs.declared.components.NthOf.{NthOf as NthOfOf}
 use Rattle.css_selectors.specs.Components.{Condition, Part, conditions_from, parts_from, selectors_from}
-use Rattle.css_selectors.specs.Components.Condition.{negation, any_of, where_any}
+use Rattle.css_selectors.specs.Components.Condition.{negation, any_of, where_any, nth_of}
 use Rattle.css_selectors.specs.Components.Conditions.{with_condition}
 use Rattle.css_selectors.specs.Components.Parts.{with_part}
 use Rattle.css_selectors.specs.Components.Selectors.{with_selector}
-use Rattle.css_selectors.specs.Views.{complex_of, condition_of}
-use Rattle.css_selectors.proofs.ConditionViews.{condition_not, condition_is, condition_where}
+use Rattle.css_selectors.specs.Views.{complex_of, condition_of, progression_of}
+use Rattle.css_selectors.proofs.ConditionViews.{condition_not, condition_is, condition_where, condition_nth}
 use Rattle.css_tree.specs.Html.{condition_in, compound_in, complex_in, selectors_in, part_in}
 use Rattle.css_tree.specs.declared.html.HtmlMode.{HtmlMode}
 
@@ -100,3 +101,10 @@ module _ (mode : HtmlMode) (c : ConditionOf) (old new : Vec Complex Global) (xs 
   read-where is =
       condition_where new ∙ ap where_any lists
       ∙ sym (ap (λ x. condition_in mode (condition_of x)) is ∙ ap (condition_in mode) (condition_where old))
+
+  pub read-nth : (k : NthOfOf) → c ≡ NthOf k old
+      → condition_of (NthOf k new) ≡ condition_in mode (condition_of c)
+  read-nth k is =
+      condition_nth k new ∙ ap (nth_of k.from_last (progression_of k.progression)) lists
+      ∙ sym (ap (λ x. condition_in mode (condition_of x)) is
+      ∙ ap (condition_in mode) (condition_nth k old))

@@ -2,7 +2,7 @@
 use Rattle.std.specs.Prelude.{ℕ, suc, ◌<◌, All, List, [], length, slice_index_or}
 use Rattle.css_selectors.specs.Components.{Simple, Condition, Conditions, Parts, Selectors, Selector, parts_from}
 use Rattle.css_selectors.specs.Components.Simple.{nesting}
-use Rattle.css_selectors.specs.Components.Condition.{simple, negation, any_of, where_any}
+use Rattle.css_selectors.specs.Components.Condition.{simple, negation, any_of, where_any, nth_of}
 use Rattle.css_selectors.specs.Components.Conditions.{end_of_compound, with_condition}
 use Rattle.css_selectors.specs.Components.Parts.{end_of_selector, with_part}
 use Rattle.css_selectors.specs.Components.Selectors.{end_of_list, with_selector}
@@ -18,6 +18,7 @@ abbrev mutual
   AsksBelow number (negation selectors) = ListAsksBelow number selectors
   AsksBelow number (any_of selectors) = ListAsksBelow number selectors
   AsksBelow number (where_any selectors) = ListAsksBelow number selectors
+  AsksBelow number (nth_of last p selectors) = ListAsksBelow number selectors
 
   pub CompoundAsksBelow : ℕ → Conditions → Type 0
   CompoundAsksBelow number end_of_compound = Unit {0}

@@ -6,8 +6,8 @@ use Rattle.std.specs.Char.{to_ascii_lowercase}
 use Rattle.std.specs.List.{list_any}
 use Rattle.css_selectors.specs.Components.{Simple, Condition, Conditions, Parts, Selectors, Part, PseudoElement, Selector}
 use Rattle.std.specs.Option.{option_map}
-use Rattle.css_selectors.specs.Components.Simple.{universal, type_name, id, class, has_attribute, attribute, structure, language, state, function, named_element, nesting, namespaced, nth_of}
-use Rattle.css_selectors.specs.Components.Condition.{simple, negation, any_of, where_any}
+use Rattle.css_selectors.specs.Components.Simple.{universal, type_name, id, class, has_attribute, attribute, structure, language, state, function, named_element, nesting, namespaced}
+use Rattle.css_selectors.specs.Components.Condition.{simple, negation, any_of, where_any, nth_of}
 use Rattle.css_selectors.specs.Components.Conditions.{end_of_compound, with_condition}
 use Rattle.css_selectors.specs.Components.Parts.{end_of_selector, with_part}
 use Rattle.css_selectors.specs.Components.Selectors.{end_of_list, with_selector}
@@ -64,7 +64,6 @@ simple_in mode (function name argument) = function name argument
 simple_in mode (named_element name argument) = named_element name argument
 simple_in mode (nesting list) = nesting list
 simple_in mode (namespaced namespace local) = namespaced namespace local
-simple_in mode (nth_of last p selectors) = nth_of last p selectors
 
 abbrev mutual
   pub condition_in : HtmlMode → Condition → Condition
@@ -72,6 +71,7 @@ abbrev mutual
   condition_in mode (negation selectors) = negation (selectors_in mode selectors)
   condition_in mode (any_of selectors) = any_of (selectors_in mode selectors)
   condition_in mode (where_any selectors) = where_any (selectors_in mode selectors)
+  condition_in mode (nth_of last p selectors) = nth_of last p (selectors_in mode selectors)
 
   -- a compound selector in a list
   pub compound_in : HtmlMode → Conditions → Conditions

@@ -8,7 +8,7 @@ ghost use Rattle.std.specs.List.{list_any};
 ghost use Rattle.std.specs.Char.{is_ascii_uppercase};
 ghost use Rattle.std.specs.Cow.{cow_str_bytes};
 ghost use Rattle.css_selectors.specs.Views.{namespace_of, local_of, simple_of, complex_of, condition_of, part_of, element_name_of, pseudo_element_of};
-ghost use Rattle.css_selectors.specs.declared.components.Simple.TheVariants.{Attribute, Function, Namespaced as NamespacedIs, NthOf as NthOfIs};
+ghost use Rattle.css_selectors.specs.declared.components.Simple.TheVariants.{Attribute, Function, Namespaced as NamespacedIs};
 ghost use Rattle.css_tree.specs.Html.{caseless_attributes, quirks_attributes, is_among};
 ghost use Rattle.css_tree.specs.Html.{is_caseless};
 ghost use Rattle.css_tree.specs.Html.{lower_case, word_in, simple_in};
@@ -16,7 +16,7 @@ ghost use Rattle.css_tree.specs.Html.{condition_in, part_in, pseudo_element_in, 
 
 use css_selectors::{
     AttributeTest, Complex, Condition, ElementName, FunctionCall, Local, Namespace, Namespaced,
-    NthOf, Part, PseudoElement, Selector, Simple,
+    Part, PseudoElement, Selector, Simple,
 };
 use std::alloc::{AllocError, Global};
 use std::borrow::CowStr;
@@ -240,17 +240,6 @@ fn same_namespaced<'s>(namespaced: &'s Namespaced<'_>) -> Namespaced<'s>
     }
 }
 
-/// Returns the same pseudo-class with a list after `An+B`, which is not copied.
-fn same_nth_of<'s>(numbered: &'s NthOf<'_>) -> NthOf<'s>
-    ensures { simple_of (NthOfIs result) ≡ simple_of (NthOfIs numbered.now) }
-{
-    NthOf {
-        from_last: numbered.from_last,
-        progression: numbered.progression,
-        selectors: CowStr::Borrowed(numbered.selectors.as_str()),
-    }
-}
-
 /// Returns a simple selector as a document reads it.
 fn simple_in<'s>(
     alloc: Global,
@@ -273,7 +262,6 @@ fn simple_in<'s>(
         Simple::Element(element) => Ok(Simple::Element(same_element(element))),
         Simple::Nesting(list) => Ok(Simple::Nesting(*list)),
         Simple::Namespaced(namespaced) => Ok(Simple::Namespaced(same_namespaced(namespaced))),
-        Simple::NthOf(numbered) => Ok(Simple::NthOf(same_nth_of(numbered))),
     }
 }
 
@@ -310,6 +298,9 @@ fn condition_in<'s>(
         Condition::Not(list) => Ok(Condition::Not(selectors_in(alloc, mode, list.as_slice())?)),
         Condition::Is(list) => Ok(Condition::Is(selectors_in(alloc, mode, list.as_slice())?)),
         Condition::Where(list) => Ok(Condition::Where(selectors_in(alloc, mode, list.as_slice())?)),
+        Condition::NthOf(numbered, list) => {
+            Ok(Condition::NthOf(*numbered, selectors_in(alloc, mode, list.as_slice())?))
+        }
     }
 }
 

@@ -1,6 +1,6 @@
 use Rattle.std.proofs.Common.{refl}
 use Rattle.css_selectors.specs.Nested.{simple_under}
-use Rattle.css_selectors.proofs.NestingLemmas.{not_with, is_with, where_with}
+use Rattle.css_selectors.proofs.NestingLemmas.{not_with, is_with, where_with, nth_with}
 use Rattle.css_selectors.proofs.nesting.+nesting.Goals as goal
 
 pub condition_under-returns-in_ok-selectors_under-in-Not : goal.condition_under-returns-in_ok-selectors_under-in-Not
@@ -20,3 +20,9 @@ condition_under-returns-in_ok-selectors_under-in-Where t c =
     where_with (simple_under c.args.list) c.args.condition c.in-Where.all
     c.in_ok-selectors_under-in-Where.field-0 c.in-Where.all.items refl
     c.in_ok-selectors_under-in-Where.ensures c.in-Where.is
+
+pub condition_under-returns-in_ok-selectors_under-in-NthOf : goal.condition_under-returns-in_ok-selectors_under-in-NthOf
+condition_under-returns-in_ok-selectors_under-in-NthOf t c =
+    nth_with (simple_under c.args.list) c.args.condition c.in-NthOf.all
+    c.in_ok-selectors_under-in-NthOf.field-0 c.in-NthOf.all.items refl
+    c.in_ok-selectors_under-in-NthOf.ensures c.in-NthOf.numbered c.in-NthOf.is
