@@ -5,12 +5,15 @@ use Rattle.std.specs.Result.{IsErrAnd}
 use Rattle.css_cascade.specs.declared.layers.LayersError.{LayersError}
 use Rattle.css_cascade.specs.declared.layers.LayersError.TheVariants as of_layer
 use Rattle.css_sheet.specs.SheetMessages.{of_layers}
-use Rattle.std.proofs.Common.{◌≡◌, ℕ, zero, suc, ◌+◌, ◌-◌, ◌<◌, ◌≤◌, Bool, true, false, if◌then◌else◌, List, [], ◌∷◌, ◌++◌, Option, None, Some, Result, Ok, Err, length, map, drop, get_or, take, slice_get, refl, sym, ap, ◌∙◌, subst, append-nil, arith}
+use Rattle.std.proofs.Common.{◌≡◌, ℕ, zero, suc, ◌+◌, ◌-◌, ◌<◌, ◌≤◌, ◌==◌, Bool, true, false, not, if◌then◌else◌, List, [], ◌∷◌, ◌++◌, Option, None, Some, Result, Ok, Err, length, map, drop, get_or, take, slice_get, refl, sym, ap, ◌∙◌, subst, append-nil, arith}
 use Rattle.std.proofs.lemmas.Grind.{flat_map-append}
 use Rattle.std.proofs.lemmas.List.{append_assoc, take_all}
 use Rattle.css_syntax.specs.Statements.{BlockText}
 use Rattle.css_syntax.specs.DeclarationLists.{ItemText, declared, at_rule_item, skipped_item}
-use Rattle.css_cascade.specs.Layers.{LayerPart, LayerText, number_at, or_outermost, outermost_layers, outermost_number, with_name}
+use Rattle.css_cascade.specs.Layers.{LayerPart, LayerText, number_at, or_outermost, outermost_layers, with_name}
+use Rattle.css_syntax.specs.declared.quality.Fault.{Fault}
+use Rattle.css_selectors.specs.Components.{Placed}
+use Rattle.css_sheet.specs.RuleSelectors.{all_read, is_listed, listed_under}
 use Rattle.css_cascade.specs.LayerNames.{layer_names}
 use Rattle.css_cascade.proofs.NameLemmas.{Keeps, grows-name, keeps-then, keeps-itself, keeps-name, keeps-at, name-known, name-there}
 use Rattle.css_sheet.specs.declared.gathering.Gathered.{Gathered}
@@ -19,19 +22,22 @@ use Rattle.css_sheet.specs.declared.parts.SheetParts.{SheetParts}
 use Rattle.css_sheet.specs.declared.sheet_error.SheetError.{SheetError}
 use Rattle.css_sheet.specs.declared.sheet_error.SheetError.TheVariants.{TooManyDeclarations, TooManyLayers}
 use Rattle.css_sheet.specs.declared.sheet_order.ReadRules.{ReadRules}
-use Rattle.css_sheet.specs.internal.PartViews.{part_of, open_in, left_in, parts_to_come, placed_last, source_of, GivesPart}
-use Rattle.css_sheet.specs.SheetParts.{OpenText, SheetPart, states, begins, ends, stands, PlacedPart, Source, all_parts_from, applies_in, next_in, opened, open_after, part_then, parts_from, place_at, placed_part, sheet_parts}
-use Rattle.css_sheet.specs.SheetLayers.{if_applies, is_layer, layer_parts, layered_parts, mentioned, number_in_all, open_name, or_none, sheet_layers, with_item, with_layers, with_list, with_names, with_part, with_parts}
+use Rattle.css_sheet.specs.internal.PartViews.{part_of, given_in, open_in, left_in, parts_to_come, placed_last, source_of, GivesPart}
+use Rattle.css_sheet.specs.SheetParts.{OpenText, SheetPart, states, begins, ends, stands, PlacedPart, Source, all_parts_from, applies_at, applies_in, next_in, given_kind, given_place, nesting_at, nesting_in, nesting_of, opened, open_after, part_then, parts_from, parts_given, place_at, placed_part, sheet_parts}
+use Rattle.css_sheet.specs.SheetLayers.{if_applies, kind_name, layer_parts, layered_parts, mentioned, number_in_all, open_name, or_none, sheet_layers, with_item, with_layers, with_list, with_names, with_part, with_parts}
+use Rattle.css_sheet.specs.SheetItems.{is_layer}
 use Rattle.css_sheet.specs.declared.parents.OpenParents.{OpenParents}
-use Rattle.css_sheet.specs.OpenParents.{ParentsText, after_parts, none_open}
+use Rattle.css_sheet.specs.OpenParents.{Parent, ParentsText, no_rule, dropped, style, unread, valid, numbered, after_part, after_part_of, after_parts, begun, is_dropped, left_innermost, none_open}
 use Rattle.css_sheet.specs.ParentViews.{parent_of, parents_of}
-use Rattle.css_sheet.specs.SheetOrder.{SheetRuleText, declarations_in, nested_lists, numbered_rules, part_rules, placed_rules, rules_of_parts}
-use Rattle.css_sheet.specs.Sheets.{SheetText, outermost_at, texts_in}
+use Rattle.css_sheet.specs.SheetOrder.{RunText, SheetRuleText, declaration_count, declarations_in, nested_lists, numbered_rules, part_rules, placed_rules, rules_if_stated, rules_of_parts, run_at, stated_rules, unless_invalid}
+use Rattle.css_sheet.specs.Sheets.{GroupRuleText, SheetText, outermost_at}
 use Rattle.css_sheet.specs.SheetRuleViews.{gathered_rules, sheet_of}
 use Rattle.css_sheet.specs.declared.sheet_rules.Sheet.{Sheet}
-use Rattle.css_sheet.specs.internal.GatherViews.{Awaits, AwaitsStill, GathersAll, GoesOn, NestsOn, rules_now}
-use Rattle.css_sheet.specs.internal.OpenViews.{known_in, numbers_in, outermost_in, innermost_of, AreMany, EntersLast, Goes, GoesOver, Tracks}
-use Rattle.css_sheet.proofs.OpenLemmas.{tracks-many, tracks-number, tracks-keeps, tracks-more, tracks-take, none-open, last-append}
+use Rattle.css_sheet.specs.internal.GatherViews.{Awaits, AwaitsStill, GathersAll, GoesOn, NestsOn, counts_after, rules_now}
+use Rattle.css_sheet.specs.internal.OpenViews.{known_in, numbers_in, outermost_in, innermost_of, AreMany, EntersLast, Goes, GoesOver, Tracks, counted_name, is_known_dropped}
+use Rattle.css_sheet.proofs.LevelLemmas.{Begins, Stacked, fresh, fresh-before, fresh-more, rule-begins, stacked-keeps, stacked-left, stacked-more, stacked-none, stacked-outside, stacked-right, stacked-tracks}
+use Rattle.css_sheet.proofs.OpenLemmas.{tracks-number, tracks-keeps, tracks-more, last-append}
+use Rattle.css_sheet.proofs.PartNesting.{FoundOutside, StandsOutside, found-outside}
 use Rattle.css_sheet.proofs.SheetRuleLemmas.{declarations-append}
 
 -- ---- what holds of layers before and after a name holds before and after all parts
@@ -66,31 +72,39 @@ module _ (Stays : List LayerText → List LayerText → Type 0)
       (stays-list outer rule.prelude.text known rule.block)
   stays-item outer known (skipped_item fault) = itself known
 
-  stays-mentioned : (outer : ℕ) (known : List LayerText) (around : List OpenText) (part : SheetPart)
-      → Stays known (mentioned outer known around part)
-  stays-mentioned outer known around (states text) = itself known
-  stays-mentioned outer known around (begins kind) = named known outer (layer_parts around)
-  stays-mentioned outer known around ends = itself known
-  stays-mentioned outer known around (stands item) =
+  stays-unless : (known after : List LayerText) (t : Bool) → Stays known after
+      → Stays known (if t then known else after)
+  stays-unless known after true k = itself known
+  stays-unless known after false k = k
+
+  stays-mentioned : (outer : ℕ) (known : List LayerText) (parent : Parent) (around : List OpenText)
+      (part : SheetPart) → Stays known (mentioned outer known parent around part)
+  stays-mentioned outer known parent around (states text) = itself known
+  stays-mentioned outer known parent around (begins kind) =
+      stays-unless known (with_name known outer (layer_parts around)) (is_dropped parent)
+      (named known outer (layer_parts around))
+  stays-mentioned outer known parent around ends = itself known
+  stays-mentioned outer known parent around (stands item) =
       let number = number_in_all outer around known in
       stays-if known (with_item number known item) (applies_in around) (stays-item number known item)
 
-  stays-parts : (outer : ℕ → ℕ) (known : List LayerText) (parts : List PlacedPart)
-      → Stays known (with_parts outer known parts)
-  stays-parts outer known [] = itself known
-  stays-parts outer known (placed ∷ parts) =
-      let next = with_part outer known placed in
-      joined known next (with_parts outer next parts)
-      (stays-mentioned (outer placed.sheet) known placed.around placed.part)
-      (stays-parts outer next parts)
+  stays-parts : (outer : ℕ → ℕ) (known : List LayerText) (parents : ParentsText)
+      (parts : List PlacedPart) → Stays known (with_parts outer known parents parts)
+  stays-parts outer known parents [] = itself known
+  stays-parts outer known parents (placed ∷ parts) =
+      let nest = after_part parents placed in
+      let next = with_part outer known nest.innermost placed in
+      joined known next (with_parts outer next nest parts)
+      (stays-mentioned (outer placed.sheet) known nest.innermost placed.around placed.part)
+      (stays-parts outer next nest parts)
 
 -- layers stay known
-keeps-mentioned : (outer : ℕ) (known : List LayerText) (around : List OpenText) (part : SheetPart)
-    → Keeps known (mentioned outer known around part)
+keeps-mentioned : (outer : ℕ) (known : List LayerText) (parent : Parent) (around : List OpenText)
+    (part : SheetPart) → Keeps known (mentioned outer known parent around part)
 keeps-mentioned = stays-mentioned Keeps keeps-itself keeps-then keeps-name
 
-keeps-parts : (outer : ℕ → ℕ) (known : List LayerText) (parts : List PlacedPart)
-    → Keeps known (with_parts outer known parts)
+keeps-parts : (outer : ℕ → ℕ) (known : List LayerText) (parents : ParentsText) (parts : List PlacedPart)
+    → Keeps known (with_parts outer known parents parts)
 keeps-parts = stays-parts Keeps keeps-itself keeps-then keeps-name
 
 -- there are as many or more
@@ -104,8 +118,8 @@ pub grows-names : (outer : ℕ) (known : List LayerText) (names : List (List Lay
     → Grows known (with_names outer known names)
 grows-names = stays-names Grows (λ known. omega arith) grows-then grows-name
 
-grows-parts : (outer : ℕ → ℕ) (known : List LayerText) (parts : List PlacedPart)
-    → Grows known (with_parts outer known parts)
+grows-parts : (outer : ℕ → ℕ) (known : List LayerText) (parents : ParentsText) (parts : List PlacedPart)
+    → Grows known (with_parts outer known parents parts)
 grows-parts = stays-parts Grows (λ known. omega arith) grows-then grows-name
 
 -- a further name is one layer too many, and so are all
@@ -130,57 +144,93 @@ from-layers P (Err reported) of_layer.Memory is due = λ same. absurd (cc)
 first-then : (holds : List ℕ → List ℕ → Bool) (source : Source)
     (more : List OpenText → List ℕ → List PlacedPart) (around : List OpenText)
     (next : Option (SheetPart × List ℕ)) (one : PlacedPart) (parts : List PlacedPart)
-    → part_then holds source more around next ≡ one ∷ parts
+    → FoundOutside next (nesting_of around) → part_then holds source more around next ≡ one ∷ parts
     → (place : List ℕ) × (one.around ≡ open_after holds around one.part place)
-    × (one.sheet ≡ source.sheet)
-first-then holds source more around None one parts e = absurd (cc)
-first-then holds source more around (Some found) one parts e =
+    × (one.sheet ≡ source.sheet) × StandsOutside one.part around
+first-then holds source more around None one parts out e = absurd (cc)
+first-then holds source more around (Some found) one parts out e =
     let place = place_at source found.1 in
     let same : one ≡ placed_part source found.0 (open_after holds around found.0 place) found.1 = cc in (
       place,
       ap (λ (p : PlacedPart). p.around) same
           ∙ sym (ap (λ (p : PlacedPart). open_after holds around p.part place) same),
       ap (λ (p : PlacedPart). p.sheet) same,
+      subst (λ (p : SheetPart). StandsOutside p around) (sym (ap (λ (p : PlacedPart). p.part) same)) out,
     )
 
 first-from : (holds : List ℕ → List ℕ → Bool) (source : Source) (n : ℕ) (around : List OpenText) (text : List ℕ)
     (one : PlacedPart) (parts : List PlacedPart)
     → parts_from holds source n around text ≡ one ∷ parts
     → (place : List ℕ) × (one.around ≡ open_after holds around one.part place)
-    × (one.sheet ≡ source.sheet)
+    × (one.sheet ≡ source.sheet) × StandsOutside one.part around
 unfolding parts_from
 first-from holds source zero around text one parts e = absurd (cc)
 first-from holds source (suc n) around text one parts e =
-    first-then holds source (parts_from holds source n) around (next_in around text) one parts e
+    first-then holds source (parts_from holds source n) around (next_in source.depth around text) one parts
+    (found-outside source.depth around text) e
+
+first-given : (holds : List ℕ → List ℕ → Bool) (source : Source) (around : List OpenText)
+    (rules : List GroupRuleText) (text : List ℕ) (one : PlacedPart) (parts : List PlacedPart)
+    → parts_given holds source around rules text ≡ one ∷ parts
+    → (place : List ℕ) × (one.around ≡ open_after holds around one.part place)
+    × (one.sheet ≡ source.sheet) × StandsOutside one.part around
+first-given holds source around [] text one parts e =
+    first-from holds source (length text) around text one parts e
+first-given holds source around (rule ∷ rules) text one parts e =
+    let kind = given_kind rule in
+    let place = given_place rule in
+    let same : one ≡ placed_part source (begins kind) (open_after holds around (begins kind) place) text =
+    cc in (
+      place,
+      ap (λ (p : PlacedPart). p.around) same
+          ∙ sym (ap (λ (p : PlacedPart). open_after holds around p.part place) same),
+      ap (λ (p : PlacedPart). p.sheet) same,
+      subst (λ (p : SheetPart). StandsOutside p around) (sym (ap (λ (p : PlacedPart). p.part) same)) tt,
+    )
 
 -- ---- the layers that are open
 
 -- the layers and the numbers of those that are open are right for these rules
-abbrev Follows : (outer : ℕ) → List LayerText → List OpenText → SheetPart → List LayerText → List ℕ
-    → Type 0
-Follows outer known around part after now =
-    (after ≡ mentioned outer known around part) × Tracks after outer now around
+abbrev Follows : (outer : ℕ) → List LayerText → ParentsText → List OpenText → SheetPart → List LayerText
+    → List ℕ → Type 0
+Follows outer known parents around part after now =
+    (after ≡ mentioned outer known parents.innermost around part)
+    × Stacked after outer now around (fresh around parents)
+
+-- a name that is no layer, or one in a rule that is not dropped
+no-count : (rule : OpenText) (kept : Bool) → open_name rule ≡ [] → counted_name kept rule ≡ []
+no-count rule true e = e
+no-count rule false e = refl
+
+uncounted : (rule : OpenText) (parent : Parent) (known : Bool) → is_known_dropped parent ≡ known
+    → (known ≡ false → open_name rule ≡ []) → counted_name (not (is_known_dropped parent)) rule ≡ []
+uncounted rule parent true e f = ap (λ (b : Bool). counted_name (not b) rule) e
+uncounted rule parent false e f = no-count rule (not (is_known_dropped parent)) (f refl)
+
+known-if : (parent : Parent) → is_dropped parent ≡ false → is_known_dropped parent ≡ false
+known-if no_rule e = refl
+known-if dropped e = absurd (cc)
+known-if (style prelude under own) e = refl
 
 module _ (holds : List ℕ → List ℕ → Bool) (outer : ℕ) (known after : List LayerText) (numbers now : List ℕ)
-    (before : List OpenText) (t : Tracks known outer numbers before) where
+    (before : List OpenText) (parents : ParentsText)
+    (s : Stacked known outer numbers before (fresh before parents)) where
   stay : (around : List OpenText) → around ≡ before → Keeps known after → now ≡ numbers
-      → Tracks after outer now around
+      → Stacked after outer now around (fresh around parents)
   stay around e keeps f =
-      subst (λ (ns : List ℕ). Tracks after outer ns around) (sym f)
-      (subst (Tracks after outer numbers) (sym e) (tracks-keeps known after keeps outer numbers before t))
+      subst (λ (ns : List ℕ). Stacked after outer ns around (fresh around parents)) (sym f)
+      (subst (λ (rs : List OpenText). Stacked after outer numbers rs (fresh rs parents)) (sym e)
+      (stacked-keeps known after keeps outer numbers before (fresh before parents) s))
 
   same : after ≡ known → Keeps known after
   same e = subst (Keeps known) (sym e) (keeps-itself known)
 
-  number : number_at outer (layer_parts before) known ≡ Some (innermost_of outer numbers)
-  number = tracks-number known outer numbers before t
-
-  enters : (r : OpenText)
+  enters : Tracks known outer numbers before → (r : OpenText)
       → after ≡ with_name known (innermost_of outer numbers) (open_name r)
       → now ≡ numbers ++ or_outermost (number_at (innermost_of outer numbers) (open_name r) after) ∷ []
       → (after ≡ with_name known outer (layer_parts (before ++ r ∷ [])))
       × Tracks after outer now (before ++ r ∷ [])
-  enters r e f =
+  enters t r e f =
       let n = innermost_of outer numbers in
       let name = open_name r in
       let parts : layer_parts (before ++ r ∷ []) ≡ layer_parts before ++ name =
@@ -190,61 +240,168 @@ module _ (holds : List ℕ → List ℕ → Bool) (outer : ℕ) (known after : L
       let found : number_at n name after ≡ Some (or_outermost (number_at n name after)) =
       subst (λ (k : List LayerText). number_at n name k ≡ Some (or_outermost (number_at n name k)))
       (sym e) (name-known known n name) in (
-        e ∙ sym (name-there known outer (layer_parts before) name n number)
+        e ∙ sym (name-there known outer (layer_parts before) name n
+            (tracks-number known outer numbers before t))
             ∙ ap (with_name known outer) (sym parts),
         subst (λ (ns : List ℕ). Tracks after outer ns (before ++ r ∷ [])) (sym f)
             (tracks-more after outer numbers before r (or_outermost (number_at n name after))
             (tracks-keeps known after keeps outer numbers before t) found),
       )
 
+  module _ (r : OpenText) (applies : Bool) (next : ParentsText)
+      (b : Begins (fresh before parents) next r.kind applies)
+      (is : r.applies ≡ applies)
+      (inside : nesting_of (before ++ r ∷ []) ≡ nesting_in r.kind (nesting_of before))
+      (e : after ≡ with_name known (innermost_of outer numbers)
+      (counted_name (not (is_known_dropped next.innermost)) r))
+      (f : now ≡ numbers ++ or_outermost (number_at (innermost_of outer numbers)
+      (counted_name (not (is_known_dropped next.innermost)) r) after) ∷ []) where
+    number_now : ℕ
+    number_now =
+        or_outermost (number_at (innermost_of outer numbers)
+        (counted_name (not (is_known_dropped next.innermost)) r) after)
+
+    counted : is_dropped next.innermost ≡ false
+        → counted_name (not (is_known_dropped next.innermost)) r ≡ open_name r
+    counted kept = ap (λ (d : Bool). counted_name (not d) r) (known-if next.innermost kept)
+
+    -- in a style rule that is not dropped
+    enters-kept : is_dropped next.innermost ≡ false
+        → (after ≡ with_name known outer (layer_parts (before ++ r ∷ [])))
+        × Tracks after outer now (before ++ r ∷ [])
+    enters-kept kept =
+        enters ((stacked-right known outer numbers before (fresh before parents) s).0 (b.kept kept)) r
+        (e ∙ ap (with_name known (innermost_of outer numbers)) (counted kept))
+        (f ∙ ap (λ (name : List LayerPart).
+        numbers ++ or_outermost (number_at (innermost_of outer numbers) name after) ∷ []) (counted kept))
+
+    -- in one that is
+    enters-dropped : is_dropped next.innermost ≡ true → after ≡ known
+    enters-dropped gone =
+        e ∙ ap (with_name known (innermost_of outer numbers))
+        (uncounted r next.innermost (is_known_dropped next.innermost) refl
+        (λ unknown. ap (λ (t : Bool). if t then kind_name r.kind r.place else []) is
+        ∙ b.unnamed gone unknown r.place))
+
+    enters-as : (gone : Bool) → is_dropped next.innermost ≡ gone
+        → after ≡ (if is_dropped next.innermost then known else with_name known outer (layer_parts (before ++ r ∷ [])))
+    enters-as true d =
+        enters-dropped d ∙ sym (ap (λ (t : Bool). if t then known else with_name known outer (layer_parts (before ++ r ∷ []))) d)
+    enters-as false d =
+        (enters-kept d).0 ∙ sym (ap (λ (t : Bool). if t then known else with_name known outer (layer_parts (before ++ r ∷ []))) d)
+
+    enters-keeps : Keeps known after
+    enters-keeps =
+        subst (Keeps known) (sym e) (keeps-name known (innermost_of outer numbers) (counted_name (not (is_known_dropped next.innermost)) r))
+
+    enters-stacked : Stacked after outer now (before ++ r ∷ []) next
+    unfolding number_now
+    enters-stacked =
+        subst (λ (ns : List ℕ). Stacked after outer ns (before ++ r ∷ []) next) (sym f)
+        (stacked-more after outer numbers before (fresh before parents) next applies r number_now
+        (stacked-keeps known after enters-keeps outer numbers before (fresh before parents) s) b inside
+        (λ kept. subst (λ (ns : List ℕ). Tracks after outer ns (before ++ r ∷ [])) f (enters-kept kept).1))
+
   follows : (part : SheetPart) (around : List OpenText) (place : List ℕ)
-      → around ≡ open_after holds before part place → Goes outer known numbers part around after now
-      → Follows outer known around part after now
-  follows (states text) around place e g = (g.0, stay around e (same g.0) g.1)
-  follows (begins kind) around place e g =
+      → around ≡ open_after holds before part place → StandsOutside part before
+      → Goes outer known numbers (not (is_known_dropped (after_part_of parents part around).innermost))
+      part around after now
+      → Follows outer known (after_part_of parents part around) around part after now
+  follows (states text) around place e out g = (g.0, stay around e (same g.0) g.1)
+  follows (begins kind) around place e out g =
       let r = opened holds before kind place in
-      let last : slice_get around (length around - 1) ≡ Some r =
-      ap (λ (rs : List OpenText). slice_get rs (length rs - 1)) e ∙ last-append before r in
-      let h = subst (λ (o : Option OpenText). EntersLast outer known numbers o after now) last g in
-      let done = enters r h.0 h.1 in (
-        done.0 ∙ ap (λ (rs : List OpenText). with_name known outer (layer_parts rs)) (sym e),
-        subst (Tracks after outer now) (sym e) done.1,
+      let next = begun (applies_in (before ++ r ∷ [])) kind (fresh before parents) in
+      let last : slice_get (before ++ r ∷ []) (length (before ++ r ∷ []) - 1) ≡ Some r = last-append before r in
+      let nest : after_part_of parents (begins kind) around ≡ next =
+      ap (after_part_of parents (begins kind)) e
+      ∙ ap (begun (applies_in (before ++ r ∷ [])) kind) (fresh-before before r parents) in
+      let h = subst (λ (o : Option OpenText). EntersLast outer known numbers (not (is_known_dropped next.innermost)) o after now) last
+      (subst (λ (rs : List OpenText). EntersLast outer known numbers (not (is_known_dropped next.innermost)) (slice_get rs (length rs - 1)) after now) e
+      (subst (λ (p : ParentsText). EntersLast outer known numbers (not (is_known_dropped p.innermost)) (slice_get around (length around - 1)) after now) nest g)) in
+      let honest = (stacked-right known outer numbers before (fresh before parents) s).2 in
+      let b = rule-begins kind (applies_in (before ++ r ∷ [])) (fresh before parents) honest in
+      let is : r.applies ≡ applies_in (before ++ r ∷ []) = sym (ap applies_at last) in
+      let inside : nesting_of (before ++ r ∷ []) ≡ nesting_in kind (nesting_of before) = ap nesting_at last in
+      let layers_are = enters-as r (applies_in (before ++ r ∷ [])) next b is inside h.0 h.1 (is_dropped next.innermost) refl in
+      let stack = enters-stacked r (applies_in (before ++ r ∷ [])) next b is inside h.0 h.1 in (
+        layers_are ∙ ap (λ (rs : List OpenText). if is_dropped next.innermost then known else with_name known outer (layer_parts rs)) (sym e)
+            ∙ ap (λ (p : ParentsText). if is_dropped p.innermost then known else with_name known outer (layer_parts around)) (sym nest),
+        subst (λ (p : ParentsText). Stacked after outer now around (fresh around p)) (sym nest)
+            (subst (λ (rs : List OpenText). Stacked after outer now rs (fresh rs next)) (sym e)
+            (subst (Stacked after outer now (before ++ r ∷ [])) (sym (fresh-more before r next)) stack)),
       )
-  follows ends around place e g =
-      let many : length numbers ≡ length before = tracks-many known outer numbers before t in
-      let cut : Tracks known outer (take (length before - 1) numbers) (take (length before - 1) before) =
-      tracks-take known outer numbers before (length before - 1) t in
-      let now_is : now ≡ take (length before - 1) numbers =
-      g.1 ∙ ap (λ (n : ℕ). take (n - 1) numbers) many in (
-        g.0,
-        subst (λ (k : List LayerText). Tracks k outer now around) (sym g.0)
-            (subst (λ (ns : List ℕ). Tracks known outer ns around) (sym now_is)
-            (subst (Tracks known outer (take (length before - 1) numbers)) (sym e) cut)),
-      )
-  follows (stands item) around place e g =
+  follows ends around place e out g = (
+    g.0,
+    subst (λ (k : List LayerText). Stacked k outer now around (fresh around (left_innermost parents))) (sym g.0)
+        (subst (λ (ns : List ℕ). Stacked known outer ns around (fresh around (left_innermost parents))) (sym g.1)
+        (subst (λ (rs : List OpenText). Stacked known outer (take (length numbers - 1) numbers) rs (fresh rs (left_innermost parents))) (sym e)
+        (stacked-left known outer numbers before parents s))),
+  )
+  follows (stands item) around place e out g =
+      let number = tracks-number known outer numbers before
+      (stacked-outside known outer numbers before (fresh before parents) s out) in
       let here : number_in_all outer around known ≡ innermost_of outer numbers =
       ap (λ (rs : List OpenText). number_in_all outer rs known) e ∙ ap or_outermost number in
-      let is : after ≡ mentioned outer known around (stands item) =
+      let is : after ≡ mentioned outer known parents.innermost around (stands item) =
       g.0 ∙ ap (λ (n : ℕ). if_applies (applies_in around) n known item) (sym here) in
-      (is, stay around e (subst (Keeps known) (sym is) (keeps-mentioned outer known around (stands item))) g.1)
+      (is, stay around e (subst (Keeps known) (sym is) (keeps-mentioned outer known parents.innermost around (stands item))) g.1)
+
+-- ---- a style rule that is dropped
+
+unread-none : (run : RunText) (read : Result (List Placed) Fault) → not (is_listed read) ≡ true
+    → unless_invalid run (all_read read) ≡ []
+unread-none run (Ok all) e = absurd (cc)
+unread-none run (Err fault) e = refl
+
+set-none : (run : RunText) (read : Result (List Placed) Fault) (empty : Bool) → not (is_listed read) ≡ true
+    → (if empty then [] else unless_invalid run (all_read read)) ≡ []
+set-none run read true e = refl
+set-none run read false e = unread-none run read e
+
+stated-none : (parent : Parent) (run : RunText) → is_dropped parent ≡ true → stated_rules parent run ≡ []
+stated-none no_rule run e = refl
+stated-none dropped run e = refl
+stated-none (style prelude under unread) run e =
+    set-none run (listed_under under prelude) (declaration_count run.text == 0) e
+stated-none (style prelude under valid) run e = absurd (cc)
+stated-none (style prelude under (numbered own)) run e = absurd (cc)
+
+if-none : (applies : Bool) (rules : List SheetRuleText) → rules ≡ [] → (if applies then rules else []) ≡ []
+if-none true rules e = e
+if-none false rules e = refl
+
+dropped-part : (layer : ℕ) (parent : Parent) (placed : PlacedPart) (part : SheetPart)
+    → is_dropped parent ≡ true → rules_if_stated layer parent placed part ≡ []
+dropped-part layer parent placed (states text) e =
+    if-none (applies_in placed.around) (stated_rules parent (run_at layer placed text))
+    (stated-none parent (run_at layer placed text) e)
+dropped-part layer parent placed (begins kind) e = refl
+dropped-part layer parent placed ends e = refl
+dropped-part layer parent placed (stands item) e = refl
+
+dropped-none : (layer : ℕ) (parent : Parent) (placed : PlacedPart) → is_dropped parent ≡ true
+    → part_rules layer parent placed ≡ []
+dropped-none layer parent placed e = dropped-part layer parent placed placed.part e
 
 -- ---- a part leads somewhere
 
-enters-to : (outer : ℕ) (known : List LayerText) (numbers : List ℕ) (last : Option OpenText)
-    → (after : List LayerText) × (now : List ℕ) × EntersLast outer known numbers last after now
-enters-to outer known numbers None = (known, numbers, (refl, refl))
-enters-to outer known numbers (Some rule) =
+enters-to : (outer : ℕ) (known : List LayerText) (numbers : List ℕ) (counts : Bool) (last : Option OpenText)
+    → (after : List LayerText) × (now : List ℕ) × EntersLast outer known numbers counts last after now
+enters-to outer known numbers counts None = (known, numbers, (refl, refl))
+enters-to outer known numbers counts (Some rule) =
     let n = innermost_of outer numbers in
-    let after = with_name known n (open_name rule) in
-    (after, numbers ++ or_outermost (number_at n (open_name rule) after) ∷ [], (refl, refl))
+    let name = counted_name counts rule in
+    let after = with_name known n name in
+    (after, numbers ++ or_outermost (number_at n name after) ∷ [], (refl, refl))
 
-goes-to : (outer : ℕ) (known : List LayerText) (numbers : List ℕ) (part : SheetPart) (around : List OpenText)
-    → (after : List LayerText) × (now : List ℕ) × Goes outer known numbers part around after now
-goes-to outer known numbers (states text) around = (known, numbers, (refl, refl))
-goes-to outer known numbers (begins kind) around =
-    enters-to outer known numbers (slice_get around (length around - 1))
-goes-to outer known numbers ends around = (known, take (length numbers - 1) numbers, (refl, refl))
-goes-to outer known numbers (stands item) around =
+goes-to : (outer : ℕ) (known : List LayerText) (numbers : List ℕ) (counts : Bool) (part : SheetPart)
+    (around : List OpenText)
+    → (after : List LayerText) × (now : List ℕ) × Goes outer known numbers counts part around after now
+goes-to outer known numbers counts (states text) around = (known, numbers, (refl, refl))
+goes-to outer known numbers counts (begins kind) around =
+    enters-to outer known numbers counts (slice_get around (length around - 1))
+goes-to outer known numbers counts ends around = (known, take (length numbers - 1) numbers, (refl, refl))
+goes-to outer known numbers counts (stands item) around =
     (if_applies (applies_in around) (innermost_of outer numbers) known item, numbers, (refl, refl))
 
 -- ---- steps
@@ -254,8 +411,8 @@ goes-to outer known numbers (stands item) around =
 pub record Reads (holds : List ℕ → List ℕ → Bool) (sheets : List SheetText) (most : ℕ)
     (read : ReadRules) (reader : SheetParts) (more : List PlacedPart) : Type 0 where
   pub outer : outermost_in read.opened ≡ outermost_at sheets (source_of reader).sheet
-  pub tracks : Tracks (known_in read.opened) (outermost_in read.opened) (numbers_in read.opened)
-      (open_in reader)
+  pub tracks : Stacked (known_in read.opened) (outermost_in read.opened) (numbers_in read.opened)
+      (open_in reader) (fresh (open_in reader) (parents_of read.parents))
   pub awaits : Awaits holds sheets most read (parts_to_come (with_layers holds) reader ++ more)
 
 module _ (holds : List ℕ → List ℕ → Bool) (sheets : List SheetText) (most : ℕ)
@@ -275,13 +432,16 @@ module _ (holds : List ℕ → List ℕ → Bool) (sheets : List SheetText) (mos
   reads-none before read reader parts outer e f g same none come awaits = record {
     outer = outer;
     tracks =
-        none-open (known_in read.opened) (outermost_in read.opened) (numbers_in read.opened)
-        (open_in reader) f none;
+        stacked-none (known_in read.opened) (outermost_in read.opened) (numbers_in read.opened)
+        (open_in reader) (parents_of read.parents) f none;
     awaits =
         subst (λ (ps : List PlacedPart). Awaits holds sheets most read (ps ++ later)) (sym come)
         (record {
           layers =
-              ap (λ (ls : List LayerText). with_parts at ls (parts ++ later)) e ∙ awaits.layers;
+              ap (λ (ls : List LayerText). with_parts at ls (parents_of read.parents) (parts ++ later)) e
+              ∙ ap (λ (nest : OpenParents).
+              with_parts at (known_in before.opened) (parents_of nest) (parts ++ later)) same
+              ∙ awaits.layers;
           rules =
               ap (λ (all : Gathered).
               gathered_rules all ++ rules_of_parts at final (parents_of read.parents) (parts ++ later)) g
@@ -313,41 +473,49 @@ module _ (holds : List ℕ → List ℕ → Bool) (sheets : List SheetText) (mos
     open_is : (place : List ℕ)
         × (open_in after ≡ open_after (with_layers holds) (open_in before) (part_of part) place)
         × ((source_of after).sheet ≡ (source_of before).sheet)
+        × StandsOutside (part_of part) (open_in before)
     open_is =
-        first-from (with_layers holds) (source_of before) (length (left_in before)) (open_in before)
-        (left_in before) (placed_last after (part_of part))
-        (parts_to_come (with_layers holds) after) gives
+        first-given (with_layers holds) (source_of before) (open_in before) (given_in before)
+        (left_in before) (placed_last after (part_of part)) (parts_to_come (with_layers holds) after)
+        gives
+
+    -- the style rules that are open then
+    abbrev nest : ParentsText
+    nest = after_part (parents_of read.parents) (placed_last after (part_of part))
 
     follow-to : (known : List LayerText) (numbers : List ℕ)
-        → Goes (outermost_in read.opened) (known_in read.opened) (numbers_in read.opened) (part_of part)
-        (open_in after) known numbers
-        → Follows (outermost_in read.opened) (known_in read.opened) (open_in after) (part_of part) known
+        → Goes (outermost_in read.opened) (known_in read.opened) (numbers_in read.opened)
+        (counts_after read (part_of part) after) (part_of part) (open_in after) known numbers
+        → Follows (outermost_in read.opened) (known_in read.opened) nest (open_in after) (part_of part) known
         numbers
     follow-to known numbers goes =
         follows (with_layers holds) (outermost_in read.opened) (known_in read.opened) known
-        (numbers_in read.opened) numbers (open_in before) h.tracks (part_of part) (open_in after)
-        open_is.0 open_is.1 goes
+        (numbers_in read.opened) numbers (open_in before) (parents_of read.parents) h.tracks (part_of part)
+        (open_in after) open_is.0 open_is.1 open_is.3 goes
 
     -- all of the sheet is in the layer that is the outermost one now
     outer_is : outermost_in read.opened ≡ at (source_of after).sheet
     outer_is = h.outer ∙ sym (ap at open_is.2)
 
     layers_from : (known : List LayerText)
-        → known ≡ mentioned (outermost_in read.opened) (known_in read.opened) (open_in after) (part_of part)
-        → with_parts at known come ≡ final
+        → known ≡ mentioned (outermost_in read.opened) (known_in read.opened) nest.innermost (open_in after)
+        (part_of part)
+        → with_parts at known nest come ≡ final
     layers_from known is =
-        ap (λ (k : List LayerText). with_parts at k come)
-        (is ∙ ap (λ (n : ℕ). mentioned n (known_in read.opened) (open_in after) (part_of part)) outer_is)
-        ∙ sym (ap (with_parts at (known_in read.opened)) gives-all) ∙ h.awaits.layers
+        ap (λ (k : List LayerText). with_parts at k nest come)
+        (is ∙ ap (λ (n : ℕ). mentioned n (known_in read.opened) nest.innermost (open_in after) (part_of part)) outer_is)
+        ∙ sym (ap (with_parts at (known_in read.opened) (parents_of read.parents)) gives-all) ∙ h.awaits.layers
 
     -- too many layers would be known then
     pub reads-many : GoesOver (outermost_in read.opened) (known_in read.opened) (numbers_in read.opened)
-        (part_of part) (open_in after)
+        (counts_after read (part_of part) after) (part_of part) (open_in after)
         → AreMany (sheet_layers holds sheets)
     reads-many over =
-        let there = goes-to (outermost_in read.opened) (known_in read.opened) (numbers_in read.opened) (part_of part) (open_in after) in
+        let there =
+        goes-to (outermost_in read.opened) (known_in read.opened) (numbers_in read.opened)
+        (counts_after read (part_of part) after) (part_of part) (open_in after) in
         let many = over there.0 there.1 there.2 in
-        let more = grows-parts at there.0 come in
+        let more = grows-parts at there.0 nest come in
         let all = ap length (layers_from there.0 (follow-to there.0 there.1 there.2).0) in
         omega (arith, many, more, all)
 
@@ -362,29 +530,53 @@ module _ (holds : List ℕ → List ℕ → Bool) (sheets : List SheetText) (mos
     outer_now : outermost_in now.opened ≡ at (source_of after).sheet
     outer_now = goes.1 ∙ outer_is read before after part h gives
 
-    follow : Follows (outermost_in read.opened) (known_in read.opened) (open_in after) (part_of part)
-        (known_in now.opened) (numbers_in now.opened)
+    follow : Follows (outermost_in read.opened) (known_in read.opened) (nest read before after part h gives)
+        (open_in after) (part_of part) (known_in now.opened) (numbers_in now.opened)
     follow =
         follow-to read before after part h gives (known_in now.opened) (numbers_in now.opened) goes.0
 
-    tracks_now : Tracks (known_in now.opened) (outermost_in now.opened) (numbers_in now.opened) (open_in after)
+    tracks_now : Stacked (known_in now.opened) (outermost_in now.opened) (numbers_in now.opened)
+        (open_in after) (fresh (open_in after) (parents_of now.parents))
     tracks_now =
-        subst (λ (n : ℕ). Tracks (known_in now.opened) n (numbers_in now.opened) (open_in after))
-        (sym goes.1) follow.1
+        subst (λ (p : ParentsText). Stacked (known_in now.opened) (outermost_in now.opened) (numbers_in now.opened) (open_in after) (fresh (open_in after) p)) (sym nests)
+        (subst (λ (n : ℕ). Stacked (known_in now.opened) n (numbers_in now.opened) (open_in after)
+        (fresh (open_in after) (nest read before after part h gives)))
+        (sym goes.1) follow.1)
 
-    layers_now : with_parts at (known_in now.opened) to_come ≡ final
-    layers_now = layers_from read before after part h gives (known_in now.opened) follow.0
+    layers_now : with_parts at (known_in now.opened) (parents_of now.parents) to_come ≡ final
+    layers_now =
+        ap (λ (p : ParentsText). with_parts at (known_in now.opened) p to_come) nests
+        ∙ layers_from read before after part h gives (known_in now.opened) follow.0
 
-    number_is : number_in_all (at (source_of after).sheet) (open_in after) final
+    -- the number of the layer in a style rule that is not dropped
+    number_is : is_dropped (parent_of now.parents.innermost) ≡ false
+        → number_in_all (at (source_of after).sheet) (open_in after) final
         ≡ innermost_of (outermost_in now.opened) (numbers_in now.opened)
-    number_is =
+    number_is kept =
         let outer = outermost_in now.opened in
         ap (λ (n : ℕ). number_in_all n (open_in after) final) (sym outer_now)
         ∙ ap or_outermost
         (keeps-at (known_in now.opened) final
-        (subst (Keeps (known_in now.opened)) layers_now (keeps-parts at (known_in now.opened) to_come))
+        (subst (Keeps (known_in now.opened)) layers_now
+        (keeps-parts at (known_in now.opened) (parents_of now.parents) to_come))
         outer (layer_parts (open_in after)) (innermost_of outer (numbers_in now.opened))
-        (tracks-number (known_in now.opened) outer (numbers_in now.opened) (open_in after) tracks_now))
+        (tracks-number (known_in now.opened) outer (numbers_in now.opened) (open_in after)
+        (stacked-tracks (known_in now.opened) outer (numbers_in now.opened) (open_in after)
+        (parents_of now.parents) tracks_now kept)))
+
+    -- one that is dropped has no rules
+    rules_are : (gone : Bool) → is_dropped (parent_of now.parents.innermost) ≡ gone
+        → part_rules (number_in_all (at (source_of after).sheet) (open_in after) final)
+        (parent_of now.parents.innermost) (placed_last after (part_of part))
+        ≡ rules_now now (part_of part) after
+    rules_are true gone =
+        dropped-none (number_in_all (at (source_of after).sheet) (open_in after) final)
+        (parent_of now.parents.innermost) (placed_last after (part_of part)) gone
+        ∙ sym (dropped-none (innermost_of (outermost_in now.opened) (numbers_in now.opened))
+        (parent_of now.parents.innermost) (placed_last after (part_of part)) gone)
+    rules_are false kept =
+        ap (λ (n : ℕ). part_rules n (parent_of now.parents.innermost) (placed_last after (part_of part)))
+        (number_is kept)
 
     more : List SheetRuleText
     more = rules_now now (part_of part) after
@@ -398,9 +590,8 @@ module _ (holds : List ℕ → List ℕ → Bool) (sheets : List SheetText) (mos
         ∙ ap (λ (nest : ParentsText).
         placed_rules at final nest.innermost (placed_last after (part_of part))
         ++ rules_of_parts at final nest to_come) (sym nests)
-        ∙ ap (λ (n : ℕ).
-        part_rules n (parent_of now.parents.innermost) (placed_last after (part_of part))
-        ++ rules_of_parts at final (parents_of now.parents) to_come) number_is
+        ∙ ap (λ (rs : List SheetRuleText). rs ++ rules_of_parts at final (parents_of now.parents) to_come)
+        (rules_are (is_dropped (parent_of now.parents.innermost)) refl)
 
     sums : declarations_in (rules_of_parts at final (parents_of read.parents)
         (parts_to_come (with_layers holds) before ++ later))
@@ -409,7 +600,7 @@ module _ (holds : List ℕ → List ℕ → Bool) (sheets : List SheetText) (mos
         ap declarations_in first_rules
         ∙ declarations-append more (rules_of_parts at final (parents_of now.parents) to_come)
 
-    lists_now : (after_parts (parents_of now.parents) to_come).lists ≡ nested_lists holds (texts_in sheets)
+    lists_now : (after_parts (parents_of now.parents) to_come).lists ≡ nested_lists holds sheets
     lists_now =
         ap (λ (nest : ParentsText). (after_parts nest to_come).lists) nests
         ∙ sym (ap (λ (ps : List PlacedPart). (after_parts (parents_of read.parents) ps).lists) (gives-all read before after part h gives))
@@ -459,17 +650,21 @@ pub awaits-none : (holds : List ℕ → List ℕ → Bool) (sheets : List SheetT
     (read : ReadRules) → known_in read.opened ≡ outermost_layers
     → gathered_rules read.gathered ≡ [] → parents_of read.parents ≡ none_open []
     → read.gathered.left ≡ most
-    → Awaits holds sheets most read (layered_parts holds (texts_in sheets))
+    → Awaits holds sheets most read (layered_parts holds sheets)
 awaits-none holds sheets most read known rules none left = record {
-  layers = ap (λ (ls : List LayerText). with_parts (outermost_at sheets) ls (layered_parts holds (texts_in sheets))) known;
+  layers =
+      ap (λ (ls : List LayerText). with_parts (outermost_at sheets) ls (parents_of read.parents)
+      (layered_parts holds sheets)) known
+      ∙ ap (λ (nest : ParentsText). with_parts (outermost_at sheets) outermost_layers nest
+      (layered_parts holds sheets)) none;
   rules =
       ap (λ (nest : ParentsText). gathered_rules read.gathered
-      ++ rules_of_parts (outermost_at sheets) (sheet_layers holds sheets) nest (layered_parts holds (texts_in sheets))) none
+      ++ rules_of_parts (outermost_at sheets) (sheet_layers holds sheets) nest (layered_parts holds sheets)) none
       ∙ ap (λ (rs : List SheetRuleText). rs ++ numbered_rules holds sheets) rules;
-  lists = ap (λ (nest : ParentsText). (after_parts nest (layered_parts holds (texts_in sheets))).lists) none;
+  lists = ap (λ (nest : ParentsText). (after_parts nest (layered_parts holds sheets)).lists) none;
   room =
       ap (λ (nest : ParentsText). most
-      + declarations_in (rules_of_parts (outermost_at sheets) (sheet_layers holds sheets) nest (layered_parts holds (texts_in sheets))))
+      + declarations_in (rules_of_parts (outermost_at sheets) (sheet_layers holds sheets) nest (layered_parts holds sheets)))
       none
       ∙ sym (ap (λ (n : ℕ). n + declarations_in (numbered_rules holds sheets)) left);
 }
@@ -511,7 +706,7 @@ handed-error P result error e due =
 -- the parts of the sheets that are left, of which the first has this number
 abbrev pub sheets_left : (List ℕ → List ℕ → Bool) → (number : ℕ) → List Sheet → List PlacedPart
 sheets_left holds number rest =
-    all_parts_from (with_layers holds) number (texts_in (map sheet_of rest))
+    all_parts_from (with_layers holds) number (map sheet_of rest)
 
 -- so many were read, with the first of those that were left
 pub counted-next : (number n : ℕ) (rest : List Sheet) → 1 ≤ length rest
@@ -527,12 +722,12 @@ pub sheets-first : (holds : List ℕ → List ℕ → Bool) (sheets : List Sheet
     (read : ReadRules) (number : ℕ) (rest : List Sheet) (d : Sheet) → 1 ≤ length rest
     → Awaits holds sheets most read (sheets_left holds number rest)
     → Awaits holds sheets most read
-    (sheet_parts (with_layers holds) number (get_or rest 0 d).text.now
+    (sheet_parts (with_layers holds) number (sheet_of (get_or rest 0 d))
     ++ sheets_left holds (number + 1) (take (length rest - 1) (drop 1 rest)))
 sheets-first holds sheets most read number [] d l awaits = absurd (omega (arith, l))
 sheets-first holds sheets most read number (sheet ∷ later) d l awaits =
     let same : take (length (sheet ∷ later) - 1) later ≡ later =
     take_all (length (sheet ∷ later) - 1) later (omega arith) in
     subst (λ (ss : List Sheet). Awaits holds sheets most read
-    (sheet_parts (with_layers holds) number sheet.text.now ++ sheets_left holds (number + 1) ss)) (sym same)
+    (sheet_parts (with_layers holds) number (sheet_of sheet) ++ sheets_left holds (number + 1) ss)) (sym same)
     awaits

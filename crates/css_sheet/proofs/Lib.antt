@@ -1,11 +1,18 @@
+pub mod NextParts
 pub mod Sizes
+pub mod GroupPieces
 pub mod SheetSteps
+pub mod NoneIsLost
 pub mod PlaceLemmas
 pub mod PartSteps
+mod PartPieces
 mod SheetRuleLemmas
 mod OpenLemmas
-mod GatherLemmas
 mod ParentLemmas
+mod LevelLemmas
+mod PartNesting
+mod EdgeLemmas
+mod GatherLemmas
 mod WrittenItems
 pub mod ImportLemmas
 mod FrontLemmas

@@ -1,5 +1,5 @@
 -- The rules that are left.
--- Serves `OpenParents::leave`.
+-- Serves `OpenParents::leave` and `ReadRules::push_sheet`.
 use Rattle.std.proofs.Common.{◌≡◌, suc, ◌-◌, List, [], ◌∷◌, ◌++◌, Option, length, map, take, slice_get, arith, refl, ap, ◌∙◌}
 use Rattle.std.proofs.lemmas.List.{map-append}
 use Rattle.std.specs.Option.{option_map}
@@ -15,14 +15,14 @@ take-front [] x = refl
 take-front (y ∷ xs) x = ap (λ more. y ∷ more) (take-front xs x)
 
 -- all but the last
-take-append : {X : Type 0} (xs : List X) (x : X)
+pub take-append : {X : Type 0} (xs : List X) (x : X)
     → take (length (xs ++ x ∷ []) - 1) (xs ++ x ∷ []) ≡ xs
 take-append {X = X} xs x =
     let h : length (xs ++ x ∷ []) ≡ suc (length xs) = one-more xs x in
     let at : length (xs ++ x ∷ []) - 1 ≡ length xs = omega (arith, h) in
     ap (λ n. take n (xs ++ x ∷ [])) at ∙ take-front xs x
 
-left-some : (p : ParentsText) (front : List (Option ParentText)) (last : Option ParentText)
+pub left-some : (p : ParentsText) (front : List (Option ParentText)) (last : Option ParentText)
     → p.outer ≡ front ++ last ∷ []
     → left_innermost p
     ≡ record { innermost = or_same p.innermost last; outer = front; lists = p.lists }

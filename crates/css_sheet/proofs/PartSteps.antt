@@ -1,5 +1,6 @@
 -- What the parts of a sheet consume, and the parts one after another.
--- Serves `parts::{past_run, state_from, begin_inside, SheetParts::next}`.
+-- Serves `parts::{past_run, state_from, begin_inside, SheetParts::{read_next, next}}`.
+use Rattle.std.specs.Prelude.{IfOk, Result, Ok, Err}
 use Rattle.std.proofs.Common.{◌≡◌, ℕ, zero, suc, ◌<◌, ◌≤◌, Bool, List, [], ◌∷◌, length, Option, Some, None, arith, refl, sym, ap, ◌∙◌, subst, inl, inr}
 use Rattle.css_text.proofs.reading.EachLemmas.{Shrinks, Takes, option_cases}
 use Rattle.css_text.proofs.reading.TakesLemmas.{each-within}
@@ -11,7 +12,11 @@ use Rattle.css_syntax.specs.Blocks.{BlockPart, listed, opens_rule, opens_at_rule
 use Rattle.css_syntax.proofs.ItemLemmas.{block-within, block-well, separators-well}
 use Rattle.css_syntax.proofs.BlockSteps.{next_block_part-takes, next_rule_part-takes, next_block_part-well, found_then-well}
 use Rattle.css_sheet.specs.SheetItems.{group_keyword}
-use Rattle.css_sheet.specs.SheetParts.{Nesting, outside, within, nested, OpenText, SheetPart, PlacedPart, after_at_rule, among_declarations, run_part, past_run, at_rule_in, part_inside, option_inside, at_rule_outside, part_outside, option_outside, next_by, nesting_of, is_some_open, next_in, open_after, part_then, parts_from, parts_in, place_at, placed_part, Source}
+use Rattle.css_sheet.specs.Sheets.{GroupRuleText}
+use Rattle.css_sheet.specs.declared.parts.Part.{Part}
+use Rattle.css_sheet.specs.declared.parts.SheetParts.{SheetParts}
+use Rattle.css_sheet.specs.internal.PartViews.{part_of, given_in, left_in, open_in, placed_last, source_of, GivesNext, GivesPart}
+use Rattle.css_sheet.specs.SheetParts.{Nesting, outside, within, nested, OpenText, SheetPart, PlacedPart, after_at_rule, among_declarations, run_part, past_run, at_rule_in, part_inside, option_inside, at_rule_outside, part_outside, option_outside, next_by, nesting_of, is_more_open, next_in, open_after, part_then, parts_from, parts_given, parts_in, place_at, placed_part, Source}
 
 -- ---- declarations one after another
 
@@ -111,15 +116,16 @@ by-takes nested in_block text =
     option_inside-takes text (past_separators text) (next_block_part text)
     (next_block_part-takes text)
 
-next_in-takes : (around : List OpenText) (text : List ℕ) → Shrinks text (next_in around text)
+next_in-takes : (depth : ℕ) (around : List OpenText) (text : List ℕ)
+    → Shrinks text (next_in depth around text)
 unfolding next_in
-next_in-takes around text = by-takes (nesting_of around) (is_some_open around) text
+next_in-takes depth around text = by-takes (nesting_of around) (is_more_open depth around) text
 
-pub took : (around : List OpenText) (text rest : List ℕ) (part : SheetPart)
-    → next_in around text ≡ Some (part, rest) → length rest < length text
-took around text rest part e =
+pub took : (depth : ℕ) (around : List OpenText) (text rest : List ℕ) (part : SheetPart)
+    → next_in depth around text ≡ Some (part, rest) → length rest < length text
+took depth around text rest part e =
     let P : Option (SheetPart × List ℕ) → Type 0 = Shrinks text in
-    subst P e (next_in-takes around text)
+    subst P e (next_in-takes depth around text)
 
 -- ---- the parts one after another
 
@@ -137,17 +143,17 @@ module _ (holds : List ℕ → List ℕ → Bool) (source : Source) where
   unfolding parts_from
   enough zero zero around text a b = refl
   enough zero (suc n) around text a b =
-      elim (option_cases (next_in around text)) [
+      elim (option_cases (next_in source.depth around text)) [
         | inl e ↦ sym (ap (part_then holds source (parts_from holds source n) around) e)
-        | inr found ↦ absurd (omega (arith, took around text found.0.1 found.0.0 found.1))
+        | inr found ↦ absurd (omega (arith, took source.depth around text found.0.1 found.0.0 found.1))
       ]
   enough (suc m) zero around text a b =
-      elim (option_cases (next_in around text)) [
+      elim (option_cases (next_in source.depth around text)) [
         | inl e ↦ ap (part_then holds source (parts_from holds source m) around) e
-        | inr found ↦ absurd (omega (arith, took around text found.0.1 found.0.0 found.1))
+        | inr found ↦ absurd (omega (arith, took source.depth around text found.0.1 found.0.0 found.1))
       ]
   enough (suc m) (suc n) around text a b =
-      elim (option_cases (next_in around text)) [
+      elim (option_cases (next_in source.depth around text)) [
         | inl e ↦
             ap (part_then holds source (parts_from holds source m) around) e
             ∙ sym (ap (part_then holds source (parts_from holds source n) around) e)
@@ -155,29 +161,53 @@ module _ (holds : List ℕ → List ℕ → Bool) (source : Source) where
             let rest = found.0.1 in
             let part = found.0.0 in
             let after = open_after holds around part (place_at source rest) in
-            let less : length rest < length text = took around text rest part found.1 in
-            then-some (parts_from holds source m) around part rest (next_in around text) found.1
+            let less : length rest < length text = took source.depth around text rest part found.1 in
+            then-some (parts_from holds source m) around part rest (next_in source.depth around text) found.1
             ∙ ap (λ (more : List PlacedPart). placed_part source part after rest ∷ more)
             (enough m n after rest (omega arith) (omega arith))
-            ∙ sym (then-some (parts_from holds source n) around part rest (next_in around text) found.1)
+            ∙ sym (then-some (parts_from holds source n) around part rest (next_in source.depth around text) found.1)
       ]
 
   pub parts-some : (around after : List OpenText) (text rest : List ℕ) (part : SheetPart)
-      → next_in around text ≡ Some (part, rest) → after ≡ open_after holds around part (place_at source rest)
+      → next_in source.depth around text ≡ Some (part, rest) → after ≡ open_after holds around part (place_at source rest)
       → parts_in holds source around text
       ≡ placed_part source part after rest ∷ parts_in holds source after rest
   unfolding parts_from
-  parts-some around after [] rest part e f = absurd (omega (arith, took around [] rest part e))
+  parts-some around after [] rest part e f = absurd (omega (arith, took source.depth around [] rest part e))
   parts-some around after (b ∷ text) rest part e f =
-      let less : length rest < length (b ∷ text) = took around (b ∷ text) rest part e in
+      let less : length rest < length (b ∷ text) = took source.depth around (b ∷ text) rest part e in
       let now = open_after holds around part (place_at source rest) in
-      then-some (parts_from holds source (length text)) around part rest (next_in around (b ∷ text)) e
+      then-some (parts_from holds source (length text)) around part rest (next_in source.depth around (b ∷ text)) e
       ∙ ap (λ (more : List PlacedPart). placed_part source part now rest ∷ more)
       (enough (length text) (length rest) now rest (omega arith) (omega arith))
       ∙ sym (ap (λ (os : List OpenText). placed_part source part os rest ∷ parts_in holds source os rest) f)
 
-  pub parts-none : (around : List OpenText) (text : List ℕ) → next_in around text ≡ None
+  pub parts-none : (around : List OpenText) (text : List ℕ) → next_in source.depth around text ≡ None
       → parts_in holds source around text ≡ []
   unfolding parts_from
   parts-none around [] e = refl
   parts-none around (b ∷ text) e = ap (part_then holds source (parts_from holds source (length text)) around) e
+
+-- ---- group rules that all of a sheet is in
+
+-- once all have begun, the parts that are to come are those of what is left of the text
+none-given : (holds : List ℕ → List ℕ → Bool) (before after : SheetParts) (part : Option Part)
+    → given_in before ≡ [] → given_in after ≡ given_in before → GivesNext holds before part after
+    → GivesPart holds before part after
+none-given holds before after None e f gives =
+    ap (λ (rules : List GroupRuleText).
+    parts_given holds (source_of before) (open_in before) rules (left_in before)) e ∙ gives
+none-given holds before after (Some part) e f gives =
+    ap (λ (rules : List GroupRuleText).
+    parts_given holds (source_of before) (open_in before) rules (left_in before)) e
+    ∙ gives
+    ∙ sym (ap (λ (rules : List GroupRuleText). placed_last after (part_of part)
+    ∷ parts_given holds (source_of after) (open_in after) rules (left_in after)) (f ∙ e))
+
+pub none-given-ok : {E : Type 0} (holds : List ℕ → List ℕ → Bool) (before after : SheetParts)
+    (result : Result (Option Part) E)
+    → given_in before ≡ [] → given_in after ≡ given_in before
+    → IfOk result (λ part. GivesNext holds before part after)
+    → IfOk result (λ part. GivesPart holds before part after)
+none-given-ok holds before after (Ok part) e f gives = none-given holds before after part e f gives
+none-given-ok holds before after (Err error) e f gives = tt

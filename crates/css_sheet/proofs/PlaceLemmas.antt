@@ -1,13 +1,12 @@
 -- Where the next statement is, and how long its block is.
 -- Serves `SheetReader::step` (what it asks of `find`, and that no offset is outside the sheet).
-use Rattle.std.proofs.Common.{◌≡◌, ℕ, ◌≤◌, ◌<◌, ◌+◌, ◌^◌, Bool, true, false, List, length, Option, Some, None, arith, refl, ap, sym, ◌∙◌, subst, if◌then◌else◌}
-use Rattle.css_text.proofs.reading.EachLemmas.{took}
+use Rattle.std.proofs.Common.{◌≡◌, ℕ, ◌≤◌, ◌<◌, ◌+◌, ◌^◌, Bool, true, false, List, length, Option, Some, None, arith, refl, ap, sym, ◌∙◌, subst, if◌then◌else◌, inl, inr}
 use Rattle.css_syntax.specs.Statements.{BlockText, AtRuleText, StatementText, rule_set, at_rule_statement, skipped_statement, SheetText, statement, past_between, ends_block, statement_from, next_statement, with_text}
 use Rattle.css_syntax.specs.Contents.{statement_contents}
-use Rattle.css_syntax.proofs.ItemLemmas.{next_statement-takes}
 use Rattle.css_syntax.proofs.PlaceBounds.{BlockFits, block_in, statement-fits, between-within, contents-within}
-use Rattle.css_sheet.specs.SheetItems.{GroupText, group_with, group_of, is_group_name}
+use Rattle.css_sheet.specs.SheetItems.{GroupText, group_with, group_of, is_group_name, next_part}
 use Rattle.css_sheet.specs.Places.{block_size, block_length, places_by, PlacesText}
+use Rattle.css_sheet.proofs.NextParts.{next-cases}
 use Rattle.css_sheet.proofs.SheetSteps.{place}
 
 -- the length of a block by its fit
@@ -37,17 +36,26 @@ statement-at in_block start = by (ends_block in_block start)
     by true = tt
     by false = refl
 
-pub block-length : (in_block : Bool) (text rest : List ℕ) (p : SheetText)
+read-length : (in_block : Bool) (text rest : List ℕ) (p : SheetText)
     → next_statement in_block text ≡ Some (p, rest)
     → block_length p.statement ≤ length (statement_contents in_block (past_between in_block text))
 unfolding next_statement StatementOf
-block-length in_block text rest p e =
+read-length in_block text rest p e =
     let start = past_between in_block text in
     let is : p.statement ≡ (statement in_block start).0 =
     subst (StatementOf in_block start) e (statement-at in_block start) in
     length-fits p.statement (statement_contents in_block start)
     (subst (λ (s : StatementText). BlockFits (block_in s) (statement_contents in_block start))
     (sym is) (statement-fits in_block start))
+
+pub block-length : (in_block : Bool) (text rest : List ℕ) (p : SheetText)
+    → next_part in_block text ≡ Some (p, rest)
+    → block_length p.statement ≤ length (statement_contents in_block (past_between in_block text))
+block-length in_block text rest p e =
+    elim (next-cases in_block text rest p e) [
+      | inl read ↦ read-length in_block text rest p read
+      | inr stray ↦ omega (arith, ap (λ (q : SheetText). block_length q.statement) stray.part_is)
+    ]
 
 -- the text of a group rule is the contents of its block
 GroupIs : ℕ → Option GroupText → Type 0
@@ -77,11 +85,6 @@ pub group-length : (s : StatementText) (group : GroupText) → group_of s ≡ So
     → length group.text ≡ block_length s
 unfolding GroupIs
 group-length s group e = subst (GroupIs (block_length s)) e (group-is s)
-
-pub rest-less : (in_block : Bool) (text rest : List ℕ) (p : SheetText)
-    → next_statement in_block text ≡ Some (p, rest) → length rest < length text
-rest-less in_block text rest p e =
-    took (next_statement in_block) (next_statement-takes in_block) text rest p e
 
 pub start-within : (in_block : Bool) (text from : List ℕ) (end : ℕ)
     → from ≡ past_between in_block text → length text ≤ end → length from ≤ end

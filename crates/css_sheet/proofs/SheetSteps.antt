@@ -1,17 +1,16 @@
 -- What is to come after each step of the reader.
 -- Serves `SheetReader::{leave, step}`.
 use Rattle.std.proofs.Common.{◌≡◌, ℕ, zero, suc, ◌+◌, ◌-◌, ◌<◌, ◌≤◌, Bool, true, false, List, [], ◌∷◌, ◌++◌, length, map, Option, Some, None, arith, refl, sym, ap, ◌∙◌, append_assoc, append-nil, length-append, not, ◌==◌, eqb-true}
-use Rattle.css_syntax.specs.Statements.{SheetText, next_statement, past_between}
+use Rattle.css_syntax.specs.Statements.{SheetText, past_between}
 use Rattle.css_syntax.specs.Contents.{statement_contents}
-use Rattle.css_syntax.specs.Placed.{placed_statements}
-use Rattle.css_syntax.proofs.PlacedSteps.{placed-statements-some, placed-statements-none}
 use Rattle.css_sheet.specs.Places.{PlacesText, places_by}
-use Rattle.css_sheet.specs.SheetItems.{ConditionText, SheetItemText, GroupText, group_of, condition_of, part_items, all_items, each_alone, items_in}
+use Rattle.css_sheet.specs.SheetItems.{ConditionText, SheetItemText, GroupText, group_of, condition_of, next_part, placed_parts, part_items, all_items, each_alone, items_in}
 use Rattle.css_sheet.specs.declared.state.Level.{Level}
 use Rattle.css_sheet.specs.declared.state.SheetReader.{SheetReader}
 use Rattle.css_sheet.specs.declared.reader.Step.{Step}
 use Rattle.css_sheet.specs.declared.reader.Step.TheVariants as steps
 use Rattle.css_sheet.specs.ReaderViews.{LevelText, level_of, levels_of, left_of, end_of, is_inside, condition_at, is_some_open, still, size_after, Leaves, Steps}
+use Rattle.css_sheet.proofs.NextParts.{placed-parts-some, placed-parts-none}
 use Rattle.css_sheet.proofs.Sizes.{next-fits}
 
 -- in a block, if a group rule is open
@@ -40,44 +39,44 @@ a_level group places end rest = record {
 
 -- ---- the innermost text
 
-items-none : (n : ℕ) (in_block : Bool) (conditions : List ConditionText) (end : ℕ) (text : List ℕ)
-    → next_statement in_block text ≡ None → items_in n in_block conditions end text ≡ []
+pub items-none : (n : ℕ) (in_block : Bool) (conditions : List ConditionText) (end : ℕ) (text : List ℕ)
+    → next_part in_block text ≡ None → items_in n in_block conditions end text ≡ []
 unfolding items_in
 items-none zero in_block conditions end text e =
-    ap (each_alone in_block conditions end) (placed-statements-none in_block text e)
+    ap (each_alone in_block conditions end) (placed-parts-none in_block text e)
 items-none (suc n) in_block conditions end text e =
     ap (all_items (items_in n true) in_block conditions end)
-    (placed-statements-none in_block text e)
+    (placed-parts-none in_block text e)
 
-items-alone : (in_block : Bool) (conditions : List ConditionText) (end : ℕ) (text rest : List ℕ)
-    (part : SheetText) → next_statement in_block text ≡ Some (part, rest)
+pub items-alone : (in_block : Bool) (conditions : List ConditionText) (end : ℕ) (text rest : List ℕ)
+    (part : SheetText) → next_part in_block text ≡ Some (part, rest)
     → items_in zero in_block conditions end text
     ≡ an_item conditions part (place end in_block text part)
     ∷ items_in zero in_block conditions end rest
 unfolding items_in
 items-alone in_block conditions end text rest part e =
-    ap (each_alone in_block conditions end) (placed-statements-some in_block text rest part e)
+    ap (each_alone in_block conditions end) (placed-parts-some in_block text rest part e)
 
-items-plain : (n : ℕ) (in_block : Bool) (conditions : List ConditionText) (end : ℕ)
-    (text rest : List ℕ) (part : SheetText) → next_statement in_block text ≡ Some (part, rest)
+pub items-plain : (n : ℕ) (in_block : Bool) (conditions : List ConditionText) (end : ℕ)
+    (text rest : List ℕ) (part : SheetText) → next_part in_block text ≡ Some (part, rest)
     → group_of part.statement ≡ None
     → items_in n in_block conditions end text
     ≡ an_item conditions part (place end in_block text part)
     ∷ items_in n in_block conditions end rest
 unfolding items_in
 items-plain zero in_block conditions end text rest part e g =
-    ap (each_alone in_block conditions end) (placed-statements-some in_block text rest part e)
+    ap (each_alone in_block conditions end) (placed-parts-some in_block text rest part e)
 items-plain (suc n) in_block conditions end text rest part e g =
     let more = all_items (items_in n true) in_block conditions end
-    (placed_statements in_block rest) in
+    (placed_parts in_block rest) in
     ap (all_items (items_in n true) in_block conditions end)
-    (placed-statements-some in_block text rest part e)
+    (placed-parts-some in_block text rest part e)
     ∙ ap (λ (o : Option GroupText). part_items (items_in n true) conditions part
     (place end in_block text part) (end - length rest) o ++ more) g
 
-items-group : (n : ℕ) (in_block : Bool) (conditions : List ConditionText) (end : ℕ)
+pub items-group : (n : ℕ) (in_block : Bool) (conditions : List ConditionText) (end : ℕ)
     (text rest : List ℕ) (part : SheetText) (group : GroupText)
-    → next_statement in_block text ≡ Some (part, rest) → group_of part.statement ≡ Some group
+    → next_part in_block text ≡ Some (part, rest) → group_of part.statement ≡ Some group
     → items_in (suc n) in_block conditions end text
     ≡ items_in n true
     (conditions ++ condition_of group (place end in_block text part) (end - length rest) ∷ [])
@@ -86,9 +85,9 @@ items-group : (n : ℕ) (in_block : Bool) (conditions : List ConditionText) (end
 unfolding items_in
 items-group n in_block conditions end text rest part group e g =
     let more = all_items (items_in n true) in_block conditions end
-    (placed_statements in_block rest) in
+    (placed_parts in_block rest) in
     ap (all_items (items_in n true) in_block conditions end)
-    (placed-statements-some in_block text rest part e)
+    (placed-parts-some in_block text rest part e)
     ∙ ap (λ (o : Option GroupText). part_items (items_in n true) conditions part
     (place end in_block text part) (end - length rest) o ++ more) g
 
@@ -96,8 +95,8 @@ items-group n in_block conditions end text rest part group e g =
 
 -- in a group rule, whatever is open in it
 within : (more : List LevelText) (text rest : List ℕ) (part : SheetText)
-    → next_statement true text ≡ Some (part, rest)
-    → next_statement (inside more true) text ≡ Some (part, rest)
+    → next_part true text ≡ Some (part, rest)
+    → next_part (inside more true) text ≡ Some (part, rest)
 within [] text rest part f = f
 within (m ∷ others) text rest part f = f
 
@@ -108,7 +107,7 @@ inside-true (m ∷ others) = refl
 pub still-enter : (levels : List LevelText) (n : ℕ) (in_block : Bool)
     (conditions : List ConditionText) (end : ℕ) (text rest : List ℕ) (part : SheetText)
     (group : GroupText)
-    → length levels < n → next_statement (inside levels in_block) text ≡ Some (part, rest)
+    → length levels < n → next_part (inside levels in_block) text ≡ Some (part, rest)
     → group_of part.statement ≡ Some group → (places : PlacesText)
     → places ≡ place end (inside levels in_block) text part
     → still (levels ++ a_level group places end rest ∷ []) n in_block conditions
@@ -132,7 +131,7 @@ still-enter (l ∷ more) (suc n) in_block conditions end text rest part group h 
 
 pub still-leave : (levels : List LevelText) (l : LevelText) (n : ℕ) (in_block : Bool)
     (conditions : List ConditionText) (end : ℕ) (text : List ℕ) → length levels < n
-    → next_statement true text ≡ None
+    → next_part true text ≡ None
     → still (levels ++ l ∷ []) n in_block conditions end text
     ≡ still levels n in_block conditions l.after_end l.after
 still-leave [] l zero in_block conditions end text h e = absurd (omega arith)
@@ -147,7 +146,7 @@ still-leave (k ∷ more) l (suc n) in_block conditions end text h e =
     (still-leave more l n true (conditions ++ k.condition ∷ []) end text (omega arith) e)
 
 pub still-ends : (n : ℕ) (in_block : Bool) (conditions : List ConditionText) (end : ℕ)
-    (text : List ℕ) → next_statement in_block text ≡ None
+    (text : List ℕ) → next_part in_block text ≡ None
     → still [] n in_block conditions end text ≡ []
 still-ends n in_block conditions end text e = items-none n in_block conditions end text e
 
@@ -163,7 +162,7 @@ further conditions l more part places =
 pub still-plain : (levels : List LevelText) (n : ℕ) (in_block : Bool)
     (conditions : List ConditionText) (end : ℕ) (text rest : List ℕ) (part : SheetText)
     → length levels ≤ n
-    → next_statement (inside levels in_block) text ≡ Some (part, rest)
+    → next_part (inside levels in_block) text ≡ Some (part, rest)
     → group_of part.statement ≡ None → (places : PlacesText)
     → places ≡ place end (inside levels in_block) text part
     → still levels n in_block conditions end text
@@ -191,7 +190,7 @@ still-plain (l ∷ more) (suc n) in_block conditions end text rest part h e g pl
 pub still-alone : (levels : List LevelText) (n : ℕ) (in_block : Bool)
     (conditions : List ConditionText) (end : ℕ) (text rest : List ℕ) (part : SheetText)
     → length levels ≡ n
-    → next_statement (inside levels in_block) text ≡ Some (part, rest) → (places : PlacesText)
+    → next_part (inside levels in_block) text ≡ Some (part, rest) → (places : PlacesText)
     → places ≡ place end (inside levels in_block) text part
     → still levels n in_block conditions end text
     ≡ an_item (conditions ++ map condition_at levels) part places
@@ -255,13 +254,13 @@ is_open_by (l ∷ more) len t e h = by (len == 0) refl
 
 leave-some : (before after : List LevelText) (l : LevelText) (end : ℕ) (text : List ℕ)
     → before ≡ after ++ l ∷ [] → length before ≤ 64
-    → next_statement (is_some_open before) text ≡ None
+    → next_part (is_some_open before) text ≡ None
     → (still after 64 false [] l.after_end l.after ≡ still before 64 false [] end text)
     × (size_after after + length l.after < size_after before + length text)
 leave-some before after l end text e h none =
     let few : length after < 64 = omega (arith, h, ap length e, length-append after (l ∷ [])) in
-    let at_end : next_statement true text ≡ None =
-    ap (λ (b : Bool). next_statement b text) (sym (ap is_some_open e ∙ open-last after l)) ∙ none in
+    let at_end : next_part true text ≡ None =
+    ap (λ (b : Bool). next_part b text) (sym (ap is_some_open e ∙ open-last after l)) ∙ none in
     let size : size_after before ≡ size_after after + suc (length l.after) =
     ap size_after e ∙ size-last after l in (
       sym (ap (λ (ls : List LevelText). still ls 64 false [] end text) e
@@ -270,17 +269,17 @@ leave-some before after l end text e h none =
     )
 
 leave-none : (before : List LevelText) (end : ℕ) (text : List ℕ) → before ≡ []
-    → next_statement (is_some_open before) text ≡ None
+    → next_part (is_some_open before) text ≡ None
     → still before 64 false [] end text ≡ []
 leave-none before end text e none =
     ap (λ (ls : List LevelText). still ls 64 false [] end text) e
     ∙ still-ends 64 false [] end text
-    (ap (λ (ls : List LevelText). next_statement (is_some_open ls) text) (sym e) ∙ none)
+    (ap (λ (ls : List LevelText). next_part (is_some_open ls) text) (sym e) ∙ none)
 
 -- leaving a group rule at its end is a step
 pub leaves-step : (before : SheetReader) (step : Step) (after : SheetReader)
     → length (levels_of before) ≤ 64
-    → next_statement (is_inside before) (left_of before) ≡ None → Leaves before step after
+    → next_part (is_inside before) (left_of before) ≡ None → Leaves before step after
     → Steps before step after
 leaves-step before (steps.Found part) after few none h = absurd h
 leaves-step before (steps.Entered level) after few none h = absurd h
@@ -314,7 +313,7 @@ place-open levels end text part places p =
 pub enter-some : (before after : List Level) (level : Level) (end : ℕ) (text rest : List ℕ)
     (part : SheetText) (group : GroupText) (places : PlacesText) → after ≡ before ++ level ∷ []
     → length before < 64
-    → next_statement (is_some_open (texts before)) text ≡ Some (part, rest)
+    → next_part (is_some_open (texts before)) text ≡ Some (part, rest)
     → group_of part.statement ≡ Some group
     → places ≡ place end (is_some_open (texts before)) text part
     → level_of level ≡ a_level group places end rest
@@ -327,8 +326,8 @@ enter-some before after level end text rest part group places e h some g p same 
     ap texts e ∙ map-last level_of before level
     ∙ ap (λ (k : LevelText). texts before ++ k ∷ []) same in
     let few : length (texts before) < 64 = omega (arith, h, length-map level_of before) in
-    let here : next_statement (inside (texts before) false) text ≡ Some (part, rest) =
-    ap (λ (b : Bool). next_statement b text) (inside-open (texts before)) ∙ some in
+    let here : next_part (inside (texts before) false) text ≡ Some (part, rest) =
+    ap (λ (b : Bool). next_part b text) (inside-open (texts before)) ∙ some in
     let size : size_after (texts after) ≡ size_after (texts before) + suc (length rest) =
     ap size_after all ∙ size-last (texts before) l in (
       ap (λ (ls : List LevelText). still ls 64 false [] (places.block + length group.text)
@@ -344,7 +343,7 @@ enter-some before after level end text rest part group places e h some g p same 
 
 pub found-plain : (levels : List Level) (end : ℕ) (text rest : List ℕ) (part : SheetText)
     (places : PlacesText) → length levels ≤ 64
-    → next_statement (is_some_open (texts levels)) text ≡ Some (part, rest)
+    → next_part (is_some_open (texts levels)) text ≡ Some (part, rest)
     → group_of part.statement ≡ None
     → places ≡ place end (is_some_open (texts levels)) text part
     → still (texts levels) 64 false [] end text
@@ -353,19 +352,19 @@ pub found-plain : (levels : List Level) (end : ℕ) (text rest : List ℕ) (part
 found-plain levels end text rest part places h some g p =
     still-plain (texts levels) 64 false [] end text rest part (omega
     (arith, h, length-map level_of levels))
-    (ap (λ (b : Bool). next_statement b text) (inside-open (texts levels)) ∙ some) g places
+    (ap (λ (b : Bool). next_part b text) (inside-open (texts levels)) ∙ some) g places
     (place-open levels end text part places p)
 
 pub found-alone : (levels : List Level) (end : ℕ) (text rest : List ℕ) (part : SheetText)
     (places : PlacesText) → length levels ≡ 64
-    → next_statement (is_some_open (texts levels)) text ≡ Some (part, rest)
+    → next_part (is_some_open (texts levels)) text ≡ Some (part, rest)
     → places ≡ place end (is_some_open (texts levels)) text part
     → still (texts levels) 64 false [] end text
     ≡ an_item (map condition_at (texts levels)) part places
     ∷ still (texts levels) 64 false [] end rest
 found-alone levels end text rest part places h some p =
     still-alone (texts levels) 64 false [] end text rest part (length-map level_of levels ∙ h)
-    (ap (λ (b : Bool). next_statement b text) (inside-open (texts levels)) ∙ some) places
+    (ap (λ (b : Bool). next_part b text) (inside-open (texts levels)) ∙ some) places
     (place-open levels end text part places p)
 
 pub levels-conditions : (levels : List Level)

@@ -1,40 +1,48 @@
 -- How long a group rule's block is, and what is left after it.
 -- Serves `SheetReader::step` (its measure).
-use Rattle.std.proofs.Common.{◌≡◌, ℕ, zero, suc, ◌+◌, ◌<◌, ◌≤◌, ◌-◌, Bool, true, false, List, [], ◌∷◌, length, map, Option, Some, None, arith, refl, subst, if◌then◌else◌, length-take-le}
+use Rattle.std.proofs.Common.{◌≡◌, ℕ, zero, suc, ◌+◌, ◌<◌, ◌≤◌, ◌-◌, Bool, true, false, List, [], ◌∷◌, length, map, Option, Some, None, arith, refl, subst, if◌then◌else◌, length-take-le, ap, sym, inl, inr}
 use Rattle.css_text.specs.AsciiBytes.{open_brace, close_brace, at_sign}
 use Rattle.css_text.specs.Reading.{before, each, up_to, and_then, last_or}
 use Rattle.css_text.specs.Bytes.{past_byte, starts}
+use Rattle.css_text.proofs.reading.EachLemmas.{each-stops}
 use Rattle.css_text.proofs.reading.TakesLemmas.{length-past_byte}
 use Rattle.css_text.proofs.reading.EndsLemmas.{length-ends}
-use Rattle.css_syntax.specs.declared.quality.Quality.{Quality}
 use Rattle.css_syntax.specs.declared.parts.Stops.{Stops}
-use Rattle.css_syntax.specs.Tokens.{past_gap, past_word}
-use Rattle.css_syntax.specs.Parts.{Stated, part, parts}
+use Rattle.css_syntax.specs.Tokens.{gap_part, past_gap, past_word}
+use Rattle.css_syntax.specs.ComponentValues.{deepest, component_value}
+use Rattle.css_syntax.specs.Parts.{Stated, ends_at, with_gap, part, parts}
 use Rattle.css_syntax.specs.Statements.{begins_at_rule, BlockText, block_ends, block, AtRuleText, at_rule_ends, at_rule_ended, at_rule, at_rule_statement, rule_set_ends, rule_set_ended, statement, past_between, ends_block, SheetText, statement_from, next_statement, with_text}
-use Rattle.css_syntax.proofs.Shorter.{past_word_within}
-use Rattle.css_syntax.proofs.PartLemmas.{past_gap-within, parts-within, part-follows}
+use Rattle.css_syntax.proofs.Shorter.{each-rests, gap_part-takes, past_word_within}
+use Rattle.css_syntax.proofs.PartLemmas.{past_gap-within, parts-within}
 use Rattle.css_syntax.proofs.PartTexts.{end-well}
 use Rattle.css_syntax.proofs.ItemLemmas.{between-well, at-less}
-use Rattle.css_sheet.specs.SheetItems.{GroupText, group_with, group_of, is_group_name}
+use Rattle.css_sheet.specs.SheetItems.{GroupText, group_with, group_of, is_group_name, next_part}
+use Rattle.css_sheet.proofs.NextParts.{next-cases}
 
 -- ---- the text of parts and what is left after them
 
-last-after : (stops : Stops) (n : ℕ) (text end : List ℕ) → length text ≤ length end
-    → length (up_to n (part stops) text).1
-    ≤ length (last_or end (map (λ one. one.1) (up_to n (part stops) text).0))
-last-after stops zero text end h = h
-last-after stops (suc n) text end h =
-    by (λ t e g. last-after stops n t e g) (part stops text) (λ x e.
-    (part-follows stops text x e).1)
+pub gap-again : (text : List ℕ) → past_gap (past_gap text) ≡ past_gap text
+gap-again text = each-rests gap_part (past_gap text) (each-stops gap_part gap_part-takes text)
+
+-- what is left is what follows the last part and the blank after it
+pub gap-after : (stops : Stops) (n : ℕ) (text end : List ℕ) → text ≡ past_gap end
+    → (up_to n (part stops) text).1
+    ≡ past_gap (last_or end (map (λ one. one.1) (up_to n (part stops) text).0))
+gap-after stops zero text end h = h
+gap-after stops (suc n) text end h =
+    by (λ rest from e. gap-after stops n rest from e) (ends_at stops text)
   where
-    by : ((t e : List ℕ) → length t ≤ length e → length (up_to n (part stops) t).1
-        ≤ length (last_or e (map (λ one. one.1) (up_to n (part stops) t).0)))
-        → (o : Option ((Quality × List ℕ) × List ℕ))
-        → ((x : (Quality × List ℕ) × List ℕ) → o ≡ Some x → length x.1 ≤ length x.0.1)
-        → length (and_then text o (up_to n (part stops))).1
-        ≤ length (last_or end (map (λ one. one.1) (and_then text o (up_to n (part stops))).0))
-    by more None f = h
-    by more (Some x) f = more x.1 x.0.1 (f x refl)
+    by : ((rest from : List ℕ) → rest ≡ past_gap from → (up_to n (part stops) rest).1
+        ≡ past_gap (last_or from (map (λ one. one.1) (up_to n (part stops) rest).0)))
+        → (t : Bool)
+        → (and_then text (if t then None else Some (with_gap (component_value deepest text)))
+        (up_to n (part stops))).1
+        ≡ past_gap (last_or end (map (λ one. one.1) (and_then text
+        (if t then None else Some (with_gap (component_value deepest text)))
+        (up_to n (part stops))).0))
+    by more true = h
+    by more false =
+        let value = component_value deepest text in more (past_gap value.1) value.1 refl
 
 end-within : (stops : Stops) (text : List ℕ)
     → length (last_or text (map (λ one. one.1) (up_to (length text) (part stops) text).0))
@@ -42,15 +50,21 @@ end-within : (stops : Stops) (text : List ℕ)
 unfolding each
 end-within stops text = length-ends text _ (end-well stops text).0
 
-parts-sum : (stops : Stops) (text : List ℕ)
+parts-sum : (stops : Stops) (text : List ℕ) → text ≡ past_gap text
     → length (parts stops text).0.text + length (parts stops text).1 ≤ length text
 unfolding parts each
-parts-sum stops text =
+parts-sum stops text g =
     let end = last_or text (map (λ one. one.1) (up_to (length text) (part stops) text).0) in
     let inside : length end ≤ length text = end-within stops text in
     let taken : length (before text end) ≡ length text - length end =
     length-take-le _ text (omega arith) in
-    omega (arith, last-after stops (length text) text text (omega arith), taken, inside)
+    omega (
+      arith,
+      ap length (gap-after stops (length text) text text g),
+      past_gap-within end,
+      taken,
+      inside,
+    )
 
 -- ---- blocks
 
@@ -60,7 +74,7 @@ block-sum text =
     let inside = parts block_ends (past_gap text) in
     omega (
       arith,
-      parts-sum block_ends (past_gap text),
+      parts-sum block_ends (past_gap text) (sym (gap-again text)),
       length-past_byte close_brace inside.1,
       past_gap-within text,
     )
@@ -167,11 +181,11 @@ start-fits in_block b start = by (ends_block in_block (b ∷ start))
     by true = tt
     by false = statement-fits in_block b start
 
-pub next-fits : (in_block : Bool) (text rest : List ℕ) (p : SheetText)
+read-fits : (in_block : Bool) (text rest : List ℕ) (p : SheetText)
     → next_statement in_block text ≡ Some (p, rest) → (group : GroupText)
     → group_of p.statement ≡ Some group → suc (length group.text + length rest) < length text
 unfolding next_statement PartFits Fits
-next-fits in_block text rest p e group g =
+read-fits in_block text rest p e group g =
     by (past_between in_block text) (length-ends text (past_between in_block text)
     (between-well in_block text).0) e
   where
@@ -185,3 +199,21 @@ next-fits in_block text rest p e group g =
         let less : Fits (length start) (Some group) rest =
         subst (λ (o : Option GroupText). Fits (length start) o rest) g fits in
         omega (arith, less, h)
+
+-- a group rule is a statement that was read
+pub group-read : (in_block : Bool) (text rest : List ℕ) (p : SheetText)
+    → next_part in_block text ≡ Some (p, rest) → (group : GroupText)
+    → group_of p.statement ≡ Some group → next_statement in_block text ≡ Some (p, rest)
+group-read in_block text rest p e group g =
+    elim (next-cases in_block text rest p e) [
+      | inl read ↦ read
+      | inr stray ↦ absurd (
+          let none : group_of p.statement ≡ None =
+          ap (λ (q : SheetText). group_of q.statement) stray.part_is in cc)
+    ]
+
+pub next-fits : (in_block : Bool) (text rest : List ℕ) (p : SheetText)
+    → next_part in_block text ≡ Some (p, rest) → (group : GroupText)
+    → group_of p.statement ≡ Some group → suc (length group.text + length rest) < length text
+next-fits in_block text rest p e group g =
+    read-fits in_block text rest p (group-read in_block text rest p e group g) group g

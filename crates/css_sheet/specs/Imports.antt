@@ -7,7 +7,7 @@ use Rattle.css_syntax.specs.Statements.{begins_ident, BlockText, AtRuleText, Sta
 use Rattle.css_syntax.specs.Placed.{PlacedStatement, placed_statements}
 use Rattle.css_cascade.specs.LayerNames.{block_name, is_empty, layer_names}
 use Rattle.css_sheet.specs.RuleSelectors.{is_listed, listed_under}
-use Rattle.css_sheet.specs.SheetLayers.{is_layer}
+use Rattle.css_sheet.specs.SheetItems.{is_layer}
 use Rattle.css_sheet.specs.ImportRules.{UrlText, ImportText, url_here, import_from}
 
 -- What a statement is to the imports after it: an import; names of layers; another rule that is

@@ -1,7 +1,9 @@
 pub mod Places
 pub mod SheetItems
+pub mod NothingLost
 pub mod GroupViews
 pub mod SheetParts
+pub mod PartsAll
 pub mod ReaderViews
 pub mod RuleSelectors
 pub mod RuleViews
@@ -12,6 +14,7 @@ pub mod SheetMessages
 pub mod Sheets
 pub mod SheetLayers
 pub mod SheetOrder
+pub mod BlockEdges
 pub mod ImportRules
 pub mod Imports
 pub mod ImportViews

@@ -1,22 +1,39 @@
 -- The style rules that are open where the parts of sheets are read, and the lists of selectors that `&`
 -- stands for in the rules in them (CSS Nesting 1).
-use Rattle.std.specs.Prelude.{◌+◌, ◌-◌, Bool, ◌==◌, if◌then◌else◌, List, [], ◌∷◌, ◌++◌, length, take, slice_get, Option, Some, None, Result, Ok, Err}
+use Rattle.std.specs.Prelude.{◌+◌, ◌-◌, Bool, true, false, not, ◌&&◌, ◌==◌, if◌then◌else◌, List, [], ◌∷◌, ◌++◌, length, take, slice_get, Option, Some, None, Result, Ok, Err}
 use Rattle.css_syntax.specs.declared.quality.Fault.{Fault}
 use Rattle.css_syntax.specs.Parts.{Stated}
 use Rattle.css_selectors.specs.declared.components.Nesting.{Nesting}
 use Rattle.css_selectors.specs.Components.{Selector}
 use Rattle.css_selectors.specs.Specificities.{nothing}
-use Rattle.css_sheet.specs.RuleSelectors.{SelectorRead, selectors_under}
+use Rattle.css_sheet.specs.SheetItems.{is_layer}
+use Rattle.css_sheet.specs.RuleSelectors.{SelectorRead, is_listed, listed_under, selectors_under}
 use Rattle.css_sheet.specs.NestedSelectors.{element_selectors, greatest_read, list_numbered}
 use Rattle.css_sheet.specs.SheetParts.{OpenText, RuleKind, style_rule, group_rule, SheetPart, states, begins, ends, stands, PlacedPart, applies_in}
 
+-- What is known of the list of selectors of a style rule: nothing, as long as it was not needed; that it is
+-- valid, since a layer is in the rule; or what `&` stands for in the rules in it, since there was one.
+pub data OwnList : Type 0 where
+  unread : OwnList
+  valid : OwnList
+  numbered : Nesting → OwnList
+
 -- The style rule that something is in: none; one that has no rules, since it does not apply or a rule
 -- that it is in is invalid; or one, by what is before its block, by what `&` stands for there if it is
--- in another one, and by what `&` stands for in the rules in it, if there was one.
+-- in another one, and by what is known of its list.
 pub data Parent : Type 0 where
   no_rule : Parent
   dropped : Parent
-  style : (prelude : Stated) → (under own : Option Nesting) → Parent
+  style : (prelude : Stated) → (under : Option Nesting) → (own : OwnList) → Parent
+
+-- Whether a style rule is dropped, with all that is in it: it does not apply, or its list or that of a rule
+-- that it is in is invalid (CSS Syntax 3, section 9).
+abbrev pub is_dropped : Parent → Bool
+is_dropped no_rule = false
+is_dropped dropped = true
+is_dropped (style prelude under unread) = not (is_listed (listed_under under prelude))
+is_dropped (style prelude under valid) = false
+is_dropped (style prelude under (numbered own)) = false
 
 -- The style rule that is innermost; of each rule that is open, from the outermost, the style rule that it
 -- is in, if it is a style rule itself; and the lists so far, of which the first has number 1.
@@ -39,7 +56,7 @@ with_selectors parents prelude under (Err fault) =
 with_selectors parents prelude under (Ok all) = record {
   innermost =
       style prelude under
-      (Some (list_numbered (length parents.lists + 1) (greatest_read nothing all)));
+      (numbered (list_numbered (length parents.lists + 1) (greatest_read nothing all)));
   outer = parents.outer;
   lists = parents.lists ++ element_selectors all ∷ [];
 }
@@ -47,23 +64,44 @@ with_selectors parents prelude under (Ok all) = record {
 abbrev pub with_list_of : ParentsText → Parent → ParentsText
 with_list_of parents no_rule = parents
 with_list_of parents dropped = parents
-with_list_of parents (style prelude under (Some own)) = parents
-with_list_of parents (style prelude under None) =
+with_list_of parents (style prelude under unread) =
     with_selectors parents prelude under (selectors_under under prelude)
+with_list_of parents (style prelude under valid) =
+    with_selectors parents prelude under (selectors_under under prelude)
+with_list_of parents (style prelude under (numbered own)) = parents
 
 -- The innermost rule has a list. A list is added for its first nested rule, and so lists that `&` means in
 -- it are before it.
 abbrev pub with_list : ParentsText → ParentsText
 with_list parents = with_list_of parents parents.innermost
 
+-- ---- a layer in the innermost rule
+
+abbrev pub if_listed : Bool → Stated → Option Nesting → Parent
+if_listed listed prelude under = if listed then style prelude under valid else dropped
+
+-- the rule, of whose list it is known whether it is valid
+abbrev pub checked : Parent → Parent
+checked no_rule = no_rule
+checked dropped = dropped
+checked (style prelude under unread) =
+    if_listed (is_listed (listed_under under prelude)) prelude under
+checked (style prelude under valid) = style prelude under valid
+checked (style prelude under (numbered own)) = style prelude under (numbered own)
+
+-- so it is, if a group rule in it is a layer and applies
+abbrev pub checked_for : (is_needed : Bool) → Parent → Parent
+checked_for is_needed parent = if is_needed then checked parent else parent
+
 -- ---- rules that begin and end
 
 -- a style rule with this prelude, in this one
 abbrev pub parent_in : Stated → Parent → Parent
-parent_in prelude no_rule = style prelude None None
+parent_in prelude no_rule = style prelude None unread
 parent_in prelude dropped = dropped
-parent_in prelude (style other under None) = dropped
-parent_in prelude (style other under (Some own)) = style prelude (Some own) None
+parent_in prelude (style other under unread) = dropped
+parent_in prelude (style other under valid) = dropped
+parent_in prelude (style other under (numbered own)) = style prelude (Some own) unread
 
 -- a style rule is open in these, and what is in it is this
 abbrev pub entered : ParentsText → Parent → ParentsText
@@ -84,7 +122,7 @@ begun_style applies prelude parents =
 abbrev pub begun : Bool → RuleKind → ParentsText → ParentsText
 begun applies (style_rule prelude) parents = begun_style applies prelude parents
 begun applies (group_rule keyword prelude) parents = record {
-  innermost = parents.innermost;
+  innermost = checked_for (applies && is_layer keyword) parents.innermost;
   outer = parents.outer ++ None ∷ [];
   lists = parents.lists;
 }

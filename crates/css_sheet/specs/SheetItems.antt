@@ -2,9 +2,12 @@
 -- 3, section 2), in source order, each with the group rules that it is in.
 use Rattle.std.specs.Prelude.{ℕ, zero, suc, ◌+◌, ◌-◌, length, Bool, true, false, if◌then◌else◌, List, [], ◌∷◌, ◌++◌, codes, Option, Some, None}
 use Rattle.std.specs.Option.{is_some}
+use Rattle.std.specs.Option.{option_map}
+use Rattle.css_text.specs.Reading.{each}
+use Rattle.css_syntax.specs.declared.quality.Fault.TheVariants.{StrayBracket}
 use Rattle.css_syntax.specs.Tokens.{spells}
-use Rattle.css_syntax.specs.Statements.{BlockText, AtRuleText, StatementText, rule_set, at_rule_statement, skipped_statement, SheetText}
-use Rattle.css_syntax.specs.Placed.{PlacedStatement, placed_statements}
+use Rattle.css_syntax.specs.Statements.{BlockText, AtRuleText, StatementText, rule_set, at_rule_statement, skipped_statement, SheetText, past_between, next_statement}
+use Rattle.css_syntax.specs.Placed.{PlacedStatement, placed_statement}
 use Rattle.css_sheet.specs.Places.{PlacesText, places_in}
 
 -- A group rule that others are in: its name and its prelude, where it is, and the offset after it.
@@ -21,6 +24,30 @@ pub record SheetItemText : Type 0 where
   pub part : SheetText
   pub places : PlacesText
 
+-- A brace that closes nothing, if something is at this start: it is skipped alone.
+abbrev pub stray_brace : List ℕ → Option (SheetText × List ℕ)
+stray_brace [] = None
+stray_brace (b ∷ rest) =
+    Some (record { text = b ∷ []; statement = skipped_statement StrayBracket }, rest)
+
+abbrev pub or_brace : (start : List ℕ) → Option (SheetText × List ℕ)
+    → Option (SheetText × List ℕ)
+or_brace start None = stray_brace start
+or_brace start (Some read) = Some read
+
+-- The next statement of a sheet, or of the contents of a group rule, which end before its closing
+-- brace: so a brace that no statement has closes nothing there.
+unfoldable pub next_part : Bool → List ℕ → Option (SheetText × List ℕ)
+next_part in_block text = or_brace (past_between in_block text) (next_statement in_block text)
+
+unfoldable pub next_placed_part : Bool → List ℕ → Option (PlacedStatement × List ℕ)
+next_placed_part in_block text =
+    option_map (placed_statement (past_between in_block text)) (next_part in_block text)
+
+-- the statements up to the end of the text
+unfoldable pub placed_parts : Bool → List ℕ → List PlacedStatement
+placed_parts in_block text = (each (next_placed_part in_block) text).0
+
 -- The keyword that a name is, of the at-rules whose blocks have statements: in lower case and without
 -- escapes, if it is one of these.
 abbrev pub keyword_if : (keyword name : List ℕ) → (other : Option (List ℕ)) → Option (List ℕ)
@@ -31,6 +58,10 @@ group_keyword name =
     keyword_if (codes "media") name (keyword_if (codes "supports") name
     (keyword_if (codes "layer") name (keyword_if (codes "container") name
     (keyword_if (codes "document") name (keyword_if (codes "-moz-document") name None)))))
+
+-- whether an at-rule of this name is about layers
+abbrev pub is_layer : List ℕ → Bool
+is_layer name = spells (codes "layer") name
 
 -- the at-rules whose blocks have statements, whatever their names mean
 abbrev pub is_group_name : List ℕ → Bool
@@ -108,9 +139,9 @@ each_alone in_block conditions end (placed ∷ more) =
 -- nested.
 unfoldable pub items_in : ℕ → Bool → List ConditionText → (end : ℕ) → List ℕ → List SheetItemText
 items_in zero in_block conditions end text =
-    each_alone in_block conditions end (placed_statements in_block text)
+    each_alone in_block conditions end (placed_parts in_block text)
 items_in (suc n) in_block conditions end text =
-    all_items (items_in n true) in_block conditions end (placed_statements in_block text)
+    all_items (items_in n true) in_block conditions end (placed_parts in_block text)
 
 -- the items of a sheet
 abbrev pub sheet_items : List ℕ → List SheetItemText

@@ -1,18 +1,16 @@
 -- The layers of sheets (CSS Cascading 5, section 6.4): those of the `@layer` rules whose group rules
--- all hold, in order. Each origin has its own.
-use Rattle.std.specs.Prelude.{ℕ, ◌-◌, Bool, if◌then◌else◌, List, [], ◌∷◌, codes, length, Option, None, Some}
+-- all hold and that are in no style rule that is dropped, in order. Each origin has its own.
+use Rattle.std.specs.Prelude.{ℕ, ◌-◌, Bool, if◌then◌else◌, List, [], ◌∷◌, length, Option, None, Some}
 use Rattle.std.specs.List.{flat_map}
 use Rattle.std.specs.Option.{is_some}
-use Rattle.css_syntax.specs.Tokens.{spells}
 use Rattle.css_syntax.specs.Statements.{BlockText, AtRuleText}
 use Rattle.css_syntax.specs.DeclarationLists.{ItemText, declared, at_rule_item, skipped_item}
 use Rattle.css_cascade.specs.Layers.{LayerPart, LayerText, origin_count, outermost_layers, number_at, or_outermost, with_name}
 use Rattle.css_cascade.specs.LayerNames.{block_name, layer_names}
 use Rattle.css_sheet.specs.SheetParts.{OpenText, RuleKind, style_rule, group_rule, SheetPart, states, begins, ends, stands, PlacedPart, applies_in, all_parts}
-use Rattle.css_sheet.specs.Sheets.{SheetText, outermost_at, texts_in}
-
-abbrev pub is_layer : List ℕ → Bool
-is_layer name = spells (codes "layer") name
+use Rattle.css_sheet.specs.SheetItems.{is_layer}
+use Rattle.css_sheet.specs.OpenParents.{Parent, ParentsText, after_part, is_dropped, none_open}
+use Rattle.css_sheet.specs.Sheets.{SheetText, outermost_at}
 
 -- What is said of group rules, and of `@layer`: that one holds, if its prelude is a name or nothing.
 abbrev pub with_layers : (List ℕ → List ℕ → Bool) → List ℕ → List ℕ → Bool
@@ -71,35 +69,41 @@ with_item outer known (skipped_item fault) = known
 abbrev pub if_applies : Bool → (outer : ℕ) → List LayerText → ItemText → List LayerText
 if_applies applies outer known item = if applies then with_item outer known item else known
 
--- A rule that begins mentions the layer that it is, if it is one and applies; an item outside of style
--- rules mentions others. All of a sheet is in the outermost layer of its origin.
-abbrev pub mentioned : (outermost : ℕ) → List LayerText → List OpenText → SheetPart → List LayerText
-mentioned outermost known around (states text) = known
-mentioned outermost known around (begins kind) = with_name known outermost (layer_parts around)
-mentioned outermost known around ends = known
-mentioned outermost known around (stands item) =
+-- A rule that begins mentions the layer that it is, if it is one and applies, unless the style rule that it
+-- is in is dropped; an item outside of style rules mentions others. All of a sheet is in the outermost layer
+-- of its origin.
+abbrev pub mentioned : (outermost : ℕ) → List LayerText → Parent → List OpenText → SheetPart
+    → List LayerText
+mentioned outermost known parent around (states text) = known
+mentioned outermost known parent around (begins kind) =
+    if is_dropped parent then known else with_name known outermost (layer_parts around)
+mentioned outermost known parent around ends = known
+mentioned outermost known parent around (stands item) =
     if_applies (applies_in around) (number_in_all outermost around known) known item
 
--- where each sheet, by its number, is in the layer of this number
-abbrev pub with_part : (outermost : ℕ → ℕ) → List LayerText → PlacedPart → List LayerText
-with_part outermost known placed =
-    mentioned (outermost placed.sheet) known placed.around placed.part
+-- where each sheet, by its number, is in the layer of this number, and what is next is in this style rule
+abbrev pub with_part : (outermost : ℕ → ℕ) → List LayerText → Parent → PlacedPart → List LayerText
+with_part outermost known parent placed =
+    mentioned (outermost placed.sheet) known parent placed.around placed.part
 
--- the layers after these parts
-abbrev pub with_parts : (outermost : ℕ → ℕ) → List LayerText → List PlacedPart → List LayerText
-with_parts outermost known [] = known
-with_parts outermost known (placed ∷ parts) =
-    with_parts outermost (with_part outermost known placed) parts
+-- the layers after these parts, before which these style rules are open
+abbrev pub with_parts : (outermost : ℕ → ℕ) → List LayerText → ParentsText → List PlacedPart
+    → List LayerText
+with_parts outermost known parents [] = known
+with_parts outermost known parents (placed ∷ more) =
+    with_parts outermost
+    (with_part outermost known (after_part parents placed).innermost placed)
+    (after_part parents placed) more
 
 -- the parts of sheets, where `holds` says which group rules hold that are no `@layer`
-abbrev pub layered_parts : (List ℕ → List ℕ → Bool) → List (List ℕ) → List PlacedPart
-layered_parts holds texts = all_parts (with_layers holds) texts
+abbrev pub layered_parts : (List ℕ → List ℕ → Bool) → List SheetText → List PlacedPart
+layered_parts holds sheets = all_parts (with_layers holds) sheets
 
 -- The layers of sheets, those of each origin in order. One that is named in several sheets of an origin is
 -- one layer, and one of the same name in sheets of another is another.
 abbrev pub sheet_layers : (List ℕ → List ℕ → Bool) → List SheetText → List LayerText
 sheet_layers holds sheets =
-    with_parts (outermost_at sheets) outermost_layers (layered_parts holds (texts_in sheets))
+    with_parts (outermost_at sheets) outermost_layers (none_open []) (layered_parts holds sheets)
 
 -- how many layers there are, beside the outermost ones
 abbrev pub layer_count : (List ℕ → List ℕ → Bool) → List SheetText → ℕ

@@ -1,8 +1,8 @@
 -- The style rules of sheets in the order in which the cascade takes them (CSS Cascading 5, section
 -- 6): the one of the later origin later, of one origin that of the later layer, in one layer the one with the
 -- greater specificity, and of equal ones the one that is later in the sheets.
-use Rattle.std.specs.Prelude.{ℕ, ◌-◌, length, Bool, true, false, ◌==◌, if◌then◌else◌, List, [], ◌∷◌, ◌++◌, count_by, map, Option, Some, None, Result, Ok, Err}
-use Rattle.std.specs.List.{sum_by, filter_map, slice_get}
+use Rattle.std.specs.Prelude.{ℕ, ◌-◌, length, Bool, true, false, ◌==◌, if◌then◌else◌, List, [], ◌∷◌, ◌++◌, count_by, map, Option, Result, Ok, Err}
+use Rattle.std.specs.List.{sum_by, filter_map}
 use Rattle.std.specs.Option.{option_map}
 use Rattle.std.specs.Ordering.{is_lt, nat_cmp}
 use Rattle.std.specs.Cmp.Lexicographic.{slice_cmp}
@@ -17,7 +17,7 @@ use Rattle.css_cascade.specs.Cascade.{origin_rank}
 use Rattle.css_cascade.specs.Layers.{LayerText, place_of}
 use Rattle.css_cascade.specs.declared.weights.Origin.{Origin}
 use Rattle.css_cascade.specs.declared.weights.Origin.TheVariants.{Author}
-use Rattle.css_sheet.specs.Sheets.{SheetText, origin_at, outermost_at, texts_in}
+use Rattle.css_sheet.specs.Sheets.{SheetText, origin_at, outermost_at}
 use Rattle.css_sheet.specs.RuleSelectors.{SelectorRead, selectors_under}
 use Rattle.css_sheet.specs.NestedSelectors.{with_element}
 use Rattle.css_sheet.specs.OpenParents.{Parent, no_rule, dropped, style, ParentsText, none_open, after_part, after_parts}
@@ -151,13 +151,13 @@ rules_of_parts outermost known parents (placed ∷ more) =
 abbrev pub numbered_rules : (List ℕ → List ℕ → Bool) → List SheetText → List SheetRuleText
 numbered_rules holds sheets =
     rules_of_parts (outermost_at sheets) (sheet_layers holds sheets) (none_open [])
-    (layered_parts holds (texts_in sheets))
+    (layered_parts holds sheets)
 
 -- The lists of selectors that `&` denotes in nested rules of sheets, of which the first has number 1:
 -- one for each style rule with rules in it, where all group rules hold. In a list `&` denotes one
 -- before it.
-abbrev pub nested_lists : (List ℕ → List ℕ → Bool) → List (List ℕ) → List (List Selector)
-nested_lists holds texts = (after_parts (none_open []) (layered_parts holds texts)).lists
+abbrev pub nested_lists : (List ℕ → List ℕ → Bool) → List SheetText → List (List Selector)
+nested_lists holds sheets = (after_parts (none_open []) (layered_parts holds sheets)).lists
 
 -- the rule with the origin of its sheet, and with the rank of its layer in the place of the number
 abbrev pub ranked : List LayerText → List SheetText → SheetRuleText → SheetRuleText

@@ -1,12 +1,13 @@
 -- The parts of sheets, one after another and in place, each with the rules that are open there: the
 -- style rules that it is nested in, and the group rules (CSS Nesting 1; CSS Conditional Rules 3).
-use Rattle.std.specs.Prelude.{ℕ, zero, suc, ◌+◌, ◌-◌, Bool, true, false, ◌&&◌, List, [], ◌∷◌, ◌++◌, length, take, slice_get, Option, Some, None}
+use Rattle.std.specs.Prelude.{ℕ, zero, suc, ◌+◌, ◌-◌, Bool, true, false, ◌&&◌, List, [], ◌∷◌, ◌++◌, length, take, drop, slice_get, Option, Some, None}
 use Rattle.css_text.specs.Reading.{each, before}
 use Rattle.css_syntax.specs.Parts.{Stated}
 use Rattle.css_syntax.specs.Statements.{block, BlockText}
 use Rattle.css_syntax.specs.DeclarationLists.{ItemText, at_rule_item, past_separators}
 use Rattle.css_syntax.specs.Blocks.{BlockPart, listed, opens_rule, opens_at_rule, closes, next_block_part, next_rule_part}
 use Rattle.css_sheet.specs.SheetItems.{group_keyword}
+use Rattle.css_sheet.specs.Sheets.{GroupRuleText, SheetText}
 
 -- ---- the rules that are open
 
@@ -152,8 +153,13 @@ next_by outside in_block text = next_outside in_block text
 next_by (within prelude) in_block text = next_inside text
 next_by nested in_block text = next_inside text
 
-unfoldable pub next_in : List OpenText → List ℕ → Option (SheetPart × List ℕ)
-next_in around text = next_by (nesting_of around) (is_some_open around) text
+-- whether one of these rules is open that comes after the first so many
+abbrev pub is_more_open : (depth : ℕ) → List OpenText → Bool
+is_more_open depth around = is_some_open (drop depth around)
+
+-- the same of a text that is in so many group rules, whose top level is no block
+unfoldable pub next_in : (depth : ℕ) → List OpenText → List ℕ → Option (SheetPart × List ℕ)
+next_in depth around text = next_by (nesting_of around) (is_more_open depth around) text
 
 -- ---- all parts
 
@@ -183,10 +189,11 @@ pub record PlacedPart : Type 0 where
   pub sheet : ℕ
   pub end : ℕ
 
--- A text: its number among all, from 0 on, and how many bytes it has.
+-- A text: its number among all, from 0 on; how many bytes it has; and how many group rules all of it is in.
 pub record Source : Type 0 where
   pub sheet : ℕ
   pub size : ℕ
+  pub depth : ℕ
 
 -- the offset in it from which on this is left
 abbrev pub offset_in : Source → List ℕ → ℕ
@@ -213,32 +220,59 @@ part_then holds source more around (Some found) =
     placed_part source found.0 (open_after holds around found.0 (place_at source found.1)) found.1
     ∷ more (open_after holds around found.0 (place_at source found.1)) found.1
 
--- Each part takes a byte or more, so as many as there are bytes are all.
+-- Each part takes a byte or more, so as many as there are bytes are all. They are read by the grammar of what
+-- they are in in this text, whose top level is one in group rules, too.
 unfoldable pub parts_from : (List ℕ → List ℕ → Bool) → Source → ℕ → List OpenText → List ℕ
     → List PlacedPart
 parts_from holds source zero around text = []
 parts_from holds source (suc n) around text =
-    part_then holds source (parts_from holds source n) around (next_in around text)
+    part_then holds source (parts_from holds source n) around (next_in source.depth around text)
 
 -- the parts from here on in a text, where these rules are open
 abbrev pub parts_in : (List ℕ → List ℕ → Bool) → Source → List OpenText → List ℕ
     → List PlacedPart
 parts_in holds source around text = parts_from holds source (length text) around text
 
+-- a group rule that all of a sheet is in, as a rule of its own
+abbrev pub given_kind : GroupRuleText → RuleKind
+given_kind rule = group_rule rule.keyword rule.prelude
+
+-- the place of its contents: one that no rule of a text has, since the contents of none begin at its start
+abbrev pub given_place : GroupRuleText → List ℕ
+given_place rule = rule.number ∷ 0 ∷ []
+
+-- what is open when it has begun
+abbrev pub open_given : (List ℕ → List ℕ → Bool) → List OpenText → GroupRuleText → List OpenText
+open_given holds around rule = open_after holds around (begins (given_kind rule)) (given_place rule)
+
+-- The parts of a text that is in further group rules, where these are open: each of them begins before the
+-- text does, and none ends.
+abbrev pub parts_given : (List ℕ → List ℕ → Bool) → Source → List OpenText → List GroupRuleText
+    → List ℕ → List PlacedPart
+parts_given holds source around [] text = parts_in holds source around text
+parts_given holds source around (rule ∷ rules) text =
+    placed_part source (begins (given_kind rule)) (open_given holds around rule) text
+    ∷ parts_given holds source (open_given holds around rule) rules text
+
+-- the text of the sheet of this number
+abbrev pub sheet_source : (number : ℕ) → SheetText → Source
+sheet_source number sheet =
+    record { sheet = number; size = length sheet.text; depth = length sheet.around }
+
 -- The parts of the sheet of this number, where a group rule holds as `holds` says of its keyword and
 -- its prelude.
-abbrev pub sheet_parts : (List ℕ → List ℕ → Bool) → (sheet : ℕ) → List ℕ → List PlacedPart
-sheet_parts holds sheet text =
-    parts_in holds (record { sheet = sheet; size = length text }) [] text
+abbrev pub sheet_parts : (List ℕ → List ℕ → Bool) → (number : ℕ) → SheetText → List PlacedPart
+sheet_parts holds number sheet =
+    parts_given holds (sheet_source number sheet) [] sheet.around sheet.text
 
 -- the parts of sheets, one after another, of which the first has this number; each ends what is open in
 -- it
-abbrev pub all_parts_from : (List ℕ → List ℕ → Bool) → (sheet : ℕ) → List (List ℕ)
+abbrev pub all_parts_from : (List ℕ → List ℕ → Bool) → (number : ℕ) → List SheetText
     → List PlacedPart
-all_parts_from holds sheet [] = []
-all_parts_from holds sheet (text ∷ texts) =
-    sheet_parts holds sheet text ++ all_parts_from holds (sheet + 1) texts
+all_parts_from holds number [] = []
+all_parts_from holds number (sheet ∷ sheets) =
+    sheet_parts holds number sheet ++ all_parts_from holds (number + 1) sheets
 
 -- the parts of sheets
-abbrev pub all_parts : (List ℕ → List ℕ → Bool) → List (List ℕ) → List PlacedPart
-all_parts holds texts = all_parts_from holds 0 texts
+abbrev pub all_parts : (List ℕ → List ℕ → Bool) → List SheetText → List PlacedPart
+all_parts holds sheets = all_parts_from holds 0 sheets

@@ -8,11 +8,16 @@ use Rattle.css_sheet.specs.declared.sheet_rules.Sheet.{Sheet}
 use Rattle.css_sheet.specs.declared.sheet_rules.SheetRule.{SheetRule}
 use Rattle.css_sheet.specs.declared.gathering.Gathered.{Gathered}
 use Rattle.css_sheet.specs.declared.gathering.Run.{Run}
+use Rattle.css_sheet.specs.GroupViews.{group_rule_of}
 use Rattle.css_sheet.specs.SheetOrder.{RunText, SheetRuleText, declarations_in}
 use Rattle.css_sheet.specs.Sheets.{SheetText}
 
 abbrev pub sheet_of : Sheet → SheetText
-sheet_of s = record { text = s.text.now; origin = s.origin }
+sheet_of s = record {
+  text = s.text.now;
+  origin = s.origin;
+  around = map group_rule_of s.around.now;
+}
 
 abbrev pub sheet_rule_of : SheetRule → SheetRuleText
 sheet_rule_of r = record {

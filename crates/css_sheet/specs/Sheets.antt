@@ -1,21 +1,27 @@
 -- Style sheets, and where they come from.
-use Rattle.std.specs.Prelude.{ℕ, List, map, Option, Some, None}
+use Rattle.std.specs.Prelude.{ℕ, List, [], Option, Some, None}
 use Rattle.std.specs.List.{slice_get}
 use Rattle.css_cascade.specs.Layers.{outermost_number}
 use Rattle.css_cascade.specs.declared.weights.Origin.{Origin}
 use Rattle.css_cascade.specs.declared.weights.Origin.TheVariants.{Author}
 
--- A style sheet, and where it comes from.
+-- A group rule that all of a sheet is in: its keyword and its prelude, and a number. Of layers without a
+-- name in one layer those with the same number are one.
+pub record GroupRuleText : Type 0 where
+  pub keyword : List ℕ
+  pub prelude : List ℕ
+  pub number : ℕ
+
+-- A style sheet, where it comes from, and the group rules that all of it is in, from the outermost: those
+-- of the `@import` that names it, for instance.
 pub record SheetText : Type 0 where
   pub text : List ℕ
   pub origin : Origin
+  pub around : List GroupRuleText
 
-abbrev pub texts_in : List SheetText → List (List ℕ)
-texts_in sheets = map (λ (sheet : SheetText). sheet.text) sheets
-
--- a sheet of the author's
+-- a sheet of the author's, in no group rule
 abbrev pub authored : List ℕ → SheetText
-authored text = record { text = text; origin = Author }
+authored text = record { text = text; origin = Author; around = [] }
 
 abbrev pub origin_if : Option SheetText → Origin
 origin_if (Some sheet) = sheet.origin

@@ -147,7 +147,7 @@ impl<'a> Gathered<'a> {
         part: &Part<'a>,
         layer: usize,
         parent: &Parent<'a>,
-        reader: &SheetParts<'a>,
+        reader: &SheetParts<'_, 'a>,
     ) -> Result<(), SheetError>
         ensures no_layers { IfErr result (λ error. error ≡ TooManyLayers → ⊥) }
         ensures gathers { Gathers self.old result self.new

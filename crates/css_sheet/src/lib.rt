@@ -5,10 +5,12 @@
 //! `read_sheets` returns the style rules of several sheets in the order of the cascade.
 #![tactic(auto)]
 
+mod block_edges;
 mod gathering;
 mod groups;
 mod import_rules;
 mod imports;
+pub mod laws;
 mod nested_selectors;
 mod open_layers;
 mod parents;
@@ -20,10 +22,11 @@ mod sheet_order;
 mod sheet_rules;
 mod state;
 
+pub use block_edges::{BlockEdge, read_block_edges};
 pub use import_rules::{Import, ImportLayer, ImportUrl};
 pub use imports::read_imports;
 pub use selectors::{RuleSelector, read_listed, read_selectors, read_supported, rule_selector};
 pub use sheet_error::SheetError;
 pub use sheet_order::{SheetRules, read_sheet, read_sheets};
-pub use sheet_rules::{Sheet, SheetRule};
+pub use sheet_rules::{GroupRule, Sheet, SheetRule};
 pub use state::{Level, Places, SheetReader};

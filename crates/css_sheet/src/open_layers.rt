@@ -6,11 +6,12 @@ ghost use Rattle.css_cascade.specs.Layers.{number_at, outermost_layers, with_nam
 ghost use Rattle.css_cascade.specs.LayerViews.{known_of};
 ghost use Rattle.css_cascade.specs.LayerNameViews.{name_of};
 ghost use Rattle.css_sheet.specs.internal.PartViews.{kind_of, open_of, part_of};
-ghost use Rattle.css_sheet.specs.SheetLayers.{is_layer as is_layer_of, kind_name, open_name};
+ghost use Rattle.css_sheet.specs.SheetItems.{is_layer as is_layer_of};
+ghost use Rattle.css_sheet.specs.SheetLayers.{kind_name};
 ghost use Rattle.css_sheet.specs.SheetLayers.{with_names, with_rule, with_item, if_applies};
 ghost use Rattle.css_sheet.specs.SheetParts.{applies_in as applies_in_rules};
 ghost use Rattle.css_sheet.specs.internal.OpenViews.{innermost_of, known_in, numbers_in, outermost_in, AreFew, AreMany};
-ghost use Rattle.css_sheet.specs.internal.OpenViews.{Enters, Goes, GoesOver};
+ghost use Rattle.css_sheet.specs.internal.OpenViews.{counted_name, Enters, Goes, GoesOver};
 
 use crate::parts::{OpenRule, Part, RuleKind};
 use crate::sheet_error::SheetError;
@@ -66,23 +67,24 @@ fn enter_kind<'a>(
     }
 }
 
-/// The same of a rule that is open, if it applies.
+/// The same of a rule that is open, if it applies and layers count there.
 fn enter_rule<'a>(
     alloc: Global,
     layers: &mut Layers<'a>,
     outer: usize,
     rule: &OpenRule<'a>,
+    counts: bool,
 ) -> Result<usize, SheetError>
     ensures known { IfOk result (λ _. known_of layers.new
-        ≡ with_name (known_of layers.old) outer (open_name (open_of rule.now))) }
+        ≡ with_name (known_of layers.old) outer (counted_name counts (open_of rule.now))) }
     ensures number { IfOk result (λ number. number_at outer
-        (open_name (open_of rule.now)) (known_of layers.new) ≡ Some number) }
+        (counted_name counts (open_of rule.now)) (known_of layers.new) ≡ Some number) }
     ensures refused { IfErr result (λ error. error ≡ TooManyDeclarations → ⊥) }
     ensures many { IfErr result (λ error. error ≡ TooManyLayers
-        → AreMany (with_name (known_of layers.old) outer (open_name (open_of rule.now)))) }
+        → AreMany (with_name (known_of layers.old) outer (counted_name counts (open_of rule.now)))) }
     ensures few { OnOk result (AreFew (known_of layers.old) → AreFew (known_of layers.new)) }
 {
-    if rule.applies {
+    if counts && rule.applies {
         enter_kind(alloc, layers, outer, &rule.kind, rule.place)
     } else {
         Ok(outer)
@@ -188,47 +190,49 @@ impl<'a> OpenLayers<'a> {
         }
     }
 
-    /// Enters a rule, and mentions the layer that it is, if it is one.
-    fn enter(&mut self, alloc: Global, rule: &OpenRule<'a>) -> Result<(), SheetError>
+    /// Enters a rule, and mentions the layer that it is, if it is one and layers count there.
+    fn enter(&mut self, alloc: Global, rule: &OpenRule<'a>, counts: bool) -> Result<(), SheetError>
         ensures refused { IfErr result (λ error. error ≡ TooManyDeclarations → ⊥) }
         ensures many { IfErr result (λ error. error ≡ TooManyLayers
             → AreMany (with_name (known_in self.old) (innermost_of (outermost_in self.old) (numbers_in self.old))
-            (open_name (open_of rule.now)))) }
+            (counted_name counts (open_of rule.now)))) }
         ensures few { OnOk result (AreFew (known_in self.old) → AreFew (known_in self.new)) }
         ensures enters { IfOk result (λ _. Enters (outermost_in self.old) (known_in self.old)
-            (numbers_in self.old) (open_of rule.now) (known_in self.new) (numbers_in self.new)) }
+            (numbers_in self.old) (counted_name counts (open_of rule.now)) (known_in self.new)
+            (numbers_in self.new)) }
         ensures outermost { outermost_in self.new ≡ outermost_in self.old }
     {
         let outer = self.innermost();
-        let number = enter_rule(alloc, &mut self.layers, outer, rule)?;
+        let number = enter_rule(alloc, &mut self.layers, outer, rule, counts)?;
         self.numbers.push(number)?;
         Ok(())
     }
 
     /// Enters what a part begins, leaves what it ends, and mentions the layers of an item. These rules
-    /// are open then.
+    /// are open then, and layers that begin there count or not.
     pub(crate) fn go_through(
         &mut self,
         alloc: Global,
         part: &Part<'a>,
         around: &[OpenRule<'a>],
         applies: bool,
+        counts: bool,
     ) -> Result<(), SheetError>
         requires { applies ≡ applies_in_rules (map open_of around.now) }
         ensures refused { IfErr result (λ error. error ≡ TooManyDeclarations → ⊥) }
         ensures many { IfErr result (λ error. error ≡ TooManyLayers
-            → GoesOver (outermost_in self.old) (known_in self.old) (numbers_in self.old)
+            → GoesOver (outermost_in self.old) (known_in self.old) (numbers_in self.old) counts
             (part_of part.now) (map open_of around.now)) }
         ensures few { OnOk result (AreFew (known_in self.old) → AreFew (known_in self.new)) }
         ensures goes { IfOk result (λ _. Goes (outermost_in self.old) (known_in self.old)
-            (numbers_in self.old) (part_of part.now) (map open_of around.now) (known_in self.new)
+            (numbers_in self.old) counts (part_of part.now) (map open_of around.now) (known_in self.new)
             (numbers_in self.new)) }
         ensures outermost { outermost_in self.new ≡ outermost_in self.old }
     {
         match part {
             Part::States(_) => Ok(()),
             Part::Begins(_) => match around.last() {
-                Some(rule) => self.enter(alloc, rule),
+                Some(rule) => self.enter(alloc, rule, counts),
                 None => Ok(()),
             },
             Part::Ends => {

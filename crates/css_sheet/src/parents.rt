@@ -1,21 +1,35 @@
 //! The style rules that are open where a sheet is read, and the lists of selectors that `&` stands for in
 //! the rules in them.
-ghost use Rattle.std.specs.Prelude.{◌≡◌, [], IfOk, map, option_map};
+ghost use Rattle.std.specs.Prelude.{◌≡◌, ◌++◌, ◌∷◌, [], IfOk, None, map, option_map};
 ghost use Rattle.css_syntax.specs.Views.{prelude_of};
+ghost use Rattle.css_sheet.specs.RuleSelectors.{is_listed as is_listed_of, listed_under};
 ghost use Rattle.css_sheet.specs.RuleViews.{listed_result};
 ghost use Rattle.css_sheet.specs.OpenParents.{none_open, with_selectors, with_list, parent_in as parent_in_of};
 ghost use Rattle.css_sheet.specs.OpenParents.{entered, begun, begun_style, left_innermost, before_rule, after_part_of};
-ghost use Rattle.css_sheet.specs.OpenParents.{or_same as or_same_of};
+ghost use Rattle.css_sheet.specs.OpenParents.{checked, checked_for, or_same as or_same_of};
 ghost use Rattle.css_sheet.specs.ParentViews.{parent_of, parents_of};
+ghost use Rattle.css_sheet.specs.internal.OpenViews.{is_known_dropped as is_known_dropped_of};
 ghost use Rattle.css_sheet.specs.internal.PartViews.{kind_of, open_of, part_of};
 ghost use Rattle.css_sheet.specs.SheetParts.{applies_in as applies_in_rules};
 
 use crate::nested_selectors::list_of;
+use crate::open_layers::is_layer;
 use crate::parts::{OpenRule, Part, RuleKind};
-use crate::selectors::{RuleSelector, read_selectors};
+use crate::selectors::{RuleSelector, read_listed, read_selectors};
 use css_selectors::{Nesting, Selector};
 use css_syntax::{Fault, Prelude};
 use std::alloc::{AllocError, Global};
+
+/// What is known of the list of selectors of a style rule.
+#[derive(Clone, Copy)]
+pub(crate) enum OwnList {
+    /// Nothing, as long as it was not needed.
+    Unread,
+    /// It is valid: a layer is in the rule.
+    Valid,
+    /// What `&` stands for in the rules in it: there was one.
+    Numbered(Nesting),
+}
 
 /// A style rule that is open.
 #[derive(Clone, Copy)]
@@ -24,8 +38,8 @@ pub(crate) struct StyleRule<'a> {
     pub(crate) prelude: Prelude<'a>,
     /// What `&` stands for there, if the rule is in another one.
     pub(crate) under: Option<Nesting>,
-    /// What `&` stands for in the rules in it, if there was one.
-    pub(crate) own: Option<Nesting>,
+    /// What is known of its list.
+    pub(crate) own: OwnList,
 }
 
 /// The style rule that something is in.
@@ -56,14 +70,46 @@ fn parent_in<'a>(prelude: Prelude<'a>, outer: Parent<'a>) -> Parent<'a>
 {
     let under = match outer {
         Parent::NoRule => None,
-        Parent::Style(StyleRule { own: Some(own), .. }) => Some(own),
+        Parent::Style(
+            StyleRule {
+                own: OwnList::Numbered(own),
+                ..
+            },
+        ) => Some(own),
         _ => return Parent::Dropped,
     };
     Parent::Style(StyleRule {
         prelude,
         under,
-        own: None,
+        own: OwnList::Unread,
     })
+}
+
+/// Whether the list of a style rule is valid.
+fn is_listed(alloc: Global, rule: &StyleRule<'_>) -> Result<bool, AllocError>
+    ensures { IfOk result (λ valid. is_listed_of (listed_under rule.now.under
+        (prelude_of rule.now.prelude)) ≡ valid) }
+{
+    let read = read_listed(alloc, rule.under, &rule.prelude)?;
+    Ok(read.is_ok())
+}
+
+/// Returns the same style rule, of whose list it is known whether it is valid.
+fn check<'a>(alloc: Global, parent: Parent<'a>) -> Result<Parent<'a>, AllocError>
+    ensures { IfOk result (λ same. parent_of same ≡ checked (parent_of parent.entry)) }
+{
+    match parent {
+        Parent::Style(rule) if matches!(rule.own, OwnList::Unread) => {
+            if !is_listed(alloc, &rule)? {
+                return Ok(Parent::Dropped);
+            }
+            Ok(Parent::Style(StyleRule {
+                own: OwnList::Valid,
+                ..rule
+            }))
+        }
+        _ => Ok(parent),
+    }
 }
 
 /// Returns the style rule that the rule was in which ends, if it is a style rule, or else the same.
@@ -102,7 +148,7 @@ impl<'a> OpenParents<'a> {
                 let (list, specificity) = list_of(alloc, all)?;
                 self.lists.push(list)?;
                 self.innermost = Parent::Style(StyleRule {
-                    own: Some(Nesting {
+                    own: OwnList::Numbered(Nesting {
                         number: self.lists.len(),
                         specificity,
                     }),
@@ -119,7 +165,7 @@ impl<'a> OpenParents<'a> {
     {
         let innermost = self.innermost;
         match innermost {
-            Parent::Style(rule) if rule.own.is_none() => {
+            Parent::Style(rule) if !matches!(rule.own, OwnList::Numbered(_)) => {
                 let selectors = read_selectors(alloc, rule.under, &rule.prelude)?;
                 self.add_list(alloc, rule, selectors)
             }
@@ -154,6 +200,21 @@ impl<'a> OpenParents<'a> {
         self.enter(parent_in(prelude, self.innermost))
     }
 
+    /// Enters a group rule. If it is a layer that applies, the list of the innermost rule is needed.
+    fn enter_group(&mut self, alloc: Global, is_needed: bool) -> Result<(), AllocError>
+        ensures { IfOk result (λ _. parents_of self.new ≡ record {
+          innermost = checked_for is_needed (parents_of self.old).innermost;
+          outer = (parents_of self.old).outer ++ None ∷ [];
+          lists = (parents_of self.old).lists;
+        }) }
+    {
+        if is_needed {
+            self.innermost = check(alloc, self.innermost)?;
+        }
+        self.outer.push(None)?;
+        Ok(())
+    }
+
     /// Begins a rule, which applies or not.
     fn begin(&mut self, alloc: Global, kind: &RuleKind<'a>, applies: bool) -> Result<(), AllocError>
         ensures { IfOk result (λ _. parents_of self.new
@@ -161,9 +222,9 @@ impl<'a> OpenParents<'a> {
     {
         match kind {
             RuleKind::Style(prelude) => self.begin_style(alloc, *prelude, applies),
-            RuleKind::Group(_, _) => {
-                self.outer.push(None)?;
-                Ok(())
+            RuleKind::Group(keyword, _) => {
+                let is_needed = applies && is_layer(*keyword);
+                self.enter_group(alloc, is_needed)
             }
         }
     }
@@ -185,6 +246,13 @@ impl<'a> OpenParents<'a> {
             self.outer.clear();
             self.innermost = Parent::NoRule;
         }
+    }
+
+    /// Whether the innermost rule is dropped, as far as it is known.
+    pub(crate) fn is_known_dropped(&self) -> bool
+        ensures { result ≡ is_known_dropped_of (parents_of self.now).innermost }
+    {
+        matches!(self.innermost, Parent::Dropped)
     }
 
     /// Enters what a part begins, and leaves what it ends. These rules are open then.

@@ -10,12 +10,16 @@ ghost use Rattle.css_sheet.specs.SheetParts.{nesting_in as nesting_in_kind, kind
 ghost use Rattle.css_sheet.specs.SheetParts.{after_at_rule, run_part as run_part_of, past_run as past_run_of};
 ghost use Rattle.css_sheet.specs.SheetParts.{stated_from, at_rule_in, part_inside as inside_of};
 ghost use Rattle.css_sheet.specs.SheetParts.{at_rule_outside, part_outside as outside_of, next_inside, next_outside};
-ghost use Rattle.css_sheet.specs.SheetParts.{next_in, opened, open_after, offset_in, sheet_parts};
-ghost use Rattle.css_sheet.specs.internal.PartViews.{kind_of, nesting_text, open_of, part_of, open_in, left_in};
+ghost use Rattle.css_sheet.specs.SheetParts.{is_more_open as is_more_open_in, next_in, opened, open_after, offset_in};
+ghost use Rattle.css_sheet.specs.SheetParts.{begins, given_kind, open_given, parts_given, sheet_parts};
+ghost use Rattle.css_sheet.specs.GroupViews.{group_rule_of};
+ghost use Rattle.css_sheet.specs.internal.PartViews.{kind_of, nesting_text, open_of, part_of, open_in, left_in, given_in};
 ghost use Rattle.css_sheet.specs.internal.PartViews.{parts_to_come, source_of, GivesPart, PartShrinks};
-ghost use Rattle.css_sheet.specs.SheetRuleViews.{Answers};
+ghost use Rattle.css_sheet.specs.internal.PartViews.{GivesNext, NextShrinks};
+ghost use Rattle.css_sheet.specs.SheetRuleViews.{Answers, sheet_of};
 
 use crate::groups::group_keyword;
+use crate::sheet_rules::{GroupRule, Sheet};
 use css_syntax::blocks::{BlockPart, FoundBlockPart, read_next_block_part, read_next_rule_part};
 use css_syntax::statements::read_block;
 use css_syntax::texts::front;
@@ -28,7 +32,7 @@ pub(crate) enum RuleKind<'a> {
     /// A style rule, by what is before its block.
     Style(Prelude<'a>),
     /// A group rule, by the keyword that its name is and by its prelude.
-    Group(&'static str, &'a str),
+    Group(&'a str, &'a str),
 }
 
 /// How many style rules something is in.
@@ -77,9 +81,13 @@ struct FoundPart<'a> {
 
 /// Reads the parts of a sheet.
 #[derive(Drop)]
-pub(crate) struct SheetParts<'a> {
+pub(crate) struct SheetParts<'s, 'a> {
     /// The rules that are open, from the outermost.
     pub(crate) around: Vec<OpenRule<'a>>,
+    /// The group rules that are still to begin of those that all of the sheet is in.
+    pub(crate) given: &'s [GroupRule<'a>],
+    /// How many group rules all of it is in.
+    pub(crate) depth: usize,
     /// What is left of the sheet.
     pub(crate) rest: &'a str,
     /// The number of the sheet.
@@ -106,6 +114,13 @@ fn applies_in(around: &[OpenRule<'_>]) -> bool
         Some(rule) => rule.applies,
         None => true,
     }
+}
+
+/// Whether a rule is open that comes after so many.
+fn is_more_open(around: &[OpenRule<'_>], depth: usize) -> bool
+    ensures { result ≡ is_more_open_in depth (map open_of around.now) }
+{
+    depth < around.len()
 }
 
 /// Returns what is in a rule that is in this.
@@ -294,32 +309,34 @@ fn read_outside(text: &str, in_block: bool) -> Option<FoundPart<'_>>
     }
 }
 
-/// Reads the next part, by the grammar of what it is in.
+/// Reads the next part, by the grammar of what it is in, in a text that is in so many group rules.
 #[tactic(auto, unfolding(crate::specs::SheetParts::next_in))]
-fn read_next_in<'a>(around: &[OpenRule<'_>], text: &'a str) -> Option<FoundPart<'a>>
-    ensures { next_in (map open_of around.now) text.now
+fn read_next_in<'a>(around: &[OpenRule<'_>], depth: usize, text: &'a str) -> Option<FoundPart<'a>>
+    ensures { next_in depth (map open_of around.now) text.now
         ≡ option_map (λ found. (part_of found.part, found.rest.now)) result }
 {
     match nesting_of(around) {
-        Nesting::Outside => read_outside(text, !around.is_empty()),
+        Nesting::Outside => read_outside(text, is_more_open(around, depth)),
         Nesting::Within(_) => read_inside(text),
         Nesting::Nested => read_inside(text),
     }
 }
 
-impl<'a> SheetParts<'a> {
-    /// Returns a reader at the start of the sheet of this number. Allocates nothing.
-    pub(crate) fn new(alloc: Global, text: &'a str, sheet: usize) -> SheetParts<'a>
+impl<'s, 'a> SheetParts<'s, 'a> {
+    /// Returns a reader at the start of the sheet, which has this number. Allocates nothing.
+    pub(crate) fn new(alloc: Global, sheet: &Sheet<'s, 'a>, number: usize) -> SheetParts<'s, 'a>
         ensures open { open_in result ≡ [] }
-        ensures sheet { (source_of result).sheet ≡ sheet }
+        ensures sheet { (source_of result).sheet ≡ number }
         ensures parts { (answers : List ℕ → List ℕ → Bool)
-            → parts_to_come answers result ≡ sheet_parts answers sheet text.now }
+            → parts_to_come answers result ≡ sheet_parts answers number (sheet_of sheet.now) }
     {
         SheetParts {
             around: Vec::new(alloc),
-            rest: text,
-            sheet,
-            size: text.len(),
+            given: sheet.around,
+            depth: sheet.around.len(),
+            rest: sheet.text,
+            sheet: number,
+            size: sheet.text.len(),
         }
     }
 
@@ -354,6 +371,7 @@ impl<'a> SheetParts<'a> {
     ) -> Result<(), AllocError>
         requires { C.IsAlwaysCallable holds.now }
         ensures rest { left_in self.new ≡ left_in self.old }
+        ensures given { given_in self.new ≡ given_in self.old }
         ensures source { source_of self.new ≡ source_of self.old }
         ensures around { (answers : List ℕ → List ℕ → Bool) → Answers (C.post holds.now) answers
             → IfOk result (λ _. open_in self.new
@@ -379,6 +397,7 @@ impl<'a> SheetParts<'a> {
     ) -> Result<(), AllocError>
         requires { C.IsAlwaysCallable holds.now }
         ensures rest { left_in self.new ≡ left_in self.old }
+        ensures given { given_in self.new ≡ given_in self.old }
         ensures source { source_of self.new ≡ source_of self.old }
         ensures around { (answers : List ℕ → List ℕ → Bool) → Answers (C.post holds.now) answers
             → IfOk result (λ _. open_in self.new
@@ -395,8 +414,50 @@ impl<'a> SheetParts<'a> {
         }
     }
 
-    /// Returns the next part. What it begins is open then; what it ends is not. Each group rule is
-    /// asked about once, by its keyword and its prelude, if all that it is in hold.
+    /// Begins a group rule that all of the sheet is in.
+    fn begin_given<C: Fn(&str, &str) -> bool>(
+        &mut self,
+        rule: &GroupRule<'a>,
+        holds: &C,
+    ) -> Result<Part<'a>, AllocError>
+        requires { C.IsAlwaysCallable holds.now }
+        ensures rest { left_in self.new ≡ left_in self.old }
+        ensures source { source_of self.new ≡ source_of self.old }
+        ensures part { IfOk result (λ part. part_of part ≡ begins (given_kind (group_rule_of rule.now))) }
+        ensures around { (answers : List ℕ → List ℕ → Bool) → Answers (C.post holds.now) answers
+            → IfOk result (λ _. open_in self.new
+            ≡ open_given answers (open_in self.old) (group_rule_of rule.now)) }
+    {
+        let part = Part::Begins(RuleKind::Group(rule.keyword, rule.prelude));
+        self.go_through(&part, [rule.number, 0], holds)?;
+        Ok(part)
+    }
+
+    /// Reads the next part of the text.
+    fn read_next<C: Fn(&str, &str) -> bool>(
+        &mut self,
+        holds: &C,
+    ) -> Result<Option<Part<'a>>, AllocError>
+        requires { C.IsAlwaysCallable holds.now }
+        ensures given { given_in self.new ≡ given_in self.old }
+        ensures size { IfOk result (λ part. NextShrinks self.old part self.new) }
+        ensures parts { (answers : List ℕ → List ℕ → Bool) → Answers (C.post holds.now) answers
+            → IfOk result (λ part. GivesNext answers self.old part self.new) }
+    {
+        match read_next_in(&self.around, self.depth, self.rest) {
+            None => Ok(None),
+            Some(found) => {
+                let place = [self.sheet, self.offset(found.rest)];
+                self.go_through(&found.part, place, holds)?;
+                self.rest = found.rest;
+                Ok(Some(found.part))
+            }
+        }
+    }
+
+    /// Returns the next part: the group rules that all of the sheet is in begin first. What a part begins is
+    /// open then; what it ends is not. Each group rule is asked about once, by its keyword and its prelude,
+    /// if all that it is in hold.
     pub(crate) fn next<C: Fn(&str, &str) -> bool>(
         &mut self,
         holds: &C,
@@ -406,14 +467,13 @@ impl<'a> SheetParts<'a> {
         ensures parts { (answers : List ℕ → List ℕ → Bool) → Answers (C.post holds.now) answers
             → IfOk result (λ part. GivesPart answers self.old part self.new) }
     {
-        match read_next_in(&self.around, self.rest) {
-            None => Ok(None),
-            Some(found) => {
-                let place = [self.sheet, self.offset(found.rest)];
-                self.go_through(&found.part, place, holds)?;
-                self.rest = found.rest;
-                Ok(Some(found.part))
+        match self.given {
+            [rule, more @ ..] => {
+                let part = self.begin_given(rule, holds)?;
+                self.given = more;
+                Ok(Some(part))
             }
+            [] => self.read_next(holds),
         }
     }
 }

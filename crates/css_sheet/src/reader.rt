@@ -1,17 +1,23 @@
 //! The reader of sheets.
 ghost use Rattle.std.specs.Prelude.{◌≡◌, ◌≤◌, ◌++◌, ◌∷◌, [], ℕ, Bool, List, true, map, IfOk, length};
 ghost use Rattle.css_sheet.specs.SheetItems.{sheet_items};
+ghost use Rattle.css_sheet.specs.NothingLost.{AreSheetItems};
 ghost use Rattle.css_sheet.specs.ReaderViews.{level_of, to_come};
 ghost use Rattle.css_sheet.specs.ReaderViews.{conditions_of, condition_at, GivesItem, Leaves, Steps};
 ghost use Rattle.css_sheet.specs.ReaderViews.{end_of, places_now};
 ghost use Rattle.css_sheet.specs.Places.{prelude_in, block_length, no_places, places_by, places_of};
-ghost use Rattle.css_syntax.specs.Views.{statement_of};
+ghost use Rattle.std.specs.Prelude.{None, IfSome, option_map};
+ghost use Rattle.css_syntax.specs.Contents.{statement_contents};
+ghost use Rattle.css_syntax.specs.Statements.{next_statement, past_between};
+ghost use Rattle.css_syntax.specs.Views.{sheet_part_of, statement_of};
+ghost use Rattle.css_sheet.specs.SheetItems.{next_part, stray_brace};
 
 use crate::groups::group_of;
 use crate::state::{Level, Places, SheetReader};
 use css_syntax::places::at_rule_prelude;
 use css_syntax::statements::{FoundPart, read_next};
-use css_syntax::{SheetPart, Statement};
+use css_syntax::texts::{front, past_byte, past_gap};
+use css_syntax::{Fault, SheetPart, Statement};
 use std::alloc::{AllocError, Global};
 
 /// How many group rules may be open at once.
@@ -56,10 +62,54 @@ fn block_len(statement: &Statement<'_>) -> usize
     }
 }
 
+/// Reads a brace that closes nothing, if one is next.
+fn read_brace(text: &str, in_block: bool) -> Option<FoundPart<'_>>
+    requires { next_statement in_block text.now ≡ None }
+    ensures read { stray_brace (past_between in_block text.now)
+        ≡ option_map (λ found. (sheet_part_of found.part, found.rest.now)) result }
+    ensures from { IfSome result (λ found. found.from.now ≡ past_between in_block text.now) }
+    ensures inside { IfSome result (λ found.
+        found.inside.now ≡ statement_contents in_block (past_between in_block text.now)) }
+{
+    let from = past_gap(text);
+    if !in_block || from.is_empty() {
+        return None;
+    }
+    let rest = past_byte(from, b'}');
+    Some(FoundPart {
+        part: SheetPart {
+            text: front(from, rest),
+            statement: Statement::Skipped(Fault::StrayBracket),
+        },
+        from,
+        inside: from,
+        rest,
+    })
+}
+
+/// Reads the next statement. In the contents of a group rule, a brace that closes nothing is one.
+#[tactic(auto, unfolding(crate::specs::SheetItems::next_part))]
+fn read_part(text: &str, in_block: bool) -> Option<FoundPart<'_>>
+    ensures read { next_part in_block text.now
+        ≡ option_map (λ found. (sheet_part_of found.part, found.rest.now)) result }
+    ensures from { IfSome result (λ found. found.from.now ≡ past_between in_block text.now) }
+    ensures inside { IfSome result (λ found.
+        found.inside.now ≡ statement_contents in_block (past_between in_block text.now)) }
+{
+    match read_next(text, in_block) {
+        Some(found) => Some(found),
+        None => read_brace(text, in_block),
+    }
+}
+
 impl<'a> SheetReader<'a> {
     /// Returns a reader at the start of a sheet. Allocates nothing.
+    ///
+    /// Every byte of the sheet is in one of the items that are read, in the head or the closing brace of a
+    /// group rule, or in what is between these: space bytes, comments, `<!--` and `-->`.
     pub fn new(alloc: Global, text: &'a str) -> SheetReader<'a>
         ensures items { to_come result ≡ sheet_items text.now }
+        ensures all { AreSheetItems text.now (to_come result) }
         ensures levels { conditions_of result ≡ [] }
         ensures places { places_now result ≡ no_places }
     {
@@ -126,7 +176,7 @@ impl<'a> SheetReader<'a> {
     fn step(&mut self) -> Result<Step<'a>, AllocError>
         ensures { IfOk result (λ step. Steps self.old step self.new) }
     {
-        let Some(found) = read_next(self.rest, !self.levels.is_empty()) else {
+        let Some(found) = read_part(self.rest, !self.levels.is_empty()) else {
             return Ok(self.leave());
         };
         let places = self.find(&found);

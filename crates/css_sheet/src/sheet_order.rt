@@ -8,9 +8,9 @@ ghost use Rattle.css_sheet.specs.SheetLayers.{layer_count, sheet_layers, with_la
 ghost use Rattle.css_sheet.specs.SheetParts.{PlacedPart, sheet_parts};
 ghost use Rattle.css_sheet.specs.SheetOrder.{cascade_rules, nested_lists, source_rules};
 ghost use Rattle.css_sheet.specs.SheetOrder.{declarations_in, ranked, rule_key};
-ghost use Rattle.css_sheet.specs.Sheets.{SheetText, authored, origin_at as origin_at_of, outermost_at, texts_in};
+ghost use Rattle.css_sheet.specs.Sheets.{SheetText, authored, origin_at as origin_at_of, outermost_at};
 ghost use Rattle.css_sheet.specs.SheetRuleViews.{Answers, sheet_of, sheet_rule_of};
-ghost use Rattle.css_sheet.specs.internal.GatherViews.{Awaits, AwaitsStill, GathersAll, Pushes};
+ghost use Rattle.css_sheet.specs.internal.GatherViews.{Awaits, AwaitsStill, GathersAll, Pushes, counts_after};
 ghost use Rattle.css_sheet.specs.declared.sheet_error.SheetError.TheVariants.{TooManyDeclarations, TooManyLayers};
 
 use crate::gathering::Gathered;
@@ -54,19 +54,21 @@ impl<'a> ReadRules<'a> {
         &mut self,
         alloc: Global,
         part: &Part<'a>,
-        reader: &SheetParts<'a>,
+        reader: &SheetParts<'_, 'a>,
     ) -> Result<(), SheetError>
         ensures pushes { Pushes self.old result self.new (part_of part.now) reader.now }
         ensures few { OnOk result (AreFew (known_in self.old.opened) → AreFew (known_in self.new.opened)) }
         ensures many { IfErr result (λ error. error ≡ TooManyLayers
             → GoesOver (outermost_in self.old.opened) (known_in self.old.opened)
-            (numbers_in self.old.opened) (part_of part.now) (open_in reader.now)) }
+            (numbers_in self.old.opened) (counts_after self.old (part_of part.now) reader.now)
+            (part_of part.now) (open_in reader.now)) }
     {
         let applies = reader.applies();
-        self.opened
-            .go_through(alloc, part, &reader.around, applies)?;
         self.parents
             .go_through(alloc, part, &reader.around, applies)?;
+        let counts = !self.parents.is_known_dropped();
+        self.opened
+            .go_through(alloc, part, &reader.around, applies, counts)?;
         let layer = self.opened.innermost();
         self.gathered
             .push_part(alloc, part, layer, &self.parents.innermost, reader)
@@ -77,26 +79,28 @@ impl<'a> ReadRules<'a> {
     fn push_sheet<C: Fn(&str, &str) -> bool>(
         &mut self,
         alloc: Global,
-        text: &'a str,
-        sheet: usize,
+        sheet: &Sheet<'_, 'a>,
+        number: usize,
         origin: Origin,
         holds: &C,
     ) -> Result<(), SheetError>
         requires { C.IsAlwaysCallable holds.now }
         ensures awaits { (answers : List ℕ → List ℕ → Bool) → Answers (C.post holds.now) answers
             → (sheets : List SheetText) (most : ℕ) (more : List PlacedPart)
-            → outermost_number origin ≡ outermost_at sheets sheet
-            → Awaits answers sheets most self.old (sheet_parts (with_layers_of answers) sheet text.now ++ more)
+            → outermost_number origin ≡ outermost_at sheets number
+            → Awaits answers sheets most self.old
+            (sheet_parts (with_layers_of answers) number (sheet_of sheet.now) ++ more)
             → AwaitsStill answers sheets most result self.new more }
         ensures few { OnOk result (AreFew (known_in self.old.opened) → AreFew (known_in self.new.opened)) }
         ensures many { (answers : List ℕ → List ℕ → Bool) → Answers (C.post holds.now) answers
             → (sheets : List SheetText) (most : ℕ) (more : List PlacedPart)
-            → outermost_number origin ≡ outermost_at sheets sheet
-            → Awaits answers sheets most self.old (sheet_parts (with_layers_of answers) sheet text.now ++ more)
+            → outermost_number origin ≡ outermost_at sheets number
+            → Awaits answers sheets most self.old
+            (sheet_parts (with_layers_of answers) number (sheet_of sheet.now) ++ more)
             → IfErr result (λ error. error ≡ TooManyLayers → AreMany (sheet_layers answers sheets)) }
     {
         self.opened.begin_sheet(outermost(origin));
-        let mut reader = SheetParts::new(alloc, text, sheet);
+        let mut reader = SheetParts::new(alloc, sheet, number);
         'parts: loop {
             let part = reader.next(
                 &|keyword: &str, prelude: &str| -> bool
@@ -114,7 +118,7 @@ impl<'a> ReadRules<'a> {
 }
 
 /// Returns the origin of the sheet of a number.
-fn origin_at(sheets: &[Sheet<'_>], number: usize) -> Origin
+fn origin_at(sheets: &[Sheet<'_, '_>], number: usize) -> Origin
     ensures { result ≡ origin_at_of (map sheet_of sheets.now) number }
 {
     match sheets.get(number) {
@@ -126,7 +130,7 @@ fn origin_at(sheets: &[Sheet<'_>], number: usize) -> Origin
 /// Reads the rules of sheets in the order of the texts, each with the number of its layer.
 fn gather<'a, C: Fn(&str, &str) -> bool>(
     alloc: Global,
-    sheets: &[Sheet<'a>],
+    sheets: &[Sheet<'_, 'a>],
     most: usize,
     holds: &C,
 ) -> Result<ReadRules<'a>, SheetError>
@@ -152,7 +156,7 @@ fn gather<'a, C: Fn(&str, &str) -> bool>(
     let mut rest = sheets;
     'sheets: while let [sheet, after @ ..] = rest {
         let origin = origin_at(sheets, number);
-        read.push_sheet(alloc, sheet.text, number, origin, holds)?;
+        read.push_sheet(alloc, sheet, number, origin, holds)?;
         number += 1;
         rest = after;
     }
@@ -160,7 +164,7 @@ fn gather<'a, C: Fn(&str, &str) -> bool>(
 }
 
 /// Gives the rules the origins of their sheets, and the ranks of their layers in the place of the numbers.
-fn rank(rules: &mut Vec<SheetRule<'_>>, layers: &Layers<'_>, sheets: &[Sheet<'_>])
+fn rank(rules: &mut Vec<SheetRule<'_>>, layers: &Layers<'_>, sheets: &[Sheet<'_, '_>])
     ensures { map sheet_rule_of rules.new.items
         ≡ map (ranked (known_of layers.now) (map sheet_of sheets.now)) (map sheet_rule_of rules.old.items) }
 {
@@ -187,7 +191,8 @@ pub struct SheetRules<'a> {
 /// Of a rule set there is one rule for each selector that is supported. A rule set with a part
 /// that is no selector, or without a declaration, has none. A rule in group rules such as `@media`
 /// is there if all of them hold: `holds` is asked once about each, by the keyword that its name is,
-/// in lower case and without escapes, and by its prelude, and about none in one that does not hold.
+/// in lower case and without escapes, and by its prelude, and about none in one that does not hold. The group
+/// rules that all of a sheet is in are asked about for each sheet, and named as they are given.
 /// A group rule or a style rule may be in a style rule: then the declarations before it, in it, and after it
 /// are rules of their own, those of one style rule with the same selectors, which are read again for each.
 ///
@@ -197,20 +202,21 @@ pub struct SheetRules<'a> {
 ///
 /// About an `@layer` nobody is asked: it holds, unless its prelude is neither a name nor nothing. Layers
 /// are in the order in which they are first mentioned where all group rules hold, by a block or, outside
-/// of style rules, by a list of names, each origin having its own. A layer that several sheets of an origin
-/// name is one, and one without a name is new in each. The layers in a layer come before what is in that layer
+/// of style rules, by a list of names, each origin having its own; one in a style rule that is dropped is not
+/// mentioned. A layer that several sheets of an origin name is one, and one without a name is new in each, but
+/// for one that several sheets are in by its number. The layers in a layer come before what is in that layer
 /// itself, and what is in no layer comes last. `!important` makes no difference here.
 ///
-/// The time is linear, but for that, which takes at most the length of a rule's selectors times the number
-/// of group rules and nested rules in it, and for layers: for each name of one and for each rule at most
-/// 1,028 layers are looked through.
+/// The time is linear, with the group rules of each sheet, but for that, which takes at most the length of a
+/// rule's selectors times the number of group rules and nested rules in it, and for layers: for each name of one
+/// and for each rule at most 1,028 layers are looked through.
 ///
 /// Fails if the rules hold more than `most` declarations, if there are more than 1,024 layers, or if an
 /// allocation fails. The declarations of a rule set count once for each of its rules, though none is
 /// copied.
 pub fn read_sheets<'a, C: Fn(&str, &str) -> bool>(
     alloc: Global,
-    sheets: &[Sheet<'a>],
+    sheets: &[Sheet<'_, 'a>],
     most: usize,
     holds: C,
 ) -> Result<SheetRules<'a>, SheetError>
@@ -220,7 +226,7 @@ pub fn read_sheets<'a, C: Fn(&str, &str) -> bool>(
         ≡ cascade_rules answers (map sheet_of sheets.now)) }
     ensures lists { (answers : List ℕ → List ℕ → Bool) → Answers (C.post holds) answers
         → IfOk result (λ read. map (λ list. list.items) read.lists.items
-        ≡ nested_lists answers (texts_in (map sheet_of sheets.now))) }
+        ≡ nested_lists answers (map sheet_of sheets.now)) }
     ensures within { (answers : List ℕ → List ℕ → Bool) → Answers (C.post holds) answers
         → OnOk result
         (declarations_in (source_rules answers (map sheet_of sheets.now)) ≤ most) }
@@ -265,7 +271,7 @@ pub fn read_sheet<'a, C: Fn(&str, &str) -> bool>(
         ≡ cascade_rules answers (authored text.now ∷ [])) }
     ensures lists { (answers : List ℕ → List ℕ → Bool) → Answers (C.post holds) answers
         → IfOk result (λ read. map (λ list. list.items) read.lists.items
-        ≡ nested_lists answers (text.now ∷ [])) }
+        ≡ nested_lists answers (authored text.now ∷ [])) }
     ensures within { (answers : List ℕ → List ℕ → Bool) → Answers (C.post holds) answers
         → OnOk result (declarations_in (source_rules answers (authored text.now ∷ [])) ≤ most) }
     ensures refused { (answers : List ℕ → List ℕ → Bool) → Answers (C.post holds) answers
@@ -280,6 +286,7 @@ pub fn read_sheet<'a, C: Fn(&str, &str) -> bool>(
     let sheet = Sheet {
         text,
         origin: Origin::Author,
+        around: &[],
     };
     read_sheets(alloc, &[sheet], most, holds)
 }

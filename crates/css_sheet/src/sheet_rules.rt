@@ -28,13 +28,28 @@ pub(crate) fn with_pseudo_element(
     }
 }
 
+/// A group rule that all of a style sheet is in.
+#[derive(Clone, Copy)]
+pub struct GroupRule<'a> {
+    /// The keyword that its name is, in lower case, such as `layer` or `media`.
+    pub keyword: &'a str,
+    /// What is between its name and its block.
+    pub prelude: &'a str,
+    /// Of layers without a name in one layer those with the same number are one, in several sheets too. Of
+    /// other rules it changes nothing.
+    pub number: usize,
+}
+
 /// A style sheet that is to be read.
 #[derive(Clone, Copy)]
-pub struct Sheet<'a> {
+pub struct Sheet<'s, 'a> {
     /// Its text.
     pub text: &'a str,
     /// Where it comes from.
     pub origin: Origin,
+    /// The group rules that all of it is in, from the outermost: those of the `@import` rule that names it, for
+    /// instance. Its own top level stays one, which no `}` closes.
+    pub around: &'s [GroupRule<'a>],
 }
 
 /// A style rule with one selector. The rules of one rule set share the text of its block.

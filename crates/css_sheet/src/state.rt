@@ -37,7 +37,8 @@ pub struct Places {
 
 /// Reads the statements of a sheet, and those of the blocks of its group rules, in source order.
 ///
-/// A group rule in 64 others is an item itself, with its block.
+/// A group rule in 64 others is an item itself, with its block. A brace in a group rule that closes nothing
+/// is skipped, as an item. No byte of the sheet is lost: see `SheetReader::new`.
 #[derive(Drop)]
 pub struct SheetReader<'a> {
     /// The group rules that are open, from the outermost.

@@ -1,5 +1,5 @@
 -- What contracts see of a reader of the parts of a sheet.
-use Rattle.std.specs.Prelude.{◌≡◌, ℕ, ◌<◌, Bool, List, [], ◌∷◌, map, length, Option, Some, None}
+use Rattle.std.specs.Prelude.{◌≡◌, ℕ, ◌+◌, ◌<◌, Bool, List, [], ◌∷◌, map, length, Option, Some, None}
 use Rattle.css_syntax.specs.Views.{item_of, prelude_of}
 use Rattle.css_sheet.specs.declared.parts.RuleKind.{RuleKind}
 use Rattle.css_sheet.specs.declared.parts.RuleKind.TheVariants as kinds
@@ -9,7 +9,9 @@ use Rattle.css_sheet.specs.declared.parts.OpenRule.{OpenRule}
 use Rattle.css_sheet.specs.declared.parts.Part.{Part}
 use Rattle.css_sheet.specs.declared.parts.Part.TheVariants as parts
 use Rattle.css_sheet.specs.declared.parts.SheetParts.{SheetParts}
-use Rattle.css_sheet.specs.SheetParts.{OpenText, SheetPart, PlacedPart, Source, parts_in, placed_part, style_rule, group_rule, outside, within, nested, states, begins, ends, stands}
+use Rattle.css_sheet.specs.SheetParts.{OpenText, SheetPart, PlacedPart, Source, parts_given, parts_in, placed_part, style_rule, group_rule, outside, within, nested, states, begins, ends, stands}
+use Rattle.css_sheet.specs.Sheets.{GroupRuleText}
+use Rattle.css_sheet.specs.GroupViews.{group_rule_of}
 use Rattle.css_sheet.specs.SheetParts.{RuleKind as KindText, Nesting as NestingText}
 
 abbrev pub kind_of : RuleKind → KindText
@@ -43,13 +45,17 @@ open_in r = map open_of r.around.items
 abbrev pub left_in : SheetParts → List ℕ
 left_in r = r.rest.now
 
+-- the group rules that are still to begin of those that all of the sheet is in
+abbrev pub given_in : SheetParts → List GroupRuleText
+given_in r = map group_rule_of r.given.now
+
 -- the text that the sheet is
 abbrev pub source_of : SheetParts → Source
-source_of r = record { sheet = r.sheet; size = r.size }
+source_of r = record { sheet = r.sheet; size = r.size; depth = r.depth }
 
 -- the parts of the sheet that are still to come
 abbrev pub parts_to_come : (List ℕ → List ℕ → Bool) → SheetParts → List PlacedPart
-parts_to_come holds r = parts_in holds (source_of r) (open_in r) (left_in r)
+parts_to_come holds r = parts_given holds (source_of r) (open_in r) (given_in r) (left_in r)
 
 -- a part that was read last
 abbrev pub placed_last : SheetParts → SheetPart → PlacedPart
@@ -62,7 +68,24 @@ GivesPart holds before None after = parts_to_come holds before ≡ []
 GivesPart holds before (Some part) after =
     parts_to_come holds before ≡ placed_last after (part_of part) ∷ parts_to_come holds after
 
--- a part takes a byte or more
+-- the same of what is left of the text, once all of its group rules have begun
+abbrev pub GivesNext : (List ℕ → List ℕ → Bool) → SheetParts → Option Part → SheetParts → Type 0
+GivesNext holds before None after =
+    parts_in holds (source_of before) (open_in before) (left_in before) ≡ []
+GivesNext holds before (Some part) after =
+    parts_in holds (source_of before) (open_in before) (left_in before)
+    ≡ placed_last after (part_of part)
+    ∷ parts_in holds (source_of after) (open_in after) (left_in after)
+
+abbrev pub NextShrinks : SheetParts → Option Part → SheetParts → Type 0
+NextShrinks before None after = Unit {0}
+NextShrinks before (Some part) after = length (left_in after) < length (left_in before)
+
+-- how many group rules are to begin, and how many bytes are left
+abbrev pub left_count : SheetParts → ℕ
+left_count r = length (given_in r) + length (left_in r)
+
+-- a part begins one of these, or takes a byte or more
 abbrev pub PartShrinks : SheetParts → Option Part → SheetParts → Type 0
 PartShrinks before None after = Unit {0}
-PartShrinks before (Some part) after = length (left_in after) < length (left_in before)
+PartShrinks before (Some part) after = left_count after < left_count before

@@ -5,6 +5,7 @@ use Rattle.css_sheet.specs.SheetLayers.{sheet_layers, with_layers}
 use Rattle.css_sheet.specs.internal.OpenViews.{AreFew, AreMany}
 use Rattle.css_sheet.specs.Sheets.{outermost_at}
 use Rattle.css_sheet.specs.SheetParts.{sheet_parts}
+use Rattle.css_sheet.specs.SheetRuleViews.{sheet_of}
 use Rattle.css_sheet.proofs.GatherLemmas.{handed-error, reads-many, reads-none, reads-part, reads-over, reads-all, stopped-sheet}
 use Rattle.css_sheet.proofs.sheet_order.ReadRules.push_sheet.Goals as goal
 
@@ -17,7 +18,7 @@ parts-init g c = record {
         opened = c.begin_sheet.new.self;
         parents = c.args.self.now.parents;
       })
-      c.new-reader.result (sheet_parts (with_layers answers) c.args.sheet c.args.text.now)
+      c.new-reader.result (sheet_parts (with_layers answers) c.args.number (sheet_of c.args.sheet.now))
       (c.begin_sheet.ensures.outermost ∙ c.outermost.ensures ∙ same
       ∙ ap (outermost_at sheets) (sym c.new-reader.ensures.sheet))
       c.begin_sheet.ensures.known c.begin_sheet.ensures.numbers refl refl c.new-reader.ensures.open

@@ -1,10 +1,11 @@
 use Rattle.std.proofs.Common.{◌≡◌, ◌<◌, ◌≤◌, ◌+◌, ◌∙◌, sym, ap, arith, refl, length, not, rules, Bool, Some, None}
-use Rattle.css_syntax.specs.Statements.{next_statement}
 use Rattle.css_syntax.specs.Views.{sheet_part_of, statement_of}
 use Rattle.css_sheet.specs.GroupViews.{group_text}
+use Rattle.css_sheet.specs.SheetItems.{next_part}
 use Rattle.css_sheet.specs.Places.{places_of}
 use Rattle.css_sheet.specs.ReaderViews.{is_some_open, is_inside, left_of, levels_of, level_of, size_after}
-use Rattle.css_sheet.proofs.PlaceLemmas.{block-length, group-short, rest-less, start-within, inside-within, places-open}
+use Rattle.css_sheet.proofs.NextParts.{rest-less}
+use Rattle.css_sheet.proofs.PlaceLemmas.{block-length, group-short, start-within, inside-within, places-open}
 use Rattle.css_sheet.proofs.SheetSteps.{texts, map-last, length-map, leaves-step, is_open_by, enter-some, found-plain, found-alone}
 use Rattle.css_sheet.proofs.state.SheetReader.step.Goals as goal
 use Rattle.css_sheet.proofs.state.SheetReader.step.Goals.{in_default-group_of-via-in-Some-group_of+else-len-lt-DEEPEST, in_default-group_of-via-in_default-group_of}
@@ -90,7 +91,7 @@ returns-in_ok-push-in-Some-group_of c =
     (sheet_part_of found.part) (group_text c.in-Some-group_of.group)
     (places_of c.find-places.result)
     c.in_ok-push-in-Some-group_of.ensures.items few
-    (ap (λ (b : Bool). next_statement b old.rest.now) (sym opened) ∙ c.in-Some.ensures.read)
+    (ap (λ (b : Bool). next_part b old.rest.now) (sym opened) ∙ c.in-Some.ensures.read)
     c.in-Some-group_of.ensures
     (places-open old.end (not c.is_empty.result) (is_some_open (texts old.levels.items))
     old.rest.now (sheet_part_of found.part) found.from.now found.inside.now
@@ -109,9 +110,9 @@ returns-in_default-group_of c =
     let len : old.levels.len ≡ length old.levels.items = omega (arith, old.levels.ok.0) in
     let opened : not c.is_empty.result ≡ is_some_open (texts old.levels.items) =
     is_open_by old.levels.items old.levels.len c.is_empty.result c.is_empty.ensures len in
-    let some : next_statement (is_some_open (texts old.levels.items)) old.rest.now
+    let some : next_part (is_some_open (texts old.levels.items)) old.rest.now
     ≡ Some (sheet_part_of found.part, found.rest.now) =
-    ap (λ (b : Bool). next_statement b old.rest.now) (sym opened) ∙ c.in-Some.ensures.read in
+    ap (λ (b : Bool). next_part b old.rest.now) (sym opened) ∙ c.in-Some.ensures.read in
     let at = places-open old.end (not c.is_empty.result) (is_some_open (texts old.levels.items))
     old.rest.now (sheet_part_of found.part) found.from.now found.inside.now
     (places_of c.find-places.result) c.find-places.ensures c.in-Some.ensures.from
@@ -147,9 +148,9 @@ returns-in_default c =
     let len : old.levels.len ≡ length old.levels.items = omega (arith, old.levels.ok.0) in
     let opened : not c.is_empty.result ≡ is_some_open (texts old.levels.items) =
     is_open_by old.levels.items old.levels.len c.is_empty.result c.is_empty.ensures len in
-    let read : next_statement (not c.is_empty.result) old.rest.now ≡ None = search rules in
-    let none : next_statement (is_inside old) (left_of old) ≡ None =
-    ap (λ (b : Bool). next_statement b old.rest.now) (sym opened) ∙ read in
+    let read : next_part (not c.is_empty.result) old.rest.now ≡ None = search rules in
+    let none : next_part (is_inside old) (left_of old) ≡ None =
+    ap (λ (b : Bool). next_part b old.rest.now) (sym opened) ∙ read in
     let few : length (levels_of old) ≤ 64 =
     omega (arith, old.few, old.levels.ok.0, length-map level_of old.levels.items) in
     leaves-step old c.leave.result c.leave.new.self few none c.leave.ensures
