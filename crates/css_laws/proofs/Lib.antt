@@ -4,3 +4,6 @@ pub mod OneTreeLemmas
 pub mod MadeLemmas
 pub mod PageLemmas
 pub mod OrderLemmas
+pub mod OutermostLemmas
+pub mod AskLemmas
+pub mod ChainedLists

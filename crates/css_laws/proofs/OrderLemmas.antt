@@ -18,7 +18,7 @@ use Rattle.css_cascade.specs.Cascade.{beats, origin_rank}
 use Rattle.css_cascade.specs.Rollbacks.{rollback_of}
 use Rattle.css_cascade.specs.declared.rollback.Rollback.{Rollback}
 use Rattle.css_cascade.specs.declared.weights.Origin.{Origin}
-use Rattle.css_sheet.specs.Sheets.{SheetText, origin_at}
+use Rattle.css_sheet.specs.Sheets.{SheetText}
 use Rattle.css_sheet.specs.SheetOrder.{SheetRuleText, rule_counts, rule_key, is_before, source_rules, cascade_rules, weight as counted}
 use Rattle.css_styles.specs.Contenders.{in_rule}
 

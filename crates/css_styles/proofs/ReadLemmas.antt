@@ -8,47 +8,49 @@ use Rattle.std.proofs.lemmas.List.{length-map, map-append}
 use Rattle.css_sheet.specs.SheetOrder.{SheetRuleText}
 use Rattle.css_sheet.specs.SheetRuleViews.{sheet_rule_of}
 use Rattle.css_sheet.specs.declared.sheet_rules.SheetRule.{SheetRule}
-use Rattle.css_styles.specs.declared.stated.Stated.{Stated}
-use Rattle.css_styles.specs.internal.Numbered.{AllStated, AreStated, IsMore}
+use Rattle.css_styles.specs.declared.contest.Numbered.{Numbered}
+use Rattle.css_styles.specs.internal.Numbered.{AllStated, AreStated, EachHas, IsMore}
 use Rattle.css_styles.proofs.IndexLemmas.{get-past, get-within}
-use Rattle.css_styles.proofs.StatedLemmas.{stated-more}
+use Rattle.css_styles.proofs.StatedLemmas.{numbered-more}
 
-are-more : (old new : List (List ℕ)) (rule : SheetRuleText) (stated : List Stated) → IsMore old new
-    → AreStated old rule stated → AreStated new rule stated
-are-more old new rule stated more h = record {
+are-more : (old new : List (List ℕ)) (index : ℕ) (rule : SheetRuleText) (stated : List Numbered)
+    → IsMore old new → AreStated old index rule stated → AreStated new index rule stated
+are-more old new index rule stated more h = record {
   are = h.are;
-  numbered = stated-more old new stated more h.numbered;
+  numbered = numbered-more old new stated more h.numbered;
 }
 
-all-more : (old new : List (List ℕ)) (rules : List SheetRuleText) (lists : List (Vec Stated))
+all-more : (old new : List (List ℕ)) (rules : List SheetRuleText) (lists : List (Vec Numbered))
     → IsMore old new → AllStated old rules lists → AllStated new rules lists
 all-more old new rules lists more all = λ index rule at.
-    let h = all index rule at in (h.0, h.1, are-more old new rule h.0.items more h.2)
+    let h = all index rule at in (h.0, h.1, are-more old new index rule h.0.items more h.2)
 
-all-push : (properties : List (List ℕ)) (rules : List SheetRuleText) (rule : SheetRuleText)
-    (lists : List (Vec Stated)) (list : Vec Stated) → length lists ≡ length rules
-    → AllStated properties rules lists → AreStated properties rule list.items
-    → AllStated properties (rules ++ rule ∷ []) (lists ++ list ∷ [])
-all-push properties [] rule [] list len all are zero r at =
+each-push : (Has : ℕ → SheetRuleText → List Numbered → Type 0) (rules : List SheetRuleText)
+    (rule : SheetRuleText) (lists : List (Vec Numbered)) (list : Vec Numbered)
+    → length lists ≡ length rules → EachHas Has rules lists → Has (length rules) rule list.items
+    → EachHas Has (rules ++ rule ∷ []) (lists ++ list ∷ [])
+each-push Has [] rule [] list len all has zero r at =
     let same : rule ≡ r = cc in
-    (list, refl, subst (λ x. AreStated properties x list.items) same are)
-all-push properties [] rule [] list len all are (suc k) r at = absurd (cc)
-all-push properties [] rule (l ∷ ls) list len all are k r at = absurd (omega (arith, len))
-all-push properties (x ∷ xs) rule [] list len all are k r at = absurd (omega (arith, len))
-all-push properties (x ∷ xs) rule (l ∷ ls) list len all are zero r at = all zero r at
-all-push properties (x ∷ xs) rule (l ∷ ls) list len all are (suc k) r at =
-    all-push properties xs rule ls list (omega (arith, len)) (λ i y e. all (suc i) y e) are k r at
+    (list, refl, subst (λ x. Has zero x list.items) same has)
+each-push Has [] rule [] list len all has (suc k) r at = absurd (cc)
+each-push Has [] rule (l ∷ ls) list len all has k r at = absurd (omega (arith, len))
+each-push Has (x ∷ xs) rule [] list len all has k r at = absurd (omega (arith, len))
+each-push Has (x ∷ xs) rule (l ∷ ls) list len all has zero r at = all zero r at
+each-push Has (x ∷ xs) rule (l ∷ ls) list len all has (suc k) r at =
+    each-push (λ i. Has (suc i)) xs rule ls list (omega (arith, len)) (λ i y e. all (suc i) y e) has k r at
 
 pub read-step : (old new : List (List ℕ)) (rules next : List SheetRule) (rule : SheetRule)
-    (lists after : List (Vec Stated)) (list : Vec Stated) → IsMore old new
+    (lists after : List (Vec Numbered)) (list : Vec Numbered) → IsMore old new
     → AllStated old (map sheet_rule_of rules) lists → length lists ≡ length rules
-    → AreStated new (sheet_rule_of rule) list.items → next ≡ rules ++ rule ∷ []
+    → AreStated new (length lists) (sheet_rule_of rule) list.items → next ≡ rules ++ rule ∷ []
     → after ≡ lists ++ list ∷ [] → AllStated new (map sheet_rule_of next) after
 read-step old new rules next rule lists after list more all len are read pushed =
     let texts = map sheet_rule_of rules in
     let count : length lists ≡ length texts = len ∙ sym (length-map rules sheet_rule_of) in
+    let here = subst (λ n. AreStated new n (sheet_rule_of rule) list.items) count are in
     let base =
-    all-push new texts (sheet_rule_of rule) lists list count (all-more old new texts lists more all) are in
+    each-push (AreStated new) texts (sheet_rule_of rule) lists list count
+    (all-more old new texts lists more all) here in
     let are_next : texts ++ sheet_rule_of rule ∷ [] ≡ map sheet_rule_of next =
     sym (ap (map sheet_rule_of) read ∙ map-append sheet_rule_of rules (rule ∷ [])) in
     subst (λ ls. AllStated new (map sheet_rule_of next) ls) (sym pushed)
@@ -62,7 +64,7 @@ got-at (y ∷ xs) zero d x e = cc
 got-at (y ∷ xs) (suc k) d x e = got-at xs k d x e
 
 pub stated-within : (properties : List (List ℕ)) (rules : List SheetRuleText)
-    (lists : List (Vec Stated)) (index : ℕ) → AllStated properties rules lists → index < length rules
+    (lists : List (Vec Numbered)) (index : ℕ) → AllStated properties rules lists → index < length rules
     → index < length lists
 stated-within properties rules lists index all within =
     let found = get-within rules index within in
@@ -70,19 +72,19 @@ stated-within properties rules lists index all within =
     get-past lists index h.0 h.1
 
 pub stated-read : (properties : List (List ℕ)) (rules : List SheetRuleText)
-    (lists : List (Vec Stated)) (index : ℕ) (list : Vec Stated) (stated : List Stated)
+    (lists : List (Vec Numbered)) (index : ℕ) (list : Vec Numbered) (stated : List Numbered)
     → AllStated properties rules lists → list ≡ get_or lists index list → stated ≡ list.items
-    → IfSome (slice_get rules index) (λ rule. AreStated properties rule stated)
+    → IfSome (slice_get rules index) (λ rule. AreStated properties index rule stated)
 stated-read properties rules lists index list stated all e is = by (slice_get rules index) refl
   where
     by : (o : Option SheetRuleText) → slice_get rules index ≡ o
-        → IfSome o (λ rule. AreStated properties rule stated)
+        → IfSome o (λ rule. AreStated properties index rule stated)
     by None at = tt
     by (Some rule) at =
         let h = all index rule at in
         let same : h.0 ≡ list = sym (e ∙ got-at lists index list h.0 h.1) in
-        subst (AreStated properties rule) (sym is)
-        (subst (λ (l : Vec Stated). AreStated properties rule l.items) same h.2)
+        subst (AreStated properties index rule) (sym is)
+        (subst (λ (l : Vec Numbered). AreStated properties index rule l.items) same h.2)
 
 pub selectors-of : (list : List SheetRule) (rules : List SheetRuleText)
     → map sheet_rule_of list ≡ rules

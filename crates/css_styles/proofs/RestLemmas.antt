@@ -1,5 +1,5 @@
 -- What is left of a list after its first element.
--- Serves `one_property::winning` and the functions of `gathering`.
+-- Serves `one_property::winning`.
 use Rattle.std.proofs.Common.{◌≡◌, ℕ, ◌+◌, ◌-◌, ◌≤◌, List, [], ◌∷◌, length, take, drop, get_or, sym, ap, ◌∙◌, arith}
 use Rattle.std.proofs.lemmas.List.{take_all}
 

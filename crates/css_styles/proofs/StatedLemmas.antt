@@ -1,20 +1,19 @@
 -- Declarations keep the numbers of their properties as more properties are numbered.
 -- Serves the functions of `stated` and `gathering`.
-use Rattle.std.proofs.Common.{◌≡◌, ℕ, Bool, true, false, if◌then◌else◌, List, [], ◌∷◌, ◌++◌, refl, sym, ap, ◌∙◌, append-nil, map}
+use Rattle.std.proofs.Common.{◌≡◌, ℕ, Bool, true, false, if◌then◌else◌, List, [], ◌∷◌, ◌++◌, refl, sym, ap, ◌∙◌, append-nil}
 use Rattle.std.specs.List.{All, cons_option}
 use Rattle.std.specs.Option.{is_some}
-use Rattle.std.proofs.lemmas.List.{append_assoc, map-append}
+use Rattle.std.proofs.lemmas.List.{append_assoc}
 use Rattle.css_syntax.specs.declared.declarations.Declaration.{Declaration}
 use Rattle.css_syntax.specs.declared.declarations.Item.{Item}
 use Rattle.css_syntax.specs.declared.declarations.Item.TheVariants as item_kinds
 use Rattle.css_syntax.specs.declared.declarations.ListPart.{ListPart}
-use Rattle.css_syntax.specs.DeclarationLists.{DeclarationText, ListText}
+use Rattle.css_syntax.specs.DeclarationLists.{ListText}
 use Rattle.css_syntax.specs.Views.{declaration_of, item_of, list_part_of}
 use Rattle.css_styles.specs.Contenders.{declared_by, declared_in}
-use Rattle.css_styles.specs.declared.stated.Stated.{Stated}
 use Rattle.css_styles.specs.declared.contest.Numbered.{Numbered}
 use Rattle.css_styles.specs.Properties.{number_in, property_key}
-use Rattle.css_styles.specs.internal.Numbered.{HasNumber, IsMore, IsNumbered, IsStated, stated_declaration, with_property}
+use Rattle.css_styles.specs.internal.Numbered.{HasNumber, IsMore, IsNumbered, with_property}
 use Rattle.css_styles.proofs.ContestLemmas.{All-each}
 use Rattle.css_styles.proofs.NumberLemmas.{number-more}
 
@@ -42,12 +41,6 @@ has-more old new name n more has =
     ap (λ ps. number_in ps (property_key name)) more.1
     ∙ number-more old more.0 (property_key name) n has
 
-pub stated-more : (old new : List (List ℕ)) (all : List Stated) → IsMore old new
-    → All (IsStated old) all → All (IsStated new) all
-stated-more old new all more =
-    All-each (IsStated old) (IsStated new)
-    (λ s. has-more old new s.declaration.name.now s.property more) all
-
 pub numbered-more : (old new : List (List ℕ)) (all : List Numbered) → IsMore old new
     → All (IsNumbered old) all → All (IsNumbered new) all
 numbered-more old new all more =
@@ -62,16 +55,3 @@ pub first-declared : (part : ListPart) (one : Declaration) (before after : List 
 first-declared part one before after e is =
     ap declared_in e
     ∙ ap (λ (item : Item). cons_option (declared_by (item_of item)) (declared_in after)) is
-
-pub come-step : (old now : List Stated) (s : Stated) (part : ListPart) (one : Declaration)
-    (before after : List ListText) (all : List DeclarationText)
-    → map stated_declaration old ++ declared_in before ≡ all → before ≡ list_part_of part ∷ after
-    → part.item ≡ item_kinds.Declaration one → s.declaration ≡ one → now ≡ old ++ s ∷ []
-    → map stated_declaration now ++ declared_in after ≡ all
-come-step old now s part one before after all come next is of pushed =
-    ap (λ (ss : List Stated). map stated_declaration ss ++ declared_in after) pushed
-    ∙ ap (λ ds. ds ++ declared_in after) (map-append stated_declaration old (s ∷ []))
-    ∙ append_assoc (map stated_declaration old) (stated_declaration s ∷ []) (declared_in after)
-    ∙ ap (λ (d : Declaration). map stated_declaration old ++ declaration_of d ∷ declared_in after) of
-    ∙ sym (ap (λ ds. map stated_declaration old ++ ds) (first-declared part one before after next is))
-    ∙ come

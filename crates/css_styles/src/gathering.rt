@@ -1,46 +1,17 @@
 //! Gathers the declarations that apply to an element.
 ghost use Rattle.std.specs.Prelude.{◌≡◌, ◌++◌, ◌<◌, ℕ, List, IfOk, OnOk, length, map};
 ghost use Rattle.std.specs.List.{All, flat_map};
-ghost use Rattle.css_sheet.specs.SheetRuleViews.{sheet_rule_of};
-ghost use Rattle.css_styles.specs.Contenders.{in_rule, in_turn, of_own, own_declarations};
+ghost use Rattle.css_styles.specs.Contenders.{in_turn, of_own, own_declarations};
 ghost use Rattle.css_styles.specs.StyleViews.{own_of};
 ghost use Rattle.css_styles.specs.internal.Stepping.{in_own, stated_at};
-ghost use Rattle.css_styles.specs.internal.Numbered.{HasNumber, IsMore, IsNumbered, IsStated, numbered_of, stated_declaration};
+ghost use Rattle.css_styles.specs.internal.Numbered.{HasNumber, IsMore, IsNumbered, numbered_of};
 
 use crate::contenders::{Contender, OwnPart};
 use crate::contest::Numbered;
 use crate::properties::{Properties, key_of};
-use crate::stated::Stated;
 use crate::{Own, StyleRules};
-use css_sheet::SheetRule;
 use css_syntax::{Declarations, Item};
 use std::alloc::{AllocError, Global};
-
-/// Appends the declarations of a rule, which is one of all.
-fn push_stated<'a>(
-    rule: &SheetRule<'_>,
-    rule_place: usize,
-    stated: &[Stated<'a>],
-    contenders: &mut Vec<Numbered<'a>>,
-) -> Result<(), AllocError>
-    ensures contenders { OnOk result (map numbered_of contenders.new.items ≡ map numbered_of contenders.old.items
-        ++ in_turn (in_rule rule_place (sheet_rule_of rule.now)) 0 (map stated_declaration stated.now)) }
-    ensures numbered { OnOk result ((properties : List (List ℕ)) → All (IsStated properties) stated.now
-        → All (IsNumbered properties) contenders.old.items
-        → All (IsNumbered properties) contenders.new.items) }
-{
-    let mut place: usize = 0;
-    let mut rest = stated;
-    'stated: while let [one, more @ ..] = rest {
-        contenders.push(Numbered {
-            contender: Contender::in_rule(rule, rule_place, place, one.declaration),
-            property: one.property,
-        })?;
-        place += 1;
-        rest = more;
-    }
-    Ok(())
-}
 
 /// Appends the declarations of the rule at an index, if it is one of elements.
 fn push_rule<'a>(
@@ -58,7 +29,7 @@ fn push_rule<'a>(
     if rule.pseudo_element.is_some() {
         return Ok(());
     }
-    push_stated(rule, index, rules.stated(index), contenders)
+    contenders.extend_from_slice(rules.stated(index))
 }
 
 /// Appends the declarations of the rules with these indices, of those that are rules of elements.
@@ -112,6 +83,9 @@ fn push_text<'a>(
         ++ in_turn (in_own part) 0 (own_declarations text.now)) }
     ensures numbered { OnOk result (All (IsNumbered (known.now ++ others.new)) contenders.new.items) }
 {
+    if text.is_empty() {
+        return Ok(());
+    }
     let mut place: usize = 0;
     let mut declarations = Declarations::new(text);
     'items: while let Some(part_of_text) = declarations.next() {

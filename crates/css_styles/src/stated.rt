@@ -1,59 +1,59 @@
-//! Declarations of rules, each read once.
-ghost use Rattle.std.specs.Prelude.{◌≡◌, ◌++◌, ◌∷◌, [], true, IfOk, OnOk, map};
+//! Declarations of rules, each read once, with what the cascade sees of them.
+ghost use Rattle.std.specs.Prelude.{◌≡◌, IfOk, OnOk, map};
 ghost use Rattle.std.specs.List.{All};
-ghost use Rattle.css_syntax.specs.DeclarationLists.{items};
-ghost use Rattle.css_styles.specs.Contenders.{declared_in};
-ghost use Rattle.css_styles.specs.internal.Numbered.{IsMore, IsStated, stated_declaration};
+ghost use Rattle.css_sheet.specs.SheetRuleViews.{sheet_rule_of};
+ghost use Rattle.css_styles.specs.Contenders.{in_rule, in_turn, rule_declarations};
+ghost use Rattle.css_styles.specs.internal.Numbered.{IsMore, IsNumbered, numbered_of};
 
+use crate::contenders::Contender;
+use crate::contest::Numbered;
 use crate::properties::{Properties, key_of};
-use css_syntax::{Declaration, Declarations, Item};
+use css_sheet::SheetRule;
+use css_syntax::{Declarations, Item};
 use std::alloc::{AllocError, Global};
-
-/// A declaration, with the number of its property.
-#[derive(Clone, Copy)]
-pub(crate) struct Stated<'a> {
-    /// The declaration.
-    pub(crate) declaration: Declaration<'a>,
-    /// The number of its property.
-    pub(crate) property: usize,
-}
 
 /// Returns the declaration with the number of its property.
 fn number_one<'a>(
     alloc: Global,
-    declaration: Declaration<'a>,
+    contender: Contender<'a>,
     properties: &mut Properties<'a>,
-) -> Result<Stated<'a>, AllocError>
-    ensures declaration { IfOk result (λ stated. stated.declaration ≡ declaration.entry) }
-    ensures number { IfOk result (λ stated. IsStated properties.new stated) }
+) -> Result<Numbered<'a>, AllocError>
+    ensures contender { IfOk result (λ numbered. numbered.contender ≡ contender.entry) }
+    ensures number { IfOk result (λ numbered. IsNumbered properties.new numbered) }
     ensures more { OnOk result (IsMore properties.old properties.new) }
 {
-    let key = key_of(alloc, declaration.name)?;
-    let property = properties.number(declaration.name, key)?;
-    Ok(Stated {
-        declaration,
+    let name = contender.winner.declaration.name;
+    let key = key_of(alloc, name)?;
+    let property = properties.number(name, key)?;
+    Ok(Numbered {
+        contender,
         property,
     })
 }
 
-/// Returns the declarations of a block, with the numbers of their properties.
+/// Returns the declarations of a rule, which is one of all, with the numbers of their properties.
 pub(crate) fn read_stated<'a>(
     alloc: Global,
-    block: &'a str,
+    rule: &SheetRule<'a>,
+    rule_place: usize,
     properties: &mut Properties<'a>,
-) -> Result<Vec<Stated<'a>>, AllocError>
-    ensures declarations { IfOk result (λ stated. map stated_declaration stated.items
-        ≡ declared_in (items true block.now)) }
-    ensures numbers { IfOk result (λ stated. All (IsStated properties.new) stated.items) }
+) -> Result<Vec<Numbered<'a>>, AllocError>
+    ensures declarations { IfOk result (λ stated. map numbered_of stated.items
+        ≡ in_turn (in_rule rule_place (sheet_rule_of rule.now)) 0 (rule_declarations (sheet_rule_of rule.now))) }
+    ensures numbers { IfOk result (λ stated. All (IsNumbered properties.new) stated.items) }
     ensures more { OnOk result (IsMore properties.old properties.new) }
 {
     let mut stated = Vec::new(alloc);
-    let mut declarations = Declarations::of_block(block);
+    let mut place: usize = 0;
+    let mut declarations = Declarations::of_block(rule.block);
     'items: while let Some(part) = declarations.next() {
         if let Item::Declaration(one) = part.item {
-            let numbered = number_one(alloc, one, properties)?;
+            let contender = Contender::in_rule(rule, rule_place, place, one);
+            let numbered = number_one(alloc, contender, properties)?;
             stated.push(numbered)?;
+            place += 1;
         }
     }
+    stated.shrink_to_fit();
     Ok(stated)
 }

@@ -1,31 +1,31 @@
 //! The rules of sheets, with their declarations.
 ghost use Rattle.std.specs.Prelude.{◌≡◌, ◌≤◌, ◌<◌, ◌^◌, ℕ, Bool, List, IfErr, IfOk, OnOk, IfSome, map, length, slice_get};
 ghost use Rattle.css_sheet.specs.SheetOrder.{cascade_rules, nested_lists, source_rules, declarations_in};
-ghost use Rattle.css_sheet.specs.Sheets.{texts_in};
 ghost use Rattle.css_sheet.specs.SheetRuleViews.{Answers, sheet_of, sheet_rule_of};
 ghost use Rattle.css_sheet.specs.declared.sheet_error.SheetError.TheVariants.{TooManyDeclarations, TooManyLayers};
 ghost use Rattle.css_sheet.specs.SheetLayers.{layer_count};
 ghost use Rattle.css_cascade.specs.Layers.{most_layers};
 ghost use Rattle.css_styles.specs.internal.Numbered.{AllStated, AreStated};
 
+use crate::contest::Numbered;
 use crate::properties::Properties;
-use crate::stated::{Stated, read_stated};
+use crate::stated::read_stated;
 use css_selectors::Selector;
 use css_sheet::{Sheet, SheetError, SheetRule, SheetRules, read_sheets};
 use std::alloc::{AllocError, Global};
 use std::marker::Model;
 
-/// Returns the declarations of each rule, with the numbers of their properties.
+/// Returns the declarations of each rule, with the numbers of their properties. The rules are all.
 fn read_all<'a>(
     alloc: Global,
     rules: &[SheetRule<'a>],
     properties: &mut Properties<'a>,
-) -> Result<Vec<Vec<Stated<'a>>>, AllocError>
+) -> Result<Vec<Vec<Numbered<'a>>>, AllocError>
     ensures { IfOk result (λ lists. AllStated properties.new (map sheet_rule_of rules.now) lists.items) }
 {
-    let mut lists: Vec<Vec<Stated<'a>>> = Vec::with_capacity(alloc, rules.len())?;
+    let mut lists: Vec<Vec<Numbered<'a>>> = Vec::with_capacity(alloc, rules.len())?;
     for rule in rules {
-        let list = read_stated(alloc, rule.block, properties)?;
+        let list = read_stated(alloc, rule, lists.len(), properties)?;
         lists.push(list)?;
     }
     Ok(lists)
@@ -39,7 +39,7 @@ pub struct StyleRules<'a> {
     /// The lists of selectors that `&` stands for in nested rules.
     lists: Vec<Vec<Selector<'a>>>,
     /// The declarations of each rule.
-    stated: Vec<Vec<Stated<'a>>>,
+    stated: Vec<Vec<Numbered<'a>>>,
     /// The properties that are stated.
     properties: Properties<'a>,
 }
@@ -74,7 +74,7 @@ impl<'a> StyleRules<'a> {
     /// allocation fails.
     pub fn read<C: Fn(&str, &str) -> bool>(
         alloc: Global,
-        sheets: &[Sheet<'a>],
+        sheets: &[Sheet<'_, 'a>],
         most: usize,
         holds: C,
     ) -> Result<StyleRules<'a>, SheetError>
@@ -84,7 +84,7 @@ impl<'a> StyleRules<'a> {
             ≡ cascade_rules answers (map sheet_of sheets.now)) }
         ensures lists { (answers : List ℕ → List ℕ → Bool) → Answers (C.post holds) answers
             → IfOk result (λ read. read.lists
-            ≡ nested_lists answers (texts_in (map sheet_of sheets.now))) }
+            ≡ nested_lists answers (map sheet_of sheets.now)) }
         ensures within { (answers : List ℕ → List ℕ → Bool) → Answers (C.post holds) answers
             → OnOk result
             (declarations_in (source_rules answers (map sheet_of sheets.now)) ≤ most) }
@@ -132,10 +132,10 @@ impl<'a> StyleRules<'a> {
     }
 
     /// Returns the declarations of the rule at an index.
-    pub(crate) fn stated(&self, index: usize) -> &[Stated<'a>]
+    pub(crate) fn stated(&self, index: usize) -> &[Numbered<'a>]
         requires { index < length self.now.rules }
         ensures { IfSome (slice_get self.now.rules index) (λ rule.
-            AreStated self.now.properties rule result.now) }
+            AreStated self.now.properties index rule result.now) }
     {
         &self.stated[index]
     }

@@ -3,16 +3,13 @@ use Rattle.std.specs.Prelude.{◌≡◌, ℕ, Bool, true, ◌==◌, List, [], �
 use Rattle.std.specs.List.{All, slice_get}
 use Rattle.std.specs.Option.{is_some, option_map}
 use Rattle.std.specs.Global.{Vec}
-use Rattle.css_syntax.specs.DeclarationLists.{DeclarationText}
-use Rattle.css_syntax.specs.Views.{declaration_of}
 use Rattle.css_cascade.specs.Cascade.{Weighed, winner_from}
 use Rattle.css_cascade.specs.Rollbacks.{is_left}
 use Rattle.css_cascade.specs.WeightViews.{weighed}
 use Rattle.css_cascade.specs.declared.weights.Weight.{Weight}
 use Rattle.css_sheet.specs.SheetOrder.{SheetRuleText}
-use Rattle.css_styles.specs.declared.stated.Stated.{Stated}
 use Rattle.css_styles.specs.declared.contest.Numbered.{Numbered}
-use Rattle.css_styles.specs.Contenders.{Contender, rule_declarations}
+use Rattle.css_styles.specs.Contenders.{Contender, in_rule, in_turn, rule_declarations}
 use Rattle.css_styles.specs.Properties.{number_in, property_key}
 use Rattle.css_styles.specs.internal.Stepping.{contender_of}
 
@@ -29,28 +26,6 @@ IsMore old new = (more : List (List ℕ)) × (new ≡ old ++ more)
 abbrev pub HasNumber : List (List ℕ) → (name : List ℕ) → ℕ → Type 0
 HasNumber properties name number = number_in properties (property_key name) ≡ Some number
 
--- ---- declarations of rules
-
-abbrev pub stated_declaration : Stated → DeclarationText
-stated_declaration s = declaration_of s.declaration
-
--- the number is that of the declaration's property
-abbrev pub IsStated : List (List ℕ) → Stated → Type 0
-IsStated properties s = HasNumber properties s.declaration.name.now s.property
-
--- these are the declarations of a rule, with their numbers
-pub record AreStated (properties : List (List ℕ)) (rule : SheetRuleText) (stated : List Stated) :
-    Type 0 where
-  pub are : map stated_declaration stated ≡ rule_declarations rule
-  pub numbered : All (IsStated properties) stated
-
--- the declarations of each rule
-abbrev pub AllStated : List (List ℕ) → List SheetRuleText → List (Vec Stated) → Type 0
-AllStated properties rules lists = (index : ℕ) (rule : SheetRuleText)
-    → slice_get rules index ≡ Some rule
-    → (list : Vec Stated) × (slice_get lists index ≡ Some list)
-    × AreStated properties rule list.items
-
 -- ---- contenders
 
 abbrev pub numbered_of : Numbered → Contender
@@ -62,6 +37,24 @@ weight_of n = weighed n.contender.weight
 -- the number is that of the property
 abbrev pub IsNumbered : List (List ℕ) → Numbered → Type 0
 IsNumbered properties n = HasNumber properties n.contender.winner.declaration.name.now n.property
+
+-- ---- declarations of rules
+
+-- these are the declarations of the rule at an index, with their numbers
+pub record AreStated (properties : List (List ℕ)) (index : ℕ) (rule : SheetRuleText)
+    (stated : List Numbered) : Type 0 where
+  pub are : map numbered_of stated ≡ in_turn (in_rule index rule) 0 (rule_declarations rule)
+  pub numbered : All (IsNumbered properties) stated
+
+-- each rule has the property of its index and of the list there
+abbrev pub EachHas : (ℕ → SheetRuleText → List Numbered → Type 0) → List SheetRuleText
+    → List (Vec Numbered) → Type 0
+EachHas Has rules lists = (index : ℕ) (rule : SheetRuleText) → slice_get rules index ≡ Some rule
+    → (list : Vec Numbered) × (slice_get lists index ≡ Some list) × Has index rule list.items
+
+-- the declarations of each rule
+abbrev pub AllStated : List (List ℕ) → List SheetRuleText → List (Vec Numbered) → Type 0
+AllStated properties = EachHas (AreStated properties)
 
 -- the best of those whose property has this number
 abbrev pub best_of : ℕ → List Numbered → Option Weighed

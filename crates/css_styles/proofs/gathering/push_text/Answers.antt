@@ -1,14 +1,14 @@
-use Rattle.std.proofs.Common.{◌++◌, ◌∙◌, sym, ap, map, subst}
+use Rattle.std.proofs.Common.{◌≡◌, ◌++◌, ◌∙◌, length, sym, ap, append-nil, map, subst, rules}
 use Rattle.std.specs.List.{All}
 use Rattle.std.proofs.lemmas.List.Elements.{All-push}
 use Rattle.css_syntax.specs.ListReaders.{items_to_come}
 use Rattle.css_syntax.specs.Views.{declaration_of}
 use Rattle.css_syntax.specs.declared.declarations.Declaration.{Declaration}
-use Rattle.css_styles.specs.Contenders.{declared_in}
+use Rattle.css_styles.specs.Contenders.{declared_in, in_turn}
 use Rattle.css_styles.specs.Properties.{number_in, property_key}
 use Rattle.css_styles.specs.internal.Numbered.{IsNumbered, numbered_of}
 use Rattle.css_styles.specs.internal.Stepping.{in_own}
-use Rattle.css_styles.proofs.GatherLemmas.{come-count, more-after, numbered-push, turn-step}
+use Rattle.css_styles.proofs.GatherLemmas.{come-count, more-after, numbered-push, own-empty, turn-step}
 use Rattle.css_styles.proofs.StatedLemmas.{first-declared, numbered-more}
 use Rattle.css_styles.proofs.gathering.push_text.Goals as goal
 
@@ -38,3 +38,10 @@ items-preserved-in-Declaration c =
           come-count (items_to_come c.items.declarations) (items_to_come c.next.new.self) _
           c.items.place _ c.in-Some.ensures.steps.items c.items.invariant.counted;
     }
+
+pub returns-then-is_empty-clause-contenders : goal.returns-then-is_empty-clause-contenders
+returns-then-is_empty-clause-contenders c =
+    let old = map numbered_of c.args.contenders.now.items in
+    let none : length c.args.text.now ≡ 0 = search rules in
+    sym (append-nil old)
+    ∙ sym (ap (λ ds. old ++ in_turn (in_own c.args.part) 0 ds) (own-empty c.args.text.now none))

@@ -2,7 +2,8 @@ use Rattle.std.proofs.Common.{◌≡◌, ◌+◌, ◌++◌, ◌∷◌, List, [],
 use Rattle.std.proofs.lemmas.List.{take_all, take_more}
 use Rattle.css_sheet.specs.declared.sheet_rules.SheetRule.{SheetRule}
 use Rattle.css_sheet.specs.SheetRuleViews.{sheet_rule_of}
-use Rattle.css_styles.specs.internal.Numbered.{AllStated}
+use Rattle.css_styles.specs.Contenders.{in_rule, in_turn, rule_declarations}
+use Rattle.css_styles.specs.internal.Numbered.{AllStated, numbered_of}
 use Rattle.css_styles.proofs.ReadLemmas.{read-step}
 use Rattle.css_styles.proofs.style_rules.read_all.Goals as goal
 
@@ -16,7 +17,12 @@ loop-rule-preserved c =
       read-step c.loop-rule.properties c.read_stated.new.properties (take i all) (take (i + 1) all)
           c.rule-item.result lists c.push.new.self.items c.in_ok-list.list c.in_ok-list.ensures.more
           c.loop-rule.invariant.0 count (record {
-            are = c.in_ok-list.ensures.declarations;
+            are =
+                subst (λ k. map numbered_of c.in_ok-list.list.items
+                ≡ in_turn (in_rule k (sheet_rule_of c.rule-item.result)) 0
+                (rule_declarations (sheet_rule_of c.rule-item.result)))
+                (c.len.ensures ∙ c.loop-rule.lists.ok.0)
+                c.in_ok-list.ensures.declarations;
             numbered = c.in_ok-list.ensures.numbers;
           })
           (take_more all i _ c.loop-rule-test.true

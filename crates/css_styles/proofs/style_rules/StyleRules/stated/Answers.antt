@@ -15,6 +15,6 @@ index-requires c =
 pub returns : goal.returns
 returns c =
     subst (λ v. IfSome (slice_get v.rules c.args.index)
-    (λ rule. AreStated v.properties rule c.deref.result.now)) c.self.view_is
+    (λ rule. AreStated v.properties c.args.index rule c.deref.result.now)) c.self.view_is
     (stated-read _ _ c.self.inside.stated.items c.args.index c.index.result.now c.deref.result.now
     c.self.invariant c.index.ensures c.deref.ensures.value)
