@@ -248,6 +248,16 @@ uint32_t simplecss_declarations(const uint8_t *text, size_t text_len,
 uint32_t simplecss_imports(const uint8_t *text, size_t text_len,
                            uint8_t *out, size_t out_size, size_t *len);
 
+/* Writes where the blocks of the style rules and of the group rules of a style sheet begin and end, in order, also of
+ * rules in style rules (CSS Nesting 1): of each edge a line of numbers, its texts one after another, and a newline:
+ *   kind offset  keyword_len prelude_len
+ * `kind` is 1 where the block of a style rule begins, 2 where that of a group rule does, and 0 where the innermost block
+ * ends. `offset` is after the brace. The texts are the keyword of a group rule, in lower case, and what is before the
+ * block of a style rule, or the prelude of a group rule. A block that is open at the end of the sheet ends there. Of
+ * `@media print{a{}}` it is "2 13 5 5", "mediaprint", "1 15 0 1", "a", "0 16 0 0", "", "0 17 0 0" and "". */
+uint32_t simplecss_blocks(const uint8_t *text, size_t text_len,
+                          uint8_t *out, size_t out_size, size_t *len);
+
 /* The kinds of statements and items. Those from SIMPLECSS_SKIPPED on are skipped. */
 #define SIMPLECSS_DECLARATION 0u
 #define SIMPLECSS_AT_RULE 1u      /* with a block */
@@ -324,7 +334,13 @@ uint32_t simplecss_inherited(const uint8_t *name, size_t name_len,
 /* Style sheets that are read together, one after another, with their origins, and the group rules that hold: two
  * texts for each, its keyword in lower case, as `media`, and its prelude as it is written. An `@layer` holds without
  * being named. The origin of a sheet is SIMPLECSS_AUTHOR if it is another number, or if there are fewer. Each origin
- * has its own layers. */
+ * has its own layers.
+ *
+ * All of a sheet may be in group rules, as in the layer and the media of the `@import` that names it. `depths` says in
+ * how many each sheet is: in none if there are fewer numbers. `around` has the numbers of these, those of the first
+ * sheet first, and of each sheet from the outermost: the first of `groups` has the number 0, and an `@layer` is among
+ * them for this. One whose number is greater than all does not hold. A layer without a name is the same where its
+ * number is. The top level of the sheet stays one, which no `}` closes. */
 typedef struct simplecss_sheets {
     const uint8_t *texts;
     size_t texts_len;
@@ -336,6 +352,10 @@ typedef struct simplecss_sheets {
     size_t groups_len;
     const size_t *group_ends;
     size_t group_ends_count;
+    const size_t *around;
+    size_t around_count;
+    const size_t *depths;
+    size_t depths_count;
 } simplecss_sheets;
 
 /* The origins of sheets. */
@@ -376,7 +396,8 @@ typedef struct simplecss_asked {
  * writes, and `name_len` that of the name of a pseudo-element at its end, or 0; `ids`, `classes` and `types` are the
  * specificity, with what `&` counts; `important` and `closed` are 0 or 1. A style rule may be in another (CSS Nesting
  * 1). Declarations between two rules in a rule are a rule of their own. `out_size` and `*len` count numbers. The time
- * grows as n log n of the texts and of the group rules that are passed, if each is passed once. */
+ * grows as n log n of the texts and of the group rules that are passed, if each is passed once, and of those that each
+ * sheet is in. */
 uint32_t simplecss_rules(const simplecss_sheets *sheets, size_t limit,
                          size_t *out, size_t out_size, size_t *len);
 

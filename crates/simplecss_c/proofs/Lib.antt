@@ -21,4 +21,5 @@ pub mod WinnerCalls
 pub mod ValueCalls
 pub mod OwnTexts
 pub mod ImportSteps
+pub mod EdgeSteps
 pub mod ImportVectors

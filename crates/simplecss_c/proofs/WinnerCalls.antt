@@ -1,13 +1,13 @@
 -- What the calls for the cascade answer, and why they fail.
 -- Serves `winners::{read_rules, rules}`, `element_numbers::modern_numbers` and `rule_texts::rule_texts`.
-use Rattle.std.proofs.Common.{◌≡◌, ℕ, ◌<◌, ◌≤◌, List, Option, Some, None, inl, inr, refl, sym, ap, ◌∙◌, length, string_bytes, subst}
+use Rattle.std.proofs.Common.{◌≡◌, ℕ, ◌<◌, ◌≤◌, List, Option, Some, None, inl, inr, refl, sym, ap, ◌∙◌, length, map, string_bytes, subst}
 use Rattle.std.specs.Prelude.{Result, Ok, Err, MatchResult, Vec, ◌⊎◌}
 use Rattle.std.specs.Result.{IsErrAnd}
 use Rattle.std.specs.Str.{IsUtf8}
 use Rattle.css_cascade.specs.Layers.{most_layers}
 use Rattle.css_selectors.specs.Components.{Selector}
 use Rattle.css_sheet.specs.SheetOrder.{SheetRuleText}
-use Rattle.css_sheet.specs.Sheets.{SheetText}
+use Rattle.css_sheet.specs.Sheets.{GroupRuleText, SheetText}
 use Rattle.css_sheet.specs.declared.sheet_error.SheetError.{SheetError}
 use Rattle.css_sheet.specs.declared.sheet_error.SheetError.TheVariants as sheet
 use Rattle.css_tree.specs.Pages.{Page}
@@ -24,7 +24,7 @@ use Rattle.std.specs.declared.string.String.{String}
 use Rattle.simplecss_c.specs.Outcomes.{numbers_outcome, outcome_of}
 use Rattle.simplecss_c.specs.RuleTexts.{rule_texts, AreLongerTexts, IsRuleTextsCall}
 use Rattle.simplecss_c.specs.Readings.{selector_as}
-use Rattle.simplecss_c.specs.WinnerNumbers.{ContentText, PassedSheets, AreSheets, FailsBeside, AreAskedOnTree, AreBeyond, AreRules, AreNumbers, HasBadContent, IsBrokenContent, IsContent, IsModernNumbersCall, held_declarations, held_layers, unread}
+use Rattle.simplecss_c.specs.WinnerNumbers.{ContentText, PassedSheets, AreSheets, HasSheets, FailsBeside, group_rule_at, sheets_with, AreAskedOnTree, AreBeyond, AreRules, AreNumbers, HasBadContent, IsBrokenContent, IsContent, IsModernNumbersCall, held_declarations, held_layers, unread}
 use Rattle.simplecss_c.proofs.Limits.{fails_within, within_wider, longer_wider}
 
 -- a failure that is handed on
@@ -33,6 +33,17 @@ pub numbers-failed : {Z : Type 0} (Is : Result (List ℕ) CallError → Type 0)
     → IsErrAnd r (λ reported. reported ≡ error) → Is (Err error) → Is (numbers_outcome r)
 numbers-failed Is (Ok numbers) error is due = absurd is
 numbers-failed Is (Err reported) error is due = subst (λ e. Is (Err e)) (sym is) due
+
+-- the sheets with these group rules, by the texts of those
+pub are-sheets : (passed : PassedSheets) (texts groups : List (List ℕ)) (rules : List GroupRuleText)
+    (sheets : List SheetText) → HasSheets passed texts groups
+    → rules ≡ map (group_rule_at groups) passed.around
+    → sheets ≡ sheets_with passed.origins passed.depths rules texts → AreSheets passed sheets groups
+are-sheets passed texts groups rules sheets has e f = (
+  texts,
+  has,
+  f ∙ ap (λ (rs : List GroupRuleText). sheets_with passed.origins passed.depths rs texts) e,
+)
 
 none-more : {A B C : Type 0} → A ⊎ (B ⊎ ⊥) → A ⊎ (B ⊎ C)
 none-more (inl first) = inl first

@@ -22,5 +22,6 @@ pub mod ItemNumbers
 pub mod SheetNumbers
 pub mod RuleTexts
 pub mod ImportLines
+pub mod BlockLines
 pub mod Spellings
 pub mod internal

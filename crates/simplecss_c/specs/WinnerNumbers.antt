@@ -15,7 +15,7 @@ use Rattle.css_cascade.specs.declared.weights.Origin.TheVariants as origins
 use Rattle.css_index.specs.Found.{AreMatches}
 use Rattle.css_sheet.specs.SheetLayers.{layer_count}
 use Rattle.css_sheet.specs.SheetOrder.{SheetRuleText, cascade_rules, nested_lists, source_rules, declarations_in, rule_counts}
-use Rattle.css_sheet.specs.Sheets.{SheetText, texts_in}
+use Rattle.css_sheet.specs.Sheets.{GroupRuleText, SheetText}
 use Rattle.css_styles.specs.Contenders.{OwnText, contenders}
 use Rattle.css_styles.specs.Winners.{WinnerText, AreWinners, Decides, winners}
 use Rattle.css_styles.specs.declared.winner.Source.{Source}
@@ -239,13 +239,16 @@ IsBrokenContent contents.Matches = ⊥
 -- ---- calls
 
 -- what is passed beside a tree: the texts of sheets and of the group rules that hold, each in a buffer,
--- with their ends; and the numbers of the sheets' origins
+-- with their ends; the numbers of the sheets' origins; those of the group rules that sheets are in, and in
+-- how many each is
 pub record PassedSheets : Type 0 where
   pub texts : List ℕ
   pub ends : List ℕ
   pub origins : List ℕ
   pub groups : List ℕ
   pub group_ends : List ℕ
+  pub around : List ℕ
+  pub depths : List ℕ
 
 -- what contracts see of it
 abbrev pub sheets_of : Sheets → PassedSheets
@@ -255,6 +258,8 @@ sheets_of p = record {
   origins = p.origins.now;
   groups = p.groups.now;
   group_ends = p.group_ends.now;
+  around = p.around.now;
+  depths = p.depths.now;
 }
 
 -- the origin of a number: any other is the author's
@@ -262,13 +267,36 @@ abbrev pub origin_of : ℕ → Origin
 origin_of number =
     if number == 1 then origins.User else if number == 2 then origins.UserAgent else origins.Author
 
--- the sheets with these texts, and with the origins of these numbers: others are the author's
-abbrev pub sheets_with : (numbers : List ℕ) → (texts : List (List ℕ)) → List SheetText
-sheets_with numbers [] = []
-sheets_with [] (text ∷ texts) =
-    record { text = text; origin = origins.Author } ∷ sheets_with [] texts
-sheets_with (number ∷ numbers) (text ∷ texts) =
-    record { text = text; origin = origin_of number } ∷ sheets_with numbers texts
+-- the first of some numbers, or 0, and those after it
+abbrev pub first_number : List ℕ → ℕ
+first_number [] = 0
+first_number (number ∷ numbers) = number
+
+abbrev pub later_numbers : List ℕ → List ℕ
+later_numbers [] = []
+later_numbers (number ∷ numbers) = numbers
+
+-- the group rule of a number, from 0 on, among these texts, which are two for each; it is nothing if there
+-- are none
+abbrev pub group_rule_at : (groups : List (List ℕ)) → (number : ℕ) → GroupRuleText
+group_rule_at groups number = record {
+  keyword = text_at groups (2 * number);
+  prelude = text_at groups (2 * number + 1);
+  number = number;
+}
+
+-- The sheets with these texts, with the origins of these numbers, others being the author's; each is in as
+-- many of these group rules as its depth says, others in none.
+abbrev pub sheets_with : (origins depths : List ℕ) → List GroupRuleText → (texts : List (List ℕ))
+    → List SheetText
+sheets_with origins depths rules [] = []
+sheets_with origins depths rules (text ∷ texts) =
+    record {
+      text = text;
+      origin = origin_of (first_number origins);
+      around = take (first_number depths) rules;
+    }
+    ∷ sheets_with (later_numbers origins) (later_numbers depths) (drop (first_number depths) rules) texts
 
 -- the failure of a call whose sheets are not read
 abbrev pub unread : SheetError → CallError
@@ -293,7 +321,8 @@ held_layers sheets groups = layer_count (is_held groups) sheets
 abbrev pub AreSheets : PassedSheets → List SheetText → (groups : List (List ℕ)) → Type 0
 AreSheets passed sheets groups =
     (texts : List (List ℕ)) × HasSheets passed texts groups
-    × (sheets ≡ sheets_with passed.origins texts)
+    × (sheets
+    ≡ sheets_with passed.origins passed.depths (map (group_rule_at groups) passed.around) texts)
 
 -- they hold more than the limit
 abbrev pub AreBeyond : PassedSheets → (limit : ℕ) → Type 0
@@ -314,7 +343,7 @@ AreRules passed limit rules lists =
     (sheets : List SheetText) × (groups : List (List ℕ)) × AreSheets passed sheets groups
     × (held_declarations sheets groups ≤ limit) × (held_layers sheets groups ≤ most_layers)
     × (rules ≡ cascade_rules (is_held groups) sheets)
-    × (lists ≡ nested_lists (is_held groups) (texts_in sheets))
+    × (lists ≡ nested_lists (is_held groups) sheets)
 
 -- why sheets are not read, and what is said of a tree and of other texts beside them
 abbrev pub FailsBeside : PassedSheets → (limit : ℕ) → Type 0 → (ElementFault → Type 0) → Type 0

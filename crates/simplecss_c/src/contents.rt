@@ -75,7 +75,7 @@ pub enum Content<'t> {
 }
 
 /// Returns the text of a number, which is empty if there is none.
-fn text_at<'t>(texts: &[&'t str], number: usize) -> &'t str
+pub fn text_at<'t>(texts: &[&'t str], number: usize) -> &'t str
     ensures { result.now ≡ text_at_of (map (λ text. text.now) texts.now) number }
 {
     match texts.get(number) {

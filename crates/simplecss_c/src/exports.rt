@@ -7,6 +7,7 @@
 //! written, and `len` is 0. `fault` is set at 2 only.
 
 ghost use Rattle.simplecss_c.specs.Answers.{IsAnswered, IsAnsweredOfTree, IsHandedOver};
+ghost use Rattle.simplecss_c.specs.BlockLines.{IsBlocksCall};
 ghost use Rattle.simplecss_c.specs.Calls.{IsSelectorCall, IsSheetCall, IsPrinted, IsMatchCall};
 ghost use Rattle.simplecss_c.specs.Calls.{AreRuleTexts, IsSkippedCall, IsStyleCall, IsStylesCall};
 ghost use Rattle.simplecss_c.specs.Calls.{IsCloseCall, passed_of};
@@ -34,8 +35,8 @@ use crate::contents::{AskedNames, ElementContent, OwnTexts};
 use crate::elements::PassedTree;
 use crate::winners::Sheets;
 use crate::{
-    calls, conditions, element_numbers, imports, port, rule_texts, spellings, tokens, values,
-    winners,
+    blocks, calls, conditions, element_numbers, imports, port, rule_texts, spellings, tokens,
+    values, winners,
 };
 use css_values::{INHERITED, SHORTHANDS};
 use std::alloc::Global;
@@ -178,6 +179,20 @@ pub extern "C" fn simplecss_imports(
     ensures { IsAnswered (IsImportsCall text.now) result out.old out.new len.new }
 {
     hand_over(imports::imports(alloc, text), out, len)
+}
+
+/// Writes where the blocks of the style rules and of the group rules of a style sheet begin and end: of each edge
+/// a line of four numbers, and its keyword and its prelude, one after the other, with a newline.
+#[unsafe(no_mangle)]
+pub extern "C" fn simplecss_blocks(
+    alloc: Global,
+    text: &[u8],
+    out: &mut [u8],
+    len: &mut usize,
+) -> u32
+    ensures { IsAnswered (IsBlocksCall text.now) result out.old out.new len.new }
+{
+    hand_over(blocks::blocks(alloc, text), out, len)
 }
 
 /// Writes the value of a declaration with what closes it, where the end of the text left a string, a

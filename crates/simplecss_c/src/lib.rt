@@ -6,6 +6,8 @@
 #![tactic(auto)]
 
 mod answer;
+mod around;
+mod blocks;
 mod calls;
 mod conditions;
 mod contents;

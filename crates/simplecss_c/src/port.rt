@@ -16,9 +16,9 @@ ghost use Rattle.simplecss_c.specs.Calls.{IsPortPrintedCall, IsPortRefusalCall, 
 
 use crate::answer::CallError;
 use crate::elements::{PassedTree, read_tree};
+use crate::lists;
 use crate::lists::selectors_of;
 use crate::pages::{LineContent, WonContent, lines, won_lines};
-use crate::lists;
 use crate::port_texts::{rule_texts, skipped_texts};
 use crate::texts::{text_of, texts_of};
 use cssq::runs::{selector_line, sheet_text};

@@ -29,10 +29,7 @@ fn push_declaration(out: &mut String, declaration: &Declaration<'_>) -> Result<(
 }
 
 /// Appends declarations.
-fn push_declarations(
-    out: &mut String,
-    declarations: &[Declaration<'_>],
-) -> Result<(), AllocError>
+fn push_declarations(out: &mut String, declarations: &[Declaration<'_>]) -> Result<(), AllocError>
     ensures { OnOk result (string_bytes out.new
         ≡ string_bytes out.old ++ declaration_texts (declarations_of declarations.now)) }
 {

@@ -73,9 +73,7 @@ pub fn selector_row(alloc: Global, listed: Listed<'_>, end: usize) -> Result<[us
     let read = rule_selector(alloc, listed)?;
     let [is_read, ids, classes, names] = read_numbers(&read);
     let [at, name, is_any] = element_numbers(end, element, to, is_any, read.pseudo_element);
-    Ok([
-        start, count, is_read, ids, classes, names, at, name, is_any,
-    ])
+    Ok([start, count, is_read, ids, classes, names, at, name, is_any])
 }
 
 /// Returns the numbers of the selectors of a list whose text ends at this offset.

@@ -7,7 +7,7 @@ ghost use Rattle.css_selectors.specs.Components.{Selector as SelectorText};
 ghost use Rattle.css_syntax.specs.Views.{declaration_of, item_of};
 ghost use Rattle.css_cascade.specs.Layers.{most_layers};
 ghost use Rattle.css_sheet.specs.SheetOrder.{cascade_rules, nested_lists};
-ghost use Rattle.css_sheet.specs.Sheets.{texts_in};
+ghost use Rattle.css_sheet.specs.GroupViews.{group_rule_of};
 ghost use Rattle.css_sheet.specs.SheetRuleViews.{sheet_of, sheet_rule_of};
 ghost use Rattle.css_sheet.specs.declared.sheet_error.SheetError.TheVariants.{TooManyDeclarations, TooManyLayers};
 ghost use Rattle.css_styles.specs.StyleViews.{names_of, own_of, winner_of};
@@ -26,19 +26,21 @@ ghost use Rattle.simplecss_c.specs.WinnerNumbers.{name_length, rule_head as rule
 ghost use Rattle.simplecss_c.specs.WinnerNumbers.{source_number as source_number_of};
 ghost use Rattle.simplecss_c.specs.WinnerNumbers.{option_numbers, winner_numbers, winners_numbers};
 ghost use Rattle.simplecss_c.specs.WinnerNumbers.{origin_of as origin_of_number, sheets_with as sheets_with_of};
+ghost use Rattle.simplecss_c.specs.WinnerNumbers.{first_number as first_number_of, later_numbers as later_numbers_of};
 ghost use Rattle.simplecss_c.specs.WinnerNumbers.{AreNumbers, AreWon, IsWon, IsWonOf, held_declarations, held_layers};
 ghost use Rattle.simplecss_c.specs.internal.Contents.{asked_by, content_of, own_by};
 ghost use Rattle.simplecss_c.specs.declared.contents.Content.TheVariants as contents;
 ghost use Rattle.simplecss_c.specs.WinnerNumbers.{sheets_of, AreRules, FailsBeside, IsRulesCall};
 
 use crate::answer::{CallError, check_count};
+use crate::around::{first_rules, group_rules, later_rules};
 use crate::contents::{Won, own_at};
 use crate::held::{is_held, read_held};
 use crate::modern::{DocumentKind, html_rule_selectors};
 use crate::texts::texts_of;
 use css_cascade::Origin;
 use css_selectors::Tests;
-use css_sheet::{Sheet, SheetError, SheetRule};
+use css_sheet::{GroupRule, Sheet, SheetError, SheetRule};
 use css_styles::{Own, Source, StyleRules, Styles, Winner};
 use css_syntax::declarations::read_part;
 use css_syntax::places::declaration_value;
@@ -77,6 +79,11 @@ pub struct Sheets<'t> {
     pub groups: &'t [u8],
     /// Where each of these ends.
     pub group_ends: &'t [usize],
+    /// The numbers of the group rules that all of a sheet is in, among those that hold: those of the first
+    /// sheet from the outermost, then those of the others.
+    pub around: &'t [usize],
+    /// In how many of them each sheet is. Each sheet after these is in none.
+    pub depths: &'t [usize],
 }
 
 /// Returns the offset at which this rest of a text begins, by the offset at which the text ends.
@@ -196,15 +203,14 @@ fn rules_numbers(alloc: Global, rules: &[SheetRule<'_>]) -> Result<Vec<usize>, A
 /// Reads the rules of sheets, where these group rules hold.
 fn read_styles<'a>(
     alloc: Global,
-    sheets: &[Sheet<'a>],
+    sheets: &[Sheet<'_, 'a>],
     groups: &[&str],
     limit: usize,
 ) -> Result<StyleRules<'a>, SheetError>
     ensures rules { IfOk result (λ read. read.rules
         ≡ cascade_rules (is_held_of (map (λ text. text.now) groups.now)) (map sheet_of sheets.now)) }
     ensures lists { IfOk result (λ read. read.lists
-        ≡ nested_lists (is_held_of (map (λ text. text.now) groups.now))
-        (texts_in (map sheet_of sheets.now))) }
+        ≡ nested_lists (is_held_of (map (λ text. text.now) groups.now)) (map sheet_of sheets.now)) }
     ensures within { OnOk result (held_declarations (map sheet_of sheets.now)
         (map (λ text. text.now) groups.now) ≤ limit) }
     ensures layers_within { OnOk result (held_layers (map sheet_of sheets.now)
@@ -236,28 +242,53 @@ fn origin_of(number: usize) -> Origin
     }
 }
 
-/// Returns the sheets with these texts, and with the origins of these numbers.
-fn sheets_with<'a>(
+/// Returns the first of some numbers, or 0 if there are none.
+fn first_number(numbers: &[usize]) -> usize
+    ensures { result ≡ first_number_of numbers.now }
+{
+    match numbers {
+        [] => 0,
+        [number, ..] => *number,
+    }
+}
+
+/// Returns the numbers after the first.
+fn later_numbers(numbers: &[usize]) -> &[usize]
+    ensures { result.now ≡ later_numbers_of numbers.now }
+{
+    match numbers {
+        [] => numbers,
+        [_, later @ ..] => later,
+    }
+}
+
+/// Returns the sheets with these texts, with the origins of these numbers, and each in so many of these group
+/// rules as `depths` says.
+fn sheets_with<'s, 'a>(
     alloc: Global,
-    numbers: &[usize],
+    origins: &[usize],
+    depths: &[usize],
+    rules: &'s [GroupRule<'a>],
     texts: &[&'a str],
-) -> Result<Vec<Sheet<'a>>, AllocError>
-    ensures { IfOk result (λ sheets. map sheet_of sheets.items
-        ≡ sheets_with_of numbers.now (map (λ text. text.now) texts.now)) }
+) -> Result<Vec<Sheet<'s, 'a>>, AllocError>
+    ensures { IfOk result (λ sheets. map sheet_of sheets.items ≡ sheets_with_of origins.now depths.now
+        (map group_rule_of rules.now) (map (λ text. text.now) texts.now)) }
 {
     let mut sheets = Vec::new(alloc);
-    let mut left = numbers;
+    let mut numbers = origins;
+    let mut counts = depths;
+    let mut left = rules;
     let mut rest = texts;
     'texts: while let [text, more @ ..] = rest {
-        let mut origin = Origin::Author;
-        if let [number, others @ ..] = left {
-            origin = origin_of(*number);
-            left = others;
-        }
+        let depth = first_number(counts);
         sheets.push(Sheet {
             text: *text,
-            origin,
+            origin: origin_of(first_number(numbers)),
+            around: first_rules(left, depth),
         })?;
+        numbers = later_numbers(numbers);
+        counts = later_numbers(counts);
+        left = later_rules(left, depth);
         rest = more;
     }
     Ok(sheets)
@@ -274,7 +305,8 @@ pub fn read_rules<'a>(
 {
     let texts = texts_of(alloc, sheets.texts, sheets.ends)?;
     let groups = texts_of(alloc, sheets.groups, sheets.group_ends)?;
-    let placed = sheets_with(alloc, sheets.origins, &texts)?;
+    let around = group_rules(alloc, &groups, sheets.around)?;
+    let placed = sheets_with(alloc, sheets.origins, sheets.depths, &around, &texts)?;
     let rules = read_styles(alloc, &placed, &groups, limit)?;
     Ok(rules)
 }

@@ -40,8 +40,7 @@ returns-in_err-check_length c =
 -- the text of one more rule
 pub loop-rule-preserved : goal.loop-rule-preserved
 loop-rule-preserved c =
-    let before = string_bytes c.loop-rule.out in
-    (
+    let before = string_bytes c.loop-rule.out in (
       line_more text_of sheet_rule_of c.args.rules.now c.loop-rule.rule-index c.rule-item.result []
           before (string_bytes c.push_str.new.self) c.loop-rule-test.true c.loop-rule.invariant.0
           (c.in_ok-push_str.ensures.bytes

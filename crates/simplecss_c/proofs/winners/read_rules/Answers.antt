@@ -1,13 +1,14 @@
 use Rattle.std.proofs.Common.{Bor, List, ℕ, ◌≡◌, ◌<◌, ◌≤◌, ◌∙◌, ap, map, subst}
 use Rattle.css_sheet.specs.declared.sheet_error.SheetError.TheVariants.{TooManyDeclarations, TooManyLayers}
+use Rattle.css_sheet.specs.declared.sheet_rules.GroupRule.{GroupRule}
 use Rattle.css_sheet.specs.declared.sheet_rules.Sheet.{Sheet}
 use Rattle.css_cascade.specs.Layers.{most_layers}
 use Rattle.css_sheet.specs.SheetOrder.{cascade_rules, nested_lists}
-use Rattle.css_sheet.specs.Sheets.{texts_in}
+use Rattle.css_sheet.specs.GroupViews.{group_rule_of}
 use Rattle.css_sheet.specs.SheetRuleViews.{sheet_of}
-use Rattle.simplecss_c.specs.WinnerNumbers.{AreRules, AreSheets, FailsBeside, HasSheets, held_declarations, held_layers, is_held, sheets_of, sheets_with}
+use Rattle.simplecss_c.specs.WinnerNumbers.{AreRules, AreSheets, FailsBeside, HasSheets, group_rule_at, held_declarations, held_layers, is_held, sheets_of, sheets_with}
 use Rattle.simplecss_c.proofs.ModernCalls.{handed-match}
-use Rattle.simplecss_c.proofs.WinnerCalls.{texts-beside, groups-beside, memory-beside, rules-beside}
+use Rattle.simplecss_c.proofs.WinnerCalls.{are-sheets, texts-beside, groups-beside, memory-beside, rules-beside}
 use Rattle.simplecss_c.proofs.winners.read_rules.Goals as goal
 
 pub returns-in_err-texts : goal.returns-in_err-texts
@@ -45,25 +46,28 @@ returns-in_err-rules c =
       sheets = c.in_ok-texts.ensures;
       held = c.in_ok-groups.ensures;
     } in
-    let are : AreSheets passed sheets groups = (
-      texts,
-      has,
-      c.in_ok-placed.ensures
-          ∙ ap (λ (ts : List (Bor (List ℕ))). sheets_with passed.origins (map (λ t. t.now) ts))
-          c.deref.ensures.value,
-    ) in
+    let are : AreSheets passed sheets groups =
+    are-sheets passed texts groups (map group_rule_of c.in_ok-around.around.items) sheets has
+    (c.in_ok-around.ensures
+    ∙ ap (λ (gs : List (Bor (List ℕ))). map (group_rule_at (map (λ g. g.now) gs)) passed.around)
+    c.deref.ensures.value)
+    (c.in_ok-placed.ensures
+    ∙ ap (λ (rs : List GroupRule). sheets_with passed.origins passed.depths (map group_rule_of rs)
+    (map (λ t. t.now) c.deref-3.result.now)) c.deref-2.ensures.value
+    ∙ ap (λ (ts : List (Bor (List ℕ))). sheets_with passed.origins passed.depths
+    (map group_rule_of c.in_ok-around.around.items) (map (λ t. t.now) ts)) c.deref-3.ensures.value) in
     rules-beside (λ read. AreRules passed c.args.limit read.rules read.lists) passed c.args.limit sheets groups are
     c.from_residual-in_err-rules.result error c.from_residual-in_err-rules.ensures.1
     (subst (λ (gs : List (Bor (List ℕ))). error ≡ TooManyDeclarations
-    → c.args.limit < held_declarations sheets (map (λ g. g.now) gs)) c.deref-3.ensures.value
+    → c.args.limit < held_declarations sheets (map (λ g. g.now) gs)) c.deref-5.ensures.value
     (subst (λ (ss : List Sheet). error ≡ TooManyDeclarations
     → c.args.limit < held_declarations (map sheet_of ss)
-    (map (λ g. g.now) c.deref-3.result.now)) c.deref-2.ensures.value c.in_err-rules.ensures.refused))
+    (map (λ g. g.now) c.deref-5.result.now)) c.deref-4.ensures.value c.in_err-rules.ensures.refused))
     (subst (λ (gs : List (Bor (List ℕ))). error ≡ TooManyLayers
-    → most_layers < held_layers sheets (map (λ g. g.now) gs)) c.deref-3.ensures.value
+    → most_layers < held_layers sheets (map (λ g. g.now) gs)) c.deref-5.ensures.value
     (subst (λ (ss : List Sheet). error ≡ TooManyLayers
     → most_layers < held_layers (map sheet_of ss)
-    (map (λ g. g.now) c.deref-3.result.now)) c.deref-2.ensures.value
+    (map (λ g. g.now) c.deref-5.result.now)) c.deref-4.ensures.value
     c.in_err-rules.ensures.layers_refused))
 
 pub returns : goal.returns
@@ -76,34 +80,38 @@ returns c =
     let has : HasSheets passed texts groups = record {
       sheets = c.in_ok-texts.ensures;
       held = c.in_ok-groups.ensures;
-    } in (
+    } in
+    let are : AreSheets passed sheets groups =
+    are-sheets passed texts groups (map group_rule_of c.in_ok-around.around.items) sheets has
+    (c.in_ok-around.ensures
+    ∙ ap (λ (gs : List (Bor (List ℕ))). map (group_rule_at (map (λ g. g.now) gs)) passed.around)
+    c.deref.ensures.value)
+    (c.in_ok-placed.ensures
+    ∙ ap (λ (rs : List GroupRule). sheets_with passed.origins passed.depths (map group_rule_of rs)
+    (map (λ t. t.now) c.deref-3.result.now)) c.deref-2.ensures.value
+    ∙ ap (λ (ts : List (Bor (List ℕ))). sheets_with passed.origins passed.depths
+    (map group_rule_of c.in_ok-around.around.items) (map (λ t. t.now) ts)) c.deref-3.ensures.value) in (
       sheets,
       groups,
-      (
-        texts,
-        has,
-        c.in_ok-placed.ensures
-            ∙ ap (λ (ts : List (Bor (List ℕ))). sheets_with passed.origins (map (λ t. t.now) ts))
-            c.deref.ensures.value,
-      ),
+      are,
       subst (λ (gs : List (Bor (List ℕ))). held_declarations sheets (map (λ g. g.now) gs)
-          ≤ c.args.limit) c.deref-3.ensures.value
+          ≤ c.args.limit) c.deref-5.ensures.value
           (subst (λ (ss : List Sheet). held_declarations (map sheet_of ss)
-          (map (λ g. g.now) c.deref-3.result.now) ≤ c.args.limit) c.deref-2.ensures.value
+          (map (λ g. g.now) c.deref-5.result.now) ≤ c.args.limit) c.deref-4.ensures.value
           c.in_ok-rules.ensures.within),
       subst (λ (gs : List (Bor (List ℕ))). held_layers sheets (map (λ g. g.now) gs) ≤ most_layers)
-          c.deref-3.ensures.value
+          c.deref-5.ensures.value
           (subst (λ (ss : List Sheet). held_layers (map sheet_of ss)
-          (map (λ g. g.now) c.deref-3.result.now) ≤ most_layers) c.deref-2.ensures.value
+          (map (λ g. g.now) c.deref-5.result.now) ≤ most_layers) c.deref-4.ensures.value
           c.in_ok-rules.ensures.layers_within),
       subst (λ (gs : List (Bor (List ℕ))). read.rules
-          ≡ cascade_rules (is_held (map (λ g. g.now) gs)) sheets) c.deref-3.ensures.value
+          ≡ cascade_rules (is_held (map (λ g. g.now) gs)) sheets) c.deref-5.ensures.value
           (subst (λ (ss : List Sheet). read.rules
-          ≡ cascade_rules (is_held (map (λ g. g.now) c.deref-3.result.now)) (map sheet_of ss))
-          c.deref-2.ensures.value c.in_ok-rules.ensures.rules),
+          ≡ cascade_rules (is_held (map (λ g. g.now) c.deref-5.result.now)) (map sheet_of ss))
+          c.deref-4.ensures.value c.in_ok-rules.ensures.rules),
       subst (λ (gs : List (Bor (List ℕ))). read.lists
-          ≡ nested_lists (is_held (map (λ g. g.now) gs)) (texts_in sheets)) c.deref-3.ensures.value
+          ≡ nested_lists (is_held (map (λ g. g.now) gs)) sheets) c.deref-5.ensures.value
           (subst (λ (ss : List Sheet). read.lists
-          ≡ nested_lists (is_held (map (λ g. g.now) c.deref-3.result.now)) (texts_in (map sheet_of ss)))
-          c.deref-2.ensures.value c.in_ok-rules.ensures.lists),
+          ≡ nested_lists (is_held (map (λ g. g.now) c.deref-5.result.now)) (map sheet_of ss))
+          c.deref-4.ensures.value c.in_ok-rules.ensures.lists),
     )
