@@ -172,15 +172,7 @@ fn past_dotted(text: &str) -> Option<&str>
 }
 
 /// Returns the rest after a name with all of its parts, if one begins here.
-#[tactic(
-    auto,
-    using(
-        crate::proofs::PartLemmas::first_rest,
-        crate::proofs::PartLemmas::no_rest,
-        crate::proofs::PartLemmas::rest_none
-    ),
-    unfolding(crate::specs::LayerNames::layer_name)
-)]
+#[tactic(auto, using(crate::proofs::PartLemmas::first_rest, crate::proofs::PartLemmas::no_rest, crate::proofs::PartLemmas::rest_none), unfolding(crate::specs::LayerNames::layer_name))]
 fn past_name(text: &str) -> Option<&str>
     ensures { option_map (λ rest. rest.now) result ≡ option_map (λ found. found.1) (layer_name text.now) }
 {
@@ -192,11 +184,7 @@ fn past_name(text: &str) -> Option<&str>
 }
 
 /// Whether a block with this prelude is in a layer.
-#[tactic(
-    auto,
-    using(crate::proofs::PartLemmas::whole_some, crate::proofs::PartLemmas::whole_none),
-    unfolding(crate::specs::LayerNames::block_name)
-)]
+#[tactic(auto, using(crate::proofs::PartLemmas::whole_some, crate::proofs::PartLemmas::whole_none), unfolding(crate::specs::LayerNames::block_name))]
 pub fn is_block_name(prelude: &str) -> bool
     ensures { result ≡ is_some (block_name_of prelude.now (0 ∷ 0 ∷ [])) }
 {

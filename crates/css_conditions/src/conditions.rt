@@ -97,16 +97,7 @@ pub fn begins_condition(bytes: &[u8]) -> bool
 
 /// Reads what is in parentheses, or a function.
 #[cycle(conditions)]
-#[tactic(
-    auto,
-    unfolding(crate::specs::Conditions::in_parens),
-    using(
-        crate::proofs::Steps::parens_open,
-        crate::proofs::Steps::parens_function,
-        crate::proofs::Steps::parens_unfit,
-        crate::proofs::Steps::parens_deep
-    )
-)]
+#[tactic(auto, unfolding(crate::specs::Conditions::in_parens), using(crate::proofs::Steps::parens_open, crate::proofs::Steps::parens_function, crate::proofs::Steps::parens_unfit, crate::proofs::Steps::parens_deep))]
 fn in_parens<'t, A: Asked>(asked: &A, bytes: &'t [u8], depth: usize) -> Result<Read<'t>, AllocError>
     ensures { MatchResult result
         (λ read. in_parens_of (A.enclosed asked.now) (A.function asked.now) (A.leaf asked.now) depth
@@ -175,11 +166,7 @@ fn read_condition<'t, A: Asked>(
 
 /// Reads what is joined to the first.
 #[cycle(conditions)]
-#[tactic(
-    auto,
-    unfolding(crate::specs::Conditions::more),
-    using(crate::proofs::Steps::more_step, crate::proofs::Steps::more_stop)
-)]
+#[tactic(auto, unfolding(crate::specs::Conditions::more), using(crate::proofs::Steps::more_step, crate::proofs::Steps::more_stop))]
 fn more<'t, A: Asked>(
     asked: &A,
     join: Join,

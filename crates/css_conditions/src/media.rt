@@ -179,11 +179,7 @@ fn or_query<'t, F: Features>(features: &F, truth: Truth, bytes: &'t [u8]) -> Que
 
 /// Returns what a list of media queries says (Media Queries 4, section 3): it holds if one of them does,
 /// or if there is none. What is not known counts as false.
-#[tactic(
-    auto,
-    unfolding(crate::specs::Media::media),
-    using(crate::proofs::Steps::queries_step, crate::proofs::Steps::queries_stop)
-)]
+#[tactic(auto, unfolding(crate::specs::Media::media), using(crate::proofs::Steps::queries_step, crate::proofs::Steps::queries_stop))]
 pub fn media_says<F: Features>(text: &str, features: &F) -> Truth
     ensures { result ≡ media_of (F.type_holds features.now) (F.says features.now) text.now }
 {

@@ -152,11 +152,7 @@ pub fn ends_run(stop: Stop, bytes: &[u8]) -> bool
 }
 
 /// Reads component values.
-#[tactic(
-    auto,
-    unfolding(crate::specs::Words::values),
-    using(crate::proofs::Steps::values_step, crate::proofs::Steps::values_stop)
-)]
+#[tactic(auto, unfolding(crate::specs::Words::values), using(crate::proofs::Steps::values_step, crate::proofs::Steps::values_stop))]
 pub fn read_values(stop: Stop, bytes: &[u8]) -> ReadBytes<'_>
     ensures { values_of (stop_of stop) bytes.now ≡ (result.quality, result.rest.now) }
 {

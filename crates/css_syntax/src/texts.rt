@@ -85,14 +85,7 @@ pub fn past_ascii(text: &str) -> &str
 }
 
 /// Returns the rest after the byte, which is ASCII, if it is next.
-#[tactic(
-    auto,
-    using(
-        crate::proofs::PartTexts::starts_past,
-        crate::proofs::PartTexts::starts_not,
-        crate::proofs::PartTexts::starts_ascii
-    )
-)]
+#[tactic(auto, using(crate::proofs::PartTexts::starts_past, crate::proofs::PartTexts::starts_not, crate::proofs::PartTexts::starts_ascii))]
 pub fn past_byte(text: &str, byte: u8) -> &str
     requires { byte < 128 }
     ensures { result.now ≡ past_byte_of byte text.now }

@@ -239,13 +239,7 @@ impl<'a> Stream<'a> {
     /// Skips a blank: the longest run of space bytes and comments (CSS 2.1 sections 4.1.1 and
     /// 4.1.9). An open comment after it is `InvalidComment` with the position of its start, and
     /// then the cursor is at the end of the text.
-    #[tactic(
-        auto,
-        using(
-            crate::proofs::bytes::GapLemmas::blank_where_gap_is_got,
-            crate::proofs::bytes::GapLemmas::blank_where_gap_fails
-        )
-    )]
+    #[tactic(auto, using(crate::proofs::bytes::GapLemmas::blank_where_gap_is_got, crate::proofs::bytes::GapLemmas::blank_where_gap_fails))]
     pub fn skip_spaces_and_comments(&mut self) -> Result<(), Error>
         ensures text { text_of self.new ≡ text_of self.old }
         ensures reads { Gives (λ u. u) (text_of self.old) (blank (rest_of self.old))

@@ -227,14 +227,7 @@ impl<'a> RuleReader<'a> {
     }
 
     /// Reads a statement, and keeps none of its rules yet. An at-rule has none.
-    #[tactic(
-        auto,
-        unfolding(simplecss_grammar::specs::Statements::statement),
-        using(
-            css_text::proofs::bytes::ByteLemmas::past_byte_there,
-            css_text::proofs::bytes::ByteLemmas::past_byte_not
-        )
-    )]
+    #[tactic(auto, unfolding(simplecss_grammar::specs::Statements::statement), using(css_text::proofs::bytes::ByteLemmas::past_byte_there, css_text::proofs::bytes::ByteLemmas::past_byte_not))]
     pub fn consume_statement<P: Report<'a>>(
         &mut self,
         report: &mut P,
