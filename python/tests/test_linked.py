@@ -162,15 +162,20 @@ class Loaded(unittest.TestCase):
         )
         self.assertEqual(
             [[*map(str, each.conditions)] for each in sheet.rules],
-            [["@import layer(x)", "@media a"], ["@media print", "@media b"]],
+            [["@layer x", "@media a"], ["@media print", "@media b"]],
         )
         asked = []
         sheet.match(tree, media=lambda text: asked.append(text) or True)
-        self.assertEqual(asked, ["@import layer(x)", "a", "print", "b"])
+        self.assertEqual(asked, ["a", "print", "b"])
         self.assertEqual(
             str(sheet),
             "\n".join(
                 (
+                    "@layer x {",
+                    "  @media a {",
+                    "    p { c:d; }",
+                    "  }",
+                    "}",
                     "@media print {",
                     "  @media b {",
                     "    p { c:d; }",
@@ -183,6 +188,59 @@ class Loaded(unittest.TestCase):
         )
         again = pickle.loads(pickle.dumps(sheet))
         self.assertEqual((again.rules, again.unread), (sheet.rules, sheet.unread))
+
+    def test_layers(self):
+        sheets = {
+            "a": "@import 'b' layer(z); p{color:red}",
+            "b": "p{color:blue}",
+            "y": "@import 'b'; p.x{color:green}",
+        }
+        for css, expected in (
+            ("@import 'a' layer(x); @import 'b' layer(y);", "blue"),
+            ("@layer y, x; @import 'a' layer(x); @import 'b' layer(y);", "red"),
+            ("@import 'a' layer; p{color:green}", "green"),
+            ("@import 'b'; @import 'a' layer;", "blue"),
+            ("@layer x.z; @import 'a' layer(x);", "red"),
+            ("@layer y, x; @import 'a' layer(x) print; @import 'b' layer(y);", "blue"),
+            ("@import 'a' layer(y) supports(a:b); @import 'b' layer(x);", "blue"),
+            (
+                "@import 'none' layer(y); @import 'a' layer(x); @import 'b' layer(y);",
+                "red",
+            ),
+            # Of one layer without a name, in which the more specific selector wins.
+            ("@import 'y' layer;", "green"),
+            ("@import 'y' layer; @import 'b' layer;", "blue"),
+        ):
+            page = f"<style>{css}</style><p class=x>"
+            self.assertEqual(color_of(page, load=sheets.get)[0], expected, css)
+            # So it is where the sheet is printed.
+            tree = simplecss.Tree.from_html(page)
+            sheet = simplecss.StyleSheet.of_page(tree, load=sheets.get)
+            again = simplecss.StyleSheet(str(sheet)).style(tree, "color")
+            self.assertEqual(again[-1].value, expected, css)
+
+    def test_around(self):
+        layer, print_ = simplecss.Condition("layer", "x"), ("media", "print")
+        unnamed = simplecss.Condition("layer", "")
+        tree = simplecss.Tree.from_html("<p>")
+        for around, media, expected in (
+            ((), "screen", "2"),
+            ([[layer]], "screen", "2"),
+            ([[], [layer]], "screen", "1"),
+            ([[layer], [layer]], "screen", "2"),
+            ([[print_], [layer]], "screen", "2"),
+            ([[print_], [layer]], "print", "1"),
+            ([[unnamed], [unnamed, layer]], "screen", "2"),
+        ):
+            sheet = simplecss.StyleSheet("p{a:1}", "}q{} p{a:2}", around=around)
+            self.assertEqual(sheet.style(tree, "a", media=media)[-1].value, expected)
+            again = pickle.loads(pickle.dumps(sheet))
+            self.assertEqual(again.style(tree, "a", media=media)[-1].value, expected)
+        rule = simplecss.StyleSheet("p{a:1}", around=[[layer]]).rules[0]
+        self.assertEqual(rule.conditions, (layer,))
+        for around, grammar in (([[], [], []], "modern"), ([[layer]], "simplecss")):
+            with self.assertRaises(ValueError):
+                simplecss.StyleSheet("", "", around=around, grammar=grammar)
 
     def test_sheets_that_import_one_another(self):
         sheets = {

@@ -414,11 +414,11 @@ class Modern(unittest.TestCase):
 
     def test_unsupported_is_no_mistake(self):
         sheet = simplecss.StyleSheet(
-            "@media x { a:has(b), c:nth-child(2 of d) { d: e } } f, g < h { i: j }"
+            "@media x { a:has(b), c:nth-last-child(2 of d) { d: e } } f, g < h { i: j }"
         )
         self.assertEqual(
             [each.selector for each in sheet.unsupported],
-            ["a:has(b)", "c:nth-child(2 of d)"],
+            ["a:has(b)", "c:nth-last-child(2 of d)"],
         )
         self.assertEqual(sheet.unsupported[0].conditions, (("media", "x"),))
         self.assertEqual(
@@ -574,6 +574,8 @@ class Nested(unittest.TestCase):
         )
         last = simplecss.StyleSheet(text).rules[-1]
         self.assertEqual((last.pseudo_element, last.conditions), ("before", (("media", "x"),)))
+        escaped = simplecss.StyleSheet("a { @\\6d edia (width) { b: c } }").rules[-1]
+        self.assertEqual(escaped.conditions, (("media", "(width)"),))
 
     def test_deep(self):
         """Rules in 90 others take no longer than their text, and are rules."""

@@ -10,14 +10,17 @@ from typing import Iterable, Iterator, List, NamedTuple, Optional, Sequence, Tup
 
 from . import _library as library
 from ._found_names import find_names
-from ._nested import DEEPEST, InnerRule, contents_of, has_rules, inner_rule
+from ._nested import DEEPEST, has_rules
 from ._order import LAYER
 from ._reading import (
+    NESTED,
     STYLE,
     BlockItem,
     Condition,
+    Fault,
     Level,
     MadeItems,
+    ReadAtRule,
     ReadDeclaration,
     ReadSelector,
     RuleSet,
@@ -25,6 +28,7 @@ from ._reading import (
     Span,
     Statement,
     moved,
+    read_block,
     read_sheet,
 )
 from ._tokens import COMBINATORS, GAPS, Token, is_escaping, tokens
@@ -42,10 +46,47 @@ _NESTING = "&"
 _APART = frozenset((".", ":", "["))
 _IDS = frozenset(("hash", "id"))
 _OPENING, _CLOSING = frozenset("([{"), frozenset(")]}")
+# What makes an at-rule of a style rule, and a sheet of the contents of a block.
+_AS_AT_RULE, _AS_RULE = "@x ", "*{"
 
 
 class _Unclear(Exception):
     """A rule cannot be written without rules in it."""
+
+
+class InnerRule(NamedTuple):
+    """A rule in the block of a style rule: its group rule, if it is one; and where it is, what is
+    before its block, and what is in that."""
+
+    condition: Optional[Condition]
+    span: Span
+    head: Span
+    inner: Span
+
+
+def inner_rule(source: Source, item: BlockItem, by: int) -> Optional[InnerRule]:
+    """Returns the rule that an item of a block is, whose offsets are so much less than those of the
+    sheet."""
+    if isinstance(item, ReadAtRule) and item.rule.block is not None:
+        condition = Condition(item.rule.name, item.rule.prelude)
+        span, inner = moved(item.span, by), moved(item.inner, by)
+        return InnerRule(condition, span, (span[0], inner[0] - 1), inner)
+    if not isinstance(item, Fault) or item.reason != NESTED:
+        return None
+    span = moved(item.span, by)
+    found = read_block(_AS_AT_RULE + source.at(span))[1]
+    if len(found) != 1 or not isinstance(found[0], ReadAtRule):
+        return None
+    end = span[0] + len(found[0].rule.prelude.encode("utf-8"))
+    return InnerRule(None, span, (span[0], end), moved(found[0].inner, span[0] - len(_AS_AT_RULE)))
+
+
+def contents_of(source: Source, inner: Span) -> Tuple[Iterable[BlockItem], int]:
+    """Returns what is in the block of a rule, and by how much its offsets are less than those of
+    the sheet."""
+    found = read_sheet(_AS_RULE + source.at(inner))[1]
+    items = found[0].items if found and isinstance(found[0], RuleSet) else ()
+    return items, inner[0] - len(_AS_RULE)
 
 
 class _Within(NamedTuple):

@@ -145,7 +145,7 @@ class SheetReader:
             why = self.shelf.unread.pop().reason
             return _InnerSheet(None, False, False, f"{why}: {LOSES}")
         read = self.read(found.css, found.url, above)
-        is_moved = not found.conditions and read.may_move()
+        is_moved = not rule.around(self.shelf) and read.may_move()
         return _InnerSheet(read, is_moved, rule.layer is not None, "an at-rule")
 
 

@@ -141,6 +141,10 @@ class _Sheets(ctypes.Structure):
         ("groups_len", ctypes.c_size_t),
         ("group_ends", _SIZES),
         ("group_ends_count", ctypes.c_size_t),
+        ("around", _SIZES),
+        ("around_count", ctypes.c_size_t),
+        ("depths", _SIZES),
+        ("depths_count", ctypes.c_size_t),
     ]
 
 
@@ -153,11 +157,13 @@ class SheetArrays:
         texts: Sequence[bytes],
         groups: Sequence[bytes],
         origins: Sequence[int] = (),
+        around: Sequence[Sequence[int]] = (),
     ) -> None:
-        """Takes the texts of sheets, the keyword and the prelude of each group rule, and the numbers of
-        the origins of the sheets."""
+        """Takes the texts of sheets, the keyword and the prelude of each group rule, the numbers of the
+        origins of the sheets, and those of the group rules that each sheet is in."""
         ends, group_ends = ends_of(map(len, texts)), ends_of(map(len, groups))
-        numbers = _sizes(origins)
+        numbers, depths = _sizes(origins), _sizes(map(len, around))
+        outer = _sizes(itertools.chain.from_iterable(around))
         joined, joined_groups = b"".join(texts), b"".join(groups)
         self.structure = _Sheets(
             joined,
@@ -170,6 +176,10 @@ class SheetArrays:
             len(joined_groups),
             pointer_to(group_ends),
             len(group_ends),
+            pointer_to(outer),
+            len(outer),
+            pointer_to(depths),
+            len(depths),
         )
 
 

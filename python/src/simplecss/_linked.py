@@ -2,6 +2,7 @@
 
 from __future__ import annotations
 
+import itertools
 import os
 from typing import (
     TYPE_CHECKING,
@@ -12,6 +13,7 @@ from typing import (
     List,
     NamedTuple,
     Optional,
+    Sequence,
     Tuple,
     Union,
 )
@@ -19,7 +21,17 @@ from typing import (
 from . import _library as library
 from ._elements import Elements
 from ._lines import Lines
-from ._reading import Condition, Fault, ReadAtRule, Source, Span, Statement, read_sheet
+from ._device import LAYER
+from ._reading import (
+    Condition,
+    Fault,
+    Outer,
+    ReadAtRule,
+    Source,
+    Span,
+    Statement,
+    read_sheet,
+)
 from ._tokens import decoded
 from ._urls import SCHEME, joined
 from ._words import BLANKS, lower, words_of
@@ -100,6 +112,8 @@ class Shelf:
         self.unread: List[Unread] = []
         # The files that were read, by their urls.
         self.files: Dict[str, Path] = {}
+        # The numbers of the layers without a name that sheets are imported into.
+        self.layers = itertools.count(1)
 
     def take_base(self, elements: Elements) -> None:
         """Takes what the first `base` of a page says."""
@@ -182,12 +196,16 @@ class Shelf:
 
 
 class PageSheet(NamedTuple):
-    """A sheet of a page: what it has, the conditions of all of it, and its url, if it has one."""
+    """A sheet of a page: what it has, the group rules that all of it is in, and its url, if it has
+    one; where the first sheet is imported that it imports, and how many sheets before it come from
+    that and others."""
 
     source: Source
     statements: List[Statement]
-    conditions: Tuple[Condition, ...]
+    around: Tuple[Outer, ...]
     url: Optional[str]
+    start: int = 0
+    imports: int = 0
 
 
 class Import(NamedTuple):
@@ -200,15 +218,15 @@ class Import(NamedTuple):
     supports: Optional[str]
     media: str
 
-    @property
-    def conditions(self) -> Tuple[Condition, ...]:
-        """What is to hold for the sheet to apply. A layer is not known to."""
-        found: List[Condition] = []
-        if self.layer is not None:
-            found.append(Condition("import", f"layer({self.layer})" if self.layer else "layer"))
+    def around(self, shelf: Shelf) -> Tuple[Outer, ...]:
+        """Returns the group rules that the sheet is in: its layer is in its conditions."""
+        found = [*around_of(self.media)]
         if self.supports is not None:
-            found.append(Condition("supports", f"({self.supports})"))
-        return (*found, *condition_of(self.media))
+            found.append(Outer(Condition("supports", f"({self.supports})")))
+        if self.layer is not None:
+            number = 0 if self.layer else next(shelf.layers)
+            found.append(Outer(Condition(LAYER, self.layer), number))
+        return tuple(found)
 
 
 def imports_in(css: str) -> List[Import]:
@@ -258,10 +276,10 @@ def is_alternate(attributes: Dict[str, str]) -> bool:
     return "alternate" in words_of(lower(attributes.get("rel", "")))
 
 
-def condition_of(media: str) -> Tuple[Condition, ...]:
-    """Returns the condition that the attribute `media` is."""
+def around_of(media: str) -> Tuple[Outer, ...]:
+    """Returns the group rule that the attribute `media` is."""
     media = media.strip(BLANKS)
-    return () if lower(media) in ("", "all") else (Condition("media", media),)
+    return () if lower(media) in ("", "all") else (Outer(Condition("media", media)),)
 
 
 def _is_style(attributes: Dict[str, str]) -> bool:
@@ -309,34 +327,63 @@ def sheets_of(elements: Elements, shelf: Shelf) -> Iterator[PageSheet]:
         if url:
             css = shelf.read(url)
         if css is not None:
-            yield from _with_imports(css, url, condition_of(attributes.get("media", "")), shelf, ())
+            yield from _with_imports(css, url, around_of(attributes.get("media", "")), shelf, ())
 
 
 def _with_imports(
     css: str,
     url: Optional[str],
-    conditions: Tuple[Condition, ...],
+    around: Tuple[Outer, ...],
     shelf: Shelf,
     above: Tuple[str, ...],
 ) -> Iterator[PageSheet]:
-    """Yields a sheet after those that it imports. One that is being imported is not imported
-    again."""
+    """Yields a sheet after those that it imports. One that is being imported is not imported again. One
+    that is not read is as an empty one, if it is in a layer."""
     source, statements = read_sheet(css)
     above = (*above, shelf.place_of(url or ""))
-    for each in imports_in(css):
+    rules, count = imports_in(css), 0
+    for each in rules:
         found = imported(each, url, shelf, above)
-        if found is not None:
-            inner = conditions + found.conditions
-            yield from _with_imports(found.css, found.url, inner, shelf, above)
-    yield PageSheet(source, statements, conditions, url)
+        if found is None and each.layer is None:
+            continue
+        inner = around + each.around(shelf)
+        text, place = ("", None) if found is None else found
+        for sheet in _with_imports(text, place, inner, shelf, above):
+            count += 1
+            yield sheet
+    start = rules[0].span[0] if rules else 0
+    yield PageSheet(source, statements, around, url, start, count)
+
+
+class Piece(NamedTuple):
+    """A piece of a text: the number of the text, and the bytes from which and before which it is."""
+
+    text: int
+    start: int
+    end: int
+
+
+def pieces_of(sheets: Sequence[PageSheet]) -> Tuple[Piece, ...]:
+    """Returns the pieces of sheets in the order of the cascade: what is before the imports of a sheet
+    is before the sheets that it imports, too."""
+    fronts: Dict[int, List[Piece]] = {}
+    for number, each in reversed(list(enumerate(sheets))):
+        if each.imports and each.start:
+            piece = Piece(number, 0, each.start)
+            fronts.setdefault(number - each.imports, []).append(piece)
+    found: List[Piece] = []
+    for number, each in enumerate(sheets):
+        found += fronts.get(number, [])
+        start = each.start if each.imports else 0
+        found.append(Piece(number, start, len(each.source.data)))
+    return tuple(found)
 
 
 class Imported(NamedTuple):
-    """A sheet that another one imports: its text, its url, and its condition."""
+    """A sheet that another one imports: its text and its url."""
 
     css: str
     url: str
-    conditions: Tuple[Condition, ...]
 
 
 def in_force(statements: Iterable[Statement], imports: Iterable[Import]) -> Iterator[Statement]:
@@ -366,11 +413,11 @@ def imported(
         return None
     place = joined(url or "", found.url)
     if shelf.place_of(place) in above:
-        return Imported("", place, ())
+        return Imported("", place)
     if len(above) >= _DEEPEST:
         shelf.refuse(found.url, f"it is imported through {_DEEPEST} others")
         return None
     css = shelf.read(place)
     if css is None:
         return None
-    return Imported(css, place, found.conditions)
+    return Imported(css, place)

@@ -4,11 +4,12 @@ from __future__ import annotations
 
 from typing import Iterable, Iterator, List, NamedTuple, Optional, Sequence, Tuple
 
+from . import _library as library
+from ._lines import Lines
 from ._reading import (
     NESTED,
     BlockItem,
     Condition,
-    Fault,
     Items,
     ReadAtRule,
     ReadDeclaration,
@@ -17,17 +18,14 @@ from ._reading import (
     Span,
     Statement,
     conditions_of,
-    moved,
-    read_block,
-    read_sheet,
 )
 
 # In how many rules one may be that is looked into.
 DEEPEST = 64
 # Why it skips what may be rules.
 _SKIPPED = frozenset((NESTED, "too deep"))
-# What makes an at-rule of a style rule, and a sheet of the contents of a block.
-_AT_RULE, _RULE = "@x ", "*{"
+# The kinds of edges: a block ends, and that of a style rule begins.
+_END, _STYLE = 0, 1
 
 
 class Block(NamedTuple):
@@ -51,81 +49,100 @@ def has_rules(items: Iterable[BlockItem]) -> bool:
     )
 
 
-class InnerRule(NamedTuple):
-    """A rule in the block of a style rule: its group rule, if it is one; and where it is, what is
-    before its block, and what is in that."""
+class _Edge(NamedTuple):
+    """Where the block of a rule begins or ends: the offset after the brace; and the keyword and the
+    prelude of a group rule, or what is before the block of a style rule."""
 
-    condition: Optional[Condition]
-    span: Span
-    head: Span
-    inner: Span
-
-
-def inner_rule(source: Source, item: BlockItem, by: int) -> Optional[InnerRule]:
-    """Returns the rule that an item of a block is, whose offsets are so much less than those of the
-    sheet."""
-    if isinstance(item, ReadAtRule) and item.rule.block is not None:
-        condition = Condition(item.rule.name, item.rule.prelude)
-        span, inner = moved(item.span, by), moved(item.inner, by)
-        return InnerRule(condition, span, (span[0], inner[0] - 1), inner)
-    if not isinstance(item, Fault) or item.reason != NESTED:
-        return None
-    span = moved(item.span, by)
-    found = read_block(_AT_RULE + source.at(span))[1]
-    if len(found) != 1 or not isinstance(found[0], ReadAtRule):
-        return None
-    end = span[0] + len(found[0].rule.prelude.encode("utf-8"))
-    return InnerRule(None, span, (span[0], end), moved(found[0].inner, span[0] - len(_AT_RULE)))
+    kind: int
+    offset: int
+    keyword: str
+    prelude: str
 
 
-def contents_of(source: Source, inner: Span) -> Tuple[Iterable[BlockItem], int]:
-    """Returns what is in the block of a rule, and by how much its offsets are less than those of
-    the sheet."""
-    found = read_sheet(_RULE + source.at(inner))[1]
-    items = found[0].items if found and isinstance(found[0], RuleSet) else ()
-    return items, inner[0] - len(_RULE)
+def _edges_of(source: Source) -> Iterator[_Edge]:
+    """Yields where the blocks of the rules of a sheet begin and end."""
+    name, room = "simplecss_blocks", 1024 + 2 * len(source.data)
+    lines = Lines(library.output_of(name, library.call(name, source.data, room=room)))
+    while lines.are_left():
+        kind, offset, keyword, prelude = lines.numbers()
+        yield _Edge(kind, offset, lines.text(keyword), lines.text(prelude))
+        lines.end_line()
+
+
+class _Open(NamedTuple):
+    """A rule that is open: its block; what is before that of the style rule that it is or is in; and in
+    how many rules it is. In one without a block nothing is looked into."""
+
+    block: Optional[Block]
+    head: str
+    depth: int
 
 
 class _Reader:
-    """Reads the blocks in those of a sheet."""
+    """Finds the blocks in those of style rules, which are in order."""
 
-    def __init__(self, source: Source) -> None:
+    def __init__(self, source: Source, rules: Sequence[RuleSet]) -> None:
         self._source = source
+        self._rules = rules
+        self._next = 0
+        self._edges = list(_edges_of(source))
+        self._ends = self._ends_of()
 
-    def blocks(self, rule: RuleSet) -> Iterator[Block]:
-        """Yields the blocks in that of a rule, and before them its own."""
-        # Most have nothing but declarations.
-        if not rule.items.are_whole and has_rules(rule.items):
-            block = Block((rule.head[1], rule.span[1]), (), conditions_of(rule.levels))
-            yield from self._inside(block, rule.items, rule.head, 0, 0)
-
-    def _inside(
-        self, block: Block, items: Iterable[BlockItem], head: Span, by: int, depth: int
-    ) -> Iterator[Block]:
-        """Yields a block and those in it."""
-        yield block
-        if depth == DEEPEST:
-            return
-        own = (*block.parents, self._source.at(head))
-        for item in items:
-            rule = inner_rule(self._source, item, by)
-            if rule is None:
-                continue
-            inside, within = contents_of(self._source, rule.inner)
-            if rule.condition is None:
-                inner = Block(rule.inner, own, block.conditions)
-                yield from self._inside(inner, inside, rule.head, within, depth + 1)
+    def _ends_of(self) -> List[int]:
+        """Returns where the contents of the block end that begins at each edge."""
+        ends = [len(self._source.data)] * len(self._edges)
+        begun: List[int] = []
+        for at, edge in enumerate(self._edges):
+            if edge.kind == _END:
+                ends[begun.pop()] = edge.offset - 1
             else:
-                inner = Block(rule.inner, block.parents, (*block.conditions, rule.condition))
-                yield from self._inside(inner, inside, head, within, depth + 1)
+                begun.append(at)
+        return ends
+
+    def blocks(self) -> Iterator[Block]:
+        """Yields the blocks of the rules, and of those in them."""
+        inside: List[Optional[_Open]] = []
+        for edge, end in zip(self._edges, self._ends):
+            if edge.kind == _END:
+                inside.pop()
+                continue
+            outer = inside[-1] if inside else None
+            inside.append(self._opened(edge, end, outer))
+            if inside[-1] is not None and inside[-1].block is not None:
+                yield inside[-1].block
+
+    def _opened(self, edge: _Edge, end: int, outer: Optional[_Open]) -> Optional[_Open]:
+        """Returns the rule that begins there, or `None` for a group rule that is in no style rule."""
+        if outer is None:
+            return self._outermost(edge) if edge.kind == _STYLE else None
+        depth = outer.depth + 1
+        if outer.block is None or depth > DEEPEST:
+            return _Open(None, "", depth)
+        parents, conditions = outer.block.parents, outer.block.conditions
+        if edge.kind == _STYLE:
+            block = Block((edge.offset, end), (*parents, outer.head), conditions)
+            return _Open(block, edge.prelude, depth)
+        conditions = (*conditions, Condition(edge.keyword, edge.prelude))
+        return _Open(Block((edge.offset, end), parents, conditions), outer.head, depth)
+
+    def _outermost(self, edge: _Edge) -> _Open:
+        """Returns a style rule that is in no other, with its block if it is one of the rules."""
+        rules = self._rules
+        while self._next < len(rules) and rules[self._next].span[1] < edge.offset:
+            self._next += 1
+        if self._next == len(rules) or rules[self._next].span[0] > edge.offset:
+            return _Open(None, "", 0)
+        rule = rules[self._next]
+        block = Block((rule.head[1], rule.span[1]), (), conditions_of(rule.levels))
+        return _Open(block, edge.prelude, 0)
 
 
 def blocks_of(source: Source, statements: Iterable[Statement]) -> List[Block]:
     """Returns the blocks of the style rules of a sheet that have rules in them, and of these rules,
     each after the one that it is in."""
-    reader = _Reader(source)
-    rules = (each for each in statements if isinstance(each, RuleSet))
-    return [block for rule in rules for block in reader.blocks(rule)]
+    # Most have nothing but declarations.
+    rules = [each for each in statements if isinstance(each, RuleSet) and has_rules(each.items)]
+    return list(_Reader(source, rules).blocks()) if rules else []
 
 
 class Places:

@@ -68,6 +68,15 @@ class Condition(NamedTuple):
         return f"@{self.name} {self.prelude}".rstrip()
 
 
+class Outer(NamedTuple):
+    """A group rule that all of a sheet is in. Of layers without a name those with the same number are
+    one; the number of any other group rule is 0.
+    """
+
+    condition: Condition
+    number: int = 0
+
+
 class AtRule(NamedTuple):
     """An at-rule that has no rules, or none that are read.
 

@@ -27,7 +27,7 @@ from ._deprecated import warn_of_old
 from ._device import LAYER, Device, Media, device_of, holds
 from ._elements import Elements
 from ._lines import Lines
-from ._linked import Load, Name, Shelf, Unread, sheets_of
+from ._linked import Load, Name, Piece, Shelf, Unread, pieces_of, sheets_of
 from ._making import sheet_text
 from ._nested import Block, Places, blocks_of
 from ._properties import shorthands as shorthands_of
@@ -39,6 +39,7 @@ from ._reading import (
     Condition,
     Fault,
     Level,
+    Outer,
     ReadAtRule,
     RuleSet,
     Source,
@@ -168,19 +169,24 @@ class StyleSheet:
     `origins` says of each text where it comes from: "author", "user" or "user-agent"; further texts are
     the author's. Of declarations that are not important the author's win, and of important ones those of
     the user agent. Each origin has its own layers. `revert` and `revert-layer` roll back what wins.
+
+    `around` says of each text which group rules all of it is in, from the outermost, as the layer and the
+    media of an `@import` are; further texts are in none. A layer without a name is another for each text.
     """
 
     def __init__(
         self,
         *texts: str,
         origins: Sequence[str] = (),
+        around: Sequence[Sequence[Condition]] = (),
         grammar: str = MODERN,
         limit: Optional[int] = library.USUAL_LIMIT,
         answer_limit: Optional[int] = library.USUAL_ANSWER_LIMIT,
     ) -> None:
         self._texts = tuple(library.encode(text) for text in texts)
-        # The conditions of all of each text.
-        self._outer: Tuple[Tuple[Condition, ...], ...] = ((),) * len(texts)
+        # The group rules that all of each text is in, and the pieces of the texts in the order of the cascade.
+        self._outer = _outer_of(around, len(texts), grammar)
+        self._pieces = tuple(Piece(number, 0, len(text)) for number, text in enumerate(self._texts))
         # What the page names and was not read.
         self.unread: Tuple[Unread, ...] = ()
         self._grammar = grammar_of(grammar)
@@ -242,28 +248,36 @@ class StyleSheet:
         shelf = Shelf(at, folder, load, library.limit_of(answer_limit))
         found = list(sheets_of(elements_of(tree), shelf))
         if grammar_of(grammar) == PORT:
-            found = [each for each in found if not each.conditions]
+            found = [each._replace(imports=0) for each in found if not each.around]
         texts = (each.source.text for each in found)
         sheet = cls(*texts, grammar=grammar, limit=limit, answer_limit=answer_limit)
         sheet._read = [(each.source, each.statements) for each in found]
-        return sheet._of_page(tuple(each.conditions for each in found), tuple(shelf.unread))
+        outer = tuple(each.around for each in found)
+        return sheet._of_page(outer, pieces_of(found), tuple(shelf.unread))
 
     def _of_page(
-        self, outer: Tuple[Tuple[Condition, ...], ...], unread: Tuple[Unread, ...]
+        self,
+        outer: Tuple[Tuple[Outer, ...], ...],
+        pieces: Tuple[Piece, ...],
+        unread: Tuple[Unread, ...],
     ) -> "StyleSheet":
-        """Returns the sheet, as that of a page: with conditions for each text, and what was not
-        read."""
+        """Returns the sheet, as that of a page: with group rules for each text, the pieces of the texts,
+        and what was not read."""
         self._outer = outer
+        self._pieces = pieces
         self.unread = unread
         return self
+
+    @functools.cached_property
+    def _conditions(self) -> Tuple[Tuple[Condition, ...], ...]:
+        """The group rules that all of each text is in."""
+        return tuple(tuple(each.condition for each in outer) for outer in self._outer)
 
     def __reduce__(self) -> Tuple[Any, ...]:
         texts = tuple(text.decode("utf-8") for text in self._texts)
         limits = (self._limit, self._answer_limit)
-        return (
-            _sheet_of,
-            (texts, self._origins, self._outer, self.unread, self._grammar, *limits),
-        )
+        page = (self._outer, self._pieces, self.unread)
+        return (_sheet_of, (texts, self._origins, page, self._grammar, *limits))
 
     def _call(self, name: str, room: int) -> bytes:
         """Calls what reads the sheet by the grammar "simplecss"."""
@@ -302,7 +316,7 @@ class StyleSheet:
     def _contents_of_modern(self) -> _Contents:
         statements = [
             (each, outer)
-            for (_, found), outer in zip(self._statements(), self._outer)
+            for (_, found), outer in zip(self._statements(), self._conditions)
             for each in found
         ]
         self._check_limit()
@@ -338,7 +352,7 @@ class StyleSheet:
             for each in found:
                 if isinstance(each, RuleSet):
                     place = (number, each.head[1])
-                    yield place, each, place not in own, self._outer[number]
+                    yield place, each, place not in own, self._conditions[number]
 
     def _nested_rules(self) -> Iterator[Tuple[Place, Place, Rule]]:
         """Yields the rules of style rules with rules in them, as they stand in the texts: where the
@@ -350,11 +364,11 @@ class StyleSheet:
             for placed, text in found:
                 block = places.at(placed.start)
                 if block is not None:
-                    rule = _nested_rule(placed, text, block, self._outer[number])
+                    rule = _nested_rule(placed, text, block, self._conditions[number])
                     yield (number, placed.start), (number, block.span[0]), rule
 
     def _read_sheets(self) -> Iterator[ReadSheet]:
-        """Yields what each text has, with the conditions of all of it."""
+        """Yields what each text has, with the group rules that all of it is in."""
         for (source, found), blocks, outer in zip(self._statements(), self._blocks(), self._outer):
             yield source, found, blocks, outer
 
@@ -412,7 +426,9 @@ class StyleSheet:
                 part = lines.text(length)
                 lines.end_line()
                 start = source.lines[row - 1] + column - 1
-                yield Skipped(row, column, reason, part, number, start, start + len(part))
+                # It may lack blanks at its front.
+                end = source.text.index(part, start) + len(part)
+                yield Skipped(row, column, reason, part, number, start, end)
 
     def __str__(self) -> str:
         if self._grammar == PORT:
@@ -420,11 +436,25 @@ class StyleSheet:
             return self._call("simplecss_port_sheet", room).decode("utf-8")[:-1]
         # Printing obeys the limit, too.
         self._all()
-        return "\n".join(
-            line
-            for (source, found), outer in zip(self._statements(), self._outer)
-            for line in _within(outer, _lines_of(source, found))
-        )
+        return "\n".join(self._lines())
+
+    def _lines(self) -> Iterator[str]:
+        """Yields the lines of the pieces of the texts, each in its group rules. Those that a piece shares with
+        the one before it stay open."""
+        opened: Tuple[Outer, ...] = ()
+        for number, start, end in self._pieces:
+            outer = self._outer[number]
+            pairs = itertools.takewhile(lambda pair: pair[0] == pair[1], zip(opened, outer))
+            shared = sum(1 for _ in pairs)
+            yield from _closed(len(opened), shared)
+            for depth, each in enumerate(outer[shared:], shared):
+                yield f"{'  ' * depth}{each.condition} {{"
+            opened = outer
+            source, found = self._statements()[number]
+            those = [each for each in found if start <= each.span[0] < end]
+            for line in _lines_of(source, those):
+                yield "  " * len(outer) + line
+        yield from _closed(len(opened), 0)
 
     def __repr__(self) -> str:
         return f"<StyleSheet of {len(self._texts)} texts>"
@@ -538,7 +568,7 @@ class StyleSheet:
         """Yields the prelude and the block of each `@property` that holds."""
         if self._grammar != PORT:
             applies = functools.lru_cache(maxsize=None)(functools.partial(holds, media=media))
-            for (_, found), outer in zip(self._statements(), self._outer):
+            for (_, found), outer in zip(self._statements(), self._conditions):
                 yield from registered_in(found, outer, applies)
 
     def _styles_of_port(
@@ -587,9 +617,13 @@ class StyleSheet:
 
     def _winning_by(self, media: Media, sheets: Sequence["StyleSheet"]) -> Winning:
         """Returns the rules of these sheets that apply, of which the limit is that of this one."""
-        read = itertools.chain.from_iterable(sheet._read_sheets() for sheet in sheets)
+        read: List[ReadSheet] = []
+        pieces: List[Piece] = []
+        for sheet in sheets:
+            pieces += (each._replace(text=each.text + len(read)) for each in sheet._pieces)
+            read += sheet._read_sheets()
         origins = [origin for sheet in sheets for origin in sheet._origins]
-        return Winning(read, origins, media, self._limit)
+        return Winning(read, pieces, origins, media, self._limit)
 
     def _winners_of_port(
         self, selectors: "_Selectors", lines: List[bytes], name: Optional[str]
@@ -656,6 +690,23 @@ def _expect_none(**words: bool) -> None:
 
 def _with_name(styles: Iterable[List[Declaration]], name: str) -> List[List[Declaration]]:
     return [[each for each in found if each.name == name] for found in styles]
+
+
+def _outer_of(
+    around: Sequence[Sequence[Condition]], count: int, grammar: str
+) -> Tuple[Tuple[Outer, ...], ...]:
+    """Returns the group rules that all of each of so many texts is in."""
+    if len(around) > count or around and grammar_of(grammar) == PORT:
+        raise ValueError("group rules of further texts")
+    numbers = itertools.count(1)
+    outer = [
+        tuple(
+            Outer(each, 0 if each.name != LAYER or each.prelude else next(numbers))
+            for each in (Condition(*one) for one in conditions)
+        )
+        for conditions in around
+    ]
+    return (*outer, *((),) * (count - len(outer)))
 
 
 def _origins_of(origins: Sequence[str], count: int, grammar: str) -> Tuple[str, ...]:
@@ -849,18 +900,6 @@ def _lines_of(source: Source, statements: Iterable[Statement]) -> Iterator[str]:
     yield from _closed(len(before), 0)
 
 
-def _within(outer: Tuple[Condition, ...], lines: Iterable[str]) -> Iterator[str]:
-    """Yields the lines of a text within the conditions of all of it. One that an `@import` has
-    beside media is no group rule, and the text is left out."""
-    if any(each.name == "import" for each in outer):
-        return
-    for depth, each in enumerate(outer):
-        yield f"{'  ' * depth}{each} {{"
-    for line in lines:
-        yield "  " * len(outer) + line
-    yield from _closed(len(outer), 0)
-
-
 def _closed(depth: int, kept: int) -> Iterator[str]:
     """Yields the braces that close group rules down to a depth."""
     return ("  " * level + "}" for level in range(depth - 1, kept - 1, -1))
@@ -869,8 +908,7 @@ def _closed(depth: int, kept: int) -> Iterator[str]:
 def _sheet_of(
     texts: Tuple[str, ...],
     origins: Tuple[str, ...],
-    outer: Tuple[Tuple[Condition, ...], ...],
-    unread: Tuple[Unread, ...],
+    page: Tuple[Tuple[Tuple[Outer, ...], ...], Tuple[Piece, ...], Tuple[Unread, ...]],
     grammar: str,
     limit: int,
     answer_limit: int,
@@ -878,4 +916,4 @@ def _sheet_of(
     sheet = StyleSheet(
         *texts, origins=origins, grammar=grammar, limit=limit, answer_limit=answer_limit
     )
-    return sheet._of_page(outer, unread)
+    return sheet._of_page(*page)

@@ -20,18 +20,26 @@ from typing import (
 from . import _library as library
 from ._declaration import Declaration
 from ._device import LAYER, Media, holds
+from ._linked import Piece
 from ._elements import Elements
 from ._nested import Block
-from ._reading import Condition, DeclarationReader, Source, Statement, conditions_of
+from ._reading import (
+    Condition,
+    DeclarationReader,
+    Outer,
+    Source,
+    Statement,
+    conditions_of,
+)
 from ._selectors import Specificity
 from ._specified import Own
 
 # How many numbers the library writes of a rule before those of its declarations, of each of these,
 # and of a declaration that wins.
 _OF_RULE, _OF_DECLARATION, _OF_WINNER = 9, 6, 2
-# What a sheet has: its text, its statements, the blocks of rules in style rules, and the conditions of
-# all of it.
-ReadSheet = Tuple[Source, List[Statement], List[Block], Tuple[Condition, ...]]
+# What a sheet has: its text, its statements, the blocks of rules in style rules, and the group rules that
+# all of it is in.
+ReadSheet = Tuple[Source, List[Statement], List[Block], Tuple[Outer, ...]]
 Applies = Callable[[Condition], bool]
 # The origins of sheets, and how the library numbers them.
 ORIGINS: Dict[str, int] = {"author": 0, "user": 1, "user-agent": 2}
@@ -96,33 +104,60 @@ def _held(
         yield from itertools.takewhile(applies, conditions)
 
 
+def _groups_in(sheets: Iterable[ReadSheet], applies: Applies) -> Dict[Outer, int]:
+    """Returns the group rules of sheets that hold, and the layers that all of a sheet is in, each with
+    its index."""
+    found: Dict[Outer, int] = {}
+    for _, statements, blocks, around in sheets:
+        conditions = [each.condition for each in around]
+        every = [each for each in around if applies(each.condition)]
+        if len(every) == len(conditions):
+            held = _held(statements, blocks, applies)
+            every += [Outer(each) for each in held if each.name != LAYER]
+        for one in every:
+            found.setdefault(one, len(found))
+    return found
+
+
 class Winning:
     """The rules of sheets that apply, in the order of the cascade, and what wins of these."""
 
     def __init__(
         self,
-        sheets: Iterable[ReadSheet],
+        sheets: Sequence[ReadSheet],
+        pieces: Iterable[Piece],
         origins: Sequence[str],
         media: Media,
         limit: int,
     ) -> None:
-        """Reads the sheets, of these origins. Rules with more declarations than `limit` raise
+        """Reads the pieces of sheets, of these origins. Rules with more declarations than `limit` raise
         `LimitError`."""
         applies = functools.lru_cache(maxsize=None)(functools.partial(holds, media=media))
-        used = [(n, each) for n, each in enumerate(sheets) if all(map(applies, each[3]))]
-        groups: Dict[Condition, None] = {}
-        for _, (_, statements, blocks, _) in used:
-            groups.update(dict.fromkeys(_held(statements, blocks, applies)))
-        texts = [source.data for _, (source, _, _, _) in used]
-        words = [library.encode(word) for each in groups if each.name != LAYER for word in each]
-        # The numbers of the sheets that apply, among all.
-        self._numbers = [number for number, _ in used]
+        groups = _groups_in(sheets, applies)
+        words = [library.encode(word) for each in groups for word in each.condition]
+        # Where an offset is in a piece, it is in the sheet.
+        parts = [
+            (
+                each.text,
+                b" " * each.start + sheets[each.text][0].data[each.start : each.end],
+            )
+            for each in pieces
+        ]
+        # The numbers of the sheets that the pieces are of.
+        self._numbers = [number for number, _ in parts]
         self._sheets = library.SheetArrays(
-            texts, words, [ORIGINS[origins[number]] for number in self._numbers]
+            [text for _, text in parts],
+            words,
+            [ORIGINS[origins[number]] for number in self._numbers],
+            # A group rule that does not hold has no index.
+            [
+                [groups.get(each, library.NO_LIMIT) for each in sheets[number][3]]
+                for number in self._numbers
+            ],
         )
-        self._size = sum(map(len, texts))
+        self._size = sum(len(text) for _, text in parts)
         self._limit = limit
-        self.rules = list(self._read([source for _, (source, _, _, _) in used], limit))
+        self.rules = list(self._read([each[0] for each in sheets], limit))
         # How many declarations the rules have.
         self.count = sum(len(each.declarations) for each in self.rules)
         # How many rules are before those of the author, which are the last.
@@ -139,16 +174,17 @@ class Winning:
         numbers = library.numbers_of("simplecss_rules", self._sheets, limit, room=room)
         at = 0
         while at < len(numbers):
-            sheet, start, _, length, element, ids, classes, types, count = numbers[
+            piece, start, _, length, element, ids, classes, types, count = numbers[
                 at : at + _OF_RULE
             ]
             at += _OF_RULE
             end = at + _OF_DECLARATION * count
-            if (sheet, start) not in blocks:
-                blocks[sheet, start] = Declarations(readers[sheet], numbers[at:end])
+            number = self._numbers[piece]
+            if (number, start) not in blocks:
+                blocks[number, start] = Declarations(readers[number], numbers[at:end])
             weight = (ids, classes, types)
             weight = specificities.setdefault(weight, weight)
-            number, block = self._numbers[sheet], blocks[sheet, start]
+            block = blocks[number, start]
             yield PlacedRule(number, start, block, weight, length, element)
             at = end
 
