@@ -1,50 +1,64 @@
 // The rules in style rules, as the library finds them.
-import { encode } from './library.mjs';
-import { conditionsOf, moved, readBlock, readSheet } from './reading.mjs';
+import { Lines, call } from './library.mjs';
+import { conditionsOf } from './reading.mjs';
 
 // In how many rules one may be that is looked into.
 const DEEPEST = 64;
 // How the library names a rule in a style rule.
 const NESTED = 'nested rule';
-// What makes an at-rule of a style rule, and a sheet of the contents of a block.
-const AS_AT_RULE = '@x ', AS_RULE = '*{';
+// The kinds of edges: a block ends, and that of a style rule begins.
+const ENDS = 0, BEGINS_STYLE = 1;
 
 /** Whether an item of a block is a rule. */
 const isRule = ({ kind, rule, reason }) => kind === 'at-rule' ? rule.block !== null : reason === NESTED;
 
 /**
- * Returns the rule that an item of a block is, whose offsets are so much less than those of the sheet: its group rule, or what is
- * before its block; and where its contents are.
+ * Yields where the blocks of the rules of a sheet begin and end: the offset after the brace; and the keyword and the prelude of a
+ * group rule, or what is before the block of a style rule.
  */
-function innerRule(source, item, by) {
-  if (item.kind === 'at-rule') {
-    const { name, prelude } = item.rule;
-    return { condition: { name, prelude }, inner: moved(item.inner, by) };
+function* edgesOf({ data }) {
+  const lines = new Lines(call('blocks', [data], { room: 1024 + 2 * data.length, isBytes: true }));
+  while (lines.areLeft) {
+    const [kind, offset, name, prelude] = lines.numbers();
+    yield { kind, offset, name: lines.text(name), prelude: lines.text(prelude) };
+    lines.endLine();
   }
-  const span = moved(item.span, by), { items } = readBlock(AS_AT_RULE + source.at(span));
-  if (items.length !== 1 || items[0].kind !== 'at-rule') return null;
-  const { rule, inner } = items[0];
-  const head = source.at([span[0], span[0] + encode(rule.prelude).length]);
-  return { head, inner: moved(inner, span[0] - AS_AT_RULE.length) };
 }
 
-/** Returns the block of a rule in another one, whose style rule has this before its own block. */
-function innerBlock({ parents, conditions }, { condition, inner }, head) {
-  return condition
-    ? { span: inner, parents, conditions: [...conditions, condition] }
-    : { span: inner, parents: [...parents, head], conditions };
+/** Returns edges, and for each at which a block begins where its contents end. */
+function withEnds(edges, size) {
+  const begun = [], found = edges.map(edge => ({ ...edge, end: size }));
+  for (const edge of found) {
+    if (edge.kind === ENDS) begun.pop().end = edge.offset - 1;
+    else begun.push(edge);
+  }
+  return found;
 }
 
-/** Yields a block and those in it. */
-function* blocksIn(source, block, head, items, by, depth) {
-  yield block;
-  if (depth === DEEPEST) return;
-  for (const item of items.filter(isRule)) {
-    const rule = innerRule(source, item, by);
-    if (!rule) continue;
-    const inner = innerBlock(block, rule, head), [start] = rule.inner;
-    const contents = readSheet(AS_RULE + source.at(rule.inner)).statements[0]?.items ?? [];
-    yield* blocksIn(source, inner, rule.head ?? head, contents, start - AS_RULE.length, depth + 1);
+/** Returns the rule that begins in another one: its block, what is before that of its style rule, and in how many rules it is. */
+function openIn({ block, head, depth }, { kind, offset, end, name, prelude }) {
+  if (block === null || depth === DEEPEST) return { block: null, head, depth };
+  const { parents, conditions } = block, span = [offset, end];
+  return kind === BEGINS_STYLE
+    ? { block: { span, parents: [...parents, head], conditions }, head: prelude, depth: depth + 1 }
+    : { block: { span, parents, conditions: [...conditions, { name, prelude }] }, head, depth: depth + 1 };
+}
+
+/** Yields the blocks of these rules, which are in order, and of those in them. */
+function* blocksIn(source, rules) {
+  const open = [];
+  let next = 0;
+  for (const edge of withEnds([...edgesOf(source)], source.data.length)) {
+    const outer = open.at(-1) ?? null;
+    if (edge.kind === ENDS) open.pop();
+    else if (outer) open.push(openIn(outer, edge));
+    else if (edge.kind === BEGINS_STYLE) {
+      while (rules[next]?.span[1] < edge.offset) next += 1;
+      const rule = rules[next], isOne = rule?.span[0] <= edge.offset;
+      const block = isOne ? { span: [rule.head[1], rule.span[1]], parents: [], conditions: conditionsOf(rule.levels) } : null;
+      open.push({ block, head: edge.prelude, depth: 0 });
+    } else open.push(null);
+    if (edge.kind !== ENDS && open.at(-1)?.block) yield open.at(-1).block;
   }
 }
 
@@ -53,10 +67,8 @@ function* blocksIn(source, block, head, items, by, depth) {
  * where they are, what is before the blocks of the style rules around them, and the group rules.
  */
 export function blocksOf({ source, statements }) {
-  return statements.filter(each => each.kind === 'rule' && each.items.some(isRule)).flatMap(rule => {
-    const block = { span: [rule.head[1], rule.span[1]], parents: [], conditions: conditionsOf(rule.levels) };
-    return [...blocksIn(source, block, source.at(rule.head), rule.items, 0, 0)];
-  });
+  const rules = statements.filter(each => each.kind === 'rule' && each.items.some(isRule));
+  return rules.length ? [...blocksIn(source, rules)] : [];
 }
 
 /** The innermost of blocks at offsets that do not fall. */

@@ -254,7 +254,7 @@ function isBlank(byte) {
 }
 
 /** Returns where a text is whose offsets are so much less. */
-export const moved = ([start, end], by) => [start + by, end + by];
+const moved = ([start, end], by) => [start + by, end + by];
 
 /** Returns the declaration whose name and value are between these offsets. */
 export function declared(source, nameSpan, valueSpan, important, isClosed) {

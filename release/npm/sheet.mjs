@@ -341,9 +341,10 @@ export function skippedByPort(text) {
   const source = new Source(text), lines = new Lines(call('port_skipped', [source.data], { isBytes: true })), faults = [];
   while (lines.areLeft) {
     const [row, column, length, ...reason] = lines.line().split(' ');
-    const start = source.offset(Number(row), Number(column)), part = lines.text(Number(length));
+    const start = source.offset(Number(row), Number(column)), first = source.index(start), part = lines.text(Number(length));
+    const front = encode(source.text.slice(first, source.text.indexOf(part, first))).length;
     lines.endLine();
-    faults.push({ reason: reason.join(' '), text: part, span: [start, start + Number(length)] });
+    faults.push({ reason: reason.join(' '), text: part, span: [start, start + front + Number(length)] });
   }
   return { source, faults };
 }

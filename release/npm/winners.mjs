@@ -40,8 +40,9 @@ export class Winning {
     const texts = sheets.map(each => each.source.data), pairs = [...groups.values()].filter(([name]) => name !== 'layer');
     this.#size = texts.reduce((sum, text) => sum + text.length, 0);
     this.#limit = limit;
-    // A sheet without an origin is the author's.
-    this.#sheets = { arrays: [...joinedBytes(texts), sizes([]), ...joinedBytes(pairs.flat().map(encode))] };
+    // A sheet without an origin is the author's, and one without a depth is in no group rule.
+    const none = [sizes([]), sizes([])], words = pairs.flat().map(encode);
+    this.#sheets = { arrays: [...joinedBytes(texts), sizes([]), ...joinedBytes(words), ...none] };
     /**
      * The rules: the number of the sheet of each, where its declarations begin there, these, its specificity, and how many bytes
      * the text of its selector has and the pseudo-element at the end of that.

@@ -185,7 +185,11 @@ impl<'a> Sheet<'a> {
         most: usize,
         holds: impl Fn(&str, &str) -> bool,
     ) -> Result<Self, SheetError> {
-        let sheet = css_sheet::Sheet { text: within(text), origin: css_cascade::Origin::Author };
+        let sheet = css_sheet::Sheet {
+            text: within(text),
+            origin: css_cascade::Origin::Author,
+            around: &[],
+        };
         match css_styles::StyleRules::read(Global, &[sheet], most, holds) {
             Err(css_sheet::SheetError::TooManyDeclarations) => Err(SheetError::TooManyDeclarations),
             Err(css_sheet::SheetError::TooManyLayers) => Err(SheetError::TooManyLayers),

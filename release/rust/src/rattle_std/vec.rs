@@ -55,6 +55,11 @@ impl<T> Vec<T> {
         self.0.try_reserve_exact(n).map_err(|_| AllocError)
     }
 
+    #[inline]
+    pub fn shrink_to_fit(&mut self) {
+        self.0.shrink_to_fit();
+    }
+
     pub fn append(&mut self, other: &mut Self) -> Result<(), AllocError> {
         self.reserve(other.len())?;
         self.0.append(&mut other.0);
