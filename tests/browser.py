@@ -450,8 +450,6 @@ class Site(random.Random):
 
     FOLDERS = ("", "a/", "a/b/")
     CLASSES = ("c0", "c1", "c2", "c3")
-    # The pages with layers.
-    layered: Set[str] = set()
 
     def named(self, files: Sequence[str], page: str) -> str:
         """A url of a file, from where a page or a sheet is."""
@@ -509,8 +507,6 @@ class Site(random.Random):
             with open(os.path.join(folder, name), "w", encoding="utf-8") as file:
                 file.write("<!DOCTYPE html>" * (name == place) + text)
         name = os.path.join(folder, place)
-        if any(" layer(" in text for text in texts.values()):
-            self.layered.add(name)
         return name
 
 
@@ -536,9 +532,7 @@ def compare_links(_: Sequence[str]) -> int:
             theirs = [values["color"] for _, values in before]
             later = [values["color"] for _, values in after]
             mine = [each or "rgb(0, 0, 0)" for each in mine]
-            # The order of layers is not known.
-            pairs = () if name in source.layered else zip(mine, theirs)
-            found = [f"{a}, in the browser {b}" for a, b in pairs if a != b]
+            found = [f"{a}, in the browser {b}" for a, b in zip(mine, theirs) if a != b]
             found += [f"{b}, after {a}" for b, a in zip(theirs, later) if a != b]
             report.add(os.path.relpath(name, folder), found)
             if found and "SHOW" in os.environ:

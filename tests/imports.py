@@ -1,5 +1,6 @@
 """The `@import` rules of sheets beside a browser: of random sheets, which are in force, and of each
-its url, its layer, its condition and its media queries.
+its url, its layer, its condition and its media queries; and what wins of sheets that are imported and
+linked in layers, in conditions and one through another.
 
 The browser is Debian's `chromium`, the program `tests_driver`. A name of a layer and media queries
 are compared as the browser prints them. The named differences (`docs/DIFFERENCES.md`) are not
@@ -8,10 +9,13 @@ tried: known at-rules whose preludes are invalid, unknown pseudo-classes, and co
 """
 from __future__ import annotations
 
+import html
+import os
 import random
-from typing import Any, Callable, Dict, List, Optional, Sequence
+import urllib.parse
+from typing import Any, Callable, Dict, List, NamedTuple, Optional, Sequence
 
-from tests.common import Case, browser_answers, count
+from tests.common import Case, browser_answers, count, library_path, package
 from tests.syntax import Fields, fields_of
 
 # fmt: off
@@ -190,3 +194,153 @@ class Imports(Case):
         """Sheets of imports and other rules."""
         source = Source("sheets")
         self.compare(source.sheet, 4_000)
+
+
+WON = """<!DOCTYPE html><meta charset=utf-8>
+<script id=input type="application/json">%s</script>
+<script>
+const input = JSON.parse(document.getElementById("input").textContent);
+const loaded = made => new Promise(done => { made.onload = made.onerror = done; });
+async function answer({ sheets, body }) {
+    const host = document.createElement("div"), room = host.attachShadow({ mode: "open" });
+    document.body.append(host);
+    for (const { text, url, media } of sheets) {
+        const made = document.createElement(url === null ? "style" : "link");
+        if (media !== null) made.media = media;
+        if (url === null) made.textContent = text;
+        else Object.assign(made, { rel: "stylesheet", href: url });
+        const done = loaded(made);
+        room.append(made);
+        await done;
+    }
+    room.append(document.createRange().createContextualFragment(body));
+    const found = [...room.querySelectorAll("p")].map(element => {
+        const style = getComputedStyle(element);
+        return input.names.map(name => style.getPropertyValue(name));
+    });
+    host.remove();
+    return found;
+}
+addEventListener("load", async () => {
+    const answers = [];
+    for (const one of input.cases) answers.push(await answer(one));
+    document.documentElement.textContent = "ANSWER" + JSON.stringify(answers) + "END";
+});
+</script><body>
+"""
+INITIAL = {"order": "0", "z-index": "auto"}
+BODY = "<p><p class=a><p class=b><p class='a b'><p id=d class=a>"
+FRONTS = (
+    "",
+    "",
+    "@layer y, x;",
+    "@layer x.z;",
+    "@layer z; @layer y;",
+    "@media;",
+    "@foo{} @layer y;",
+)
+INTO = ("", "", " layer", " layer", " layer(x)", " layer(y)", " layer(x.z)", " layer(1)")
+UNDER = ("", "", "", " supports(order: 1)", " supports(foo: bar)", " supports(not (foo: bar))")
+SEEN = ("", "", "", " screen", " print", " (width > 1px)", " not all", " print, screen")
+BLOCKS = ("@layer x", "@layer y", "@layer", "@layer x.z", "@media all", "@media print", "@layer z")
+
+
+class Imported(NamedTuple):
+    """A sheet of a page: its text, the url of one that is linked, and its media."""
+
+    text: str
+    url: Optional[str]
+    media: Optional[str]
+
+    def element(self) -> str:
+        """The element of the page that is the sheet."""
+        media = "" if self.media is None else f' media="{html.escape(self.media)}"'
+        if self.url is None:
+            return f"<style{media}>{self.text}</style>"
+        return f'<link rel=stylesheet{media} href="{html.escape(self.url)}">'
+
+
+class Importing(random.Random):
+    """Random sheets that import others, the same in each run."""
+
+    def __init__(self, seed: str) -> None:
+        super().__init__(seed)
+        self.number = 0
+
+    def url(self, text: str, kind: str = "text/css") -> str:
+        return f"data:{kind},{urllib.parse.quote(text)}"
+
+    def declaration(self) -> str:
+        self.number += 1
+        value = "revert-layer" if self.random() < 0.1 else str(self.number)
+        return f"{self.choice(tuple(INITIAL))}:{value}{self.choice(('', '', ' !important'))}"
+
+    def item(self, depth: int) -> str:
+        """A rule, or a group rule with others, of which the text may end before its end."""
+        if depth < 2 and self.random() < 0.4:
+            inner = "".join(self.item(depth + 1) for _ in range(self.randrange(1, 3)))
+            return f"{self.choice(BLOCKS)}{{{inner}}}"
+        selector = self.choice(("p", ".a", ".b", "#d", ".a.b", "*"))
+        return f"{selector}{{{self.declaration()};{self.declaration()}}}"
+
+    def imported(self, depth: int) -> str:
+        """An import, which may be of what is no sheet."""
+        kind = "text/plain" if self.random() < 0.05 else "text/css"
+        url = self.url(self.sheet(depth + 1), kind)
+        return f'@import "{url}"{self.choice(INTO)}{self.choice(UNDER)}{self.choice(SEEN)};'
+
+    def sheet(self, depth: int = 0) -> str:
+        """A sheet, which a brace may begin, and in which a rule may be open at the end."""
+        imports = [
+            self.imported(depth) for _ in range(self.choice((0, 1, 1, 2)) if depth < 3 else 0)
+        ]
+        items = [self.item(0) for _ in range(self.randrange(3))]
+        begin = self.choice(("", "", "", "} "))
+        text = "".join((self.choice(FRONTS), *imports, begin, *items))
+        braces = len(text) - len(text.rstrip("}"))
+        return text[: len(text) - self.randrange(braces + 1)] if self.random() < 0.4 else text
+
+    def page(self) -> List[Imported]:
+        """The sheets of a page."""
+        self.number = 0
+        found = []
+        for _ in range(self.choice((1, 1, 2, 3))):
+            text, media = self.sheet(), self.choice((None, None, *SEEN))
+            url = self.url(text) if self.random() < 0.4 else None
+            found.append(Imported(text, url, media))
+        return found
+
+
+class Winning(Case):
+    def test_winners(self) -> None:
+        """What wins of sheets that a page has, links to and imports, and that these import."""
+        os.environ.setdefault("SIMPLECSS_LIBRARY", library_path())
+        package()
+        from simplecss import StyleSheet, Tree
+
+        source = Importing("imported")
+        pages = [source.page() for _ in range(count(1_000))]
+        cases = [{"sheets": [one._asdict() for one in each], "body": BODY} for each in pages]
+        found = browser_answers(WON, {"names": list(INITIAL), "cases": cases})
+        if found is None:
+            self.skipTest("no browser answers")
+        failures, total = [], 0
+        for page, answer in zip(pages, found):
+            text = "".join(each.element() for each in page) + BODY
+            tree = Tree.from_html(text)
+            styles = StyleSheet.of_page(tree).styles(tree)
+            mine = [
+                [
+                    {each.name: each.value for each in won}.get(name, value)
+                    for name, value in INITIAL.items()
+                ]
+                for element, won in zip(tree, styles)
+                if element.name == "p"
+            ]
+            total += len(mine)
+            if mine != answer:
+                failures.append(f"{text}: {mine}, in the browser {answer}")
+        self.assertGreater(
+            sum(each != list(INITIAL.values()) for one in found for each in one), total // 4
+        )
+        self.sweep(total, failures)

@@ -55,7 +55,8 @@ class Device(ctypes.Structure):
 
 class SheetArrays(ctypes.Structure):
     """Sheets, and the keyword and the prelude of each group rule that holds: each as texts with their
-    length, and where each ends with how many there are; and the numbers of the sheets' origins."""
+    length, and where each ends with how many there are; the numbers of the sheets' origins; and those of
+    the group rules that each is in, with how many these are."""
 
     _fields_ = [
         ("texts", ctypes.c_char_p),
@@ -68,6 +69,10 @@ class SheetArrays(ctypes.Structure):
         ("groups_len", SIZE),
         ("group_ends", ctypes.POINTER(SIZE)),
         ("group_ends_count", SIZE),
+        ("around", ctypes.POINTER(SIZE)),
+        ("around_count", SIZE),
+        ("depths", ctypes.POINTER(SIZE)),
+        ("depths_count", SIZE),
     ]
 
 
@@ -143,9 +148,16 @@ def fields_of(texts: Buffer) -> Tuple[Any, ...]:
     return (texts[0], len(texts[0]), *counted(texts[1]))
 
 
-def sheets_of(texts: Buffer, groups: Buffer, origins: Sequence[int] = ()) -> SheetArrays:
+def sheets_of(
+    texts: Buffer,
+    groups: Buffer,
+    origins: Sequence[int] = (),
+    around: Sequence[int] = (),
+    depths: Sequence[int] = (),
+) -> SheetArrays:
     """The structure of sheets and of the group rules that hold."""
-    return SheetArrays(*fields_of(texts), *counted(sizes(origins)), *fields_of(groups))
+    numbers = (*counted(sizes(around)), *counted(sizes(depths)))
+    return SheetArrays(*fields_of(texts), *counted(sizes(origins)), *fields_of(groups), *numbers)
 
 
 def own_of(*texts: bytes) -> OwnArrays:
@@ -367,6 +379,16 @@ IMPORTS = (
     ),
     (b"a{}@import 'b';", b""),
 )
+# Sheets, and where the blocks of their rules begin and end.
+BLOCKS = (
+    (b"@media print{a{}}", b"2 13 5 5\nmediaprint\n1 15 0 1\na\n0 16 0 0\n\n0 17 0 0\n\n"),
+    (
+        "é{b:c;@\\6d edia (d) {e:f}g:foo /**/ {".encode(),
+        "1 3 0 2\né\n2 22 5 3\nmedia(d)\n0 26 0 0\n\n1 38 0 5\ng:foo\n".encode(),
+    ),
+    (b"@font-face{a:b}@import 'c';d{@e{f{}}@media;}", b"1 29 0 1\nd\n0 44 0 0\n\n"),
+    (b"a:b", b""),
+)
 ANSWERS: Sequence[Tuple[str, Tuple[Any, ...], bytes]] = (
     ("simplecss_version", (), version().encode()),
     ("simplecss_port_selector", (b"ul>li.a , b",), b"ul > li[class~='a']\t0,1,2\n"),
@@ -410,6 +432,7 @@ ANSWERS: Sequence[Tuple[str, Tuple[Any, ...], bytes]] = (
         b"2 2 12 at-rule not supported\n@media print\n",
     ),
     *(("simplecss_imports", (text,), answer) for text, answer in IMPORTS),
+    *(("simplecss_blocks", (text,), answer) for text, answer in BLOCKS),
     *(("simplecss_close", (value,), closed) for value, closed in CLOSED),
     ("simplecss_escape", (b"-1\0 a",), b"-\\31 \xef\xbf\xbd\\ a"),
     ("simplecss_escape", (b"",), b""),
@@ -596,6 +619,15 @@ _RULES = sheets_of(
     buffer_of((b"media", b"x")),
 )
 _NO_GROUPS = buffer_of(())
+# A sheet in a layer without a name, one in no group rule, one in that layer again, one in an unnamed layer of it and
+# in `@media x`, one in a group rule that does not hold, and one of which the depth is missing.
+_AROUND = sheets_of(
+    buffer_of((b"*{a:1}", b"*{a:2}", b"}*{}*{a:3", b"*{a:4}", b"*{a:5}", b"*{a:6}")),
+    buffer_of((b"layer", b"", b"layer", b"", b"media", b"x")),
+    (),
+    (0, 0, 0, 1, 2, 9, 2),
+    (1, 0, 1, 3, 1),
+)
 NO_OWN = own_of()
 # Of the second element: its attribute, and its presentation declarations.
 _OWN = own_of(b"", b"", b"B:x;y:z", b"b:v;f:w;u:v!important")
@@ -669,6 +701,17 @@ NUMBERS: Sequence[Tuple[str, Tuple[Any, ...], Sequence[Sequence[int]]]] = (
         (
             (0, 26, 0, 14, 6, 1, 0, 2, 1, 26, 1, 28, 1, 0, 1),
             (0, 26, 0, 3, 0, 1, 1, 0, 1, 26, 1, 28, 1, 0, 1),
+        ),
+    ),
+    (
+        "simplecss_rules",
+        (_AROUND, NO_LIMIT),
+        (
+            (3, 2, 0, 1, 0, 0, 0, 0, 1, 2, 1, 4, 1, 0, 1),
+            (0, 2, 1, 1, 0, 0, 0, 0, 1, 2, 1, 4, 1, 0, 1),
+            (2, 6, 1, 1, 0, 0, 0, 0, 1, 6, 1, 8, 1, 0, 1),
+            (1, 2, 2, 1, 0, 0, 0, 0, 1, 2, 1, 4, 1, 0, 1),
+            (5, 2, 2, 1, 0, 0, 0, 0, 1, 2, 1, 4, 1, 0, 1),
         ),
     ),
     (

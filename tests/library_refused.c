@@ -30,11 +30,13 @@ static const size_t own_ends[] = {3, 6};
 static const simplecss_own own = {TEXT("a:bc:d"), own_ends, 2};
 static const size_t asked_ends[] = {1, 2};
 static const size_t name_counts[] = {2};
+static const size_t around[] = {0};
+static const size_t depths[] = {0, 1};
 static const simplecss_asked asked = {TEXT("ac"), asked_ends, 2, name_counts, 1};
-static const simplecss_sheets sheets = {TEXT(sheet), sheet_ends, 2, origins, 2, TEXT("mediax"), group_ends, 2};
+static const simplecss_sheets sheets = {TEXT(sheet), sheet_ends, 2, origins, 2, TEXT("mediax"), group_ends, 2, around, 1, depths, 2};
 static const char rules[] = "ul { > li { a: b } @layer x { &, li::before { c: d } } }";
 static const size_t rules_ends[] = {sizeof(rules) - 1};
-static const simplecss_sheets nested = {TEXT(rules), rules_ends, 1, origins, 1, TEXT("mediax"), group_ends, 2};
+static const simplecss_sheets nested = {TEXT(rules), rules_ends, 1, origins, 1, TEXT("mediax"), group_ends, 2, around, 0, depths, 0};
 static uint8_t out[4096];
 static size_t numbers[128];
 
@@ -97,6 +99,7 @@ int main(int count, char **words) {
     case 39: status = simplecss_printed(TEXT("a b, c > d, e + f"), SIMPLECSS_PORT, OUT); break;
     case 40: status = simplecss_printed(TEXT("a\\62 > c, d:not(e, f)::before"), SIMPLECSS_MODERN, OUT); break;
     case 41: status = simplecss_imports(TEXT("@import 'a' layer(b) supports(c:d) print;"), OUT); break;
+    case 42: status = simplecss_blocks(TEXT("a { @media x { b { } } }"), OUT); break;
     default: break;
     }
     (void)!write(2, "end", 3);

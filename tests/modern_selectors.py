@@ -164,6 +164,9 @@ class Source(random.Random):
         )
         front = self.plain() if self.random() < 0.5 else ""
         name, blank = self.choice(("not", "is", "where", "NOT")), self.choice(("", " "))
+        if self.random() < 0.15:
+            name = self.choice(("nth-child", "nth-child", "nth-last-child"))
+            parts = f"{self.choice(PROGRESSIONS)} of {parts}"
         return f"{front}:{name}({blank}{parts}{blank})"
 
     def part(self, depth: int) -> str:
@@ -393,10 +396,11 @@ def browser_texts(texts: Sequence[str]) -> Optional[List[Optional[str]]]:
 
 # Differences that docs/DIFFERENCES.md names, by a list that is read before the place of a refusal, by
 # lists, and by a namespace.
-INNER = re.compile(r":(is|where|not)\([^()]*(\([^()]*)*$", re.IGNORECASE)
+INNER = re.compile(r":(is|where|not|nth-[a-z-]*)\([^()]*(\([^()]*)*$", re.IGNORECASE)
 FORGIVING = re.compile(r":(is|where)\(", re.IGNORECASE)
 NESTED = re.compile(r":(is|where|not)\(.*:(is|where|not)\(", re.IGNORECASE | re.DOTALL)
 NAMESPACE = re.compile(r"\|(?!=)")
+NUMBERED_LIST = re.compile(r":nth-(last-)?child\([^()]* of ", re.IGNORECASE)
 # A browser knows no flag `s`, and takes a large number for another; it refuses pseudo-classes that
 # it does not know, and reads `:is()` and a further pseudo-element after one.
 ODD_IN_BROWSERS = re.compile(
@@ -485,7 +489,8 @@ class Judge:
         if self.name == "soupsieve" and is_open(text):
             return True
         if reply.endswith(" is unsupported"):
-            return any(each.search(plain(text)) for each in (FORGIVING, NESTED, NAMESPACE))
+            odd_here = (FORGIVING, NESTED, NAMESPACE, NUMBERED_LIST)
+            return any(each.search(plain(text)) for each in odd_here)
         if found_of(reply) is None:
             return bool(INNER.search(front_of(text, reply)))
         is_forgiving = bool(FORGIVING.search(plain(text)))

@@ -168,8 +168,7 @@ class Source:
         one = self._random.choice
         kinds = (SIMPLE,) if depth == 0 else (SIMPLE, WITHIN, RELATIVE)
         parts = [one(one(kinds)) for _ in range(one((1, 1, 1, 2, 3)))]
-        # In rules that are dropped layers still count.
-        if not self._shared and self._random.random() < 0.05:
+        if self._random.random() < 0.05:
             parts.append(one(WRONG))
         return one((", ", ",", " , ")).join(parts)
 

@@ -45,6 +45,7 @@ int main(void) {
         put_numbers(simplecss_read(text, end, MOST, NUMBERS));
         put_numbers(simplecss_declarations(text, end, NUMBERS));
         put(simplecss_imports(text, end, OUT));
+        put(simplecss_blocks(text, end, OUT));
         put(simplecss_close(text, end, OUT));
         put(simplecss_escape(text, end, OUT));
         put(simplecss_quote(text, end, OUT));
