@@ -250,6 +250,24 @@ class Loaded(unittest.TestCase):
         page = "<link rel=stylesheet href=a><p>"
         self.assertEqual(color_of(page, load=sheets.get), ("red", []))
         self.assertEqual(inline(page, load=sheets.get), '<p style="color: red">')
+        # A fragment makes no other sheet.
+        sheets = {
+            "a": "@import 'b' layer(x); p#i{color:red !important}",
+            "a#f": "@import 'b' layer(x); p#i{color:red !important}",
+            "b": "@import 'a#g'; p{color:blue !important}",
+            "a#g": "@import 'b' layer(x); p#i{color:red !important}",
+        }
+        page = "<link rel=stylesheet href=a#f><p id=i>"
+        self.assertEqual(color_of(page, load=sheets.get), ("blue", []))
+        self.assertEqual(inline(page, load=sheets.get), '<p id=i style="color: blue !important">')
+        # A linked sheet stays if one that stays would import it in a layer without it.
+        sheets = {
+            "a": "@import 'b' layer(x) screen; p#i{color:red !important}",
+            "b": "@import 'a'; p{color:blue !important}",
+        }
+        page = "<link rel=stylesheet href=a><p id=i>"
+        self.assertEqual(color_of(page, load=sheets.get), ("blue", []))
+        self.assertEqual(inline(page, load=sheets.get), page)
         # Each imports the next.
         chain = color_of(
             "<link rel=stylesheet href=0><p>",
@@ -398,6 +416,129 @@ class Files(Site):
             inline(page.replace("<p", "<p class=x"), folder=self.folder),
             "<style>\n@import 'a.css';\n@import 'b.css' print;\np { color: green }\n</style>"
             '<p class=x style="top: 0">',
+        )
+
+    def test_inline_takes_imports_in_layers(self):
+        """What wins is said by CSS Cascading 5, sections 2.1 and 6.4."""
+        self.put(
+            red_css="p{color:red}",
+            blue_css="p#i{color:blue}",
+            hot_css="p{color:red !important}",
+            inner_css="@layer b{p{color:red}} p{top:0}",
+            both_css="@layer x; @import 'red.css' layer(y); @import 'blue.css' layer(x);",
+            empty_css="",
+            cycle_css="@import 'cycle.css' layer(y); @import 'blue.css' layer(x);"
+            "@import 'red.css' layer(y);",
+            none_css="@import 'red.css'; @import 'blue.css' layer;",
+        )
+        for css, style in (
+            ("@import 'blue.css' layer(x); p{color:green}", "color: green"),
+            # What is important in an earlier layer is stronger.
+            (
+                "@import 'hot.css' layer(x); p{color:green !important}",
+                "color: red !important",
+            ),
+            ("@import 'blue.css' layer(x); @import 'red.css' layer(y);", "color: red"),
+            (
+                "@layer y, x; @import 'blue.css' layer(x); @import 'red.css' layer(y);",
+                "color: blue",
+            ),
+            # An empty sheet has a place, too.
+            (
+                "@import 'empty.css' layer(y); @import 'blue.css' layer(x); @import 'red.css' layer(y);",
+                "color: blue",
+            ),
+            ("@import 'cycle.css' layer(c);", "color: blue"),
+            # Each layer without a name is one of its own.
+            ("@import 'blue.css' layer; @import 'red.css' layer;", "color: red"),
+            # Names are within those of the layers around.
+            (
+                "@layer a.c, a.b; @import 'inner.css' layer(a); @layer a.c{p#i{color:blue}}",
+                "color: red; top: 0",
+            ),
+            (
+                "@layer a.b, a.c; @import 'inner.css' layer(a); @layer a.c{p{color:blue}}",
+                "color: blue; top: 0",
+            ),
+            (
+                "@import 'inner.css' layer(a.b); @layer a.b.b{p{color:blue}} @layer b{p{left:0}}",
+                "color: blue; top: 0; left: 0",
+            ),
+            ("@import 'both.css' layer(a);", "color: red"),
+            (
+                "@layer a.y, a.x; @import 'both.css' layer(a);",
+                "color: blue",
+            ),
+            # The layer of what imports it is above those in it.
+            ("@import 'none.css' layer(a);", "color: red"),
+        ):
+            page = f"<style>{css}</style><p id=i>"
+            expected = f'<p id=i style="{style}">'
+            self.assertEqual(inline(page, folder=self.folder), expected, css)
+
+    def test_inline_keeps_layers_of_imports(self):
+        """What stays of a sheet is in its layers."""
+        self.put(
+            a_css="p{color:red} p:hover{top:0} @media print{p{left:0}}",
+            b_css="@import 'a.css' layer(b); p:focus{top:1px}",
+            c_css="p:hover{top:0",
+            d_css="} p{top:0} p{left:0}",
+            e_css="",
+            f_css="p:hover{top:0; a:)",
+            g_css="p:hover{top:0; a:)} }",
+        )
+        media = "p:hover{top:0}\n@media print{p{left:0}}"
+        for css, kept in (
+            ("@import 'a.css' layer(x);", f"@layer x {{\n{media}\n}}"),
+            ("@import 'a.css' layer;", f"@layer {{\n{media}\n}}"),
+            (
+                "@import 'b.css' layer(x.y);",
+                f"@layer x.y {{\n@layer b {{\n{media}\n}}\np:focus{{top:1px}}\n}}",
+            ),
+            (
+                "@import 'b.css' layer;",
+                f"@layer {{\n@layer b {{\n{media}\n}}\np:focus{{top:1px}}\n}}",
+            ),
+            (
+                "@layer y, x; @import 'e.css' layer(x); @import 'a.css' layer(/**/ y );",
+                f"@layer y, x;\n@layer x;\n@layer y {{\n{media}\n}}",
+            ),
+            # The end of a sheet closes what is open.
+            ("@import 'c.css' layer(x);", "@layer x {\np:hover{top:0}\n}"),
+            ("@import 'f.css' layer(x);", "@import 'f.css' layer(x);"),
+            ("@import 'g.css' layer(x);", "@import 'g.css' layer(x);"),
+            ("@import 'g.css';", "p:hover{top:0; a:)}\np { right: 0 }"),
+            # No block would have a bracket that closes it.
+            ("@import 'd.css' layer(x);", "@import 'd.css' layer(x);"),
+            # What is known of layers only where a condition holds says no order.
+            (
+                "@import 'a.css' layer(x); @media print{@layer y{p{left:0}}}",
+                "@import 'a.css' layer(x);\n@media print{@layer y{p{left:0}}}",
+            ),
+            (
+                "@import 'a.css' layer(x); @import 'a.css' layer(y) screen;",
+                "@import 'a.css' layer(x);\n@import 'a.css' layer(y) screen;",
+            ),
+            (
+                "@import 'a.css' layer(x) supports(color: red);",
+                "@import 'a.css' layer(x) supports(color: red);",
+            ),
+        ):
+            page = f"<style>{css} p{{right:0}}</style><p>"
+            found = inline(page, folder=self.folder, important=False)
+            self.assertEqual(found.partition("<p")[0], f"<style>\n{kept}\n</style>", css)
+
+    def test_inline_beats_nothing_of_an_import_that_stays_in_a_layer(self):
+        """What is important there is stronger than what is important in no layer, and any other
+        declaration is weaker."""
+        self.put(a_css="p{color:red !important; top:0}")
+        page = (
+            "<style>@import 'a.css' layer(x) screen; p{color:blue !important; top:1px}</style><p>"
+        )
+        self.assertEqual(
+            inline(page, folder=self.folder),
+            "<style>\n@import 'a.css' layer(x) screen;\n</style>"
+            '<p style="top: 1px; color: blue">',
         )
 
     def test_inline_wakes_no_import(self):

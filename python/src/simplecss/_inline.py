@@ -131,7 +131,9 @@ class _Found:
     def split(self, knows_layers: bool) -> SplitSheet:
         """Returns its statements, of which the first has the number 0."""
         if knows_layers not in self._split:
-            self._split[knows_layers] = SplitSheet(statements_of(self.read, 0, knows_layers))
+            self._split[knows_layers] = SplitSheet(
+                statements_of(self.read.taken(knows_layers), 0, knows_layers)
+            )
         return self._split[knows_layers]
 
     def linked(self, knows_layers: bool) -> SplitSheet:
@@ -251,9 +253,12 @@ class _PageInliner:
         self.animated: Set[str] = set()
         self.others: List[Tuple[Content, Source, int]] = []
         self.kept: List[StayingRule] = []
-        number = self._add(self.sheet.read, self.sheet.split(knows_layers), 0)
-        for content, read, is_written, may_change in self.own_sheets:
-            if is_written:
+        number = self._add(self.sheet.read.taken(knows_layers), self.sheet.split(knows_layers), 0)
+        for content, found, is_written, may_change in self.own_sheets:
+            read = found.taken(knows_layers)
+            # What it imports would import it in another place, if it were not there.
+            is_needed = content.href is not None and read.returns and bool(read.reasons)
+            if is_written and (knows_layers or not is_needed):
                 sheet = SplitSheet(statements_of(read, number, knows_layers), content)
                 number = self._add(read, sheet, number)
             else:

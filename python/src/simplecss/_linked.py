@@ -127,6 +127,11 @@ class Shelf:
         """Returns the whole url of a sheet."""
         return joined(self._base, url)
 
+    def name_of(self, url: str) -> str:
+        """Returns the whole url of a sheet without its fragment: of two urls that differ in that alone
+        the sheet is the same."""
+        return self.place_of(url).partition("#")[0]
+
     def read(self, url: str) -> Optional[str]:
         """Returns the sheet at a url, or `None`, and notes why it is not read."""
         try:
@@ -218,15 +223,19 @@ class Import(NamedTuple):
     supports: Optional[str]
     media: str
 
+    def conditions(self) -> Tuple[Outer, ...]:
+        """Returns the group rules that its conditions are."""
+        found = around_of(self.media)
+        if self.supports is None:
+            return found
+        return (*found, Outer(Condition("supports", f"({self.supports})")))
+
     def around(self, shelf: Shelf) -> Tuple[Outer, ...]:
         """Returns the group rules that the sheet is in: its layer is in its conditions."""
-        found = [*around_of(self.media)]
-        if self.supports is not None:
-            found.append(Outer(Condition("supports", f"({self.supports})")))
-        if self.layer is not None:
-            number = 0 if self.layer else next(shelf.layers)
-            found.append(Outer(Condition(LAYER, self.layer), number))
-        return tuple(found)
+        if self.layer is None:
+            return self.conditions()
+        number = 0 if self.layer else next(shelf.layers)
+        return (*self.conditions(), Outer(Condition(LAYER, self.layer), number))
 
 
 def imports_in(css: str) -> List[Import]:
@@ -340,7 +349,7 @@ def _with_imports(
     """Yields a sheet after those that it imports. One that is being imported is not imported again. One
     that is not read is as an empty one, if it is in a layer."""
     source, statements = read_sheet(css)
-    above = (*above, shelf.place_of(url or ""))
+    above = (*above, shelf.name_of(url or ""))
     rules, count = imports_in(css), 0
     for each in rules:
         found = imported(each, url, shelf, above)
@@ -412,7 +421,7 @@ def imported(
         shelf.refuse(found.url, "its url is empty")
         return None
     place = joined(url or "", found.url)
-    if shelf.place_of(place) in above:
+    if shelf.name_of(place) in above:
         return Imported("", place)
     if len(above) >= _DEEPEST:
         shelf.refuse(found.url, f"it is imported through {_DEEPEST} others")

@@ -80,6 +80,11 @@ class LayeredText:
 
 
 def layers_of(source: Source, levels: Iterable[Level]) -> Layers:
+    """Returns the layers that all of a sheet is in, and then those that levels of it begin with."""
+    return source.around + own_layers(source, levels)
+
+
+def own_layers(source: Source, levels: Iterable[Level]) -> Layers:
     """Returns the layers that levels of a sheet begin with, also those in style rules."""
     first = itertools.takewhile(lambda level: level.condition.name in _LAYERED, levels)
     return tuple([(source, level) for level in first if level.condition.name == LAYER])

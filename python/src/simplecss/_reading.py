@@ -106,6 +106,8 @@ class Source:
         self.text = text
         self.data = library.encode(text)
         self._is_ascii = len(self.data) == len(text)
+        # The layers that all of it is in, from the outermost: those of the imports that bring it.
+        self.around: Tuple[Tuple[Source, Level], ...] = ()
 
     def at(self, span: Sequence[int]) -> str:
         """Returns the text between two offsets."""

@@ -40,6 +40,7 @@ from ._reading import (
     Source,
     Span,
     Statement,
+    ended,
     is_closed,
 )
 from ._selectors import SelectorTexts, states_in
@@ -76,6 +77,15 @@ class Rule(NamedTuple):
     def number(self) -> int:
         """The number of its statement."""
         return self.statement.number
+
+
+def _ended(text: str) -> str:
+    """Returns the text of a statement with what the end of its sheet closes."""
+    text = ended(text) or text
+    kinds = [each.text for each in tokens(text)]
+    if kinds[-1:] in ([";"], ["}"]):
+        return text
+    return f"{text}{chr(0xFFFD) if is_escaping(text) else ''};"
 
 
 class Leftover:
@@ -122,6 +132,8 @@ class SplitStatement:
         self.inner: List[Statement] = []
         self.source = source
         self.span = span
+        # Whether the text of another sheet, or the end of a layer, may follow.
+        self.is_followed = False
         # The layers that it is in, if something of them is written, and what is before the blocks
         # of the style rules that it is in.
         self.layers: Layers = ()
@@ -240,6 +252,7 @@ class SplitStatement:
         """Returns the statement with some of the selectors that stay among those that go."""
         found = SplitStatement(self.number, self.source, self.span, self.title, self.reason)
         found.inner, found.is_whole = self.inner, self.is_whole
+        found.is_followed = self.is_followed
         found.block, found.brackets, found.items = self.block, self.brackets, self.items
         found.layers, found.knows_layers = self.layers, self.knows_layers
         found.heads = self.heads
@@ -254,13 +267,20 @@ class SplitStatement:
 
     def _kept(self, marks: Collection[int]) -> List[str]:
         if self.is_whole or not self.going and not self.heads:
-            whole = marked(self.source, self.span, marks)
+            whole = self._whole_text(marks)
             return [f"{' { '.join([*self.heads, whole])}{' }' * len(self.heads)}"]
         if not self.staying:
             return []
         staying = ", ".join(each.text for each in self.staying)
         first, last = self.brackets
         return [f"{staying} {first}{marked(self.source, self.block, marks).strip(BLANKS)}{last}"]
+
+    def _whole_text(self, marks: Collection[int]) -> str:
+        """Returns all of its text."""
+        whole = marked(self.source, self.span, marks)
+        # The end of its sheet may close it.
+        is_last = self.span[1] == len(self.source.data)
+        return _ended(whole) if self.is_followed and is_last else whole
 
     def kept(self, leftover: Leftover) -> List[str]:
         """Returns the text that stays."""
@@ -459,6 +479,7 @@ def statements_of(read: ReadSheet, start: int, knows_layers: bool) -> List[Split
     found = list(_statements_at(read, read.placed, 0, knows_layers))
     for number, each in enumerate(found, start):
         each.number = number
+        each.is_followed = bool(each.source.around) or each.source is not found[-1].source
     return found
 
 
@@ -555,8 +576,8 @@ def _skipped(source: Source, found: Fault) -> Iterator[SplitStatement]:
     """Yields what is skipped, if it has a block."""
     text = source.at(found.span)
     braces = [each for each in tokens(text) if each.text in ("{", "}")]
-    if braces and braces[-1].text == "}" and braces[-1].end == len(text):
-        opened = next((each.start for each in braces if each.text == "{"), len(text))
+    opened = next((each.start for each in braces if each.text == "{"), None)
+    if opened is not None and braces[-1].text == "}" and braces[-1].end == len(text):
         title = text[:opened].strip(BLANKS)
         yield SplitStatement(0, source, found.span, title, found.reason)
 
