@@ -253,8 +253,9 @@ uint32_t simplecss_imports(const uint8_t *text, size_t text_len,
  *   kind offset  keyword_len prelude_len
  * `kind` is 1 where the block of a style rule begins, 2 where that of a group rule does, and 0 where the innermost block
  * ends. `offset` is after the brace. The texts are the keyword of a group rule, in lower case, and what is before the
- * block of a style rule, or the prelude of a group rule. A block that is open at the end of the sheet ends there. Of
- * `@media print{a{}}` it is "2 13 5 5", "mediaprint", "1 15 0 1", "a", "0 16 0 0", "", "0 17 0 0" and "". */
+ * block of a style rule, or the prelude of a group rule; of an end they are empty. A block that is open at the end of the
+ * sheet has no other edge. Of `@media print{a{}}` it is "2 13 5 5", "mediaprint", "1 15 0 1", "a", "0 16 0 0", "",
+ * "0 17 0 0" and "". */
 uint32_t simplecss_blocks(const uint8_t *text, size_t text_len,
                           uint8_t *out, size_t out_size, size_t *len);
 
@@ -338,8 +339,8 @@ uint32_t simplecss_inherited(const uint8_t *name, size_t name_len,
  *
  * All of a sheet may be in group rules, as in the layer and the media of the `@import` that names it. `depths` says in
  * how many each sheet is: in none if there are fewer numbers. `around` has the numbers of these, those of the first
- * sheet first, and of each sheet from the outermost: the first of `groups` has the number 0, and an `@layer` is among
- * them for this. One whose number is greater than all does not hold. A layer without a name is the same where its
+ * sheet first, and of each sheet from the outermost. The first of `groups` has the number 0; an `@layer` that a sheet is
+ * in is one of them. One whose number is greater than all does not hold. A layer without a name is the same where its
  * number is. The top level of the sheet stays one, which no `}` closes. */
 typedef struct simplecss_sheets {
     const uint8_t *texts;
