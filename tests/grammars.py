@@ -36,6 +36,7 @@ class Reason(enum.Enum):
     QUOTED_LANGUAGE = "`:lang()` keeps quotes"
     SUBTAGS = "`:lang(a-b)` matches `a-b` and `a-b-c`, not `a-c-b`"
     ODD_LANGUAGE = "`:lang()` takes any text as one language"
+    NUL = "U+0000 in a string is itself"
 
 
 class Part(NamedTuple):
@@ -139,6 +140,7 @@ class Source(random.Random):
             reasons.add(reason)
         elif operator == "~=" and kind > 0.85:
             value = ""
+        reasons |= {Reason.NUL} if "\0" in value else set()
         if operator == "~=":
             reasons |= {Reason.EMPTY_WORD} if not value else set()
             reasons |= {Reason.WHITE_SPACE} if name in lined else set()
