@@ -16,7 +16,7 @@ past_before outside in_block text = past_between in_block text
 past_before (within prelude) in_block text = past_separators text
 past_before nested in_block text = past_separators text
 
--- Only these are before the rest, where these rules are open, and the text is in so many group rules.
+-- Only these are before the rest, where these rules are open, and the text is in `depth` group rules.
 abbrev pub PartBegins : (depth : ℕ) → List OpenText → (text rest : List ℕ) → Type 0
 PartBegins depth around text rest =
     (past_before (nesting_of around) (is_more_open depth around) text ≡ rest) × Ends text rest

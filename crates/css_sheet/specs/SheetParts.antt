@@ -25,7 +25,7 @@ pub data Nesting : Type 0 where
 
 -- A rule that is open; what its contents are in; whether they apply, since it and all group rules
 -- that it is in hold; and the place of its contents: the number of the text that it is in, and an offset
--- there. The place tells it from all others.
+-- there. No two rules that begin in texts have the same place.
 pub record OpenText : Type 0 where
   pub kind : RuleKind
   pub nesting : Nesting
@@ -153,11 +153,11 @@ next_by outside in_block text = next_outside in_block text
 next_by (within prelude) in_block text = next_inside text
 next_by nested in_block text = next_inside text
 
--- whether one of these rules is open that comes after the first so many
+-- whether more than `depth` rules are open
 abbrev pub is_more_open : (depth : ℕ) → List OpenText → Bool
 is_more_open depth around = is_some_open (drop depth around)
 
--- the same of a text that is in so many group rules, whose top level is no block
+-- the next part of a text that is in `depth` group rules, whose top level is no block
 unfoldable pub next_in : (depth : ℕ) → List OpenText → List ℕ → Option (SheetPart × List ℕ)
 next_in depth around text = next_by (nesting_of around) (is_more_open depth around) text
 

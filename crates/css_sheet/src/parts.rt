@@ -116,7 +116,7 @@ fn applies_in(around: &[OpenRule<'_>]) -> bool
     }
 }
 
-/// Whether a rule is open that comes after so many.
+/// Whether more than `depth` rules are open.
 fn is_more_open(around: &[OpenRule<'_>], depth: usize) -> bool
     ensures { result ≡ is_more_open_in depth (map open_of around.now) }
 {
@@ -309,7 +309,7 @@ fn read_outside(text: &str, in_block: bool) -> Option<FoundPart<'_>>
     }
 }
 
-/// Reads the next part, by the grammar of what it is in, in a text that is in so many group rules.
+/// Reads the next part, by the grammar of what it is in. The text is in `depth` group rules.
 #[tactic(auto, unfolding(crate::specs::SheetParts::next_in))]
 fn read_next_in<'a>(around: &[OpenRule<'_>], depth: usize, text: &'a str) -> Option<FoundPart<'a>>
     ensures { next_in depth (map open_of around.now) text.now
