@@ -10,7 +10,7 @@ use Rattle.css_selectors.specs.AfterKeys.{have_no_greater, begin_with_key, is_le
 use Rattle.css_selectors.specs.AncestorKeys.{is_exact_condition, is_exact_key, keys_among}
 use Rattle.css_selectors.specs.Components.{Condition, Conditions, Part, Selector, conditions_from, parts_from}
 use Rattle.css_selectors.specs.Components.Simple.{universal, type_name, id, class, has_attribute, attribute, structure, language, state, function, named_element, nesting, namespaced}
-use Rattle.css_selectors.specs.Components.Condition.{simple, negation, any_of, where_any, nth_of}
+use Rattle.css_selectors.specs.Components.Condition.{simple, negation, any_of, where_any, tested}
 use Rattle.css_selectors.specs.Components.Parts.{end_of_selector, with_part}
 use Rattle.css_selectors.specs.Costs.{compound_cost, dearest_part, most_questions, most_tests}
 use Rattle.css_selectors.specs.Documents.{Document}
@@ -70,7 +70,7 @@ first_better (simple (namespaced namespace local)) h = absurd (cc)
 first_better (negation selectors) h = absurd (cc)
 first_better (any_of selectors) h = absurd (cc)
 first_better (where_any selectors) h = absurd (cc)
-first_better (nth_of last p selectors) h = absurd (cc)
+first_better (tested test selectors) h = absurd (cc)
 
 first_exact : (c : Condition) → is_exact_condition c ≡ true
     → IsTrue (list_all is_exact_key (condition_keys c))
@@ -90,7 +90,7 @@ first_exact (simple (namespaced namespace local)) h = absurd (cc)
 first_exact (negation selectors) h = absurd (cc)
 first_exact (any_of selectors) h = absurd (cc)
 first_exact (where_any selectors) h = absurd (cc)
-first_exact (nth_of last p selectors) h = absurd (cc)
+first_exact (tested test selectors) h = absurd (cc)
 
 first_keys : (c : Condition) (cs : List Condition) → begin_with_key (c ∷ cs) ≡ true
     → keys_among (c ∷ cs) ≡ condition_keys c
@@ -153,7 +153,7 @@ module _ {Node : Type 0} (d : Document Node) (n : Node) where
   first_met (negation selectors) h k = absurd (cc)
   first_met (any_of selectors) h k = absurd (cc)
   first_met (where_any selectors) h k = absurd (cc)
-  first_met (nth_of last p selectors) h k = absurd (cc)
+  first_met (tested test selectors) h k = absurd (cc)
 
   all_met : (cs : List Condition) → begin_with_key cs ≡ true
       → IsTrue (list_any (has_key d n) (keys_among cs))

@@ -1,20 +1,17 @@
 -- Selectors that are alike but for simple selectors: each has a condition in its place that asks the
 -- same.
 -- Serves `nesting_laws`.
-use Rattle.std.proofs.Common.{◌≡◌, ℕ, zero, suc, ◌+◌, ◌-◌, ◌↔◌, ◌⊎◌, inl, inr, Bool, Option, None, Some, IfSome, refl, sym, ap, subst, ◌∙◌, arith}
+use Rattle.std.proofs.Common.{◌≡◌, ℕ, zero, suc, ◌+◌, ◌-◌, ◌↔◌, ◌⊎◌, inl, inr, refl, sym, ap, subst, ◌∙◌, arith}
 use Rattle.css_matching.specs.declared.Combinator.{Combinator}
-use Rattle.css_matching.specs.declared.Combinator.TheVariants.{Adjacent}
 use Rattle.css_matching.specs.Placements.{HasPlacement, Relates}
 use Rattle.css_matching.specs.Trees.{Tree}
 use Rattle.css_selectors.specs.Documents.{Document, shape}
-use Rattle.css_selectors.specs.Components.{Progression, Simple, Condition, Conditions, Parts, Selectors}
-use Rattle.css_selectors.specs.Components.Condition.{simple, negation, any_of, where_any, nth_of}
+use Rattle.css_selectors.specs.Components.{Simple, ListTest, Condition, Conditions, Parts, Selectors}
+use Rattle.css_selectors.specs.Components.Condition.{simple, negation, any_of, where_any, tested}
 use Rattle.css_selectors.specs.Components.Conditions.{end_of_compound, with_condition}
 use Rattle.css_selectors.specs.Components.Parts.{end_of_selector, with_part}
 use Rattle.css_selectors.specs.Components.Selectors.{end_of_list, with_selector}
 use Rattle.css_selectors.specs.Meanings.{combinator_at, part_count, IsMet, AreMet, MeetsPart, MatchesAny, IsPlaced}
-use Rattle.css_selectors.specs.SiblingCounts.{IsNumberedAmong}
-use Rattle.css_selectors.proofs.SiblingCountLemmas.{counted_so}
 
 mutual
   -- conditions that are alike, where a simple selector and what is in its place are so related
@@ -23,8 +20,7 @@ mutual
     negations : {a b : Selectors} → ListsAlike P a b → Alike P (negation a) (negation b)
     anys : {a b : Selectors} → ListsAlike P a b → Alike P (any_of a) (any_of b)
     wheres : {a b : Selectors} → ListsAlike P a b → Alike P (where_any a) (where_any b)
-    nths : {last : Bool} {p : Progression} {a b : Selectors} → ListsAlike P a b
-        → Alike P (nth_of last p a) (nth_of last p b)
+    tests : {t : ListTest} {a b : Selectors} → ListsAlike P a b → Alike P (tested t a) (tested t b)
 
   pub data CompoundsAlike (P : Simple → Condition → Type 0) : Conditions → Conditions → Type 0 where
     no_condition : CompoundsAlike P end_of_compound end_of_compound
@@ -87,32 +83,6 @@ AsksSame {Node} d Is s e = (n : Node) → Is n → IsMet d (simple s) n ↔ IsMe
 -- nodes of a kind are related to such nodes alone
 module _ {Node : Type 0} (d : Document Node) (Is : Node → Type 0)
     (stays : (c : Combinator) (a b : Node) → Relates (shape d) c a b → Is b → Is a) where
-  -- so are the siblings before a node
-  siblings_stay : (m : Node) → Is m → (o : Option Node) → d.previous_sibling m ≡ o → IfSome o Is
-  siblings_stay m is None e = tt
-  siblings_stay m is (Some s) e = stays Adjacent s m e is
-
-  numbered_alike : (a b : Selectors) → ((m : Node) → Is m → MatchesAny d a m ↔ MatchesAny d b m)
-      → (p : Progression) (n : Node) → Is n
-      → IsNumberedAmong d.previous_sibling (MatchesAny d a) p n
-      ↔ IsNumberedAmong d.previous_sibling (MatchesAny d b) p n
-  numbered_alike a b same p n is =
-      let next : (m : Node) → Is m → IfSome (d.previous_sibling m) Is =
-      λ m at. siblings_stay m at (d.previous_sibling m) refl in (
-        λ h. (
-          h.0,
-          counted_so d.previous_sibling Is (MatchesAny d a) (MatchesAny d b) next same
-              (d.previous_sibling n) h.0 (next n is) h.1,
-          h.2,
-        ),
-        λ h. (
-          h.0,
-          counted_so d.previous_sibling Is (MatchesAny d b) (MatchesAny d a) next
-              (λ m at. (let k = same m at in (k.1, k.0))) (d.previous_sibling n) h.0 (next n is) h.1,
-          h.2,
-        ),
-      )
-
   placed_alike : (ps qs : Parts) → PartsAlike (AsksSame d Is) ps qs
       → ((i : ℕ) (m : Node) → Is m → MeetsPart d ps i m ↔ MeetsPart d qs i m)
       → (n : Node) → Is n → IsPlaced d ps n ↔ IsPlaced d qs n
@@ -138,11 +108,7 @@ module _ {Node : Type 0} (d : Document Node) (Is : Node → Type 0)
         let k = list_alike _ _ lists n is in (λ f m. f (k.1 m), λ f m. f (k.0 m))
     condition_alike _ _ (anys lists) n is = list_alike _ _ lists n is
     condition_alike _ _ (wheres lists) n is = list_alike _ _ lists n is
-    condition_alike _ _ (nths {p = p} lists) n is =
-        let same = list_alike _ _ lists in
-        let k = same n is in
-        let l = numbered_alike _ _ same p n is in
-        (λ h. (h.0, k.0 h.1, l.0 h.2), λ h. (h.0, k.1 h.1, l.1 h.2))
+    condition_alike _ _ (tests lists) n is = (λ h. h, λ h. h)
 
     compound_alike : (c e : Conditions) → CompoundsAlike (AsksSame d Is) c e → (n : Node) → Is n
         → AreMet d c n ↔ AreMet d e n

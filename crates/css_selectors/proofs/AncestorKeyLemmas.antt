@@ -24,7 +24,7 @@ use Rattle.css_selectors.specs.Documents.{Document, shape}
 use Rattle.css_selectors.specs.declared.components.Condition.{Condition as ConditionOf}
 use Rattle.css_selectors.specs.Components.{Simple, Condition, Conditions, Parts, Selectors, conditions_from, parts_from, Part, PseudoElement, Selector}
 use Rattle.css_selectors.specs.Components.Simple.{universal, type_name, id, class, has_attribute, attribute, structure, language, state, function, named_element, nesting, namespaced}
-use Rattle.css_selectors.specs.Components.Condition.{simple, negation, any_of, where_any, nth_of}
+use Rattle.css_selectors.specs.Components.Condition.{simple, negation, any_of, where_any, tested}
 use Rattle.css_selectors.specs.Components.Conditions.{end_of_compound, with_condition}
 use Rattle.css_selectors.specs.Components.Parts.{end_of_selector, with_part}
 use Rattle.css_selectors.specs.Components.Selectors.{end_of_list, with_selector}
@@ -203,7 +203,7 @@ exact_compound (with_condition c (with_condition x conditions)) h = absurd (cc)
 exact_compound (with_condition (negation selectors) end_of_compound) h = absurd (cc)
 exact_compound (with_condition (any_of selectors) end_of_compound) h = absurd (cc)
 exact_compound (with_condition (where_any selectors) end_of_compound) h = absurd (cc)
-exact_compound (with_condition (nth_of last p selectors) end_of_compound) h = absurd (cc)
+exact_compound (with_condition (tested test selectors) end_of_compound) h = absurd (cc)
 
 exact_selector : (s : Parts) → IsTrue (is_lone_id_or_class s)
     → IsTrue (is_exact_key (parts_key s)) × (3 ≤ rank (parts_key s))
@@ -255,7 +255,7 @@ keys_are (simple (namespaced namespace local)) h = absurd (cc)
 keys_are (negation selectors) h = absurd (cc)
 keys_are (any_of selectors) h = list_keys selectors h
 keys_are (where_any selectors) h = list_keys selectors h
-keys_are (nth_of last p selectors) h = absurd (cc)
+keys_are (tested test selectors) h = absurd (cc)
 
 whole_key : (s : Simple) → IsTrue (is_whole s) → IsTrue (is_exact_key (simple_key s))
 whole_key universal h = refl
@@ -278,7 +278,7 @@ exact_condition (simple s) h = rw (whole_key s h) refl
 exact_condition (negation selectors) h = absurd (cc)
 exact_condition (any_of selectors) h = (exact_selectors selectors h).0
 exact_condition (where_any selectors) h = (exact_selectors selectors h).0
-exact_condition (nth_of last p selectors) h = absurd (cc)
+exact_condition (tested test selectors) h = absurd (cc)
 
 exact_conditions : (cs : List Condition) → IsTrue (are_only_keys cs)
     → IsTrue (list_all is_exact_key (keys_among cs))
@@ -338,7 +338,7 @@ module _ {Node : Type 0} (d : Document Node) (n : Node) where
   compound_met (with_condition (negation selectors) end_of_compound) h k = absurd (cc)
   compound_met (with_condition (any_of selectors) end_of_compound) h k = absurd (cc)
   compound_met (with_condition (where_any selectors) end_of_compound) h k = absurd (cc)
-  compound_met (with_condition (nth_of last p selectors) end_of_compound) h k = absurd (cc)
+  compound_met (with_condition (tested test selectors) end_of_compound) h k = absurd (cc)
 
   -- what satisfies a lone compound selector is its placement
   pub lone_placed : (k : Combinator) (c : Conditions) → AreMet d c n
@@ -378,7 +378,7 @@ module _ {Node : Type 0} (d : Document Node) (n : Node) where
   condition_met (negation selectors) h k = absurd (cc)
   condition_met (any_of selectors) h k = selectors_met selectors h k
   condition_met (where_any selectors) h k = selectors_met selectors h k
-  condition_met (nth_of last p selectors) h k = absurd (cc)
+  condition_met (tested test selectors) h k = absurd (cc)
 
   conditions_met : (cs : List Condition) → IsTrue (are_only_keys cs)
       → IsTrue (list_any (has_key d n) (keys_among cs)) → AreMet d (conditions_from cs) n

@@ -12,18 +12,21 @@ use Rattle.css_selectors.specs.declared.refusal.Why.TheVariants.{NoSelector, Une
 use Rattle.css_matching.specs.declared.Combinator.{Combinator}
 use Rattle.css_matching.specs.declared.Combinator.TheVariants.{Descendant, Child, Adjacent, Sibling}
 use Rattle.css_selectors.specs.declared.components.ListKind.{ListKind}
-use Rattle.css_selectors.specs.declared.components.ListKind.TheVariants.{Not, Is, Where}
+use Rattle.css_selectors.specs.declared.components.ListKind.TheVariants.{Not, Is, Where, Has}
+use Rattle.css_selectors.specs.declared.room.Room.{Room}
 use Rattle.css_selectors.specs.declared.components.Numbering.{Numbering}
 use Rattle.css_selectors.specs.declared.components.Numbering.TheVariants.{Child as OfChild, LastChild as OfLastChild}
 use Rattle.css_selectors.specs.declared.components.Function.TheVariants.{Numbered}
-use Rattle.css_selectors.specs.Components.{Progression, Namespace, Simple, Condition, Selectors, Part, selectors_from}
+use Rattle.css_selectors.specs.Components.{Progression, Namespace, Simple, ListTest, Condition, Selectors, Part, selectors_from}
+use Rattle.css_selectors.specs.Components.ListTest.{has, nth_child as nth_child_list, nth_last_child as nth_last_child_list}
+use Rattle.css_selectors.specs.Components.Selectors.{end_of_list, with_selector}
 use Rattle.css_selectors.specs.Components.Local.{any_type, a_type, some_attribute, an_attribute}
 use Rattle.css_selectors.specs.Components.Simple.{universal, type_name, id, class, has_attribute, attribute, structure, language, state, function, named_element, nesting, namespaced}
-use Rattle.css_selectors.specs.Components.Condition.{simple, negation, any_of, where_any, nth_of}
+use Rattle.css_selectors.specs.Components.Condition.{simple, negation, any_of, where_any, tested}
 use Rattle.css_selectors.specs.Readings.{Reading, got, refused, follow, give, ◌>>=◌, ◌>>◌, Step, item, none, stop, step_after, as_item, with_first, items}
-use Rattle.css_selectors.specs.Grammar.{gap, past_comments, begins_name, past_any_name, is_bar, at_bar, prefix, namespace, in_namespace, ampersand, any_or_name, type_after, begins_compound, closing, one_more, list_kind, function_named, from_last, with_argument, type_selector, next_simple, after_type, some_of, Finder, ListReader, compound, ends_part, part_value, past_part, no_selector, part_end, judged, listed_part, next_listed, kept, keep, selectors_after, is_forgiving, list_by, listed, begins_pseudo_class, simple_item, condition_here, condition_by, too_deep, next_condition, deepest, after_type_name, some_or_element, conditions, CompoundReader, sign_combinator, first_sign, joined_by, by_sign, part_after, next_part_in, complex, complex_list}
-use Rattle.css_selectors.specs.Printing.{identifier_text, progression_text, nth_of_text, namespace_text, further_text, list_text, condition_text, selectors_text, combinator_text, part_text, parts_text}
-use Rattle.css_selectors.specs.WellFormed.{IsName, IsNamespace, IsProgression, IsFurtherCondition, IsFirstCondition, IsList, AreConditions}
+use Rattle.css_selectors.specs.Grammar.{gap, past_comments, begins_name, past_any_name, is_bar, at_bar, prefix, namespace, in_namespace, ampersand, any_or_name, type_after, begins_compound, closing, one_more, list_kind, function_named, list_test, with_argument, type_selector, next_simple, after_type, some_of, Finder, ListReader, compound, ends_part, part_value, past_part, no_selector, part_end, judged, listed_part, next_listed, kept, keep, selectors_after, is_forgiving, list_by, listed, begins_pseudo_class, simple_item, condition_here, condition_by, too_deep, condition_at, next_condition, outside, room_in, is_relative, leading_sign, after_leading, may_open, after_type_name, some_or_element, conditions, CompoundReader, sign_combinator, first_sign, joined_by, by_sign, part_after, next_part_in, complex_by, complex, complex_list}
+use Rattle.css_selectors.specs.Printing.{leading_text, listed_text, identifier_text, progression_text, nth_of_text, namespace_text, further_text, list_text, condition_text, selectors_text, combinator_text, part_text, parts_text}
+use Rattle.css_selectors.specs.WellFormed.{IsName, IsNamespace, IsProgression, IsFurtherCondition, IsFirstCondition, IsList, IsLeading, AreConditions}
 use Rattle.css_selectors.proofs.GapLemmas.{no_comments}
 use Rattle.css_selectors.proofs.SpelledAgain.{name-again}
 use Rattle.css_selectors.proofs.NumbersAgain.{no_gap, one_blank}
@@ -74,13 +77,18 @@ start_begins [] rest h = absurd (cc)
 start_begins (b ∷ text) rest h =
     by_start (λ d. begins_compound d ≡ true) refl refl refl refl refl b h
 
-condition_starts : (n : ℕ) (c : Condition) → IsFurtherCondition n c → Starts (condition_text c)
+test_starts : (test : ListTest) (selectors : Selectors)
+    → Starts (condition_text (tested test selectors))
+test_starts has selectors = refl
+test_starts (nth_child_list p) selectors = refl
+test_starts (nth_last_child_list p) selectors = refl
+
+condition_starts : (n : Room) (c : Condition) → IsFurtherCondition n c → Starts (condition_text c)
 condition_starts n (simple s) w = further_starts s w
 condition_starts n (negation _) w = refl
 condition_starts n (any_of _) w = refl
 condition_starts n (where_any _) w = refl
-condition_starts n (nth_of true _ _) w = refl
-condition_starts n (nth_of false _ _) w = refl
+condition_starts n (tested test selectors) w = test_starts test selectors
 
 -- `*` or a type, without a namespace and with one
 star_bare : (rest : List ℕ) → ends rest ≡ true
@@ -136,7 +144,7 @@ record IsTyped (c : Condition) (rest : List ℕ) : Type 0 where
   pub begins : starts_by begins_compound (condition_text c ++ rest) ≡ true
 
 -- a condition that may be the first is a type, or may follow others
-first_kind : (n : ℕ) (c : Condition) (rest : List ℕ) → IsFirstCondition n c → ends rest ≡ true
+first_kind : (n : Room) (c : Condition) (rest : List ℕ) → IsFirstCondition n c → ends rest ≡ true
     → IsTyped c rest ⊎ IsFurtherCondition n c
 first_kind n (simple universal) rest w h =
     inl (record { value = universal; is = refl; reads = star-again rest h; begins = refl })
@@ -179,12 +187,12 @@ first_kind n (simple (namespaced p (an_attribute name c v ignores))) rest w h = 
 first_kind n (negation _) rest w h = inr w
 first_kind n (any_of _) rest w h = inr w
 first_kind n (where_any _) rest w h = inr w
-first_kind n (nth_of _ _ _) rest w h = inr w
+first_kind n (tested _ _) rest w h = inr w
 
 -- ---- compound selectors, at a depth
 
 -- further conditions end what is before them
-conditions_end : (n : ℕ) (cs : List Condition) (rest : List ℕ) → All (IsFurtherCondition n) cs
+conditions_end : (n : Room) (cs : List Condition) (rest : List ℕ) → All (IsFurtherCondition n) cs
     → ends rest ≡ true → ends (row_text cs ++ rest) ≡ true
 conditions_end n [] rest all h = h
 conditions_end n (c ∷ cs) rest all h =
@@ -192,7 +200,7 @@ conditions_end n (c ∷ cs) rest all h =
     ∙ start_ends (condition_text c) (row_text cs ++ rest)
     (condition_starts n c (All-head (IsFurtherCondition n) c cs all))
 
-row_begins : (n : ℕ) (cs : List Condition) (rest : List ℕ) → IsRow n cs → ends rest ≡ true
+row_begins : (n : Room) (cs : List Condition) (rest : List ℕ) → IsRow n cs → ends rest ≡ true
     → starts_by begins_compound (row_text cs ++ rest) ≡ true
 row_begins n [] rest w h = absurd w
 row_begins n (c ∷ cs) rest w h =
@@ -220,18 +228,18 @@ some_after next text none = refl
 some_after next text (stop why rest) = refl
 
 pub some_or_element_after : (text : List ℕ) (step : Step Simple)
-    → after_type_name text step ≡ row_after some_or_element (next_condition deepest) text step
+    → after_type_name text step ≡ row_after some_or_element (next_condition outside) text step
 some_or_element_after text (item s rest) = refl
 some_or_element_after text none = refl
 some_or_element_after text (stop why rest) = refl
 
 -- a further condition is read before what ends it
-abbrev ReadsFurther : ℕ → Type 0
+abbrev ReadsFurther : Room → Type 0
 ReadsFurther n = (c : Condition) (rest : List ℕ) → IsFurtherCondition n c → ends rest ≡ true
     → next_condition n (condition_text c ++ rest) ≡ item c rest
 
 -- the conditions of a compound selector are read before what ends them
-module _ (n : ℕ) (reads : ReadsFurther n) where
+module _ (n : Room) (reads : ReadsFurther n) where
   each_condition : (cs : List Condition) (rest : List ℕ) → All (IsFurtherCondition n) cs
       → ends rest ≡ true → next_condition n rest ≡ none
       → EachReads (next_condition n) condition_text cs rest
@@ -291,10 +299,10 @@ module _ (n : ℕ) (reads : ReadsFurther n) where
       ∙ row-again some_of (λ text c ds end. refl) cs rest w h stops
 
 -- no condition is where neither a pseudo-class nor another simple selector begins
-pub none_read : (n : ℕ) (text : List ℕ) → opens_comment text ≡ false
+pub none_read : (n : Room) (text : List ℕ) → opens_comment text ≡ false
     → begins_pseudo_class text ≡ false → next_simple text ≡ none → next_condition n text ≡ none
-unfolding next_condition
-none_read n text c e f = by n
+unfolding condition_at
+none_read n text c e f = by n.depth n.in_has
   where
     here : (list : ListReader) → condition_here list text ≡ none
     here list = rw e (ap simple_item f)
@@ -302,11 +310,21 @@ none_read n text c e f = by n
     other : (list : ListReader) → condition_by list text ≡ none
     other list = ap (condition_here list) (no_comments text c) ∙ here list
 
-    by : (n : ℕ) → next_condition n text ≡ none
-    by zero = other too_deep
-    by (suc n) = other (list_by (next_condition n))
+    by : (d : ℕ) (in_has : Bool) → condition_at d in_has text ≡ none
+    by zero in_has = other too_deep
+    by (suc d) in_has = other (list_by in_has (condition_at d))
 
 -- ---- compound selectors after others
+
+-- no compound selector begins with a sign
+no_sign : (l : List ℕ) → starts_by begins_compound l ≡ true → first_sign l ≡ None
+no_sign [] h = refl
+no_sign (b ∷ l) h =
+    rw (
+      differ begins_compound b greater_than_sign h refl,
+      differ begins_compound b plus_sign h refl,
+      differ begins_compound b tilde h refl,
+    ) refl
 
 -- a compound selector after another, by what reads it
 pub part-again : (one : CompoundReader) (c : Combinator) (cs : List Condition) (rest : List ℕ)
@@ -320,15 +338,6 @@ part-again one c cs rest begins reads = by c
 
     solid : NoGap text
     solid = begins_solid text begins
-
-    no_sign : (l : List ℕ) → starts_by begins_compound l ≡ true → first_sign l ≡ None
-    no_sign [] h = refl
-    no_sign (b ∷ l) h =
-        rw (
-          differ begins_compound b greater_than_sign h refl,
-          differ begins_compound b plus_sign h refl,
-          differ begins_compound b tilde h refl,
-        ) refl
 
     signed : (b : ℕ) (k : Combinator) → NoGap (b ∷ space ∷ text) → sign_combinator b ≡ Some k
         → part_after one (gap (space ∷ b ∷ space ∷ text)) ≡ item (joined_by k cs) rest
@@ -367,13 +376,13 @@ no_part_at one b rest calm is =
 -- ---- complex selectors in a list
 
 -- what follows a compound selector or a list's complex selector
-record Stops (n : ℕ) (rest : List ℕ) : Type 0 where
+record Stops (n : Room) (rest : List ℕ) : Type 0 where
   pub ended : ends rest ≡ true
   pub last : next_condition n rest ≡ none
   pub no_part : next_part_in (next_condition n) rest ≡ none
 
 -- what follows a compound selector of it
-links_follow : (n : ℕ) (ps : List Part) (rest : List ℕ) → Stops n rest
+links_follow : (n : Room) (ps : List Part) (rest : List ℕ) → Stops n rest
     → (ends (flat_map part_text ps ++ rest) ≡ true)
     × (next_condition n (flat_map part_text ps ++ rest) ≡ none)
 unfolding next_simple
@@ -390,7 +399,7 @@ links_follow n (p ∷ ps) rest stops = by p.combinator
     by Adjacent = (refl, none_read n _ refl refl refl)
     by Sibling = (refl, none_read n _ refl refl refl)
 
-module _ (n : ℕ) (reads : ReadsFurther n) where
+module _ (n : Room) (reads : ReadsFurther n) where
   link_next : (p : Part) (rest : List ℕ) → IsLink n p → ends rest ≡ true
       → next_condition n rest ≡ none
       → next_part_in (next_condition n) (part_text p ++ rest) ≡ item p rest
@@ -410,55 +419,127 @@ module _ (n : ℕ) (reads : ReadsFurther n) where
         each_link ps rest (All-tail (IsLink n) p ps all) stops,
       )
 
-  chain_begins : (ps : List Part) (rest : List ℕ) → IsChain n ps → Stops n rest
-      → starts_by begins_compound (parts_text ps ++ rest) ≡ true
-  chain_begins [] rest w stops = absurd w
-  chain_begins (p ∷ ps) rest w stops =
+  links_begin : (p : Part) (ps : List Part) (rest : List ℕ) → IsRow n p.conditions → Stops n rest
+      → starts_by begins_compound (parts_text (p ∷ ps) ++ rest) ≡ true
+  links_begin p ps rest w stops =
       let follows = links_follow n ps rest stops in
       ap (starts_by begins_compound)
       (append_assoc (row_text p.conditions) (flat_map part_text ps) rest)
-      ∙ row_begins n p.conditions (flat_map part_text ps ++ rest) w.1 follows.0
+      ∙ row_begins n p.conditions (flat_map part_text ps ++ rest) w follows.0
 
-  complex-again : (ps : List Part) (rest : List ℕ) → IsChain n ps → Stops n rest
-      → complex (next_condition n) (parts_text ps ++ rest) ≡ got ps rest
-  unfolding complex
-  complex-again [] rest w stops = absurd w
-  complex-again (p ∷ ps) rest w stops =
+  joined-again : (k : Combinator) (p : Part) (ps : List Part) (rest : List ℕ)
+      → IsRow n p.conditions → All (IsLink n) ps → Stops n rest
+      → complex_by k (next_condition n) (parts_text (p ∷ ps) ++ rest)
+      ≡ got (joined_by k p.conditions ∷ ps) rest
+  unfolding complex_by
+  joined-again k p ps rest w all stops =
       let next : List ℕ → Step Part = next_part_in (next_condition n) in
       let others : List ℕ = flat_map part_text ps ++ rest in
       let follows = links_follow n ps rest stops in
-      ap (complex (next_condition n))
+      ap (complex_by k (next_condition n))
       (append_assoc (row_text p.conditions) (flat_map part_text ps) rest)
-      ∙ ap (λ r. follow r (λ first. one_more (joined_by Descendant first) (items next)))
-      (compound-again n reads p.conditions others w.1 follows.0 follows.1)
-      ∙ ap (with_first (joined_by Descendant p.conditions))
-      (items-again next part_text ps rest (each_link ps rest w.2 stops))
-      ∙ ap (λ c. got (joined_by c p.conditions ∷ ps) rest) (sym w.0)
+      ∙ ap (λ r. follow r (λ first. one_more (joined_by k first) (items next)))
+      (compound-again n reads p.conditions others w follows.0 follows.1)
+      ∙ ap (with_first (joined_by k p.conditions))
+      (items-again next part_text ps rest (each_link ps rest all stops))
+
+  -- what is written before the first compound selector, and it
+  abbrev led_text : Combinator → Part → List Part → List ℕ
+  led_text k p ps = leading_text k ++ parts_text (p ∷ ps)
+
+  led_solid : (k : Combinator) (p : Part) (ps : List Part) (rest : List ℕ) → IsRow n p.conditions
+      → Stops n rest → NoGap (led_text k p ps ++ rest)
+  led_solid Descendant p ps rest w stops =
+      begins_solid (parts_text (p ∷ ps) ++ rest) (links_begin p ps rest w stops)
+  led_solid Child p ps rest w stops = no_gap-byte greater_than_sign _ refl refl
+  led_solid Adjacent p ps rest w stops = no_gap-byte plus_sign _ refl refl
+  led_solid Sibling p ps rest w stops = no_gap-byte tilde _ refl refl
+
+  led-again : (kind : ListKind) (k : Combinator) (p : Part) (ps : List Part) (rest : List ℕ)
+      → IsLeading kind k → IsRow n p.conditions → All (IsLink n) ps → Stops n rest
+      → complex kind (next_condition n) (led_text k p ps ++ rest)
+      ≡ got (joined_by k p.conditions ∷ ps) rest
+  unfolding complex
+  led-again kind k p ps rest leads w all stops = by kind k leads
+    where
+      text : List ℕ
+      text = parts_text (p ∷ ps) ++ rest
+
+      unsigned : (o : Option Combinator) → o ≡ None
+          → after_leading (next_condition n) text o ≡ got (joined_by Descendant p.conditions ∷ ps) rest
+      unsigned o e =
+          ap (after_leading (next_condition n) text) e ∙ joined-again Descendant p ps rest w all stops
+
+      signed : (c : Combinator)
+          → follow (gap (space ∷ text)) (λ x. complex_by c (next_condition n))
+          ≡ got (joined_by c p.conditions ∷ ps) rest
+      signed c =
+          ap (λ r. follow r (λ x. complex_by c (next_condition n)))
+          (one_blank text (begins_solid text (links_begin p ps rest w stops)))
+          ∙ joined-again c p ps rest w all stops
+
+      plain : (o : ListKind) → is_relative o ≡ false → (c : Combinator) → c ≡ Descendant
+          → after_leading (next_condition n) (led_text c p ps ++ rest)
+          (leading_sign o (led_text c p ps ++ rest))
+          ≡ got (joined_by c p.conditions ∷ ps) rest
+      plain o e c is =
+          subst (λ (b : Combinator). after_leading (next_condition n) (led_text b p ps ++ rest)
+          (leading_sign o (led_text b p ps ++ rest))
+          ≡ got (joined_by b p.conditions ∷ ps) rest) (sym is)
+          (unsigned (leading_sign o text)
+          (ap (λ (t : Bool). if t then first_sign text else None) e))
+
+      by : (o : ListKind) (c : Combinator) → IsLeading o c
+          → after_leading (next_condition n) (led_text c p ps ++ rest)
+          (leading_sign o (led_text c p ps ++ rest))
+          ≡ got (joined_by c p.conditions ∷ ps) rest
+      by Not c is = plain Not refl c is
+      by Is c is = plain Is refl c is
+      by Where c is = plain Where refl c is
+      by Has Descendant is =
+          unsigned (first_sign text) (no_sign text (links_begin p ps rest w stops))
+      by Has Child is = signed Child
+      by Has Adjacent is = signed Adjacent
+      by Has Sibling is = signed Sibling
+
+  chain_solid : (kind : ListKind) (ps : List Part) (rest : List ℕ) → IsChain kind n ps
+      → Stops n rest → NoGap (listed_text ps ++ rest)
+  chain_solid kind [] rest w stops = absurd w
+  chain_solid kind (p ∷ ps) rest w stops = led_solid p.combinator p ps rest w.1 stops
+
+  complex-again : (kind : ListKind) (ps : List Part) (rest : List ℕ) → IsChain kind n ps
+      → Stops n rest → complex kind (next_condition n) (listed_text ps ++ rest) ≡ got ps rest
+  complex-again kind [] rest w stops = absurd w
+  complex-again kind (p ∷ ps) rest w stops =
+      led-again kind p.combinator p ps rest w.0 w.1 w.2 stops
 
   -- a complex selector as a part of a list, after a gap
-  listed-again : (f : Bool) (text : List ℕ) (spaced : Bool) (ps : List Part) (rest : List ℕ)
-      → gap text ≡ got spaced (parts_text ps ++ rest) → IsChain n ps → Stops n rest → NoGap rest
-      → ends_part rest ≡ true → listed_part f (next_condition n) text ≡ got (Some ps) rest
+  listed-again : (kind : ListKind) (text : List ℕ) (spaced : Bool) (ps : List Part) (rest : List ℕ)
+      → gap text ≡ got spaced (listed_text ps ++ rest) → IsChain kind n ps → Stops n rest
+      → NoGap rest → ends_part rest ≡ true
+      → listed_part kind (next_condition n) text ≡ got (Some ps) rest
   unfolding listed_part
-  listed-again f text spaced ps rest begins w stops calm last =
-      ap (λ r. judged f text (follow r (λ x. complex (next_condition n)))) begins
-      ∙ ap (judged f text) (complex-again ps rest w stops)
+  listed-again kind text spaced ps rest begins w stops calm last =
+      let f : Bool = is_forgiving kind in
+      ap (λ r. judged f text (follow r (λ x. complex kind (next_condition n)))) begins
+      ∙ ap (judged f text) (complex-again kind ps rest w stops)
       ∙ ap (part_end f text ps) (no_gap rest calm)
       ∙ ap (λ (t : Bool). if t then got (Some ps) rest
       else no_selector f text Unexpected rest) last
 
   -- a further one
-  listed_next : (f : Bool) (ps : List Part) (rest : List ℕ) → IsChain n ps → Stops n rest
-      → NoGap rest → ends_part rest ≡ true
-      → next_listed f (next_condition n) (further_text parts_text ps ++ rest) ≡ item (Some ps) rest
+  listed_next : (kind : ListKind) (ps : List Part) (rest : List ℕ) → IsChain kind n ps
+      → Stops n rest → NoGap rest → ends_part rest ≡ true
+      → next_listed kind (next_condition n) (further_text listed_text ps ++ rest)
+      ≡ item (Some ps) rest
   unfolding next_listed
-  listed_next f ps rest w stops calm last =
-      let text : List ℕ = parts_text ps ++ rest in
+  listed_next kind ps rest w stops calm last =
+      let text : List ℕ = listed_text ps ++ rest in
       ap (as_item (λ s. s))
-      (listed-again f (space ∷ text) true ps rest
-      (one_blank text (begins_solid text (chain_begins ps rest w stops))) w stops calm last)
+      (listed-again kind (space ∷ text) true ps rest
+      (one_blank text (chain_solid kind ps rest w stops)) w stops calm last)
 
-list_end : (f : Bool) (next : Finder) (rest : List ℕ)
+list_end : (f : ListKind) (next : Finder) (rest : List ℕ)
     → next_listed f next (close_parenthesis ∷ rest) ≡ none
 unfolding next_listed
 list_end f next rest = refl
@@ -468,8 +549,8 @@ unfolding past_part
 part_stays rest = each-rests part_value (close_parenthesis ∷ rest) refl
 
 -- what follows a complex selector of a list
-list_stops : (n : ℕ) (ss : List (List Part)) (rest : List ℕ)
-    → Stops n (flat_map (further_text parts_text) ss ++ (close_parenthesis ∷ rest))
+list_stops : (n : Room) (ss : List (List Part)) (rest : List ℕ)
+    → Stops n (flat_map (further_text listed_text) ss ++ (close_parenthesis ∷ rest))
 unfolding next_simple next_part_in
 list_stops n [] rest = record {
   ended = refl;
@@ -487,50 +568,50 @@ list_stops n (s ∷ ss) rest = record {
 -- ---- lists
 
 after_calm : (ss : List (List Part)) (rest : List ℕ)
-    → NoGap (flat_map (further_text parts_text) ss ++ (close_parenthesis ∷ rest))
+    → NoGap (flat_map (further_text listed_text) ss ++ (close_parenthesis ∷ rest))
 after_calm [] rest = no_gap-byte close_parenthesis rest refl refl
 after_calm (s ∷ ss) rest = no_gap-byte comma _ refl refl
 
 after_ends : (ss : List (List Part)) (rest : List ℕ)
-    → ends_part (flat_map (further_text parts_text) ss ++ (close_parenthesis ∷ rest)) ≡ true
+    → ends_part (flat_map (further_text listed_text) ss ++ (close_parenthesis ∷ rest)) ≡ true
 after_ends [] rest = refl
 after_ends (s ∷ ss) rest = refl
 
 -- the text of a further part
 abbrev shown : Option (List Part) → List ℕ
 shown None = []
-shown (Some s) = further_text parts_text s
+shown (Some s) = further_text listed_text s
 
 abbrev all_some : List (List Part) → List (Option (List Part))
 all_some [] = []
 all_some (s ∷ ss) = Some s ∷ all_some ss
 
 shown_all : (ss : List (List Part))
-    → flat_map shown (all_some ss) ≡ flat_map (further_text parts_text) ss
+    → flat_map shown (all_some ss) ≡ flat_map (further_text listed_text) ss
 shown_all [] = refl
-shown_all (s ∷ ss) = ap (λ t. further_text parts_text s ++ t) (shown_all ss)
+shown_all (s ∷ ss) = ap (λ t. further_text listed_text s ++ t) (shown_all ss)
 
 kept_all : (ss : List (List Part)) → kept (all_some ss) ≡ ss
 kept_all [] = refl
 kept_all (s ∷ ss) = ap (λ t. s ∷ t) (kept_all ss)
 
-module _ (n : ℕ) (reads : ReadsFurther n) (f : Bool) where
-  each_part : (ss : List (List Part)) (rest : List ℕ) → All (IsChain n) ss
+module _ (n : Room) (reads : ReadsFurther n) (f : ListKind) where
+  each_part : (ss : List (List Part)) (rest : List ℕ) → All (IsChain f n) ss
       → EachReads (next_listed f (next_condition n)) shown (all_some ss) (close_parenthesis ∷ rest)
   each_part [] rest all = list_end f (next_condition n) rest
   each_part (s ∷ ss) rest all = (
     omega arith,
-    subst (λ l. next_listed f (next_condition n) (further_text parts_text s
+    subst (λ l. next_listed f (next_condition n) (further_text listed_text s
         ++ (l ++ (close_parenthesis ∷ rest))) ≡ item (Some s) (l ++ (close_parenthesis ∷ rest)))
         (sym (shown_all ss))
-        (listed_next n reads f s _ (All-head (IsChain n) s ss all) (list_stops n ss rest)
+        (listed_next n reads f s _ (All-head (IsChain f n) s ss all) (list_stops n ss rest)
         (after_calm ss rest) (after_ends ss rest)),
-    each_part ss rest (All-tail (IsChain n) s ss all),
+    each_part ss rest (All-tail (IsChain f n) s ss all),
   )
 
-  parts-again : (ss : List (List Part)) (rest : List ℕ) → All (IsChain n) ss
+  parts-again : (ss : List (List Part)) (rest : List ℕ) → All (IsChain f n) ss
       → items (next_listed f (next_condition n))
-      (flat_map (further_text parts_text) ss ++ (close_parenthesis ∷ rest))
+      (flat_map (further_text listed_text) ss ++ (close_parenthesis ∷ rest))
       ≡ got (all_some ss) (close_parenthesis ∷ rest)
   parts-again ss rest all =
       ap (λ l. items (next_listed f (next_condition n)) (l ++ (close_parenthesis ∷ rest)))
@@ -540,40 +621,45 @@ module _ (n : ℕ) (reads : ReadsFurther n) (f : Bool) where
 
   -- no selector is where a list ends
   nothing_there : (rest : List ℕ)
-      → complex (next_condition n) (close_parenthesis ∷ rest)
+      → complex f (next_condition n) (close_parenthesis ∷ rest)
       ≡ refused NoSelector (close_parenthesis ∷ rest)
-  unfolding complex compound next_simple
+  unfolding complex complex_by compound next_simple
   nothing_there rest =
-      ap (λ s. follow (after_type (next_condition n) (close_parenthesis ∷ rest) s) (λ first.
+      ap (after_leading (next_condition n) (close_parenthesis ∷ rest)) (by (is_relative f))
+      ∙ ap (λ s. follow (after_type (next_condition n) (close_parenthesis ∷ rest) s) (λ first.
       one_more (joined_by Descendant first) (items (next_part_in (next_condition n)))))
       (untyped (close_parenthesis ∷ rest) refl refl refl refl)
       ∙ ap (λ r. follow (some_of (close_parenthesis ∷ rest) r) (λ first.
       one_more (joined_by Descendant first) (items (next_part_in (next_condition n)))))
       (items-again (next_condition n) condition_text [] (close_parenthesis ∷ rest)
       (none_read n (close_parenthesis ∷ rest) refl refl refl))
+    where
+      by : (t : Bool) → (if t then first_sign (close_parenthesis ∷ rest) else None) ≡ None
+      by true = refl
+      by false = refl
 
-  empty_part : (rest : List ℕ) → f ≡ true
+  empty_part : (rest : List ℕ) → is_forgiving f ≡ true
       → listed_part f (next_condition n) (close_parenthesis ∷ rest)
       ≡ got None (close_parenthesis ∷ rest)
   unfolding listed_part
   empty_part rest is =
       let text : List ℕ = close_parenthesis ∷ rest in
-      ap (λ r. judged f text (follow r (λ x. complex (next_condition n))))
+      ap (λ r. judged (is_forgiving f) text (follow r (λ x. complex f (next_condition n))))
       (no_gap text (no_gap-byte close_parenthesis rest refl refl))
-      ∙ ap (judged f text) (nothing_there rest)
+      ∙ ap (judged (is_forgiving f) text) (nothing_there rest)
       ∙ ap (λ b. no_selector b text NoSelector text) is
       ∙ ap (got None) (part_stays rest)
 
   -- a list with something in it, after a gap
   some-again : (text : List ℕ) (spaced : Bool) (s : List Part) (ss : List (List Part)) (rest : List ℕ)
-      → gap text ≡ got spaced (parts_text s ++ (flat_map (further_text parts_text) ss
+      → gap text ≡ got spaced (listed_text s ++ (flat_map (further_text listed_text) ss
       ++ (close_parenthesis ∷ rest)))
-      → IsChain n s → All (IsChain n) ss
+      → IsChain f n s → All (IsChain f n) ss
       → complex_list f (next_condition n) text ≡ got (s ∷ ss) rest
   unfolding complex_list
   some-again text spaced s ss rest begins one more =
       let next : Finder = next_condition n in
-      let others : List ℕ = flat_map (further_text parts_text) ss ++ (close_parenthesis ∷ rest) in
+      let others : List ℕ = flat_map (further_text listed_text) ss ++ (close_parenthesis ∷ rest) in
       ap (λ r. follow r (λ first. selectors_after f next first >>= λ all.
       closing close_parenthesis >> give all))
       (listed-again n reads f text spaced s others begins one (list_stops n ss rest)
@@ -583,90 +669,90 @@ module _ (n : ℕ) (reads : ReadsFurther n) (f : Bool) where
       (parts-again ss rest more)
       ∙ ap (λ l. got (s ∷ l) rest) (kept_all ss)
 
-  list_begins : (s : List Part) (ss : List (List Part)) (rest : List ℕ) → IsChain n s
-      → NoGap (parts_text s ++ (flat_map (further_text parts_text) ss ++ (close_parenthesis ∷ rest)))
+  list_begins : (s : List Part) (ss : List (List Part)) (rest : List ℕ) → IsChain f n s
+      → NoGap (listed_text s ++ (flat_map (further_text listed_text) ss ++ (close_parenthesis ∷ rest)))
   list_begins s ss rest w =
-      let others : List ℕ = flat_map (further_text parts_text) ss ++ (close_parenthesis ∷ rest) in
-      begins_solid (parts_text s ++ others) (chain_begins n reads s others w (list_stops n ss rest))
+      let others : List ℕ = flat_map (further_text listed_text) ss ++ (close_parenthesis ∷ rest) in
+      chain_solid n reads f s others w (list_stops n ss rest)
 
   -- after a blank
-  spaced-again : (rest : List ℕ) (s : List Part) (ss : List (List Part)) → IsChain n s
-      → All (IsChain n) ss
+  spaced-again : (rest : List ℕ) (s : List Part) (ss : List (List Part)) → IsChain f n s
+      → All (IsChain f n) ss
       → complex_list f (next_condition n)
-      (space ∷ (list_text parts_text (s ∷ ss) ++ (close_parenthesis ∷ rest)))
+      (space ∷ (list_text listed_text (s ∷ ss) ++ (close_parenthesis ∷ rest)))
       ≡ got (s ∷ ss) rest
   spaced-again rest s ss one more =
       let end : List ℕ = close_parenthesis ∷ rest in
-      let others : List ℕ = flat_map (further_text parts_text) ss ++ end in
+      let others : List ℕ = flat_map (further_text listed_text) ss ++ end in
       ap (λ l. complex_list f (next_condition n) (space ∷ l))
-      (append_assoc (parts_text s) (flat_map (further_text parts_text) ss) end)
-      ∙ some-again (space ∷ (parts_text s ++ others)) true s ss rest
-      (one_blank (parts_text s ++ others) (list_begins s ss rest one)) one more
+      (append_assoc (listed_text s) (flat_map (further_text listed_text) ss) end)
+      ∙ some-again (space ∷ (listed_text s ++ others)) true s ss rest
+      (one_blank (listed_text s ++ others) (list_begins s ss rest one)) one more
 
   complexes-again : (rest : List ℕ) (ss : List (List Part)) → AreChains f n ss
-      → complex_list f (next_condition n) (list_text parts_text ss ++ (close_parenthesis ∷ rest))
+      → complex_list f (next_condition n) (list_text listed_text ss ++ (close_parenthesis ∷ rest))
       ≡ got ss rest
   unfolding complex_list
   complexes-again rest [] w =
       ap (λ r. follow r (λ first. selectors_after f (next_condition n) first >>= λ all.
       closing close_parenthesis >> give all)) (empty_part rest w)
       ∙ ap (λ r. follow (keep (with_first None r)) (λ all. closing close_parenthesis >> give all))
-      (parts-again [] rest (All-nil (IsChain n)))
+      (parts-again [] rest (All-nil (IsChain f n)))
   complexes-again rest (s ∷ ss) w =
       let end : List ℕ = close_parenthesis ∷ rest in
-      let text : List ℕ = parts_text s ++ (flat_map (further_text parts_text) ss ++ end) in
+      let text : List ℕ = listed_text s ++ (flat_map (further_text listed_text) ss ++ end) in
       ap (complex_list f (next_condition n))
-      (append_assoc (parts_text s) (flat_map (further_text parts_text) ss) end)
+      (append_assoc (listed_text s) (flat_map (further_text listed_text) ss) end)
       ∙ some-again text false s ss rest (no_gap text (list_begins s ss rest w.0)) w.0 w.1
 
 -- ---- conditions
 
 -- a list is read, up to its closing parenthesis
-abbrev ReadsLists : ℕ → ListReader → Type 0
+abbrev ReadsLists : Room → ListReader → Type 0
 ReadsLists n list = (kind : ListKind) (opened rest : List ℕ) (selectors : Selectors)
-    → IsList (is_forgiving kind) n selectors
+    → IsList kind n selectors
     → list kind opened (selectors_text selectors ++ (close_parenthesis ∷ rest))
     ≡ got (selectors_in selectors) rest
 
 -- so is one that is not forgiving after a blank
-abbrev ReadsSpaced : ℕ → ListReader → Type 0
-ReadsSpaced n list = (opened rest : List ℕ) (selectors : Selectors) → IsList false n selectors
+abbrev ReadsSpaced : Room → ListReader → Type 0
+ReadsSpaced n list = (opened rest : List ℕ) (selectors : Selectors) → IsList Not n selectors
     → list Not opened (space ∷ (selectors_text selectors ++ (close_parenthesis ∷ rest)))
     ≡ got (selectors_in selectors) rest
 
-module _ (n : ℕ) (list : ListReader) (reads : ReadsLists n list) (spaced : ReadsSpaced n list) where
-  nth-again : (name rest : List ℕ) (kind : Numbering) (last : Bool) (p : Progression)
-      (selectors : Selectors) → IsName name → list_kind name ≡ None
-      → function_named name ≡ Some (Numbered kind) → from_last kind ≡ Some last
-      → IsProgression p × IsList false n selectors
+module _ (n : Room) (list : ListReader) (reads : ReadsLists n list) (spaced : ReadsSpaced n list) where
+  nth-again : (name rest : List ℕ) (kind : Numbering) (test : ListTest)
+      (p : Progression) (selectors : Selectors) → IsName name → list_kind name ≡ None
+      → function_named name ≡ Some (Numbered kind) → list_test kind p ≡ Some test
+      → IsProgression p × IsList Not n selectors
       → condition_by list (colon ∷ (identifier_text name ++ (open_parenthesis ∷
       ((nth_of_text p (selectors_text selectors) ++ (close_parenthesis ∷ [])) ++ rest))))
-      ≡ item (nth_of last p selectors) rest
-  nth-again name rest kind last p selectors some no_list is is_last w =
-      call-again list name argument rest (nth_of last p selectors) some argument_reads
+      ≡ item (tested test selectors) rest
+  nth-again name rest kind test p selectors some no_list is is_test w =
+      call-again list name argument rest (tested test selectors) some argument_reads
     where
       argument : List ℕ
       argument = (nth_of_text p (selectors_text selectors) ++ (close_parenthesis ∷ [])) ++ rest
 
-      listed_text : List ℕ
-      listed_text = selectors_text selectors ++ (close_parenthesis ∷ rest)
+      shown_list : List ℕ
+      shown_list = selectors_text selectors ++ (close_parenthesis ∷ rest)
 
       argument_reads : (opened : List ℕ)
           → with_argument list opened name (list_kind name) (function_named name) argument
-          ≡ got (nth_of last p selectors) rest
+          ≡ got (tested test selectors) rest
       argument_reads opened =
           ap (λ k. with_argument list opened name k (function_named name) argument) no_list
           ∙ ap (λ f. with_argument list opened name None f argument) is
           ∙ ap (with_argument list opened name None (Some (Numbered kind)))
           (nth_assoc (progression_text p) (codes " of ") (selectors_text selectors)
           (close_parenthesis ∷ []) rest)
-          ∙ of_argument list opened name listed_text kind last p is_last w.0
-          ∙ ap (λ r. follow r (λ all. give (nth_of last p (selectors_from all))))
+          ∙ of_argument list opened name shown_list kind test p is_test w.0
+          ∙ ap (λ r. follow r (λ all. give (tested test (selectors_from all))))
           (spaced opened rest selectors w.1)
-          ∙ ap (λ l. got (nth_of last p l) rest) (selectors_from-in selectors)
+          ∙ ap (λ l. got (tested test l) rest) (selectors_from-in selectors)
 
   list-again : (name rest : List ℕ) (kind : ListKind) (selectors : Selectors) → IsName name
-      → list_kind name ≡ Some kind → IsList (is_forgiving kind) n selectors
+      → list_kind name ≡ Some kind → IsList kind n selectors
       → condition_by list (colon ∷ (identifier_text name ++ (open_parenthesis ∷
       ((selectors_text selectors ++ (close_parenthesis ∷ [])) ++ rest))))
       ≡ item (listed kind (selectors_in selectors)) rest
@@ -692,55 +778,83 @@ module _ (n : ℕ) (list : ListReader) (reads : ReadsLists n list) (spaced : Rea
   condition_by-again (where_any selectors) rest w h =
       list-again (codes "where") rest Where selectors (omega arith, refl) refl w
       ∙ ap (λ cs. item (where_any cs) rest) (selectors_from-in selectors)
-  condition_by-again (nth_of false p selectors) rest w h =
-      nth-again (codes "nth-child") rest OfChild false p selectors (omega arith, refl) refl refl refl w
-  condition_by-again (nth_of true p selectors) rest w h =
-      nth-again (codes "nth-last-child") rest OfLastChild true p selectors (omega arith, refl) refl refl
-      refl w
+  condition_by-again (tested has selectors) rest w h =
+      list-again (codes "has") rest Has selectors (omega arith, refl) refl w.1
+      ∙ ap (λ cs. item (tested has cs) rest) (selectors_from-in selectors)
+  condition_by-again (tested (nth_child_list p) selectors) rest w h =
+      nth-again (codes "nth-child") rest OfChild (nth_child_list p) p selectors (omega arith, refl) refl
+      refl refl w
+  condition_by-again (tested (nth_last_child_list p) selectors) rest w h =
+      nth-again (codes "nth-last-child") rest OfLastChild (nth_last_child_list p) p selectors
+      (omega arith, refl) refl refl refl w
 
-complex_list-again : (n : ℕ) → ReadsFurther n → ReadsLists (suc n) (list_by (next_condition n))
-complex_list-again n reads kind opened rest selectors w =
-    let f : Bool = is_forgiving kind in
-    let ss : List (List Part) = selectors_in selectors in
-    let same : selectors ≡ selectors_from ss = sym (selectors_from-in selectors) in
-    ap (λ l. complex_list f (next_condition n) (l ++ (close_parenthesis ∷ rest)))
-    (ap selectors_text same ∙ rows_text ss)
-    ∙ complexes-again n reads f rest ss (chains_out n f ss (subst (IsList f (suc n)) same w))
+abbrev pub room_of : ℕ → Bool → Room
+room_of d in_has = record { depth = d; in_has = in_has }
 
-spaced_list-again : (n : ℕ) → ReadsFurther n → ReadsSpaced (suc n) (list_by (next_condition n))
-spaced_list-again n reads opened rest selectors w =
-    let ss : List (List Part) = selectors_in selectors in
-    let same : selectors ≡ selectors_from ss = sym (selectors_from-in selectors) in
-    ap (λ l. complex_list false (next_condition n) (space ∷ (l ++ (close_parenthesis ∷ rest))))
-    (ap selectors_text same ∙ rows_text ss)
-    ∙ by ss (chains_out n false ss (subst (IsList false (suc n)) same w))
+opens : (kind : ListKind) (d : ℕ) (in_has : Bool) (opened text : List ℕ)
+    → may_open kind in_has ≡ true
+    → list_by in_has (condition_at d) kind opened text
+    ≡ complex_list kind (next_condition (room_in kind (room_of (suc d) in_has))) text
+opens kind d in_has opened text may =
+    ap (λ (t : Bool). if t then complex_list kind (condition_at d (is_relative kind || in_has)) text
+    else refused Unexpected opened) may
+
+module _ (d : ℕ) (reads : (in_has : Bool) → ReadsFurther (room_of d in_has)) (in_has : Bool) where
+  complex_list-again : ReadsLists (room_of (suc d) in_has) (list_by in_has (condition_at d))
+  complex_list-again kind opened rest selectors w =
+      let n : Room = room_of (suc d) in_has in
+      let ss : List (List Part) = selectors_in selectors in
+      let same : selectors ≡ selectors_from ss = sym (selectors_from-in selectors) in
+      let chains = chains_out kind n ss (subst (IsList kind n) same w) in
+      ap (λ l. list_by in_has (condition_at d) kind opened (l ++ (close_parenthesis ∷ rest)))
+      (ap selectors_text same ∙ rows_text ss)
+      ∙ opens kind d in_has opened (list_text listed_text ss ++ (close_parenthesis ∷ rest)) chains.0.1
+      ∙ complexes-again (room_in kind n) (reads (is_relative kind || in_has)) kind rest ss chains.1
+
+  spaced_list-again : ReadsSpaced (room_of (suc d) in_has) (list_by in_has (condition_at d))
+  spaced_list-again opened rest selectors w =
+      let n : Room = room_of (suc d) in_has in
+      let ss : List (List Part) = selectors_in selectors in
+      let same : selectors ≡ selectors_from ss = sym (selectors_from-in selectors) in
+      ap (λ l. complex_list Not (condition_at d in_has) (space ∷ (l ++ (close_parenthesis ∷ rest))))
+      (ap selectors_text same ∙ rows_text ss)
+      ∙ by ss (chains_out Not n ss (subst (IsList Not n) same w)).1
+    where
+      by : (all : List (List Part)) → AreChains Not (room_of d in_has) all
+          → complex_list Not (condition_at d in_has)
+          (space ∷ (list_text listed_text all ++ (close_parenthesis ∷ rest)))
+          ≡ got all rest
+      by [] v = absurd (cc)
+      by (s ∷ all) v = spaced-again (room_of d in_has) (reads in_has) Not rest s all v.0 v.1
+
+condition_at-again : (d : ℕ) (in_has : Bool) → ReadsFurther (room_of d in_has)
+unfolding condition_at
+condition_at-again zero in_has c rest w h =
+    condition_by-again (room_of zero in_has) too_deep
+    (λ kind opened end selectors v. absurd (none kind selectors v))
+    (λ opened end selectors v. absurd (none Not selectors v)) c rest w h
   where
-    by : (all : List (List Part)) → AreChains false n all
-        → complex_list false (next_condition n)
-        (space ∷ (list_text parts_text all ++ (close_parenthesis ∷ rest)))
-        ≡ got all rest
-    by [] v = absurd (cc)
-    by (s ∷ all) v = spaced-again n reads false rest s all v.0 v.1
+    none : (kind : ListKind) (selectors : Selectors) → IsList kind (room_of zero in_has) selectors → ⊥
+    none kind end_of_list v = let k = v.0.0 in omega (arith, k)
+    none kind (with_selector s selectors) v = let k = v.0.0 in omega (arith, k)
+condition_at-again (suc d) in_has c rest w h =
+    condition_by-again (room_of (suc d) in_has) (list_by in_has (condition_at d))
+    (complex_list-again d (condition_at-again d) in_has)
+    (spaced_list-again d (condition_at-again d) in_has) c rest w h
 
-pub condition-again : (n : ℕ) → ReadsFurther n
-unfolding next_condition
-condition-again zero c rest w h =
-    condition_by-again zero too_deep (λ kind opened end selectors v. absurd v)
-    (λ opened end selectors v. absurd v) c rest w h
-condition-again (suc n) c rest w h =
-    condition_by-again (suc n) (list_by (next_condition n))
-    (complex_list-again n (condition-again n)) (spaced_list-again n (condition-again n)) c rest w h
+pub condition-again : (n : Room) → ReadsFurther n
+condition-again n = condition_at-again n.depth n.in_has
 
 -- ---- the compound selectors of a selector
 
 -- what follows the conditions of a compound selector
 pub record Follows (before_element : Bool) (rest : List ℕ) : Type 0 where
   pub ended : ends rest ≡ true
-  pub last : next_condition deepest rest ≡ none
+  pub last : next_condition outside rest ≡ none
   pub element : before_element ≡ true → starts colon rest ≡ true
 
 -- no compound selector is before a pseudo-element
-no_conditions : (rest : List ℕ) → next_condition deepest rest ≡ none → starts colon rest ≡ true
+no_conditions : (rest : List ℕ) → next_condition outside rest ≡ none → starts colon rest ≡ true
     → (conditions rest ≡ got [] rest) × (starts_by begins_compound rest ≡ true)
 unfolding conditions
 no_conditions [] stops h = absurd (cc)
@@ -750,7 +864,7 @@ no_conditions (b ∷ rest) stops h =
     start_untyped (b ∷ []) rest (ap is_start is) in (
       ap (after_type_name (b ∷ rest)) untyped
           ∙ ap (some_or_element (b ∷ rest))
-          (items-again (next_condition deepest) condition_text [] (b ∷ rest) stops)
+          (items-again (next_condition outside) condition_text [] (b ∷ rest) stops)
           ∙ ap (λ (t : Bool). if t then got [] (b ∷ rest)
           else some_of (b ∷ rest) (got [] (b ∷ rest))) h,
       ap begins_compound is,
@@ -771,10 +885,10 @@ unfolding conditions
 conditions-again e [] rest w f = (no_conditions rest f.last (f.element w)).0
 conditions-again e (c ∷ cs) rest w f =
     some_or_element_after (row_text (c ∷ cs) ++ rest) (type_selector (row_text (c ∷ cs) ++ rest))
-    ∙ row-again deepest (condition-again deepest) some_or_element element_accepts (c ∷ cs) rest w
+    ∙ row-again outside (condition-again outside) some_or_element element_accepts (c ∷ cs) rest w
     f.ended f.last
 
 pub conditions_begin : (e : Bool) (cs : List Condition) (rest : List ℕ) → AreConditions e cs
     → Follows e rest → starts_by begins_compound (row_text cs ++ rest) ≡ true
 conditions_begin e [] rest w f = (no_conditions rest f.last (f.element w)).1
-conditions_begin e (c ∷ cs) rest w f = row_begins deepest (c ∷ cs) rest w f.ended
+conditions_begin e (c ∷ cs) rest w f = row_begins outside (c ∷ cs) rest w f.ended

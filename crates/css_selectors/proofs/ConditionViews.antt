@@ -2,11 +2,11 @@
 -- Serves `meeting`, `key` and `printing`.
 use Rattle.std.proofs.Common.{◌≡◌, map, Vec, Global, rules}
 use Rattle.css_selectors.specs.declared.components.Complex.{Complex}
-use Rattle.css_selectors.specs.declared.components.Condition.{Not, Is, Where, NthOf, the_lemmas}
-use Rattle.css_selectors.specs.declared.components.NthOf.{NthOf as NthOfOf}
+use Rattle.css_selectors.specs.declared.components.Condition.{Not, Is, Where, Tested, the_lemmas}
+use Rattle.css_selectors.specs.declared.components.ListTest.{ListTest as ListTestOf}
 use Rattle.css_selectors.specs.Components.{selectors_from}
-use Rattle.css_selectors.specs.Components.Condition.{negation, any_of, where_any, nth_of}
-use Rattle.css_selectors.specs.Views.{condition_of, complex_of, progression_of}
+use Rattle.css_selectors.specs.Components.Condition.{negation, any_of, where_any, tested}
+use Rattle.css_selectors.specs.Views.{condition_of, complex_of, list_test_of}
 
 pub condition_not : (v : Vec Complex Global)
     → condition_of (Not v) ≡ negation (selectors_from (map complex_of v.items))
@@ -20,6 +20,6 @@ pub condition_where : (v : Vec Complex Global)
     → condition_of (Where v) ≡ where_any (selectors_from (map complex_of v.items))
 condition_where v = search (rules, the_lemmas)
 
-pub condition_nth : (k : NthOfOf) (v : Vec Complex Global) → condition_of (NthOf k v)
-    ≡ nth_of k.from_last (progression_of k.progression) (selectors_from (map complex_of v.items))
-condition_nth k v = search (rules, the_lemmas)
+pub condition_tested : (t : ListTestOf) (v : Vec Complex Global) → condition_of (Tested t v)
+    ≡ tested (list_test_of t) (selectors_from (map complex_of v.items))
+condition_tested t v = search (rules, the_lemmas)

@@ -6,20 +6,19 @@ use Rattle.std.specs.List.{list_any}
 use Rattle.css_selectors.specs.Documents.{Document}
 use Rattle.css_selectors.specs.Components.{Comparison, Simple, Condition, Conditions, Parts, Selectors, Part, Selector, conditions_from, parts_from, selectors_from}
 use Rattle.css_selectors.specs.Components.Simple.{universal, type_name, id, class, has_attribute, attribute, structure, language, state, function, named_element, nesting, namespaced}
-use Rattle.css_selectors.specs.Components.Condition.{simple, negation, any_of, where_any, nth_of}
+use Rattle.css_selectors.specs.Components.Condition.{simple, negation, any_of, where_any, tested}
 use Rattle.css_selectors.specs.Components.Conditions.{end_of_compound, with_condition}
 use Rattle.css_selectors.specs.Components.Parts.{end_of_selector, with_part}
 use Rattle.css_selectors.specs.Components.Selectors.{end_of_list, with_selector}
 use Rattle.css_matching.specs.declared.Combinator.{Combinator}
-use Rattle.css_selectors.specs.declared.components.Condition.{Condition as ConditionOf, Is, Where, NthOf}
-use Rattle.css_selectors.specs.declared.components.NthOf.{NthOf as NthOfOf}
+use Rattle.css_selectors.specs.declared.components.Condition.{Condition as ConditionOf, Is, Where}
 use Rattle.css_selectors.specs.declared.components.Complex.{Complex, out-Complex}
 use Rattle.css_selectors.specs.declared.components.Part.{Part as PartOf}
 use Rattle.css_selectors.specs.Views.{condition_of, part_of, complex_of}
 use Rattle.css_selectors.specs.Meanings.{satisfies, holds, part_count, IsMet, AreMet, MeetsPart, MatchesAny, IsPlaced, Matches}
 use Rattle.css_selectors.specs.Keys.{Key, has_key, simple_key, lone_key, rank, better_key, best_key, compound_key, subject_from, parts_key, selector_keys, condition_keys, least_rank, better_keys, best_keys, conditions_at, keys_of}
 use Rattle.css_selectors.specs.Keys.Key.{by_nothing}
-use Rattle.css_selectors.proofs.ConditionViews.{condition_is, condition_where, condition_nth}
+use Rattle.css_selectors.proofs.ConditionViews.{condition_is, condition_where}
 use Rattle.css_selectors.proofs.PlacementListLemmas.{count_from}
 
 or_first : (a b : Bool) → IsTrue a → IsTrue (a || b)
@@ -61,7 +60,7 @@ module _ {Node : Type 0} (d : Document Node) (n : Node) where
   lone_has (negation selectors) h = refl
   lone_has (any_of selectors) h = refl
   lone_has (where_any selectors) h = refl
-  lone_has (nth_of last p selectors) h = refl
+  lone_has (tested test selectors) h = refl
 
   best_has : (best : Key) (conditions : Conditions) → IsTrue (has_key d n best)
       → AreMet d conditions n → IsTrue (has_key d n (best_key best conditions))
@@ -105,7 +104,7 @@ module _ {Node : Type 0} (d : Document Node) (n : Node) where
   condition_has (negation selectors) h = refl
   condition_has (any_of selectors) h = selectors_have selectors h
   condition_has (where_any selectors) h = selectors_have selectors h
-  condition_has (nth_of last p selectors) h = selectors_have selectors h.1
+  condition_has (tested test selectors) h = absurd h
 
   chosen_keys : (b : Bool) (one other : List Key) → IsTrue (list_any (has_key d n) one)
       → IsTrue (list_any (has_key d n) other)
@@ -172,13 +171,6 @@ module _ (c : ConditionOf) (v : Vec Complex Global) (xs : List Complex) where
       ∙ keys_selectors xs)
   keys_listed (inr is) same =
       sym (ap (λ x. condition_keys (condition_of x)) is ∙ ap condition_keys (condition_where v)
-      ∙ ap (λ ys. selector_keys (selectors_from (map complex_of ys))) (sym same)
-      ∙ keys_selectors xs)
-
-  pub keys_numbered : (k : NthOfOf) → c ≡ NthOf k v → xs ≡ v.items
-      → map (λ x. parts_key (parts_from (complex_of x))) xs ≡ condition_keys (condition_of c)
-  keys_numbered k is same =
-      sym (ap (λ x. condition_keys (condition_of x)) is ∙ ap condition_keys (condition_nth k v)
       ∙ ap (λ ys. selector_keys (selectors_from (map complex_of ys))) (sym same)
       ∙ keys_selectors xs)
 

@@ -26,7 +26,6 @@ mod NestedLists
 mod SimplesAgain
 mod CompoundsAgain
 mod SelectorsAgain
-mod SiblingCountLemmas
 mod ReadSimples
 mod ReadWellFormed
 mod ListLaws
@@ -41,3 +40,5 @@ pub mod ReadEnds
 pub mod AlikeSelectors
 mod CutLemmas
 mod OwnLemmas
+mod NumberingLemmas
+mod NumberingLaws

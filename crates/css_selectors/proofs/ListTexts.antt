@@ -7,12 +7,12 @@ use Rattle.std.proofs.lemmas.Grind.{flat_map-append}
 use Rattle.std.specs.Prelude.{codes}
 use Rattle.std.specs.List.{flat_map}
 use Rattle.css_selectors.specs.declared.components.Complex.{Complex}
-use Rattle.css_selectors.specs.declared.components.Condition.{Condition as ConditionOf, Not, Is, Where, NthOf}
-use Rattle.css_selectors.specs.declared.components.NthOf.{NthOf as NthOfOf}
+use Rattle.css_selectors.specs.declared.components.Condition.{Condition as ConditionOf, Not, Is, Where, Tested}
+use Rattle.css_selectors.specs.declared.components.ListTest.{ListTest as ListTestOf}
 use Rattle.css_selectors.specs.Components.{Condition, Part, conditions_from, parts_from, selectors_from}
-use Rattle.css_selectors.specs.Printing.{condition_text, compound_text, complex_text, further_parts_text, selectors_text, further_selectors_text, further_text, list_text, function_text, nth_name, nth_of_text, part_text, parts_text}
-use Rattle.css_selectors.specs.Views.{condition_of, complex_of, progression_of}
-use Rattle.css_selectors.proofs.ConditionViews.{condition_not, condition_is, condition_where, condition_nth}
+use Rattle.css_selectors.specs.Printing.{condition_text, compound_text, complex_text, further_parts_text, selectors_text, further_selectors_text, further_text, list_text, function_text, test_text, part_text, listed_text}
+use Rattle.css_selectors.specs.Views.{condition_of, complex_of, list_test_of}
+use Rattle.css_selectors.proofs.ConditionViews.{condition_not, condition_is, condition_where, condition_tested}
 
 pub compound_text_conditions : (cs : List Condition)
     → compound_text (conditions_from cs) ≡ flat_map condition_text cs
@@ -24,26 +24,26 @@ further_text_parts [] = refl
 further_text_parts (p ∷ ps) =
     rw (compound_text_conditions p.conditions, further_text_parts ps) refl
 
-pub complex_text_parts : (ps : List Part) → complex_text (parts_from ps) ≡ parts_text ps
+pub complex_text_parts : (ps : List Part) → complex_text (parts_from ps) ≡ listed_text ps
 complex_text_parts [] = refl
 complex_text_parts (p ∷ ps) = rw (compound_text_conditions p.conditions, further_text_parts ps) refl
 
 pub further_text_selectors : (ss : List (List Part))
-    → further_selectors_text (selectors_from ss) ≡ flat_map (further_text parts_text) ss
+    → further_selectors_text (selectors_from ss) ≡ flat_map (further_text listed_text) ss
 further_text_selectors [] = refl
 further_text_selectors (s ∷ ss) =
     rw (complex_text_parts s, further_text_selectors ss) (search rules)
 
 -- what the code writes of a complex selector in a list
 abbrev pub selector_shown : Complex → List ℕ
-selector_shown c = parts_text (complex_of c)
+selector_shown c = listed_text (complex_of c)
 
 pub text_selectors : (cs : List Complex)
     → selectors_text (selectors_from (map complex_of cs)) ≡ list_text selector_shown cs
 text_selectors [] = refl
 text_selectors (c ∷ cs) =
     rw (complex_text_parts (complex_of c), further_text_selectors (map complex_of cs))
-    (ap (λ t. selector_shown c ++ t) (flat_map-map (further_text parts_text) complex_of cs))
+    (ap (λ t. selector_shown c ++ t) (flat_map-map (further_text listed_text) complex_of cs))
 
 module _ (c : ConditionOf) (v : Vec Complex Global) (xs : List Complex) where
   shown_by : (name : List ℕ) → condition_text (condition_of c)
@@ -67,14 +67,11 @@ module _ (c : ConditionOf) (v : Vec Complex Global) (xs : List Complex) where
       → function_text (codes ":where(") (list_text selector_shown xs) ≡ condition_text (condition_of c)
   text_where is = shown_by (codes ":where(") (ap (λ x. condition_text (condition_of x)) is ∙ ap condition_text (condition_where v))
 
-  pub text_nth : (k : NthOfOf) → c ≡ NthOf k v → xs ≡ v.items
-      → function_text (nth_name k.from_last) (nth_of_text (progression_of k.progression)
-      (list_text selector_shown xs))
-      ≡ condition_text (condition_of c)
-  text_nth k is same =
-      let shown : List ℕ → List ℕ =
-      λ t. function_text (nth_name k.from_last) (nth_of_text (progression_of k.progression) t) in
-      sym (ap (λ x. condition_text (condition_of x)) is ∙ ap condition_text (condition_nth k v)
+  pub text_tested : (t : ListTestOf) → c ≡ Tested t v → xs ≡ v.items
+      → test_text (list_test_of t) (list_text selector_shown xs) ≡ condition_text (condition_of c)
+  text_tested t is same =
+      let shown : List ℕ → List ℕ = test_text (list_test_of t) in
+      sym (ap (λ x. condition_text (condition_of x)) is ∙ ap condition_text (condition_tested t v)
       ∙ ap (λ ys. shown (selectors_text (selectors_from (map complex_of ys)))) (sym same)
       ∙ ap shown (text_selectors xs))
 

@@ -1,20 +1,47 @@
 -- The next condition, by what reads a list.
 -- Serves the loops of `compounds`.
-use Rattle.std.proofs.Common.{◌≡◌, ℕ, zero, suc, Bool, true, false, List, refl, ap, ◌∙◌, rules}
+use Rattle.std.proofs.Common.{◌≡◌, ℕ, zero, suc, Bool, true, false, List, refl, ap, ◌∙◌, ◌<◌, ◌||◌, arith, rules}
 use Rattle.std.specs.Prelude.{if◌then◌else◌}
 use Rattle.css_selectors.specs.declared.components.Simple.{Simple as SimpleOf}
 use Rattle.css_selectors.specs.declared.components.Condition.{Simple, the_lemmas}
 use Rattle.css_selectors.specs.Components.Condition.{simple}
-use Rattle.css_selectors.specs.Grammar.{past_comments, next_condition, next_simple, condition_here, condition_by, list_within, begins_pseudo_class, simple_item, pseudo_condition, name}
+use Rattle.css_selectors.specs.Grammar.{past_comments, next_condition, next_simple, condition_here, condition_by, condition_at, list_at, list_within, complex_list, may_open, is_relative, one_less, begins_pseudo_class, simple_item, pseudo_condition, name}
 use Rattle.css_text.specs.Bytes.{past_one}
-use Rattle.css_selectors.specs.Readings.{item, step_after}
+use Rattle.css_selectors.specs.Readings.{refused, item, step_after}
+use Rattle.css_selectors.specs.declared.components.ListKind.{ListKind}
+use Rattle.css_selectors.specs.declared.room.Room.{Room}
+use Rattle.css_selectors.specs.declared.refusal.Why.TheVariants.{TooDeep, Unexpected}
 use Rattle.css_selectors.specs.Views.{condition_of, simple_of}
 
-pub condition_within : (n : ℕ) (text : List ℕ)
-    → condition_by (list_within n) text ≡ next_condition n text
-unfolding next_condition
-condition_within zero text = refl
-condition_within (suc n) text = refl
+by_list : (n : ℕ) (in_has : Bool) (text : List ℕ)
+    → condition_by (list_at n in_has) text ≡ condition_at n in_has text
+unfolding condition_at
+by_list zero in_has text = refl
+by_list (suc n) in_has text = refl
+
+pub condition_within : (room : Room) (text : List ℕ)
+    → condition_by (list_within room) text ≡ next_condition room text
+condition_within room text = by_list room.depth room.in_has text
+
+pub none_opens : (n : ℕ) (in_has : Bool) (kind : ListKind) (opened text : List ℕ) → n ≡ 0
+    → list_at n in_has kind opened text ≡ refused TooDeep opened
+none_opens zero in_has kind opened text e = refl
+none_opens (suc n) in_has kind opened text e = absurd (cc)
+
+pub one_barred : (n : ℕ) (in_has : Bool) (kind : ListKind) (opened text : List ℕ) → 0 < n
+    → may_open kind in_has ≡ false → list_at n in_has kind opened text ≡ refused Unexpected opened
+one_barred zero in_has kind opened text some e = absurd (omega (arith, some))
+one_barred (suc n) in_has kind opened text some e =
+    ap (λ (t : Bool). if t then complex_list kind (condition_at n (is_relative kind || in_has)) text
+    else refused Unexpected opened) e
+
+pub one_opens : (n : ℕ) (in_has : Bool) (kind : ListKind) (opened text : List ℕ) → 0 < n
+    → may_open kind in_has ≡ true → list_at n in_has kind opened text
+    ≡ complex_list kind (condition_at (one_less n) (is_relative kind || in_has)) text
+one_opens zero in_has kind opened text some e = absurd (omega (arith, some))
+one_opens (suc n) in_has kind opened text some e =
+    ap (λ (t : Bool). if t then complex_list kind (condition_at n (is_relative kind || in_has)) text
+    else refused Unexpected opened) e
 
 pub condition_simple : (s : SimpleOf) → condition_of (Simple s) ≡ simple (simple_of s)
 condition_simple s = search (rules, the_lemmas)
@@ -25,7 +52,7 @@ plain true one other e = absurd (cc)
 plain false one other e = refl
 
 -- after comments a condition that is no pseudo-class is the simple selector that is next
-pub condition_plain : (n : ℕ) (text here rest : List ℕ) (s : SimpleOf) → here ≡ past_comments text
+pub condition_plain : (n : Room) (text here rest : List ℕ) (s : SimpleOf) → here ≡ past_comments text
     → begins_pseudo_class here ≡ false → item (simple_of s) rest ≡ next_simple here
     → item (condition_of (Simple s)) rest ≡ next_condition n text
 condition_plain n text here rest s e is_plain found =

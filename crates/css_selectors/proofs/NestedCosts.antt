@@ -5,7 +5,7 @@ use Rattle.std.proofs.Math.Nat.{mul-le-mul_left, mul-le-mul_right}
 use Rattle.css_matching.specs.Bounds.{longest_free, longest_fixed, most_levels}
 use Rattle.css_selectors.specs.Documents.{Document}
 use Rattle.css_selectors.specs.Components.{Condition, Conditions, Parts, Selectors}
-use Rattle.css_selectors.specs.Components.Condition.{simple, negation, any_of, where_any, nth_of}
+use Rattle.css_selectors.specs.Components.Condition.{simple, negation, any_of, where_any, tested}
 use Rattle.css_selectors.specs.Components.Conditions.{end_of_compound, with_condition}
 use Rattle.css_selectors.specs.Components.Parts.{end_of_selector, with_part}
 use Rattle.css_selectors.specs.Components.Selectors.{end_of_list, with_selector}
@@ -41,10 +41,6 @@ product s t a b h k =
     let x : s * (a + 1) ≤ s * (b + 1) = mul-le-mul_left s (omega (arith, k)) in
     let y : s * (b + 1) ≤ t * (b + 1) = mul-le-mul_right (b + 1) h in
     omega (arith, x, y)
-
--- an element and its earlier siblings are no more than one search tests
-one_each : (size depth before : ℕ) → before + 1 ≤ searches (size + 1) (depth + 1) before
-one_each size depth before = omega arith
 
 module _ {Node : Type 0} (d : Document Node) (n : Node) where
   -- a search for so many compound selectors
@@ -120,15 +116,7 @@ module _ {Node : Type 0} (d : Document Node) (n : Node) where
     condition-le k (negation selectors) h = list-le k selectors h
     condition-le k (any_of selectors) h = list-le k selectors h
     condition-le k (where_any selectors) h = list-le k selectors h
-    condition-le zero (nth_of last p selectors) h = absurd (omega (arith, h.0))
-    condition-le (suc k) (nth_of last p selectors) h =
-        let size = selectors_size selectors in
-        let same : suc k - 1 ≡ k = omega arith in
-        let inner = subst (λ j. list_cost d selectors n ≤ most j size) same
-        (list-le (suc k - 1) selectors h.1) in
-        let more = most-grows k size (size + 1) (omega arith) in
-        product (earlier_siblings d n + 1) (search_of (size + 1)) (list_cost d selectors n)
-        (most k (size + 1)) (one_each size (d.depth n) (earlier_siblings d n)) (omega (arith, inner, more))
+    condition-le k (tested test selectors) h = omega arith
 
     compound-le : (k : ℕ) (cs : Conditions) → CompoundJoinsWithin k cs
         → compound_cost d cs n ≤ most k (compound_size cs)

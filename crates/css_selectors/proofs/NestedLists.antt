@@ -1,14 +1,16 @@
 -- The complex selectors of a list within a condition, as lists.
 -- Serves `printing_laws::printing_law`.
-use Rattle.std.proofs.Common.{◌≡◌, ℕ, suc, Bool, true, List, [], ◌∷◌, All, flat_map, refl, ap, ◌∙◌}
+use Rattle.std.proofs.Common.{◌≡◌, ℕ, true, List, [], ◌∷◌, All, flat_map, refl, ap, ◌∙◌}
 use Rattle.std.proofs.lemmas.List.Elements.{All-nil, All-cons, All-head, All-tail}
-use Rattle.css_matching.specs.declared.Combinator.TheVariants.{Descendant}
+use Rattle.css_selectors.specs.declared.components.ListKind.{ListKind}
+use Rattle.css_selectors.specs.declared.room.Room.{Room}
+use Rattle.css_selectors.specs.Grammar.{is_forgiving, room_in}
 use Rattle.css_selectors.specs.Components.{Condition, Conditions, Parts, Selectors, Part, conditions_from, parts_from, selectors_from}
 use Rattle.css_selectors.specs.Components.Conditions.{end_of_compound, with_condition}
 use Rattle.css_selectors.specs.Components.Parts.{end_of_selector, with_part}
 use Rattle.css_selectors.specs.Components.Selectors.{end_of_list, with_selector}
-use Rattle.css_selectors.specs.Printing.{condition_text, parts_text, selectors_text, list_text}
-use Rattle.css_selectors.specs.WellFormed.{IsFurtherCondition, IsFirstCondition, IsList, AreComplex, IsComplex, AreJoined, IsCompound, AreFurther}
+use Rattle.css_selectors.specs.Printing.{condition_text, listed_text, selectors_text, list_text}
+use Rattle.css_selectors.specs.WellFormed.{IsFurtherCondition, IsFirstCondition, IsList, AreComplex, IsComplex, AreJoined, IsCompound, AreFurther, IsLeading, MayOpen}
 use Rattle.css_selectors.proofs.ListTexts.{complex_text_parts, further_text_selectors}
 
 abbrev pub conditions_in : Conditions → List Condition
@@ -43,32 +45,32 @@ selectors_from-in (with_selector s ss) =
 abbrev pub row_text : List Condition → List ℕ
 row_text cs = flat_map condition_text cs
 
-pub rows_text : (ss : List (List Part)) → selectors_text (selectors_from ss) ≡ list_text parts_text ss
+pub rows_text : (ss : List (List Part)) → selectors_text (selectors_from ss) ≡ list_text listed_text ss
 rows_text [] = refl
 rows_text (s ∷ ss) = rw (complex_text_parts s, further_text_selectors ss) refl
 
 -- ---- well-formed lists
 
 -- a compound selector in a list has a condition at least
-abbrev pub IsRow : ℕ → List Condition → Type 0
+abbrev pub IsRow : Room → List Condition → Type 0
 IsRow n [] = ⊥
 IsRow n (c ∷ cs) = IsFirstCondition n c × All (IsFurtherCondition n) cs
 
 -- one after a combinator
-abbrev pub IsLink : ℕ → Part → Type 0
+abbrev pub IsLink : Room → Part → Type 0
 IsLink n p = IsRow n p.conditions
 
--- a complex selector in a list has a first compound selector, which is joined to none
-abbrev pub IsChain : ℕ → List Part → Type 0
-IsChain n [] = ⊥
-IsChain n (p ∷ ps) = (p.combinator ≡ Descendant) × IsRow n p.conditions × All (IsLink n) ps
+-- a complex selector in a list has a first compound selector
+abbrev pub IsChain : ListKind → Room → List Part → Type 0
+IsChain kind n [] = ⊥
+IsChain kind n (p ∷ ps) = IsLeading kind p.combinator × IsRow n p.conditions × All (IsLink n) ps
 
 -- only a forgiving list may be empty
-abbrev pub AreChains : Bool → ℕ → List (List Part) → Type 0
-AreChains forgiving n [] = forgiving ≡ true
-AreChains forgiving n (s ∷ ss) = IsChain n s × All (IsChain n) ss
+abbrev pub AreChains : ListKind → Room → List (List Part) → Type 0
+AreChains kind n [] = is_forgiving kind ≡ true
+AreChains kind n (s ∷ ss) = IsChain kind n s × All (IsChain kind n) ss
 
-module _ (n : ℕ) where
+module _ (n : Room) where
   further_out : (cs : List Condition) → AreFurther n (conditions_from cs)
       → All (IsFurtherCondition n) cs
   further_out [] w = All-nil (IsFurtherCondition n)
@@ -102,29 +104,35 @@ module _ (n : ℕ) where
     links_in ps (All-tail (IsLink n) p ps w),
   )
 
-  chain_out : (ps : List Part) → IsComplex n (parts_from ps) → IsChain n ps
+module _ (kind : ListKind) (n : Room) where
+  chain_out : (ps : List Part) → IsComplex kind n (parts_from ps) → IsChain kind n ps
   chain_out [] w = w
-  chain_out (p ∷ ps) w = (w.0, row_out p.conditions w.1, links_out ps w.2)
+  chain_out (p ∷ ps) w = (w.0, row_out n p.conditions w.1, links_out n ps w.2)
 
-  chain_in : (ps : List Part) → IsChain n ps → IsComplex n (parts_from ps)
+  chain_in : (ps : List Part) → IsChain kind n ps → IsComplex kind n (parts_from ps)
   chain_in [] w = w
-  chain_in (p ∷ ps) w = (w.0, row_in p.conditions w.1, links_in ps w.2)
+  chain_in (p ∷ ps) w = (w.0, row_in n p.conditions w.1, links_in n ps w.2)
 
-  each_out : (ss : List (List Part)) → AreComplex n (selectors_from ss) → All (IsChain n) ss
-  each_out [] w = All-nil (IsChain n)
-  each_out (s ∷ ss) w = All-cons (IsChain n) s ss (chain_out s w.0) (each_out ss w.1)
+  each_out : (ss : List (List Part)) → AreComplex kind n (selectors_from ss)
+      → All (IsChain kind n) ss
+  each_out [] w = All-nil (IsChain kind n)
+  each_out (s ∷ ss) w = All-cons (IsChain kind n) s ss (chain_out s w.0) (each_out ss w.1)
 
-  each_in : (ss : List (List Part)) → All (IsChain n) ss → AreComplex n (selectors_from ss)
+  each_in : (ss : List (List Part)) → All (IsChain kind n) ss
+      → AreComplex kind n (selectors_from ss)
   each_in [] w = tt
   each_in (s ∷ ss) w =
-      (chain_in s (All-head (IsChain n) s ss w), each_in ss (All-tail (IsChain n) s ss w))
+      (chain_in s (All-head (IsChain kind n) s ss w), each_in ss (All-tail (IsChain kind n) s ss w))
 
-  pub chains_out : (f : Bool) (ss : List (List Part)) → IsList f (suc n) (selectors_from ss)
-      → AreChains f n ss
-  chains_out f [] w = w
-  chains_out f (s ∷ ss) w = (chain_out s w.0, each_out ss w.1)
+-- a list may be open, and its selectors are well-formed where it is
+pub chains_out : (kind : ListKind) (n : Room) (ss : List (List Part))
+    → IsList kind n (selectors_from ss) → MayOpen kind n × AreChains kind (room_in kind n) ss
+chains_out kind n [] w = w
+chains_out kind n (s ∷ ss) w =
+    (w.0, (chain_out kind (room_in kind n) s w.1, each_out kind (room_in kind n) ss w.2))
 
-  pub chains_in : (f : Bool) (ss : List (List Part)) → AreChains f n ss
-      → IsList f (suc n) (selectors_from ss)
-  chains_in f [] w = w
-  chains_in f (s ∷ ss) w = (chain_in s w.0, each_in ss w.1)
+pub chains_in : (kind : ListKind) (n : Room) (ss : List (List Part)) → MayOpen kind n
+    → AreChains kind (room_in kind n) ss → IsList kind n (selectors_from ss)
+chains_in kind n [] may w = (may, w)
+chains_in kind n (s ∷ ss) may w =
+    (may, chain_in kind (room_in kind n) s w.0, each_in kind (room_in kind n) ss w.1)

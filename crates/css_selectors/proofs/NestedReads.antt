@@ -1,10 +1,10 @@
 -- In a supported selector few selectors with combinators are within one another.
 -- Serves `matching_laws::nested_law`.
 use Rattle.std.proofs.Common.{◌≡◌, ℕ, ◌-◌, ◌≤◌, Bool, true, false, refl, arith}
-use Rattle.std.specs.Prelude.{◌&&◌, nat_le, not}
+use Rattle.std.specs.Prelude.{◌&&◌, nat_le}
 use Rattle.std.proofs.lemmas.Bool.Decides.{nat_tests}
 use Rattle.css_selectors.specs.Components.{Condition, Conditions, Parts, Selectors, Selector, parts_from}
-use Rattle.css_selectors.specs.Components.Condition.{simple, negation, any_of, where_any, nth_of}
+use Rattle.css_selectors.specs.Components.Condition.{simple, negation, any_of, where_any, tested}
 use Rattle.css_selectors.specs.Components.Conditions.{end_of_compound, with_condition}
 use Rattle.css_selectors.specs.Components.Parts.{end_of_selector, with_part}
 use Rattle.css_selectors.specs.Components.Selectors.{end_of_list, with_selector}
@@ -46,12 +46,7 @@ mutual
   condition_joins k (negation ss) h = list_joins k true ss h
   condition_joins k (any_of ss) h = list_joins k true ss h
   condition_joins k (where_any ss) h = list_joins k true ss h
-  condition_joins k (nth_of last p ss) h =
-      let few = not last && nat_le 1 k in
-      let rest = are_supported (k - 1) true ss in (
-        at_most 1 k (second_true (not last) (nat_le 1 k) (first_true few rest h)),
-        list_joins (k - 1) true ss (second_true few rest h),
-      )
+  condition_joins k (tested test ss) h = tt
 
   compound_joins : (k : ℕ) (b : Bool) (cs : Conditions) → have_meaning k b cs ≡ true
       → CompoundJoinsWithin k cs

@@ -5,7 +5,7 @@ use Rattle.std.specs.Prelude.{if◌then◌else◌}
 use Rattle.std.proofs.lemmas.List.Elements.{All-nil}
 use Rattle.css_selectors.specs.declared.components.Nesting.{Nesting}
 use Rattle.css_selectors.specs.Components.{Selector, outermost}
-use Rattle.css_selectors.specs.Grammar.{deepest, selector, nesting_part}
+use Rattle.css_selectors.specs.Grammar.{outside, selector, nesting_part}
 use Rattle.css_selectors.specs.Nested.{absolute, has_nesting, nested_selector}
 use Rattle.css_selectors.specs.Printing.{selector_text}
 use Rattle.css_selectors.specs.Readings.{got}
@@ -20,7 +20,7 @@ absolute_well s w = by (has_nesting s)
     by : (t : Bool) → IsWellFormed (if t then s
         else record { parts = nesting_part outermost ∷ s.parts; pseudo_element = s.pseudo_element })
     by true = w
-    by false = (refl, ((refl, All-nil (IsFurtherCondition deepest)), w.1), w.2)
+    by false = (refl, ((refl, All-nil (IsFurtherCondition outside)), w.1), w.2)
 
 pub read_again : (list : Nesting) (s : Selector) → IsWellFormed s
     → selector (selector_text (nested_selector list s)) ≡ got (absolute s) []

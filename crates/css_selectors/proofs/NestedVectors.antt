@@ -7,7 +7,7 @@ use Rattle.css_syntax.specs.Escapes.{decoded_part, unescaped_in}
 use Rattle.css_selectors.specs.declared.components.Nesting.{Nesting}
 use Rattle.css_selectors.specs.declared.refusal.Why.TheVariants.{NoSelector, Unexpected}
 use Rattle.css_selectors.specs.Components.{Placed}
-use Rattle.css_selectors.specs.Grammar.{gap, ident_sequence, name, string, value, comparison, flag, compared, namespace, at_bar, attribute_from_name, attribute_selector, any_or_name, type_selector, next_simple, compound, next_part_in, complex, past_part, listed_part, next_listed, complex_list, next_condition, conditions, next_part, element_argument, element_name, after_element, pseudo_element, parts, relative_parts, placed_by, next_placed, placed_list_by}
+use Rattle.css_selectors.specs.Grammar.{gap, ident_sequence, name, string, value, comparison, flag, compared, namespace, at_bar, attribute_from_name, attribute_selector, any_or_name, type_selector, next_simple, compound, next_part_in, complex_by, complex, past_part, listed_part, next_listed, complex_list, condition_at, conditions, next_part, element_argument, element_name, after_element, pseudo_element, parts, relative_parts, placed_by, next_placed, placed_list_by}
 use Rattle.css_selectors.specs.Nested.{nested_list}
 use Rattle.css_selectors.specs.Printing.{selector_text}
 use Rattle.css_selectors.specs.Readings.{Reading, got, refused}
@@ -38,7 +38,7 @@ pub joined :
 unfolding each past_escape past_comment name_part string_part decoded_part unescaped_in blank comment gap_before gap
     ident_sequence name string value comparison flag compared namespace at_bar attribute_from_name
     attribute_selector any_or_name type_selector next_simple
-    next_condition conditions next_part element_argument element_name after_element pseudo_element parts
+    condition_at conditions next_part element_argument element_name after_element pseudo_element parts
     relative_parts placed_by next_placed placed_list_by lib.Utf8.encode
 joined = (refl, refl, refl, refl, refl, refl, refl, refl)
 
@@ -56,7 +56,7 @@ pub relative :
     × (read (codes "&*") ≡ refused Unexpected (codes "*"))
     × (read (codes "&1") ≡ refused Unexpected (codes "1"))
 unfolding each past_escape past_comment name_part decoded_part unescaped_in blank comment gap_before gap
-    ident_sequence name namespace at_bar any_or_name type_selector next_simple next_condition conditions next_part element_argument
+    ident_sequence name namespace at_bar any_or_name type_selector next_simple condition_at conditions next_part element_argument
     element_name after_element pseudo_element parts relative_parts placed_by next_placed placed_list_by lib.Utf8.encode
 relative = (refl, refl, refl, refl, refl, refl, refl, refl, refl, refl, refl, refl)
 
@@ -67,7 +67,7 @@ pub in_lists :
     × (read (codes ":is(:is(&))") ≡ prints (codes ":is(:is(&))"))
     × (read (codes ":scope > b") ≡ prints (codes "& :scope > b"))
 unfolding each past_escape past_comment name_part decoded_part unescaped_in blank comment gap_before gap
-    ident_sequence name namespace at_bar any_or_name type_selector next_simple compound next_part_in complex past_part listed_part
-    next_listed complex_list next_condition conditions next_part element_argument
+    ident_sequence name namespace at_bar any_or_name type_selector next_simple compound next_part_in complex_by complex past_part listed_part
+    next_listed complex_list condition_at conditions next_part element_argument
     element_name after_element pseudo_element parts relative_parts placed_by next_placed placed_list_by lib.Utf8.encode
 in_lists = (refl, refl, refl, refl, refl)

@@ -11,19 +11,19 @@ use Rattle.css_selectors.specs.declared.components.Nesting.{Nesting}
 use Rattle.css_selectors.specs.Documents.{Document, shape}
 use Rattle.css_selectors.specs.Components.{Simple, Condition, Conditions, Parts, Selectors, Part, PseudoElement, Selector, conditions_from, parts_from}
 use Rattle.css_selectors.specs.Components.Simple.{universal, type_name, id, class, has_attribute, attribute, structure, language, state, function, named_element, nesting, namespaced}
-use Rattle.css_selectors.specs.Components.Condition.{simple, negation, any_of, where_any, nth_of}
+use Rattle.css_selectors.specs.Components.Condition.{simple, negation, any_of, where_any, tested}
 use Rattle.css_selectors.specs.Components.Conditions.{end_of_compound, with_condition}
 use Rattle.css_selectors.specs.Components.Parts.{end_of_selector, with_part}
 use Rattle.css_selectors.specs.Components.Selectors.{end_of_list, with_selector}
 use Rattle.css_selectors.specs.Meanings.{MatchesAny, IsPlaced, Matches}
 use Rattle.css_selectors.specs.Nested.{simple_under, selector_under}
-use Rattle.css_selectors.specs.Printing.{simple_text, condition_text, compound_text, complex_text, further_parts_text, selectors_text, further_selectors_text, part_text, parts_text, combinator_text, function_text, nth_name, nth_of_text, pseudo_element_text, selector_text}
+use Rattle.css_selectors.specs.Printing.{simple_text, condition_text, compound_text, complex_text, further_parts_text, selectors_text, further_selectors_text, part_text, parts_text, combinator_text, leading_text, function_text, test_text, pseudo_element_text, selector_text}
 use Rattle.css_selectors.specs.Simples.{condition_with, compound_with, complex_with, selectors_with, part_with, pseudo_element_with}
-use Rattle.css_selectors.specs.Specificities.{Counts, nothing, one_class, one_name, plus, greater, of_simple, of_condition, of_compound, of_parts, greatest, of_pseudo_element, specificity}
+use Rattle.css_selectors.specs.Specificities.{Counts, nothing, one_name, plus, greater, of_simple, of_test, of_condition, of_compound, of_parts, greatest, of_pseudo_element, specificity}
 use Rattle.css_selectors.specs.SpecificityViews.{counts_of}
 use Rattle.css_selectors.specs.SpelledOut.{as_list, spelled_simple, spelled_condition, spelled_compound, spelled_complex, spelled_list, spelled_part, spelled_element, spelled_selector}
 use Rattle.css_selectors.proofs.AlikeSelectors.{Alike, CompoundsAlike, PartsAlike, ListsAlike, AsksSame, complex_alike}
-use Rattle.css_selectors.proofs.AlikeSelectors.Alike.{simples, negations, anys, wheres, nths}
+use Rattle.css_selectors.proofs.AlikeSelectors.Alike.{simples, negations, anys, wheres, tests}
 use Rattle.css_selectors.proofs.AlikeSelectors.CompoundsAlike.{no_condition, one_condition}
 use Rattle.css_selectors.proofs.AlikeSelectors.PartsAlike.{no_part, one_part}
 use Rattle.css_selectors.proofs.AlikeSelectors.ListsAlike.{no_selector, one_selector}
@@ -82,7 +82,7 @@ module _ (list : Nesting) (all : Selectors) where
       condition_same (negation ss) = negations (list_same ss)
       condition_same (any_of ss) = anys (list_same ss)
       condition_same (where_any ss) = wheres (list_same ss)
-      condition_same (nth_of last p ss) = nths (list_same ss)
+      condition_same (tested test ss) = tests (list_same ss)
 
       compound_same : (cs : Conditions) → CompoundsAlike (AsksSame d Is)
           (compound_with (simple_under list) cs) (spelled_compound (as_list all) cs)
@@ -149,7 +149,7 @@ module _ (list : Nesting) (all : Selectors) where
       condition_counts (negation ss) = list_counts ss nothing
       condition_counts (any_of ss) = list_counts ss nothing
       condition_counts (where_any ss) = refl
-      condition_counts (nth_of last p ss) = ap (plus one_class) (list_counts ss nothing)
+      condition_counts (tested test ss) = ap (of_test test) (list_counts ss nothing)
 
       compound_counts : (cs : Conditions) (so_far : Counts)
           → of_compound so_far (compound_with (simple_under list) cs)
@@ -222,8 +222,7 @@ module _ (list : Nesting) where
     condition_prints (negation ss) = ap (function_text (codes ":not(")) (list_prints ss)
     condition_prints (any_of ss) = ap (function_text (codes ":is(")) (list_prints ss)
     condition_prints (where_any ss) = ap (function_text (codes ":where(")) (list_prints ss)
-    condition_prints (nth_of last p ss) =
-        ap (λ t. function_text (nth_name last) (nth_of_text p t)) (list_prints ss)
+    condition_prints (tested test ss) = ap (test_text test) (list_prints ss)
 
     compound_prints : (cs : Conditions)
         → compound_text (compound_with (simple_under list) cs) ≡ compound_text cs
@@ -236,8 +235,9 @@ module _ (list : Nesting) where
         → complex_text (complex_with (simple_under list) ps) ≡ complex_text ps
     complex_prints end_of_selector = refl
     complex_prints (with_part k c ps) =
-        ap (λ t. t ++ further_parts_text (complex_with (simple_under list) ps)) (compound_prints c)
-        ∙ ap (λ t. compound_text c ++ t) (further_prints ps)
+        ap (λ t. leading_text k ++ (t ++ further_parts_text (complex_with (simple_under list) ps)))
+        (compound_prints c)
+        ∙ ap (λ t. leading_text k ++ (compound_text c ++ t)) (further_prints ps)
 
     further_prints : (ps : Parts)
         → further_parts_text (complex_with (simple_under list) ps) ≡ further_parts_text ps

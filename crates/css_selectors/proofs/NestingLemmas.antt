@@ -3,16 +3,16 @@
 -- Serves `nesting` and `nesting_laws`.
 use Rattle.std.proofs.Common.{◌≡◌, List, [], ◌∷◌, map, Vec, Global, refl, ap, sym, ◌∙◌}
 use Rattle.css_selectors.specs.declared.components.Complex.{Complex}
-use Rattle.css_selectors.specs.declared.components.Condition.{Condition as ConditionOf, Not, Is, Where, NthOf}
-use Rattle.css_selectors.specs.declared.components.NthOf.{NthOf as NthOfOf}
+use Rattle.css_selectors.specs.declared.components.Condition.{Condition as ConditionOf, Not, Is, Where, Tested}
+use Rattle.css_selectors.specs.declared.components.ListTest.{ListTest as ListTestOf}
 use Rattle.css_selectors.specs.Components.{Simple, Condition, Part, conditions_from, parts_from, selectors_from}
-use Rattle.css_selectors.specs.Components.Condition.{negation, any_of, where_any, nth_of}
+use Rattle.css_selectors.specs.Components.Condition.{negation, any_of, where_any, tested}
 use Rattle.css_selectors.specs.Components.Conditions.{with_condition}
 use Rattle.css_selectors.specs.Components.Parts.{with_part}
 use Rattle.css_selectors.specs.Components.Selectors.{with_selector}
 use Rattle.css_selectors.specs.Simples.{condition_with, compound_with, complex_with, selectors_with, part_with}
-use Rattle.css_selectors.specs.Views.{complex_of, condition_of, progression_of}
-use Rattle.css_selectors.proofs.ConditionViews.{condition_not, condition_is, condition_where, condition_nth}
+use Rattle.css_selectors.specs.Views.{complex_of, condition_of, list_test_of}
+use Rattle.css_selectors.proofs.ConditionViews.{condition_not, condition_is, condition_where, condition_tested}
 
 module _ (change : Simple → Simple) where
   pub compound_with-from : (cs : List Condition)
@@ -65,9 +65,9 @@ module _ (change : Simple → Simple) where
         ∙ sym (ap (λ x. condition_with change (condition_of x)) is
         ∙ ap (condition_with change) (condition_where old))
 
-    pub nth_with : (k : NthOfOf) → c ≡ NthOf k old
-        → condition_of (NthOf k new) ≡ condition_with change (condition_of c)
-    nth_with k is =
-        condition_nth k new ∙ ap (nth_of k.from_last (progression_of k.progression)) lists
+    pub tested_with : (t : ListTestOf) → c ≡ Tested t old
+        → condition_of (Tested t new) ≡ condition_with change (condition_of c)
+    tested_with t is =
+        condition_tested t new ∙ ap (tested (list_test_of t)) lists
         ∙ sym (ap (λ x. condition_with change (condition_of x)) is
-        ∙ ap (condition_with change) (condition_nth k old))
+        ∙ ap (condition_with change) (condition_tested t old))

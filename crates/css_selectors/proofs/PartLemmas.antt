@@ -4,18 +4,17 @@ use Rattle.std.proofs.Common.{◌≡◌, ℕ, zero, suc, ◌+◌, ◌<◌, ◌�
 use Rattle.std.specs.Prelude.{not, ◌==◌}
 use Rattle.std.specs.Option.{option_map, is_some}
 use Rattle.std.proofs.lemmas.Bool.{false≢true}
-use Rattle.css_selectors.specs.declared.components.Condition.{Condition as ConditionOf, Not, Is, Where, NthOf}
-use Rattle.css_selectors.specs.declared.components.NthOf.{NthOf as NthOfOf}
+use Rattle.css_selectors.specs.declared.components.Condition.{Condition as ConditionOf, Not, Is, Where, Tested}
+use Rattle.css_selectors.specs.declared.components.ListTest.{ListTest as ListTestOf}
 use Rattle.css_selectors.specs.declared.components.Complex.{Complex, out-Complex}
 use Rattle.css_selectors.specs.declared.components.Part.{Part as PartOf}
 use Rattle.css_selectors.specs.Documents.{Document}
 use Rattle.css_selectors.specs.Components.{Selector, conditions_from, parts_from, selectors_from}
-use Rattle.css_selectors.specs.Components.Condition.{nth_of}
 use Rattle.css_selectors.specs.Meanings.{combinator_at, part_count, IsMet, AreMet, MeetsPart, MatchesAny, IsPlaced, Matches}
 use Rattle.css_selectors.specs.Costs.{condition_cost, compound_cost, dearest_part, list_cost, most_tests, selector_cost}
 use Rattle.css_selectors.specs.NestedTests.{search_count}
-use Rattle.css_selectors.specs.Views.{condition_of, part_of, complex_of, progression_of}
-use Rattle.css_selectors.proofs.ConditionViews.{condition_not, condition_is, condition_where, condition_nth}
+use Rattle.css_selectors.specs.Views.{condition_of, part_of, complex_of}
+use Rattle.css_selectors.proofs.ConditionViews.{condition_not, condition_is, condition_where, condition_tested}
 
 pub part_count-from : (ps : List PartOf) → part_count (parts_from (map part_of ps)) ≡ length ps
 part_count-from [] = refl
@@ -182,25 +181,12 @@ module _ {Node : Type 0} (d : Document Node) where
       ∙ sym (ap (λ y. condition_cost d y n) (ap condition_of is ∙ condition_where v)))
       h
 
-  -- a list after `An+B`
-  module _ (c : ConditionOf) (k : NthOfOf) (v : Vec Complex Global) (xs : List Complex) (n : Node)
-      (is : c ≡ NthOf k v) (same : xs ≡ v.items) where
-    nth_is : nth_of k.from_last (progression_of k.progression) (selectors_from (map complex_of xs))
-        ≡ condition_of c
-    nth_is =
-        ap (λ ys. nth_of k.from_last (progression_of k.progression) (selectors_from (map complex_of ys)))
-        same
-        ∙ sym (ap condition_of is ∙ condition_nth k v)
-
-    pub met_nth : (r : Bool) → (IsTrue r ↔ IsMet d (nth_of k.from_last (progression_of k.progression)
-        (selectors_from (map complex_of xs))) n)
-        → (IsTrue r ↔ IsMet d (condition_of c) n)
-    met_nth r h = subst (λ y. IsTrue r ↔ IsMet d y n) nth_is h
-
-    pub charged_nth : (t s : ℕ) → t ≤ s + condition_cost d (nth_of k.from_last
-        (progression_of k.progression) (selectors_from (map complex_of xs))) n
-        → t ≤ s + condition_cost d (condition_of c) n
-    charged_nth t s h = subst (λ y. t ≤ s + condition_cost d y n) nth_is h
+  -- what is answered by the number of its list
+  pub met_tested : (c : ConditionOf) (t : ListTestOf) (v : Vec Complex Global) (n : Node)
+      → c ≡ Tested t v → (IsTrue false ↔ IsMet d (condition_of c) n)
+  met_tested c t v n is =
+      subst (λ y. IsTrue false ↔ IsMet d y n) (sym (ap condition_of is ∙ condition_tested t v))
+      (λ h. false≢true h, λ h. absurd h)
 
   module _ (xs : List Complex) (i : ℕ) (x : Complex) (ps : List PartOf) (n : Node)
       (lt : i < length xs) (at : x ≡ get_or xs i x) (same : ps ≡ (out-Complex x).parts.items) where

@@ -27,7 +27,7 @@ use Rattle.css_selectors.specs.declared.reading.Start.{Start}
 use Rattle.css_selectors.specs.declared.reading.Start.TheVariants.{Plain, Relative}
 use Rattle.css_selectors.specs.declared.refusal.Why.{Why}
 use Rattle.css_selectors.specs.declared.refusal.Why.TheVariants.{Unexpected}
-use Rattle.css_selectors.specs.Components.{Comparison, Condition, Namespace, Part, Placed, Progression, PseudoElement, Signed, Simple, Structure, outermost}
+use Rattle.css_selectors.specs.Components.{Comparison, Condition, ListTest, Namespace, Part, Placed, Progression, PseudoElement, Signed, Simple, Structure, outermost}
 use Rattle.css_selectors.specs.Components.Simple.{class, id, nesting, state}
 use Rattle.css_selectors.specs.Components.Condition.{simple}
 use Rattle.css_selectors.specs.Readings.{Reading, got, refused, Reader, follow, give, ◌>>=◌, ◌>>◌, Step, item, none, stop, step_after, as_item, with_first, go_on, items, items_up_to}
@@ -545,12 +545,23 @@ module _ (next : Grammar.Finder) (each : FinderLeaves next) where
   unfolding Grammar.next_part_in
   next_part_in-leaves text = part-leaves (Grammar.compound next) (compound-leaves next each) text
 
-  complex-leaves : (text : List ℕ) → Leaves text (Grammar.complex next text)
-  unfolding Grammar.complex
-  complex-leaves text =
+  complex_by-leaves : (k : Combinator) (text : List ℕ) → Leaves text (Grammar.complex_by k next text)
+  unfolding Grammar.complex_by
+  complex_by-leaves k text =
       follow-leaves text (Grammar.compound next text) _ (compound-leaves next each text) (λ first t.
-      first-leaves t (Grammar.joined_by Descendant first) (items (Grammar.next_part_in next) t)
+      first-leaves t (Grammar.joined_by k first) (items (Grammar.next_part_in next) t)
       (items-leaves (Grammar.next_part_in next) next_part_in-leaves t))
+
+  complex-leaves : (kind : ListKind) (text : List ℕ) → Leaves text (Grammar.complex kind next text)
+  unfolding Grammar.complex
+  complex-leaves kind text = by (Grammar.leading_sign kind text)
+    where
+      by : (o : Option Combinator) → Leaves text (Grammar.after_leading next text o)
+      by None = complex_by-leaves Descendant text
+      by (Some k) =
+          through text (past_one text) (follow (Grammar.gap (past_one text))
+          (λ spaced. Grammar.complex_by k next)) (ends-past_one text)
+          (after_gap (past_one text) (Grammar.complex_by k next) (complex_by-leaves k))
 
 -- ---- lists
 
@@ -572,31 +583,32 @@ no_selector-leaves forgiving text why rest =
     if-leaves text (forgiving && not (Grammar.is_lasting why)) (got _ (Grammar.past_part text)) _
     (past_part-ends text) tt
 
-module _ (forgiving : Bool) (next : Grammar.Finder) (each : FinderLeaves next) where
-  listed_part-leaves : (text : List ℕ) → Leaves text (Grammar.listed_part forgiving next text)
+module _ (kind : ListKind) (next : Grammar.Finder) (each : FinderLeaves next) where
+  listed_part-leaves : (text : List ℕ) → Leaves text (Grammar.listed_part kind next text)
   unfolding Grammar.listed_part
   listed_part-leaves text =
-      by (follow (Grammar.gap text) (λ spaced. Grammar.complex next))
-      (after_gap text (Grammar.complex next) (complex-leaves next each))
+      by (follow (Grammar.gap text) (λ spaced. Grammar.complex kind next))
+      (after_gap text (Grammar.complex kind next) (complex-leaves next each kind))
     where
       ended : (s : List Part) (t : List ℕ) (r : Reading Bool) → Leaves text r
-          → Leaves text (Grammar.part_end forgiving text s r)
+          → Leaves text (Grammar.part_end (Grammar.is_forgiving kind) text s r)
       ended s t (refused why rest) h = tt
       ended s t (got spaced rest) h =
           if-leaves text (Grammar.ends_part rest) (got (Some s) rest)
-          (Grammar.no_selector forgiving text Unexpected rest) h
-          (no_selector-leaves forgiving text Unexpected rest)
+          (Grammar.no_selector (Grammar.is_forgiving kind) text Unexpected rest) h
+          (no_selector-leaves (Grammar.is_forgiving kind) text Unexpected rest)
 
-      by : (r : Reading (List Part)) → Leaves text r → Leaves text (Grammar.judged forgiving text r)
+      by : (r : Reading (List Part)) → Leaves text r
+          → Leaves text (Grammar.judged (Grammar.is_forgiving kind) text r)
       by (got s rest) h =
           ended s rest (Grammar.gap rest) (through text rest (Grammar.gap rest) h (gap-leaves rest))
-      by (refused why rest) h = no_selector-leaves forgiving text why rest
+      by (refused why rest) h = no_selector-leaves (Grammar.is_forgiving kind) text why rest
 
   next_listed-leaves : (text : List ℕ)
-      → LeavesAfter text (Grammar.next_listed forgiving next text)
+      → LeavesAfter text (Grammar.next_listed kind next text)
   unfolding Grammar.next_listed
   next_listed-leaves text =
-      let part = Grammar.listed_part forgiving next (past_one text) in
+      let part = Grammar.listed_part kind next (past_one text) in
       step_if-leaves text (starts comma text) (as_item (λ s. s) part) none
       (as_item-leaves text (λ s. s) part
       (through text (past_one text) part (ends-past_one text) (listed_part-leaves (past_one text))))
@@ -607,14 +619,14 @@ module _ (forgiving : Bool) (next : Grammar.Finder) (each : FinderLeaves next) w
   keep-leaves text (got all rest) h = h
   keep-leaves text (refused why rest) h = tt
 
-  complex_list-leaves : (text : List ℕ) → Leaves text (Grammar.complex_list forgiving next text)
+  complex_list-leaves : (text : List ℕ) → Leaves text (Grammar.complex_list kind next text)
   unfolding Grammar.complex_list
   complex_list-leaves text =
-      follow-leaves text (Grammar.listed_part forgiving next text) _ (listed_part-leaves text)
-      (λ first t. follow-leaves t (Grammar.selectors_after forgiving next first t) _
-      (keep-leaves t (with_first first (items (Grammar.next_listed forgiving next) t))
-      (first-leaves t first (items (Grammar.next_listed forgiving next) t)
-      (items-leaves (Grammar.next_listed forgiving next) next_listed-leaves t)))
+      follow-leaves text (Grammar.listed_part kind next text) _ (listed_part-leaves text)
+      (λ first t. follow-leaves t (Grammar.selectors_after kind next first t) _
+      (keep-leaves t (with_first first (items (Grammar.next_listed kind next) t))
+      (first-leaves t first (items (Grammar.next_listed kind next) t)
+      (items-leaves (Grammar.next_listed kind next) next_listed-leaves t)))
       (closed_with close_parenthesis))
 
 -- ---- functional pseudo-classes, by what reads a list
@@ -623,22 +635,22 @@ abbrev ListLeaves : Grammar.ListReader → Type 0
 ListLeaves list = (kind : ListKind) (opened text : List ℕ) → Leaves text (list kind opened text)
 
 module _ (list : Grammar.ListReader) (lists : ListLeaves list) (opened : List ℕ) where
-  of_list-leaves : (last : Bool) (p : Progression) (text : List ℕ)
-      → Leaves text (Grammar.of_list list last p opened text)
-  of_list-leaves last p text =
+  of_list-leaves : (test : ListTest) (text : List ℕ)
+      → Leaves text (Grammar.of_list list test opened text)
+  of_list-leaves test text =
       follow-leaves text (list Not opened text) _ (lists Not opened text) (λ selectors. ends-same)
 
-  after_progression-leaves : (kind : Numbering) (p : Progression) (o : Option Bool) (text : List ℕ)
+  after_progression-leaves : (kind : Numbering) (p : Progression) (o : Option ListTest) (text : List ℕ)
       → Leaves text (Grammar.after_progression list opened kind p o text)
   after_progression-leaves kind p None text = closed_with close_parenthesis _ text
-  after_progression-leaves kind p (Some last) text =
+  after_progression-leaves kind p (Some test) text =
       if-leaves text (Grammar.begins_name text)
-      (follow (Grammar.name text) (Grammar.after_word list opened last p text))
+      (follow (Grammar.name text) (Grammar.after_word list opened test text))
       (Grammar.without_list kind p text)
-      (follow-leaves text (Grammar.name text) (Grammar.after_word list opened last p text)
+      (follow-leaves text (Grammar.name text) (Grammar.after_word list opened test text)
       (name-leaves text)
-      (λ word t. if-leaves t (Grammar.is_word (codes "of") word) (Grammar.of_list list last p opened t) _
-      (of_list-leaves last p t) tt))
+      (λ word t. if-leaves t (Grammar.is_word (codes "of") word) (Grammar.of_list list test opened t) _
+      (of_list-leaves test t) tt))
       (closed_with close_parenthesis _ text)
 
   functional-leaves : (n : List ℕ) (kind : Option Function) (text : List ℕ)
@@ -651,7 +663,7 @@ module _ (list : Grammar.ListReader) (lists : ListLeaves list) (opened : List �
       (λ ranges. ends-same)
   functional-leaves n (Some (Numbered kind)) text =
       after_gap text _ (λ t. follow-leaves t (Grammar.progression t) _ (progression-leaves t)
-      (λ p t2. after_gap t2 _ (after_progression-leaves kind p (Grammar.from_last kind))))
+      (λ p t2. after_gap t2 _ (after_progression-leaves kind p (Grammar.list_test kind p))))
 
 module _ (list : Grammar.ListReader) (lists : ListLeaves list) where
   with_argument-leaves : (opened n : List ℕ) (kind : Option ListKind) (other : Option Function)
@@ -693,36 +705,39 @@ module _ (list : Grammar.ListReader) (lists : ListLeaves list) where
       (pseudo_condition-leaves start))
       (simple_item-leaves start (Grammar.next_simple start) (next_simple-leaves start)))
 
-next_condition-leaves : (n : ℕ) → FinderLeaves (Grammar.next_condition n)
-unfolding Grammar.next_condition
-next_condition-leaves zero text =
+condition_at-leaves : (n : ℕ) (in_has : Bool) → FinderLeaves (Grammar.condition_at n in_has)
+unfolding Grammar.condition_at
+condition_at-leaves zero in_has text =
     condition_by-leaves Grammar.too_deep (λ kind opened rest. tt) text
-next_condition-leaves (suc n) text =
-    condition_by-leaves (Grammar.list_by (Grammar.next_condition n))
-    (λ kind opened rest. complex_list-leaves (Grammar.is_forgiving kind) (Grammar.next_condition n)
-    (next_condition-leaves n) rest)
+condition_at-leaves (suc n) in_has text =
+    condition_by-leaves (Grammar.list_by in_has (Grammar.condition_at n))
+    (λ kind opened rest. if-leaves rest (Grammar.may_open kind in_has)
+    (Grammar.complex_list kind (Grammar.condition_at n (Grammar.is_relative kind || in_has)) rest)
+    (refused Unexpected opened)
+    (complex_list-leaves kind (Grammar.condition_at n (Grammar.is_relative kind || in_has))
+    (condition_at-leaves n (Grammar.is_relative kind || in_has)) rest) tt)
     text
 
 -- ---- selectors
 
-each_condition : FinderLeaves (Grammar.next_condition Grammar.deepest)
-each_condition = next_condition-leaves Grammar.deepest
+each_condition : FinderLeaves (Grammar.next_condition Grammar.outside)
+each_condition = condition_at-leaves Grammar.deepest false
 
 conditions-leaves : (text : List ℕ) → Leaves text (Grammar.conditions text)
 unfolding Grammar.conditions
 conditions-leaves text = by (Grammar.type_selector text) (type-leaves text)
   where
-    more : (text : List ℕ) → Leaves text (items (Grammar.next_condition Grammar.deepest) text)
-    more text = items-leaves (Grammar.next_condition Grammar.deepest) each_condition text
+    more : (text : List ℕ) → Leaves text (items (Grammar.next_condition Grammar.outside) text)
+    more text = items-leaves (Grammar.next_condition Grammar.outside) each_condition text
 
     by : (s : Step Simple) → LeavesAfter text s → Leaves text (Grammar.after_type_name text s)
     by (item s rest) h =
         through text rest
-        (with_first (simple s) (items (Grammar.next_condition Grammar.deepest) rest)) h
-        (first-leaves rest (simple s) (items (Grammar.next_condition Grammar.deepest) rest)
+        (with_first (simple s) (items (Grammar.next_condition Grammar.outside) rest)) h
+        (first-leaves rest (simple s) (items (Grammar.next_condition Grammar.outside) rest)
         (more rest))
     by none h =
-        let read = items (Grammar.next_condition Grammar.deepest) text in
+        let read = items (Grammar.next_condition Grammar.outside) text in
         if-leaves text (starts colon text) read (Grammar.some_of text read) (more text)
         (some-leaves text text read (more text))
     by (stop why rest) h = tt
@@ -786,8 +801,8 @@ after_element-leaves text =
     let start = Grammar.past_comments text in
     through_step text start (Grammar.after_element_here start) (past_comments-ends text)
     (step_if-leaves start (starts colon start)
-    (Grammar.class_or_element start (Grammar.next_condition Grammar.deepest start)) none
-    (by start (Grammar.next_condition Grammar.deepest start) (each_condition start)) tt)
+    (Grammar.class_or_element start (Grammar.next_condition Grammar.outside start)) none
+    (by start (Grammar.next_condition Grammar.outside start) (each_condition start)) tt)
   where
     by : (text : List ℕ) (s : Step Condition) → LeavesAfter text s
         → LeavesAfter text (Grammar.class_or_element text s)

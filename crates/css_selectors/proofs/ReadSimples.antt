@@ -20,18 +20,21 @@ use Rattle.css_selectors.specs.declared.components.Numbering.{Numbering}
 use Rattle.css_selectors.specs.declared.components.Numbering.TheVariants.{Child as OfChild, LastChild as OfLastChild, OfType, LastOfType as OfLastType}
 use Rattle.css_selectors.specs.declared.components.Function.{Function}
 use Rattle.css_selectors.specs.declared.components.Function.TheVariants.{Numbered, Language}
+use Rattle.css_selectors.specs.declared.components.ListKind.{ListKind}
 use Rattle.css_selectors.specs.declared.components.ListKind.TheVariants.{Not}
-use Rattle.css_selectors.specs.Components.{Comparison, Signed, Progression, Structure, Namespace, Local, Simple, Condition, Part, selectors_from, outermost}
+use Rattle.css_selectors.specs.declared.room.Room.{Room}
+use Rattle.css_selectors.specs.Components.ListTest.{nth_child as nth_child_list, nth_last_child as nth_last_child_list}
+use Rattle.css_selectors.specs.Components.{Comparison, Signed, Progression, Structure, Namespace, Local, Simple, ListTest, Condition, Part, selectors_from, outermost}
 use Rattle.css_selectors.specs.Components.Structure.{root, scope, empty, first_child, last_child, only_child, first_of_type, last_of_type, only_of_type}
 use Rattle.css_selectors.specs.Components.Namespace.{absent, any_namespace, of_prefix}
 use Rattle.css_selectors.specs.Components.Local.{any_type, a_type, some_attribute, an_attribute}
 use Rattle.css_selectors.specs.Components.Simple.{universal, type_name, id, class, has_attribute, attribute, structure, language, state, function, named_element, nesting, namespaced}
-use Rattle.css_selectors.specs.Components.Condition.{simple, nth_of}
+use Rattle.css_selectors.specs.Components.Condition.{simple, tested}
 use Rattle.css_selectors.specs.Readings.{Reading, got, refused, follow, give, ◌>>=◌, ◌>>◌, Step, item, none, stop, step_after, as_item, with_first, go_on, items, items_up_to}
 use Rattle.css_selectors.specs.declared.refusal.Why.TheVariants.{NoName, BrokenString, NoProgression, UnknownName, UnknownFunction, Unexpected}
-use Rattle.css_selectors.specs.Grammar.{gap, past_comments, ident_sequence, name, begins_name, begins_plain_name, begins_word, string, closed_string, value, comparison, flag, compared, by_comparison, is_bar, at_bar, prefix, namespace, in_namespace, attribute_from_name, attribute_selector, any_or_name, type_after, closing, progression, digits, with_digit, sign, is_sign, is_n, signed, stepping, offset_after, offset_or_none, with_offset, is_number, subtracted, by_tail, n_word, numbered, is_lone_plus, unsigned, odd_or_even, word_progression, one_more, is_word, plain_structure, plain_pseudo, numbered_by, next_range, range_after, language_ranges, list_kind, function_named, argument, argument_of, of_list, after_word, without_list, from_last, after_progression, functional, is_old_element, ListReader, named_pseudo, type_selector, next_simple, ampersand}
+use Rattle.css_selectors.specs.Grammar.{gap, past_comments, ident_sequence, name, begins_name, begins_plain_name, begins_word, string, closed_string, value, comparison, flag, compared, by_comparison, is_bar, at_bar, prefix, namespace, in_namespace, attribute_from_name, attribute_selector, any_or_name, type_after, closing, progression, digits, with_digit, sign, is_sign, is_n, signed, stepping, offset_after, offset_or_none, with_offset, is_number, subtracted, by_tail, n_word, numbered, is_lone_plus, unsigned, odd_or_even, word_progression, one_more, is_word, plain_structure, plain_pseudo, numbered_by, next_range, range_after, language_ranges, list_kind, function_named, argument, argument_of, of_list, after_word, without_list, list_test, after_progression, functional, is_old_element, ListReader, named_pseudo, type_selector, next_simple, ampersand}
 use Rattle.css_selectors.specs.KnownNames.{is_one_of, states, functions}
-use Rattle.css_selectors.specs.WellFormed.{IsDenoted, IsName, IsArgumentOf, IsSize, IsProgression, IsStructure, IsNamespace, IsAttribute, IsLocal, IsFurther, IsFirst, IsFurtherCondition, IsList}
+use Rattle.css_selectors.specs.WellFormed.{IsDenoted, IsName, IsArgumentOf, IsSize, IsProgression, IsStructure, IsNamespace, IsAttribute, IsLocal, IsFurther, IsFirst, IsFurtherCondition, kind_of, IsTest, IsList}
 use Rattle.css_selectors.proofs.ArgumentLemmas.{argument-again}
 use Rattle.css_selectors.proofs.ReadingLemmas.{followed}
 
@@ -523,19 +526,19 @@ pub record NumberedRead (list : ListReader) (opened : List ℕ) (kind : Numberin
   pub middle : List ℕ
   pub after : List ℕ
   pub first : progression start ≡ got value middle
-  pub last : after_progression list opened kind value (from_last kind) after ≡ got c rest
+  pub last : after_progression list opened kind value (list_test kind value) after ≡ got c rest
 
 pub numbered_read : (list : ListReader) (opened : List ℕ) (kind : Numbering) (text : List ℕ)
     (c : Condition) (rest : List ℕ)
-    → (gap >> (progression >>= λ p. gap >> after_progression list opened kind p (from_last kind))) text
+    → (gap >> (progression >>= λ p. gap >> after_progression list opened kind p (list_test kind p))) text
     ≡ got c rest
     → NumberedRead list opened kind c rest
 numbered_read list opened kind text c rest h =
     let f = followed (gap text) (λ x. progression >>= λ p. gap >>
-    after_progression list opened kind p (from_last kind)) c rest h in
+    after_progression list opened kind p (list_test kind p)) c rest h in
     let g = followed (progression f.middle) (λ p. gap >>
-    after_progression list opened kind p (from_last kind)) c rest f.second in
-    let i = followed (gap g.middle) (λ x. after_progression list opened kind g.value (from_last kind)) c
+    after_progression list opened kind p (list_test kind p)) c rest f.second in
+    let i = followed (gap g.middle) (λ x. after_progression list opened kind g.value (list_test kind g.value)) c
     rest g.second in
     record {
       value = g.value;
@@ -546,16 +549,33 @@ numbered_read list opened kind text c rest h =
       last = i.second;
     }
 
+-- a list is asked something only after a well-formed `An+B`
+test_well : (kind : Numbering) (p : Progression) (test : ListTest) → IsProgression p
+    → list_test kind p ≡ Some test → IsTest test × (Not ≡ kind_of test)
+test_well OfChild p test fits e =
+    let is : nth_child_list p ≡ test = cc in
+    subst (λ (t : ListTest). IsTest t × (Not ≡ kind_of t)) is (fits, refl)
+test_well OfLastChild p test fits e =
+    let is : nth_last_child_list p ≡ test = cc in
+    subst (λ (t : ListTest). IsTest t × (Not ≡ kind_of t)) is (fits, refl)
+test_well OfType p test fits e = absurd (cc)
+test_well OfLastType p test fits e = absurd (cc)
+
 -- where each list that is not forgiving is well-formed
-module _ (d : ℕ) (list : ListReader) (opened : List ℕ)
+module _ (d : Room) (list : ListReader) (opened : List ℕ)
     (lists : (text : List ℕ) (ss : List (List Part)) (rest : List ℕ) → list Not opened text ≡ got ss rest
-    → IsList false d (selectors_from ss)) where
-  of_list_well : (last : Bool) (p : Progression) (text : List ℕ) (c : Condition) (rest : List ℕ)
-      → IsProgression p → of_list list last p opened text ≡ got c rest → IsFurtherCondition d c
-  of_list_well last p text c rest fits h =
-      let f = followed (list Not opened text) (λ ss. give (nth_of last p (selectors_from ss))) c rest h in
-      let is : nth_of last p (selectors_from f.value) ≡ c = (let e = f.second in cc) in
-      subst (IsFurtherCondition d) is (fits, lists text f.value f.middle f.first)
+    → IsList Not d (selectors_from ss)) where
+  of_list_well : (test : ListTest) (text : List ℕ) (c : Condition) (rest : List ℕ)
+      → IsTest test × (Not ≡ kind_of test) → of_list list test opened text ≡ got c rest
+      → IsFurtherCondition d c
+  of_list_well test text c rest fits h =
+      let f = followed (list Not opened text) (λ ss. give (tested test (selectors_from ss))) c rest h in
+      let is : tested test (selectors_from f.value) ≡ c = (let e = f.second in cc) in
+      subst (IsFurtherCondition d) is (
+        fits.0,
+        subst (λ (k : ListKind). IsList k d (selectors_from f.value)) fits.1
+            (lists text f.value f.middle f.first),
+      )
 
   without_list_well : (kind : Numbering) (p : Progression) (text : List ℕ) (c : Condition)
       (rest : List ℕ) → IsProgression p → without_list kind p text ≡ got c rest
@@ -572,21 +592,22 @@ module _ (d : ℕ) (list : ListReader) (opened : List ℕ)
       by OfType = fits
       by OfLastType = fits
 
-  after_progression_well : (kind : Numbering) (p : Progression) (o : Option Bool) (text : List ℕ)
-      (c : Condition) (rest : List ℕ) → IsProgression p
+  after_progression_well : (kind : Numbering) (p : Progression) (o : Option ListTest)
+      (text : List ℕ) (c : Condition) (rest : List ℕ) → IsProgression p → list_test kind p ≡ o
       → after_progression list opened kind p o text ≡ got c rest → IsFurtherCondition d c
-  after_progression_well kind p None text c rest fits h = without_list_well kind p text c rest fits h
-  after_progression_well kind p (Some last) text c rest fits h = by (begins_name text) h
+  after_progression_well kind p None text c rest fits is h =
+      without_list_well kind p text c rest fits h
+  after_progression_well kind p (Some test) text c rest fits is h = by (begins_name text) h
     where
-      word : (n mid : List ℕ) (t : Bool) → (if t then of_list list last p opened mid
+      word : (n mid : List ℕ) (t : Bool) → (if t then of_list list test opened mid
           else refused Unexpected text) ≡ got c rest → IsFurtherCondition d c
-      word n mid true k = of_list_well last p mid c rest fits k
+      word n mid true k = of_list_well test mid c rest (test_well kind p test fits is) k
       word n mid false k = absurd (cc)
 
-      by : (t : Bool) → (if t then follow (name text) (after_word list opened last p text)
+      by : (t : Bool) → (if t then follow (name text) (after_word list opened test text)
           else without_list kind p text) ≡ got c rest → IsFurtherCondition d c
       by true k =
-          let f = followed (name text) (after_word list opened last p text) c rest k in
+          let f = followed (name text) (after_word list opened test text) c rest k in
           word f.value f.middle (is_word (codes "of") f.value) f.second
       by false k = without_list_well kind p text c rest fits k
 
@@ -605,8 +626,8 @@ module _ (d : ℕ) (list : ListReader) (opened : List ℕ)
       subst (IsFurtherCondition d) is (ranges_well text f.value f.middle f.first)
   functional_well n text (Some (Numbered kind)) c rest some no_list is_kind h =
       let r = numbered_read list opened kind text c rest h in
-      after_progression_well kind r.value (from_last kind) r.after c rest
-      (progression_well r.start r.value r.middle r.first) r.last
+      after_progression_well kind r.value (list_test kind r.value) r.after c rest
+      (progression_well r.start r.value r.middle r.first) refl r.last
 
 -- a pseudo-class that is only a name
 PlainWell : Option Structure → Type 0

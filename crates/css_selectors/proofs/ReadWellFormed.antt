@@ -1,6 +1,6 @@
 -- What a text reads as is well-formed.
 -- Serves `printing_laws::printing_law`.
-use Rattle.std.proofs.Common.{◌≡◌, ℕ, zero, suc, ◌⊎◌, inl, inr, ◌&&◌, eqb-true, Bool, true, false, List, [], ◌∷◌, All, Option, None, Some, length, refl, sym, ap, ◌∙◌, subst, not}
+use Rattle.std.proofs.Common.{◌≡◌, ℕ, zero, suc, ◌⊎◌, inl, inr, ◌&&◌, ◌||◌, arith, eqb-true, Bool, true, false, List, [], ◌∷◌, All, Option, None, Some, length, refl, sym, ap, ◌∙◌, subst, not}
 use Rattle.std.specs.Prelude.{codes, if◌then◌else◌}
 use Rattle.std.specs.Option.{is_some, ForSome}
 use Rattle.std.proofs.lemmas.List.Elements.{All-nil, All-cons, All-head, All-tail}
@@ -12,34 +12,35 @@ use Rattle.css_matching.specs.declared.Combinator.TheVariants.{Descendant}
 use Rattle.css_selectors.specs.declared.refusal.Why.{Why}
 use Rattle.css_selectors.specs.declared.refusal.Why.TheVariants.{UnknownName, Unexpected}
 use Rattle.css_selectors.specs.declared.components.ListKind.{ListKind}
-use Rattle.css_selectors.specs.declared.components.ListKind.TheVariants.{Not, Is, Where}
+use Rattle.css_selectors.specs.declared.components.ListKind.TheVariants.{Not, Is, Where, Has}
+use Rattle.css_selectors.specs.declared.room.Room.{Room}
 use Rattle.css_selectors.specs.declared.components.Function.{Function}
 use Rattle.css_selectors.specs.declared.components.Numbering.{Numbering}
 use Rattle.css_selectors.specs.declared.reading.Start.{Start}
 use Rattle.css_selectors.specs.declared.reading.Start.TheVariants.{Plain, Relative}
 use Rattle.css_selectors.specs.declared.components.Function.TheVariants.{Numbered, Language}
-use Rattle.css_selectors.specs.Components.{Progression, Structure, Simple, outermost, Condition, selectors_from, Part, PseudoElement, Placed, Selector}
+use Rattle.css_selectors.specs.Components.{Progression, Structure, Simple, ListTest, outermost, Condition, selectors_from, Part, PseudoElement, Placed, Selector}
 use Rattle.css_selectors.specs.Components.Simple.{universal, type_name, id, class, has_attribute, attribute, structure, language, state, function, named_element, nesting, namespaced}
-use Rattle.css_selectors.specs.Components.Condition.{simple, negation, any_of, where_any, nth_of}
+use Rattle.css_selectors.specs.Components.Condition.{simple, negation, any_of, where_any, tested}
 use Rattle.css_selectors.specs.Readings.{Reading, got, refused, follow, give, ◌>>=◌, ◌>>◌, Step, item, none, stop, step_after, as_item, go_on, items, items_up_to, with_first}
-use Rattle.css_selectors.specs.Grammar.{gap, past_comments, past_colon, condition_here, name, begins_compound, closing, one_more, numbered_by, language_ranges, plain_structure, plain_pseudo, is_old_element, list_kind, function_named, argument_of, is_word, begins_name, of_list, after_word, without_list, from_last, after_progression, functional, named_pseudo, type_selector, next_simple, some_of, Finder, compound, listed, ListReader, begins_pseudo_class, simple_item, with_argument, pseudo_condition, condition_by, deepest, too_deep, next_condition, some_or_element, conditions, first_sign, joined_by, signed_part, by_sign, part_after, next_part, element_argument, element_name, element_named, named_condition, class_or_element, after_element, with_after, pseudo_element, at_end, parts, nesting_part, after_sign, relative_parts, start_parts, placed_as, placed_by, placed, next_placed, list_by, placed_selector, selector, CompoundReader, next_part_in, complex, complex_list, ends_part, past_part, is_lasting, no_selector, part_end, judged, listed_part, next_listed, kept, keep, selectors_after, is_forgiving, placed_list_by}
+use Rattle.css_selectors.specs.Grammar.{gap, past_comments, past_colon, condition_here, name, begins_compound, closing, one_more, numbered_by, language_ranges, plain_structure, plain_pseudo, is_old_element, list_kind, function_named, argument_of, is_word, begins_name, of_list, after_word, without_list, list_test, after_progression, functional, named_pseudo, type_selector, next_simple, some_of, Finder, compound, listed, ListReader, begins_pseudo_class, simple_item, with_argument, pseudo_condition, condition_by, too_deep, condition_at, next_condition, outside, is_relative, may_open, leading_sign, after_leading, complex_by, some_or_element, conditions, first_sign, joined_by, signed_part, by_sign, part_after, next_part, element_argument, element_name, element_named, named_condition, class_or_element, after_element, with_after, pseudo_element, at_end, parts, nesting_part, after_sign, relative_parts, start_parts, placed_as, placed_by, placed, next_placed, list_by, placed_selector, selector, CompoundReader, next_part_in, complex, complex_list, ends_part, past_part, is_lasting, no_selector, part_end, judged, listed_part, next_listed, kept, keep, selectors_after, is_forgiving, placed_list_by}
 use Rattle.css_selectors.specs.KnownNames.{is_one_of, states, functions, is_element, element_functions}
-use Rattle.css_selectors.specs.WellFormed.{IsName, IsElementArgument, IsElementName, is_pseudo_class, IsAfterElement, IsPseudoElement, IsFurther, IsFurtherCondition, IsFirstCondition, IsList, AreConditions, is_last, AreParts, BeginsPlain, IsWellFormed}
+use Rattle.css_selectors.specs.WellFormed.{IsName, IsElementArgument, IsElementName, is_pseudo_class, IsAfterElement, IsPseudoElement, IsFurther, IsFurtherCondition, IsFirstCondition, IsLeading, IsList, AreConditions, is_last, AreParts, BeginsPlain, IsWellFormed}
 use Rattle.css_text.proofs.bytes.GapLemmas.{no_gap-byte}
 use Rattle.css_selectors.proofs.NestedLists.{IsRow, IsLink, IsChain, AreChains, chains_in}
-use Rattle.css_selectors.proofs.CompoundsAgain.{Accept, row_after, some_after, some_or_element_after, no_part_at}
+use Rattle.css_selectors.proofs.CompoundsAgain.{room_of, Accept, row_after, some_after, some_or_element_after, no_part_at}
 use Rattle.css_selectors.proofs.GapLemmas.{no_comments}
 use Rattle.css_selectors.proofs.ReadingLemmas.{followed}
 use Rattle.css_selectors.proofs.ReadSimples.{numbered_read, found_after, made, all_items, nothing_read, first_of_all, name_well, argument_of_well, functional_well, named_pseudo_well, next_simple_well, type_well, first_of_further}
 
 -- ---- compound selectors, at a depth
 
-first_of_condition : (n : ℕ) (c : Condition) → IsFurtherCondition n c → IsFirstCondition n c
+first_of_condition : (n : Room) (c : Condition) → IsFurtherCondition n c → IsFirstCondition n c
 first_of_condition n (simple s) w = first_of_further s w
 first_of_condition n (negation _) w = w
 first_of_condition n (any_of _) w = w
 first_of_condition n (where_any _) w = w
-first_of_condition n (nth_of _ _ _) w = w
+first_of_condition n (tested _ _) w = w
 
 some_keeps : (text : List ℕ) (r : Reading (List Condition)) (cs : List Condition) (rest : List ℕ)
     → some_of text r ≡ got cs rest → r ≡ got cs rest
@@ -56,16 +57,16 @@ element_keeps text r cs rest h = by (starts colon text) h
     by false k = some_keeps text r cs rest k
 
 -- each condition that is read may follow others
-abbrev FurtherWell : ℕ → Type 0
+abbrev FurtherWell : Room → Type 0
 FurtherWell n = (text : List ℕ) (c : Condition) (rest : List ℕ)
     → next_condition n text ≡ item c rest → IsFurtherCondition n c
 
 -- there is a condition, or there is none and that is accepted
-abbrev Row : ℕ → Accept → List ℕ → List Condition → List ℕ → Type 0
+abbrev Row : Room → Accept → List ℕ → List Condition → List ℕ → Type 0
 Row n accept text cs rest =
     IsRow n cs ⊎ ((cs ≡ []) × (rest ≡ text) × (accept text (got [] rest) ≡ got [] rest))
 
-module _ (n : ℕ) (well : FurtherWell n) where
+module _ (n : Room) (well : FurtherWell n) where
   row_well : (accept : Accept) → ((text : List ℕ) (r : Reading (List Condition))
       (cs : List Condition) (rest : List ℕ) → accept text r ≡ got cs rest → r ≡ got cs rest)
       → (text : List ℕ) (cs : List Condition) (rest : List ℕ)
@@ -145,7 +146,7 @@ module _ (one : CompoundReader) (P : List Condition → List ℕ → Type 0)
 
 -- ---- complex selectors in a list
 
-module _ (n : ℕ) (well : FurtherWell n) where
+module _ (n : Room) (well : FurtherWell n) where
   link_well : (text : List ℕ) (p : Part) (rest : List ℕ)
       → next_part_in (next_condition n) text ≡ item p rest → IsLink n p
   unfolding next_part_in
@@ -153,58 +154,81 @@ module _ (n : ℕ) (well : FurtherWell n) where
       part_after_well (compound (next_condition n)) (λ cs rest. IsRow n cs) (compound_well n well)
       text p rest h
 
-  complex_well : (text : List ℕ) (ps : List Part) (rest : List ℕ)
-      → complex (next_condition n) text ≡ got ps rest → IsChain n ps
-  unfolding complex
-  complex_well text ps rest h =
+  joined_well : (k : Combinator) (text : List ℕ) (ps : List Part) (rest : List ℕ)
+      → (kind : ListKind) → IsLeading kind k → complex_by k (next_condition n) text ≡ got ps rest
+      → IsChain kind n ps
+  unfolding complex_by
+  joined_well k text ps rest kind leads h =
       let next : List ℕ → Step Part = next_part_in (next_condition n) in
       let f = followed (compound (next_condition n) text)
-      (λ first. one_more (joined_by Descendant first) (items next)) ps rest h in
-      let g = first_of_all (joined_by Descendant f.value) (items next f.middle) ps rest f.second in
-      subst (IsChain n) g.is (
-        refl,
+      (λ first. one_more (joined_by k first) (items next)) ps rest h in
+      let g = first_of_all (joined_by k f.value) (items next f.middle) ps rest f.second in
+      subst (IsChain kind n) g.is (
+        leads,
         compound_well n well text f.value f.middle f.first,
         all_items next (IsLink n) link_well f.middle g.others rest g.reads,
       )
 
-  -- a part of a list is a selector, or is left out
-  abbrev IsPart : Bool → Option (List Part) → Type 0
-  IsPart f None = f ≡ true
-  IsPart f (Some s) = IsChain n s
-
-  left_out : (f : Bool) (text : List ℕ) (why : Why) (t : List ℕ) (o : Option (List Part))
-      (rest : List ℕ) → no_selector f text why t ≡ got o rest → IsPart f o
-  left_out false text why t o rest h = absurd (cc)
-  left_out true text why t o rest h = by (is_lasting why) h
+  complex_well : (kind : ListKind) (text : List ℕ) (ps : List Part) (rest : List ℕ)
+      → complex kind (next_condition n) text ≡ got ps rest → IsChain kind n ps
+  unfolding complex
+  complex_well kind text ps rest h = by kind h
     where
-      by : (l : Bool) → (if not l then got None (past_part text) else refused why t) ≡ got o rest
-          → IsPart true o
-      by true k = absurd (cc)
-      by false k = let is : None ≡ o = cc in subst (IsPart true) is refl
+      led : (o : Option Combinator) → after_leading (next_condition n) text o ≡ got ps rest
+          → IsChain Has n ps
+      led None k = joined_well Descendant text ps rest Has tt k
+      led (Some c) k =
+          let f = followed (gap (past_one text)) (λ x. complex_by c (next_condition n)) ps rest k in
+          joined_well c f.middle ps rest Has tt f.second
 
-  listed_well : (f : Bool) (text : List ℕ) (o : Option (List Part)) (rest : List ℕ)
+      by : (o : ListKind) → after_leading (next_condition n) text (leading_sign o text) ≡ got ps rest
+          → IsChain o n ps
+      by Not k = joined_well Descendant text ps rest Not refl k
+      by Is k = joined_well Descendant text ps rest Is refl k
+      by Where k = joined_well Descendant text ps rest Where refl k
+      by Has k = led (first_sign text) k
+
+  -- a part of a list is a selector, or is left out
+  abbrev IsPart : ListKind → Option (List Part) → Type 0
+  IsPart f None = is_forgiving f ≡ true
+  IsPart f (Some s) = IsChain f n s
+
+  left_out : (f : ListKind) (text : List ℕ) (why : Why) (t : List ℕ) (o : Option (List Part))
+      (rest : List ℕ) → no_selector (is_forgiving f) text why t ≡ got o rest → IsPart f o
+  left_out f text why t o rest h = forgives (is_forgiving f) refl h
+    where
+      by : is_forgiving f ≡ true → (l : Bool)
+          → (if not l then got None (past_part text) else refused why t) ≡ got o rest → IsPart f o
+      by is true k = absurd (cc)
+      by is false k = let same : None ≡ o = cc in subst (IsPart f) same is
+
+      forgives : (b : Bool) → is_forgiving f ≡ b → no_selector b text why t ≡ got o rest → IsPart f o
+      forgives false is k = absurd (cc)
+      forgives true is k = by is (is_lasting why) k
+
+  listed_well : (f : ListKind) (text : List ℕ) (o : Option (List Part)) (rest : List ℕ)
       → listed_part f (next_condition n) text ≡ got o rest → IsPart f o
   unfolding listed_part
-  listed_well f text o rest h = by ((gap >> complex (next_condition n)) text) refl h
+  listed_well f text o rest h = by ((gap >> complex f (next_condition n)) text) refl h
     where
-      ended : (s : List Part) → IsChain n s → (r : Reading Bool)
-          → part_end f text s r ≡ got o rest → IsPart f o
+      ended : (s : List Part) → IsChain f n s → (r : Reading Bool)
+          → part_end (is_forgiving f) text s r ≡ got o rest → IsPart f o
       ended s w (refused why t) k = absurd (cc)
       ended s w (got spaced t) k = at (ends_part t) k
         where
-          at : (e : Bool) → (if e then got (Some s) t else no_selector f text Unexpected t)
+          at : (e : Bool) → (if e then got (Some s) t else no_selector (is_forgiving f) text Unexpected t)
               ≡ got o rest → IsPart f o
           at true k = let is : Some s ≡ o = cc in subst (IsPart f) is w
           at false k = left_out f text Unexpected t o rest k
 
-      by : (r : Reading (List Part)) → (gap >> complex (next_condition n)) text ≡ r
-          → judged f text r ≡ got o rest → IsPart f o
+      by : (r : Reading (List Part)) → (gap >> complex f (next_condition n)) text ≡ r
+          → judged (is_forgiving f) text r ≡ got o rest → IsPart f o
       by (refused why t) e k = left_out f text why t o rest k
       by (got s t) e k =
-          let m = followed (gap text) (λ x. complex (next_condition n)) s t e in
-          ended s (complex_well m.middle s t m.second) (gap t) k
+          let m = followed (gap text) (λ x. complex f (next_condition n)) s t e in
+          ended s (complex_well f m.middle s t m.second) (gap t) k
 
-  next_well : (f : Bool) (text : List ℕ) (o : Option (List Part)) (rest : List ℕ)
+  next_well : (f : ListKind) (text : List ℕ) (o : Option (List Part)) (rest : List ℕ)
       → next_listed f (next_condition n) text ≡ item o rest → IsPart f o
   unfolding next_listed
   next_well f text o rest h = by (starts comma text) h
@@ -217,25 +241,25 @@ module _ (n : ℕ) (well : FurtherWell n) where
           let m = made (λ s. s) (listed_part f (next_condition n) (past_one text)) o rest k in
           subst (IsPart f) m.is (listed_well f (past_one text) m.value rest m.first)
 
-  kept_well : (f : Bool) (os : List (Option (List Part))) → All (IsPart f) os
-      → All (IsChain n) (kept os)
-  kept_well f [] all = All-nil (IsChain n)
+  kept_well : (f : ListKind) (os : List (Option (List Part))) → All (IsPart f) os
+      → All (IsChain f n) (kept os)
+  kept_well f [] all = All-nil (IsChain f n)
   kept_well f (None ∷ os) all = kept_well f os (All-tail (IsPart f) None os all)
   kept_well f (Some s ∷ os) all =
-      All-cons (IsChain n) s (kept os) (All-head (IsPart f) (Some s) os all)
+      All-cons (IsChain f n) s (kept os) (All-head (IsPart f) (Some s) os all)
       (kept_well f os (All-tail (IsPart f) (Some s) os all))
 
-  chains_all : (f : Bool) (ss : List (List Part)) → f ≡ true → All (IsChain n) ss
+  chains_all : (f : ListKind) (ss : List (List Part)) → is_forgiving f ≡ true → All (IsChain f n) ss
       → AreChains f n ss
   chains_all f [] is all = is
-  chains_all f (s ∷ ss) is all = (All-head (IsChain n) s ss all, All-tail (IsChain n) s ss all)
+  chains_all f (s ∷ ss) is all = (All-head (IsChain f n) s ss all, All-tail (IsChain f n) s ss all)
 
-  chains_well : (f : Bool) (o : Option (List Part)) (os : List (Option (List Part)))
+  chains_well : (f : ListKind) (o : Option (List Part)) (os : List (Option (List Part)))
       → IsPart f o → All (IsPart f) os → AreChains f n (kept (o ∷ os))
   chains_well f None os w all = chains_all f (kept os) w (kept_well f os all)
   chains_well f (Some s) os w all = (w, kept_well f os all)
 
-  selectors_well : (f : Bool) (o : Option (List Part)) (text : List ℕ) (ss : List (List Part))
+  selectors_well : (f : ListKind) (o : Option (List Part)) (text : List ℕ) (ss : List (List Part))
       (rest : List ℕ) → IsPart f o → selectors_after f (next_condition n) o text ≡ got ss rest
       → AreChains f n ss
   selectors_well f o text ss rest w h = by (with_first o (items next text)) refl h
@@ -252,7 +276,7 @@ module _ (n : ℕ) (well : FurtherWell n) where
           subst (AreChains f n) (ap kept g.is ∙ is)
           (chains_well f o g.others w (all_items next (IsPart f) (next_well f) text g.others t g.reads))
 
-  complexes_well : (f : Bool) (text : List ℕ) (ss : List (List Part)) (rest : List ℕ)
+  complexes_well : (f : ListKind) (text : List ℕ) (ss : List (List Part)) (rest : List ℕ)
       → complex_list f (next_condition n) text ≡ got ss rest → AreChains f n ss
   unfolding complex_list
   complexes_well f text ss rest h =
@@ -269,9 +293,9 @@ module _ (n : ℕ) (well : FurtherWell n) where
 
 -- ---- conditions
 
-module _ (n : ℕ) (list : ListReader) (well : (kind : ListKind) (opened text : List ℕ)
+module _ (n : Room) (list : ListReader) (well : (kind : ListKind) (opened text : List ℕ)
     (ss : List (List Part)) (rest : List ℕ) → list kind opened text ≡ got ss rest
-    → IsList (is_forgiving kind) n (selectors_from ss)) where
+    → IsList kind n (selectors_from ss)) where
   argument_well : (opened name text : List ℕ) (kind : Option ListKind) (c : Condition)
       (rest : List ℕ) → IsName name → list_kind name ≡ kind
       → with_argument list opened name kind (function_named name) text ≡ got c rest
@@ -285,11 +309,12 @@ module _ (n : ℕ) (list : ListReader) (well : (kind : ListKind) (opened text : 
       subst (IsFurtherCondition n) is
       (by kind f.value (well kind opened text f.value f.middle f.first))
     where
-      by : (k : ListKind) (ss : List (List Part)) → IsList (is_forgiving k) n (selectors_from ss)
+      by : (k : ListKind) (ss : List (List Part)) → IsList k n (selectors_from ss)
           → IsFurtherCondition n (listed k ss)
       by Not ss w = w
       by Is ss w = w
       by Where ss w = w
+      by Has ss w = (tt, w)
 
   condition_here_well : (text : List ℕ) (c : Condition) (rest : List ℕ)
       → condition_here list text ≡ item c rest → IsFurtherCondition n c
@@ -330,14 +355,33 @@ module _ (n : ℕ) (list : ListReader) (well : (kind : ListKind) (opened text : 
       → condition_by list text ≡ item c rest → IsFurtherCondition n c
   condition_by_well text c rest h = condition_here_well (past_comments text) c rest h
 
-next_condition_well : (n : ℕ) → FurtherWell n
-unfolding next_condition
-next_condition_well zero text c rest h =
-    condition_by_well zero too_deep (λ kind opened t ss u e. absurd (cc)) text c rest h
-next_condition_well (suc n) text c rest h =
-    condition_by_well (suc n) (list_by (next_condition n)) (λ kind opened t ss u e.
-    chains_in n (is_forgiving kind) ss
-    (complexes_well n (next_condition_well n) (is_forgiving kind) t ss u e)) text c rest h
+-- a list may be open where it is read
+list_well_by : (d : ℕ) (in_has : Bool) → ((h : Bool) → FurtherWell (room_of d h))
+    → (kind : ListKind) (opened text : List ℕ) (ss : List (List Part)) (rest : List ℕ)
+    → list_by in_has (condition_at d) kind opened text ≡ got ss rest
+    → IsList kind (room_of (suc d) in_has) (selectors_from ss)
+list_well_by d in_has well kind opened text ss rest h = by (may_open kind in_has) refl h
+  where
+    by : (t : Bool) → may_open kind in_has ≡ t
+        → (if t then complex_list kind (condition_at d (is_relative kind || in_has)) text
+        else refused Unexpected opened) ≡ got ss rest
+        → IsList kind (room_of (suc d) in_has) (selectors_from ss)
+    by false e k = absurd (cc)
+    by true e k =
+        chains_in kind (room_of (suc d) in_has) ss (omega arith, e)
+        (complexes_well (room_of d (is_relative kind || in_has)) (well (is_relative kind || in_has))
+        kind text ss rest k)
+
+condition_at_well : (d : ℕ) (in_has : Bool) → FurtherWell (room_of d in_has)
+unfolding condition_at
+condition_at_well zero in_has text c rest h =
+    condition_by_well (room_of zero in_has) too_deep (λ kind opened t ss u e. absurd (cc)) text c rest h
+condition_at_well (suc d) in_has text c rest h =
+    condition_by_well (room_of (suc d) in_has) (list_by in_has (condition_at d))
+    (list_well_by d in_has (condition_at_well d)) text c rest h
+
+next_condition_well : (n : Room) → FurtherWell n
+next_condition_well n = condition_at_well n.depth n.in_has
 
 -- the conditions of a compound selector, of which there may be none before a pseudo-element
 abbrev Conditions : List Condition → List ℕ → Type 0
@@ -348,10 +392,10 @@ conditions_well : (text : List ℕ) (cs : List Condition) (rest : List ℕ)
     → conditions text ≡ got cs rest → Conditions cs rest
 unfolding conditions
 conditions_well text cs rest h =
-    by (row_well deepest (next_condition_well deepest) some_or_element element_keeps text cs rest
+    by (row_well outside (next_condition_well outside) some_or_element element_keeps text cs rest
     (sym (some_or_element_after text (type_selector text)) ∙ h))
   where
-    some : (ds : List Condition) → IsRow deepest ds → AreConditions false ds
+    some : (ds : List Condition) → IsRow outside ds → AreConditions false ds
     some [] w = absurd w
     some (d ∷ ds) w = w
 
@@ -361,7 +405,7 @@ conditions_well text cs rest h =
     element true e k = e
     element false e k = absurd (cc)
 
-    by : Row deepest some_or_element text cs rest → Conditions cs rest
+    by : Row outside some_or_element text cs rest → Conditions cs rest
     by (inl w) = inl (some cs w)
     by (inr w) = inr (w.0, ap (starts colon) w.1 ∙ element (starts colon text) refl w.2)
 
@@ -498,7 +542,7 @@ IsClass (simple s) = is_pseudo_class s ≡ true
 IsClass c = Unit {0}
 
 class_of_numbered : (list : ListReader) (opened : List ℕ) (kind : Numbering) (p : Progression)
-    (o : Option Bool) (text : List ℕ) (c : Condition) (rest : List ℕ)
+    (o : Option ListTest) (text : List ℕ) (c : Condition) (rest : List ℕ)
     → after_progression list opened kind p o text ≡ got c rest → IsClass c
 class_of_numbered list opened kind p o text c rest h = by o h
   where
@@ -509,25 +553,26 @@ class_of_numbered list opened kind p o text c rest h = by o h
         let is : simple (structure (numbered_by kind p)) ≡ c = (let e = f.second in cc) in
         subst IsClass is refl
 
-    word : (last : Bool) (mid : List ℕ) (t : Bool) → (if t then of_list list last p opened mid
+    word : (test : ListTest) (mid : List ℕ) (t : Bool) → (if t then of_list list test opened mid
         else refused Unexpected text) ≡ got c rest → IsClass c
-    word last mid true k =
-        let f = followed (list Not opened mid) (λ ss. give (nth_of last p (selectors_from ss))) c rest k
+    word test mid true k =
+        let f = followed (list Not opened mid) (λ ss. give (tested test (selectors_from ss))) c rest k
         in
-        let is : nth_of last p (selectors_from f.value) ≡ c = (let e = f.second in cc) in
+        let is : tested test (selectors_from f.value) ≡ c = (let e = f.second in cc) in
         subst IsClass is tt
-    word last mid false k = absurd (cc)
+    word test mid false k = absurd (cc)
 
-    named : (last t : Bool) → (if t then follow (name text) (after_word list opened last p text)
+    named : (test : ListTest) (t : Bool)
+        → (if t then follow (name text) (after_word list opened test text)
         else without_list kind p text) ≡ got c rest → IsClass c
-    named last true k =
-        let f = followed (name text) (after_word list opened last p text) c rest k in
-        word last f.middle (is_word (codes "of") f.value) f.second
-    named last false k = without k
+    named test true k =
+        let f = followed (name text) (after_word list opened test text) c rest k in
+        word test f.middle (is_word (codes "of") f.value) f.second
+    named test false k = without k
 
-    by : (o : Option Bool) → after_progression list opened kind p o text ≡ got c rest → IsClass c
+    by : (o : Option ListTest) → after_progression list opened kind p o text ≡ got c rest → IsClass c
     by None k = without k
-    by (Some last) k = named last (begins_name text) k
+    by (Some test) k = named test (begins_name text) k
 
 class_of_functional : (list : ListReader) (opened n text : List ℕ) (kind : Option Function)
     (c : Condition) (rest : List ℕ) → functional list opened n kind text ≡ got c rest → IsClass c
@@ -542,7 +587,7 @@ class_of_functional list opened n text (Some Language) c rest h =
     subst IsClass is refl
 class_of_functional list opened n text (Some (Numbered kind)) c rest h =
     let r = numbered_read list opened kind text c rest h in
-    class_of_numbered list opened kind r.value (from_last kind) r.after c rest r.last
+    class_of_numbered list opened kind r.value (list_test kind r.value) r.after c rest r.last
 
 class_of_name : (opened n text : List ℕ) (c : Condition) (rest : List ℕ)
     → simple_item (named_pseudo opened n text) ≡ item c rest → IsClass c
@@ -574,6 +619,7 @@ class_of_argument list opened n text (Some kind) c rest h =
     by Not ss = tt
     by Is ss = tt
     by Where ss = tt
+    by Has ss = tt
 
 class_here : (list : ListReader) (text : List ℕ) (c : Condition) (rest : List ℕ)
     → condition_here list (colon ∷ text) ≡ item c rest → IsClass c
@@ -603,18 +649,18 @@ class_here list text c rest h = by (begins_pseudo_class (colon ∷ text)) h
         after f.value f.middle (starts open_parenthesis f.middle) f.second
 
 next_class : (text : List ℕ) (c : Condition) (rest : List ℕ) → starts colon text ≡ true
-    → next_condition deepest text ≡ item c rest → IsClass c
-unfolding next_condition
+    → next_condition outside text ≡ item c rest → IsClass c
+unfolding condition_at
 next_class [] c rest h k = absurd (cc)
 next_class (b ∷ text) c rest h k =
     let is : b ≡ colon = eqb-true b colon h in
-    let list : ListReader = list_by (next_condition 31) in
+    let list : ListReader = list_by false (condition_at 31) in
     let here : condition_by list (colon ∷ text) ≡ item c rest =
     subst (λ (d : ℕ). condition_by list (d ∷ text) ≡ item c rest) is k in
     class_here list text c rest
     (sym (ap (condition_here list) (no_comments (colon ∷ text) refl)) ∙ here)
 
-class_after : (c : Condition) → IsClass c → IsFurtherCondition deepest c → IsAfterElement c
+class_after : (c : Condition) → IsClass c → IsFurtherCondition outside c → IsAfterElement c
 class_after (simple universal) k w = absurd w
 class_after (simple (type_name n)) k w = absurd w
 class_after (simple (id n)) k w = (k, w)
@@ -631,7 +677,7 @@ class_after (simple (namespaced namespace local)) k w = (k, w)
 class_after (negation selectors) k w = w
 class_after (any_of selectors) k w = w
 class_after (where_any selectors) k w = w
-class_after (nth_of last p selectors) k w = w
+class_after (tested test selectors) k w = w
 
 -- what follows a pseudo-element
 after_element_well : (text : List ℕ) (c : Condition) (rest : List ℕ)
@@ -642,22 +688,22 @@ after_element_well text c rest h = by (starts colon here) refl h
     here : List ℕ
     here = past_comments text
 
-    kind : starts colon here ≡ true → (step : Step Condition) → next_condition deepest here ≡ step
+    kind : starts colon here ≡ true → (step : Step Condition) → next_condition outside here ≡ step
         → class_or_element here step ≡ item c rest → IsAfterElement c
     kind s (item d t) e k =
         let is : d ≡ c = cc in
         subst IsAfterElement is
-        (class_after d (next_class here d t s e) (next_condition_well deepest here d t e))
+        (class_after d (next_class here d t s e) (next_condition_well outside here d t e))
     kind s none e k =
         let f = made named_condition (element_name here (past_one here)) c rest k in
         subst IsAfterElement f.is (element_name_well here (past_one here) f.value rest f.first)
     kind s (stop why t) e k = absurd (cc)
 
     by : (t : Bool) → starts colon here ≡ t
-        → (if t then class_or_element here (next_condition deepest here) else none) ≡ item c rest
+        → (if t then class_or_element here (next_condition outside here) else none) ≡ item c rest
         → IsAfterElement c
     by false s k = absurd (cc)
-    by true s k = kind s (next_condition deepest here) refl k
+    by true s k = kind s (next_condition outside here) refl k
 
 -- the pseudo-element, if there is one
 record ElementWell (text : List ℕ) (element : Option PseudoElement) : Type 0 where
@@ -723,7 +769,7 @@ relative_well text ps end h = by (first_sign text) h
     by None k = parts_well text ps end k
     by (Some c) k =
         first_parts (nesting_part outermost) text ps end refl
-        (inl (refl, All-nil (IsFurtherCondition deepest))) k
+        (inl (refl, All-nil (IsFurtherCondition outside))) k
 
 start_well : (start : Start) (text : List ℕ) (ps : List Part) (end : List ℕ)
     → start_parts start text ≡ got ps end → PartsWell ps end

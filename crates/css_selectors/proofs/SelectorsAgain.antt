@@ -10,12 +10,13 @@ use Rattle.css_text.proofs.bytes.GapLemmas.{NoGap, no_gap-byte}
 use Rattle.css_text.proofs.reading.EachLemmas.{each-none}
 use Rattle.css_matching.specs.declared.Combinator.{Combinator}
 use Rattle.css_matching.specs.declared.Combinator.TheVariants.{Descendant, Child, Adjacent, Sibling}
-use Rattle.css_selectors.specs.Components.{Progression, Structure, Condition, Part, PseudoElement, Selector, Selectors}
+use Rattle.css_selectors.specs.Components.{Structure, ListTest, Condition, Part, PseudoElement, Selector, Selectors}
+use Rattle.css_selectors.specs.Components.ListTest.{has, nth_child as nth_child_list, nth_last_child as nth_last_child_list}
 use Rattle.css_selectors.specs.Components.Structure.{root, scope, empty, first_child, last_child, only_child, first_of_type, last_of_type, only_of_type, nth_child, nth_last_child, nth_of_type, nth_last_of_type}
 use Rattle.css_selectors.specs.Components.Simple.{universal, type_name, id, class, has_attribute, attribute, structure, language, state, function, named_element, nesting, namespaced}
-use Rattle.css_selectors.specs.Components.Condition.{simple, negation, any_of, where_any, nth_of}
+use Rattle.css_selectors.specs.Components.Condition.{simple, negation, any_of, where_any, tested}
 use Rattle.css_selectors.specs.Readings.{got, follow, give, ◌>>=◌, item, none, as_item, with_first, items}
-use Rattle.css_selectors.specs.Grammar.{gap, past_comments, past_colon, name, begins_pseudo_class, next_condition, next_simple, deepest, conditions, joined_by, part_after, next_part, one_more, element_argument, element_name, element_named, named_condition, class_or_element, after_element_here, after_element, with_after, pseudo_element, selector_with, parts, placed_by, placed_selector, selector}
+use Rattle.css_selectors.specs.Grammar.{gap, past_comments, past_colon, name, begins_pseudo_class, next_condition, next_simple, outside, conditions, joined_by, part_after, next_part, one_more, element_argument, element_name, element_named, named_condition, class_or_element, after_element_here, after_element, with_after, pseudo_element, selector_with, parts, placed_by, placed_selector, selector}
 use Rattle.css_selectors.specs.Printing.{identifier_text, argument_text, structure_text, simple_text, condition_text, combinator_text, part_text, parts_text, pseudo_element_text, selector_text}
 use Rattle.css_selectors.specs.KnownNames.{element_functions}
 use Rattle.css_selectors.specs.WellFormed.{IsElementArgument, IsElementName, IsAfterElement, IsPseudoElement, IsFurtherCondition, AreConditions, is_last, AreParts, BeginsPlain, IsWellFormed}
@@ -38,8 +39,8 @@ part_joined e c cs rest w f =
 
 -- nothing more is read there
 last_read : (text : List ℕ) → opens_comment text ≡ false → begins_pseudo_class text ≡ false
-    → next_simple text ≡ none → next_condition deepest text ≡ none
-last_read = none_read deepest
+    → next_simple text ≡ none → next_condition outside text ≡ none
+last_read = none_read outside
 
 nothing_follows : Follows false []
 unfolding next_simple
@@ -71,7 +72,7 @@ part_follows c text = record {
     by Adjacent = refl
     by Sibling = refl
 
-    last_by : (c : Combinator) → next_condition deepest (combinator_text c ++ text) ≡ none
+    last_by : (c : Combinator) → next_condition outside (combinator_text c ++ text) ≡ none
     last_by Descendant = last_read _ refl refl refl
     last_by Child = last_read _ refl refl refl
     last_by Adjacent = last_read _ refl refl refl
@@ -213,10 +214,11 @@ structure_colon (nth_last_child p) = refl
 structure_colon (nth_of_type p) = refl
 structure_colon (nth_last_of_type p) = refl
 
-nth_colon : (last : Bool) (p : Progression) (selectors : Selectors)
-    → starts colon (condition_text (nth_of last p selectors)) ≡ true
-nth_colon true p selectors = refl
-nth_colon false p selectors = refl
+test_colon : (test : ListTest) (selectors : Selectors)
+    → starts colon (condition_text (tested test selectors)) ≡ true
+test_colon has selectors = refl
+test_colon (nth_child_list p) selectors = refl
+test_colon (nth_last_child_list p) selectors = refl
 
 after_colon : (c : Condition) → IsAfterElement c → starts colon (condition_text c) ≡ true
 after_colon (simple universal) w = absurd (let k = w.0 in cc)
@@ -235,7 +237,7 @@ after_colon (simple (namespaced namespace local)) w = absurd (let k = w.0 in cc)
 after_colon (negation selectors) w = refl
 after_colon (any_of selectors) w = refl
 after_colon (where_any selectors) w = refl
-after_colon (nth_of last p selectors) w = nth_colon last p selectors
+after_colon (tested test selectors) w = test_colon test selectors
 
 colon_front : (text rest : List ℕ) → starts colon text ≡ true → starts colon (text ++ rest) ≡ true
 colon_front [] rest h = absurd (cc)
@@ -266,7 +268,7 @@ after_ends (c ∷ cs) w =
     (colon_front (condition_text c) (flat_map condition_text cs) is))
 
 -- a pseudo-class
-class-again : (c : Condition) (rest : List ℕ) → IsFurtherCondition deepest c
+class-again : (c : Condition) (rest : List ℕ) → IsFurtherCondition outside c
     → starts colon (condition_text c) ≡ true → ends rest ≡ true
     → after_element (condition_text c ++ rest) ≡ item c rest
 unfolding after_element
@@ -274,7 +276,7 @@ class-again c rest w is h =
     let text : List ℕ = condition_text c ++ rest in
     let here : starts colon text ≡ true = colon_front (condition_text c) rest is in
     ap after_element_here (colon_comments text here)
-    ∙ rw (here, condition-again deepest c rest w h) refl
+    ∙ rw (here, condition-again outside c rest w h) refl
 
 -- a further pseudo-element
 further_element-again : (n : List ℕ) (a : Option (List ℕ)) (rest : List ℕ) → IsElementName n a
@@ -308,8 +310,8 @@ after-again (simple (namespaced namespace local)) rest w h = absurd (let k = w.0
 after-again (negation selectors) rest w h = class-again (negation selectors) rest w refl h
 after-again (any_of selectors) rest w h = class-again (any_of selectors) rest w refl h
 after-again (where_any selectors) rest w h = class-again (where_any selectors) rest w refl h
-after-again (nth_of last p selectors) rest w h =
-    class-again (nth_of last p selectors) rest w (nth_colon last p selectors) h
+after-again (tested test selectors) rest w h =
+    class-again (tested test selectors) rest w (test_colon test selectors) h
 
 nothing_after : after_element [] ≡ none
 unfolding after_element

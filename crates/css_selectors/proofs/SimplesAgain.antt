@@ -11,7 +11,7 @@ use Rattle.css_syntax.specs.Tokens.{is_name_byte}
 use Rattle.css_selectors.specs.declared.components.Numbering.{Numbering}
 use Rattle.css_selectors.specs.declared.components.Numbering.TheVariants.{Child as OfChild, LastChild as OfLastChild, OfType, LastOfType as OfLastType}
 use Rattle.css_selectors.specs.declared.components.Function.TheVariants.{Numbered, Language}
-use Rattle.css_selectors.specs.Components.{Comparison, Progression, Structure, Namespace, Local, Simple, Condition}
+use Rattle.css_selectors.specs.Components.{Comparison, Progression, Structure, Namespace, Local, Simple, ListTest, Condition}
 use Rattle.css_selectors.specs.Components.Comparison.{equals, has_word, has_subtag, starts as starts_with, ends as ends_with, contains}
 use Rattle.css_selectors.specs.Components.Structure.{root, scope, empty, first_child, last_child, only_child, first_of_type, last_of_type, only_of_type, nth_child, nth_last_child, nth_of_type, nth_last_of_type}
 use Rattle.css_selectors.specs.Components.Namespace.{absent, any_namespace, of_prefix}
@@ -19,7 +19,7 @@ use Rattle.css_selectors.specs.Components.Local.{any_type, a_type, some_attribut
 use Rattle.css_selectors.specs.Components.Simple.{universal, type_name, id, class, has_attribute, attribute, structure, language, state, function, named_element, nesting, namespaced}
 use Rattle.css_selectors.specs.Components.Condition.{simple}
 use Rattle.css_selectors.specs.Readings.{got, follow, give, ◌>>=◌, ◌>>◌, Step, item, none, as_item, with_first, go_on, items, items_up_to}
-use Rattle.css_selectors.specs.Grammar.{gap, past_comments, name, begins_name, begins_word, begins_compound, ampersand, value, comparison, flag, flag_named, compared, by_comparison, is_bar, at_bar, prefix, namespace, in_namespace, attribute_from_name, attribute_selector, closing, progression, one_more, plain_structure, plain_pseudo, list_kind, function_named, numbered_by, next_range, range_after, language_ranges, argument_of, of_list, after_word, from_last, after_progression, functional, is_old_element, next_simple, simple_item, ListReader, with_argument, pseudo_condition, condition_here, condition_by}
+use Rattle.css_selectors.specs.Grammar.{gap, past_comments, name, begins_name, begins_word, begins_compound, ampersand, value, comparison, flag, flag_named, compared, by_comparison, is_bar, at_bar, prefix, namespace, in_namespace, attribute_from_name, attribute_selector, closing, progression, one_more, plain_structure, plain_pseudo, list_kind, function_named, numbered_by, next_range, range_after, language_ranges, argument_of, of_list, after_word, list_test, after_progression, functional, is_old_element, next_simple, simple_item, ListReader, with_argument, pseudo_condition, condition_here, condition_by}
 use Rattle.css_selectors.specs.Printing.{identifier_text, string_text, progression_text, comparison_text, flag_text, structure_text, further_text, list_text, namespace_text, simple_text}
 use Rattle.css_selectors.specs.KnownNames.{functions}
 use Rattle.css_selectors.specs.WellFormed.{IsDenoted, IsName, IsArgumentOf, IsProgression, IsStructure, IsNamespace, IsFurther}
@@ -455,36 +455,36 @@ numbered_argument : (list : ListReader) (opened n rest : List ℕ) (kind : Numbe
 numbered_argument list opened n rest kind p w =
     let end : List ℕ = close_parenthesis ∷ rest in
     ap (λ r. follow r (λ x. progression >>= λ q. gap >>
-    after_progression list opened kind q (from_last kind)))
+    after_progression list opened kind q (list_test kind q)))
     (no_gap _ (progression_calm p end w.0 w.1))
     ∙ gapped_next (progression (progression_text p ++ end))
-    (λ q. after_progression list opened kind q (from_last kind)) p end
+    (λ q. after_progression list opened kind q (list_test kind q)) p end
     (progression-again p end end w.0 w.1 (closed_end rest))
-    ∙ by (from_last kind)
+    ∙ by (list_test kind p)
   where
-    by : (o : Option Bool)
+    by : (o : Option ListTest)
         → after_progression list opened kind p o (close_parenthesis ∷ rest)
         ≡ got (simple (structure (numbered_by kind p))) rest
     by None = refl
-    by (Some last) = refl
+    by (Some test) = refl
 
 -- a list after it is read by what reads lists, from the blank after `of` on
-pub of_argument : (list : ListReader) (opened n a : List ℕ) (kind : Numbering) (last : Bool)
-    (p : Progression) → from_last kind ≡ Some last → IsProgression p
+pub of_argument : (list : ListReader) (opened n a : List ℕ) (kind : Numbering) (test : ListTest)
+    (p : Progression) → list_test kind p ≡ Some test → IsProgression p
     → functional list opened n (Some (Numbered kind)) (progression_text p ++ (codes " of " ++ a))
-    ≡ of_list list last p opened (space ∷ a)
-of_argument list opened n a kind last p is_last w =
+    ≡ of_list list test opened (space ∷ a)
+of_argument list opened n a kind test p is_test w =
     let listed : List ℕ = space ∷ a in
     let left : List ℕ = 111 ∷ 102 ∷ listed in
     let end : List ℕ = space ∷ left in
     ap (λ r. follow r (λ x. progression >>= λ q. gap >>
-    after_progression list opened kind q (from_last kind)))
+    after_progression list opened kind q (list_test kind q)))
     (no_gap _ (progression_calm p end w.0 w.1))
     ∙ gapped_next (progression (progression_text p ++ end))
-    (λ q. after_progression list opened kind q (from_last kind)) p left
+    (λ q. after_progression list opened kind q (list_test kind q)) p left
     (progression-again p end left w.0 w.1 (of_end (102 ∷ listed)))
-    ∙ ap (λ o. after_progression list opened kind p o left) is_last
-    ∙ ap (λ r. follow r (after_word list opened last p left))
+    ∙ ap (λ o. after_progression list opened kind p o left) is_test
+    ∙ ap (λ r. follow r (after_word list opened test left))
     (name-again (codes "of") listed (omega arith, refl) (record { bare = refl; calm = refl; apart = refl }))
 
 -- a further language range

@@ -1,7 +1,7 @@
 -- Worked texts, computed with the definitions.
 -- Computes `name`, `ident_sequence`, `progression`, `attribute_selector`, `next_condition` and
 -- `complex_list`.
-use Rattle.std.specs.Prelude.{◌≡◌, refl, ℕ, zero, List, [], ◌∷◌, map, codes, true, false}
+use Rattle.std.specs.Prelude.{◌≡◌, refl, ℕ, List, [], ◌∷◌, map, codes, true, false}
 use Rattle.css_matching.specs.declared.Combinator.TheVariants.{Descendant}
 use Rattle.css_text.specs.Comments.{blank, comment, gap as gap_before}
 use Rattle.css_text.specs.Reading.{each}
@@ -16,7 +16,8 @@ use Rattle.css_selectors.specs.Components.Local.{any_type, a_type, some_attribut
 use Rattle.css_selectors.specs.Components.Simple.{type_name, class, has_attribute, attribute, state, namespaced}
 use Rattle.css_selectors.specs.Components.Condition.{simple}
 use Rattle.css_selectors.specs.Readings.{got, refused, item, stop}
-use Rattle.css_selectors.specs.Grammar.{gap, ident_sequence, name, string, value, comparison, flag, compared, namespace, at_bar, prefix, attribute_from_name, attribute_selector, signed, stepping, offset_or_none, with_offset, subtracted, by_tail, n_word, progression, any_or_name, type_selector, next_simple, next_condition, compound, complex, next_part_in, listed_part, next_listed, past_part, complex_list}
+use Rattle.css_selectors.specs.declared.components.ListKind.TheVariants.{Not, Is}
+use Rattle.css_selectors.specs.Grammar.{gap, ident_sequence, name, string, value, comparison, flag, compared, namespace, at_bar, prefix, attribute_from_name, attribute_selector, signed, stepping, offset_or_none, with_offset, subtracted, by_tail, n_word, progression, any_or_name, type_selector, next_simple, Finder, condition_at, next_condition, compound, complex_by, complex, next_part_in, listed_part, next_listed, past_part, complex_list}
 
 -- `-->` is no name, but in a hash its hyphens are one; a backslash before a newline is no escape; U+0000
 -- is U+FFFD
@@ -70,15 +71,19 @@ unfolding each past_escape past_comment name_part string_part decoded_part unesc
     attribute_selector any_or_name type_selector lib.Utf8.encode
 namespaces = (refl, refl, refl, refl, refl, refl)
 
+-- where no list may be open
+abbrev nowhere : Finder
+nowhere = next_condition (record { depth = 0; in_has = false })
+
 -- comments are between any two tokens; a url is no function; unknown names are refused
 pub conditions :
-    (next_condition zero (codes "/**/./**/b") ≡ item (simple (class (codes "b"))) [])
-    × (next_condition zero (codes ":/**/hov\\65 r/") ≡ item (simple (state (codes "hover"))) (codes "/"))
-    × (next_condition zero (codes "#/**/a") ≡ stop NoName (codes "/**/a"))
-    × (next_condition zero (codes ":url(x)") ≡ stop UnknownFunction (codes ":url(x)"))
-    × (next_condition zero (codes ":foo.b") ≡ stop UnknownName (codes ":foo.b"))
+    (nowhere (codes "/**/./**/b") ≡ item (simple (class (codes "b"))) [])
+    × (nowhere (codes ":/**/hov\\65 r/") ≡ item (simple (state (codes "hover"))) (codes "/"))
+    × (nowhere (codes "#/**/a") ≡ stop NoName (codes "/**/a"))
+    × (nowhere (codes ":url(x)") ≡ stop UnknownFunction (codes ":url(x)"))
+    × (nowhere (codes ":foo.b") ≡ stop UnknownName (codes ":foo.b"))
 unfolding each past_escape past_comment name_part decoded_part unescaped_in ident_sequence name
-    next_simple next_condition lib.Utf8.encode
+    next_simple condition_at lib.Utf8.encode
 conditions = (refl, refl, refl, refl, refl)
 
 -- a compound selector of a type
@@ -87,15 +92,15 @@ types names = map (λ n. (record { combinator = Descendant; conditions = simple 
 
 -- a forgiving list leaves out what is no selector, up to a comma or parenthesis outside brackets
 pub lists :
-    (complex_list true (next_condition zero) (codes "a, %%, b)c") ≡ got (types (codes "a" ∷ codes "b" ∷ [])) (codes "c"))
-    × (complex_list true (next_condition zero) (codes ")") ≡ got [] [])
-    × (complex_list true (next_condition zero) (codes ",/**/,a 5,b,)") ≡ got (types (codes "b" ∷ [])) [])
-    × (complex_list true (next_condition zero) (codes "{),},],b") ≡ got (types (codes "b" ∷ [])) [])
-    × (complex_list true (next_condition zero) (codes "a!b,c") ≡ got (types (codes "c" ∷ [])) [])
-    × (complex_list true (next_condition zero) (codes "a,:is(b))") ≡ refused TooDeep (codes ":is(b))"))
-    × (complex_list false (next_condition zero) (codes "a, %%)") ≡ refused NoSelector (codes "%%)"))
+    (complex_list Is nowhere (codes "a, %%, b)c") ≡ got (types (codes "a" ∷ codes "b" ∷ [])) (codes "c"))
+    × (complex_list Is nowhere (codes ")") ≡ got [] [])
+    × (complex_list Is nowhere (codes ",/**/,a 5,b,)") ≡ got (types (codes "b" ∷ [])) [])
+    × (complex_list Is nowhere (codes "{),},],b") ≡ got (types (codes "b" ∷ [])) [])
+    × (complex_list Is nowhere (codes "a!b,c") ≡ got (types (codes "c" ∷ [])) [])
+    × (complex_list Is nowhere (codes "a,:is(b))") ≡ refused TooDeep (codes ":is(b))"))
+    × (complex_list Not nowhere (codes "a, %%)") ≡ refused NoSelector (codes "%%)"))
 unfolding each past_escape past_comment name_part decoded_part unescaped_in blank comment gap_before gap
-    ident_sequence name namespace at_bar any_or_name type_selector next_simple next_condition compound complex next_part_in listed_part
+    ident_sequence name namespace at_bar any_or_name type_selector next_simple condition_at compound complex_by complex next_part_in listed_part
     next_listed past_part complex_list token block_of past_open component_value gap_part string_part
     past_string url_part remnant_part past_url spells past_letter lib.Utf8.encode
 lists = (refl, refl, refl, refl, refl, refl, refl)

@@ -7,7 +7,7 @@ use Rattle.css_matching.specs.declared.Combinator.TheVariants.{Descendant, Child
 use Rattle.css_selectors.specs.Documents.{Document}
 use Rattle.css_selectors.specs.Components.{Simple, Condition, Conditions, Parts, Selectors, Part, Selector, parts_from}
 use Rattle.css_selectors.specs.Components.Simple.{universal, type_name, id, class, has_attribute, attribute, structure, language, state, function, named_element, nesting, namespaced}
-use Rattle.css_selectors.specs.Components.Condition.{simple, negation, any_of, where_any, nth_of}
+use Rattle.css_selectors.specs.Components.Condition.{simple, negation, any_of, where_any, tested}
 use Rattle.css_selectors.specs.Components.Conditions.{end_of_compound, with_condition}
 use Rattle.css_selectors.specs.Components.Parts.{end_of_selector, with_part}
 use Rattle.css_selectors.specs.Components.Selectors.{end_of_list, with_selector}
@@ -115,7 +115,7 @@ is_exact_condition (simple s) = is_exact s
 is_exact_condition (negation selectors) = false
 is_exact_condition (any_of selectors) = false
 is_exact_condition (where_any selectors) = false
-is_exact_condition (nth_of last p selectors) = false
+is_exact_condition (tested test selectors) = false
 
 -- whether it is one id or one class
 abbrev pub is_one_id_or_class : Conditions → Bool
@@ -140,7 +140,7 @@ is_only_key (simple s) = is_whole s
 is_only_key (negation selectors) = false
 is_only_key (any_of selectors) = are_exact selectors
 is_only_key (where_any selectors) = are_exact selectors
-is_only_key (nth_of last p selectors) = false
+is_only_key (tested test selectors) = false
 
 -- whether it is one such condition
 abbrev pub are_only_keys : List Condition → Bool

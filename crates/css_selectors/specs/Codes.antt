@@ -1,13 +1,14 @@
 -- How the logic stores a condition: as a list of marks, each before what it makes of what follows.
-use Rattle.std.specs.Prelude.{◌≡◌, ℕ, Bool, true, false, ◌==◌, if◌then◌else◌, List, [], ◌∷◌, refl}
+use Rattle.std.specs.Prelude.{◌≡◌, ℕ, ◌==◌, if◌then◌else◌, List, [], ◌∷◌, refl}
 use Rattle.std.specs.Coded.{Coded, code_by, coded_list, coded⊎, coded_ℕ}
 use Rattle.std.proofs.Common.{◌⊎◌, inl, inr, ap, ◌∙◌}
 use Rattle.css_matching.specs.declared.Combinator.{Combinator}
 use Rattle.css_matching.specs.declared.Combinator.TheVariants.{Descendant, Child, Adjacent, Sibling}
-use Rattle.css_selectors.specs.Components.{Structure, Progression, Simple, Condition, Conditions, Parts, Selectors}
-use Rattle.css_selectors.specs.Components.Structure.{nth_child}
+use Rattle.css_selectors.specs.Components.{Progression, Simple, ListTest, Condition, Conditions, Parts, Selectors}
+use Rattle.css_selectors.specs.Components.ListTest.{has, nth_child, nth_last_child}
+use Rattle.css_selectors.specs.Components.Structure.{nth_child as counted_by}
 use Rattle.css_selectors.specs.Components.Simple.{universal, structure}
-use Rattle.css_selectors.specs.Components.Condition.{simple, negation, any_of, where_any, nth_of}
+use Rattle.css_selectors.specs.Components.Condition.{simple, negation, any_of, where_any, tested}
 use Rattle.css_selectors.specs.Components.Conditions.{end_of_compound, with_condition}
 use Rattle.css_selectors.specs.Components.Parts.{end_of_selector, with_part}
 use Rattle.css_selectors.specs.Components.Selectors.{end_of_list, with_selector}
@@ -22,12 +23,17 @@ joined_mark Child = inr 8
 joined_mark Adjacent = inr 9
 joined_mark Sibling = inr 10
 
-abbrev nth_mark : Bool → Mark
-nth_mark last = inr (if last then 12 else 13)
+-- a test without its `An+B`
+abbrev test_mark : ListTest → Mark
+test_mark (nth_child p) = inr 12
+test_mark (nth_last_child p) = inr 13
+test_mark has = inr 14
 
--- `An+B`, as a condition before the list to which it belongs
-abbrev counted : Progression → Simple
-counted p = structure (nth_child p)
+-- the `An+B` of a test, as a condition before the list to which it belongs
+abbrev counted : ListTest → Simple
+counted (nth_child p) = structure (counted_by p)
+counted (nth_last_child p) = structure (counted_by p)
+counted has = universal
 
 abbrev mutual
   marks_of : Condition → List Mark → List Mark
@@ -35,8 +41,8 @@ abbrev mutual
   marks_of (negation selectors) rest = inr 0 ∷ list_marks selectors rest
   marks_of (any_of selectors) rest = inr 1 ∷ list_marks selectors rest
   marks_of (where_any selectors) rest = inr 2 ∷ list_marks selectors rest
-  marks_of (nth_of last p selectors) rest =
-      nth_mark last ∷ inl (counted p) ∷ list_marks selectors rest
+  marks_of (tested test selectors) rest =
+      test_mark test ∷ inl (counted test) ∷ list_marks selectors rest
 
   compound_marks : Conditions → List Mark → List Mark
   compound_marks end_of_compound rest = inr 3 ∷ rest
@@ -65,14 +71,15 @@ abbrev make_listed
 make_listed kind a b c [] = made a b c []
 make_listed kind a b c (l ∷ d) = made (kind l ∷ a) b c d
 
-abbrev make_nth_by
-    : Bool → Simple → List Condition → List Conditions → List Parts → List Selectors → Made
-make_nth_by last (structure (nth_child p)) a b c (l ∷ d) = made (nth_of last p l ∷ a) b c d
-make_nth_by last s a b c d = made a b c d
+-- the test of this kind, with the `An+B` that was made
+abbrev test_by : (Progression → ListTest) → Simple → ListTest
+test_by kind (structure (counted_by p)) = kind p
+test_by kind s = has
 
-abbrev make_nth : Bool → List Condition → List Conditions → List Parts → List Selectors → Made
-make_nth last (simple s ∷ a) b c d = make_nth_by last s a b c d
-make_nth last a b c d = made a b c d
+abbrev make_test
+    : (Progression → ListTest) → List Condition → List Conditions → List Parts → List Selectors → Made
+make_test kind (simple s ∷ a) b c (l ∷ d) = made (tested (test_by kind s) l ∷ a) b c d
+make_test kind a b c d = made a b c d
 
 abbrev make_condition : List Condition → List Conditions → List Parts → List Selectors → Made
 make_condition (x ∷ a) (y ∷ b) c d = made a (with_condition x y ∷ b) c d
@@ -101,8 +108,9 @@ make_by n a b c d =
     else (if n == 9 then make_part Adjacent a b c d
     else (if n == 10 then make_part Sibling a b c d
     else (if n == 11 then made a b (end_of_selector ∷ c) d
-    else (if n == 12 then make_nth true a b c d
-    else make_nth false a b c d))))))))))))
+    else (if n == 12 then make_test nth_child a b c d
+    else (if n == 13 then make_test nth_last_child a b c d
+    else make_test (λ p. has) a b c d)))))))))))))
 
 abbrev make : Mark → Made → Made
 make (inl s) m = made (simple s ∷ m.0) m.1.0 m.1.1.0 m.1.1.1
@@ -135,11 +143,12 @@ made_joined Child c parts m = refl
 made_joined Adjacent c parts m = refl
 made_joined Sibling c parts m = refl
 
-made_nth : (last : Bool) (p : Progression) (l : Selectors) (m : Made)
-    → make (nth_mark last) (make (inl (counted p)) (more_list l m))
-    ≡ more_condition (nth_of last p l) m
-made_nth true p l m = refl
-made_nth false p l m = refl
+made_test : (test : ListTest) (l : Selectors) (m : Made)
+    → make (test_mark test) (make (inl (counted test)) (more_list l m))
+    ≡ more_condition (tested test l) m
+made_test (nth_child p) l m = refl
+made_test (nth_last_child p) l m = refl
+made_test has l m = refl
 
 mutual
   made_condition : (c : Condition) (rest : List Mark)
@@ -148,9 +157,9 @@ mutual
   made_condition (negation selectors) rest = ap (make (inr 0)) (made_list selectors rest)
   made_condition (any_of selectors) rest = ap (make (inr 1)) (made_list selectors rest)
   made_condition (where_any selectors) rest = ap (make (inr 2)) (made_list selectors rest)
-  made_condition (nth_of last p selectors) rest =
-      ap (λ m. make (nth_mark last) (make (inl (counted p)) m)) (made_list selectors rest)
-      ∙ made_nth last p selectors (made_of rest)
+  made_condition (tested test selectors) rest =
+      ap (λ m. make (test_mark test) (make (inl (counted test)) m)) (made_list selectors rest)
+      ∙ made_test test selectors (made_of rest)
 
   made_compound : (c : Conditions) (rest : List Mark)
       → made_of (compound_marks c rest) ≡ more_compound c (made_of rest)
@@ -190,3 +199,12 @@ from_marks-to_marks c = ap (λ m. first_of_all m.0) (made_condition c [])
 abbrev pub condition_code : Coded Simple → Coded Condition
 condition_code code =
     code_by (List Mark) (coded_list (coded⊎ code coded_ℕ)) to_marks from_marks from_marks-to_marks
+
+abbrev list_of_negation : Condition → Selectors
+list_of_negation (negation selectors) = selectors
+list_of_negation c = end_of_list
+
+-- the code of lists: a list is stored as the `:not()` of it
+abbrev pub selectors_code : Coded Simple → Coded Selectors
+selectors_code code =
+    code_by Condition (condition_code code) (λ selectors. negation selectors) list_of_negation (λ _. refl)

@@ -93,6 +93,13 @@ pub data Simple : Type 0 where
 abbrev pub outermost : Nesting
 outermost = record { number = 0; specificity = record { ids = 0; classes = 0; names = 0 } }
 
+-- what a pseudo-class asks of its list: `:has(..)`, `:nth-child(An+B of ..)` or
+-- `:nth-last-child(An+B of ..)`
+pub data ListTest : Type 0 where
+  has : ListTest
+  nth_child : Progression → ListTest
+  nth_last_child : Progression → ListTest
+
 mutual
   -- a simple selector, or a pseudo-class with a list of complex selectors
   pub data Condition : Type 0 where
@@ -103,16 +110,16 @@ mutual
     any_of : Selectors → Condition
     -- `:where(..)`, which counts nothing
     where_any : Selectors → Condition
-    -- `:nth-child(An+B of S)`, or `:nth-last-child(An+B of S)` if elements are numbered from the last
-    nth_of : (from_last : Bool) → Progression → Selectors → Condition
+    -- `:has(..)`, `:nth-child(An+B of ..)` or `:nth-last-child(An+B of ..)`
+    tested : ListTest → Selectors → Condition
 
   -- a compound selector: its conditions, one after another
   pub data Conditions : Type 0 where
     end_of_compound : Conditions
     with_condition : Condition → Conditions → Conditions
 
-  -- a complex selector: its compound selectors from left to right, each with how it is joined to the
-  -- one before it
+  -- A complex selector: its compound selectors from left to right, each with how it is joined to the
+  -- one before it. In a list of `:has()` the first is joined to the element that is asked.
   pub data Parts : Type 0 where
     end_of_selector : Parts
     with_part : Combinator → Conditions → Parts → Parts

@@ -9,7 +9,7 @@ use Rattle.css_matching.specs.Trees.{Counts, SiblingsShareParent, IsMonotone}
 use Rattle.css_matching.proofs.Steps.{count_less, sibling_parent}
 use Rattle.css_selectors.specs.Documents.{Document, shape}
 use Rattle.css_selectors.specs.Components.{Condition, Conditions, Parts, Selectors}
-use Rattle.css_selectors.specs.Components.Condition.{simple, negation, any_of, where_any, nth_of}
+use Rattle.css_selectors.specs.Components.Condition.{simple, negation, any_of, where_any, tested}
 use Rattle.css_selectors.specs.Components.Conditions.{end_of_compound, with_condition}
 use Rattle.css_selectors.specs.Components.Parts.{end_of_selector, with_part}
 use Rattle.css_selectors.specs.Components.Selectors.{end_of_list, with_selector}
@@ -47,11 +47,7 @@ module _ {Node : Type 0} (d : Document Node) where
       condition-le (negation selectors) = list-le selectors
       condition-le (any_of selectors) = list-le selectors
       condition-le (where_any selectors) = list-le selectors
-      condition-le (nth_of last p selectors) =
-          let w = h.width in
-          let l = list-le selectors in
-          product-le (width (shape d) (d.depth m + 1) m + 1) (width (shape d) (d.depth n + 1) n + 1)
-          (list_cost d selectors m + 1) (list_cost d selectors n + 1) (omega (arith, w)) (omega (arith, l))
+      condition-le (tested test selectors) = omega arith
 
       compound-le : (cs : Conditions) → compound_cost d cs m ≤ compound_cost d cs n
       compound-le end_of_compound = omega arith
@@ -108,11 +104,6 @@ module _ {Node : Type 0} (d : Document Node) where
         ∙ ap (λ k. option_map_or (width (shape d) k) (d.parent n) 0) same in
         record { depth = omega (arith, same); width = omega (arith, a, b, c, one) }
 
-    -- a list costs no more on the sibling before
-    pub list_before : (selectors : Selectors) (n s : Node) → d.previous_sibling n ≡ Some s
-        → list_cost d selectors s ≤ list_cost d selectors n
-    list_before selectors n s e = list-le s n (before_lighter n s e) selectors
-
     if_some : (o : Option Node) (P : Node → Type 0) → ((p : Node) → o ≡ Some p → P p) → IfSome o P
     if_some None P h = tt
     if_some (Some p) P h = h p refl
@@ -137,7 +128,7 @@ module _ {Node : Type 0} (d : Document Node) where
       condition-plain (negation selectors) h = list-plain selectors h
       condition-plain (any_of selectors) h = list-plain selectors h
       condition-plain (where_any selectors) h = list-plain selectors h
-      condition-plain (nth_of last p selectors) h = absurd h
+      condition-plain (tested test selectors) h = refl
 
       compound-plain : (cs : Conditions) → ArePlain cs → compound_cost d cs n ≡ 0
       compound-plain end_of_compound h = refl

@@ -3,7 +3,7 @@ use Rattle.std.specs.Prelude.{ℕ, ◌+◌, ◌-◌, ◌*◌, Bool, true, false,
 use Rattle.css_matching.specs.Bounds.{longest_fixed, longest_free, most_levels, width}
 use Rattle.css_selectors.specs.Documents.{Document, shape}
 use Rattle.css_selectors.specs.Components.{Condition, Conditions, Parts, Selectors}
-use Rattle.css_selectors.specs.Components.Condition.{simple, negation, any_of, where_any, nth_of}
+use Rattle.css_selectors.specs.Components.Condition.{simple, negation, any_of, where_any, tested}
 use Rattle.css_selectors.specs.Components.Conditions.{end_of_compound, with_condition}
 use Rattle.css_selectors.specs.Components.Parts.{end_of_selector, with_part}
 use Rattle.css_selectors.specs.Components.Selectors.{end_of_list, with_selector}
@@ -31,16 +31,13 @@ selector_cost_by true questions dearest = dearest
 selector_cost_by false questions dearest = questions * (dearest + 1)
 
 abbrev mutual
-  -- The tests that a condition's lists make on a node. A list after `An+B` is asked of each earlier
-  -- sibling, which is a test more; those of the ancestors are counted, too, so that an ancestor costs
-  -- no more.
+  -- the tests that a condition's lists make on a node; a list that has no number yet makes none
   pub condition_cost : {Node : Type 0} → Document Node → Condition → Node → ℕ
   condition_cost document (simple s) n = 0
   condition_cost document (negation selectors) n = list_cost document selectors n
   condition_cost document (any_of selectors) n = list_cost document selectors n
   condition_cost document (where_any selectors) n = list_cost document selectors n
-  condition_cost document (nth_of last p selectors) n =
-      (width (shape document) (document.depth n + 1) n + 1) * (list_cost document selectors n + 1)
+  condition_cost document (tested test selectors) n = 0
 
   pub compound_cost : {Node : Type 0} → Document Node → Conditions → Node → ℕ
   compound_cost document end_of_compound n = 0
@@ -67,14 +64,14 @@ selector_cost document parts n =
     selector_cost_by (is_lone parts) (most_questions document parts n)
     (dearest_part document parts n)
 
--- no list has a selector with a combinator, and none is after `An+B`
+-- no list that makes tests has a selector with a combinator
 abbrev mutual
   pub IsPlain : Condition → Type 0
   IsPlain (simple s) = Unit {0}
   IsPlain (negation selectors) = IsPlainList selectors
   IsPlain (any_of selectors) = IsPlainList selectors
   IsPlain (where_any selectors) = IsPlainList selectors
-  IsPlain (nth_of last p selectors) = ⊥
+  IsPlain (tested test selectors) = Unit {0}
 
   pub ArePlain : Conditions → Type 0
   ArePlain end_of_compound = Unit {0}

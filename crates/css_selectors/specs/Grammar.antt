@@ -24,18 +24,20 @@ use Rattle.css_selectors.specs.declared.components.Function.{Function}
 use Rattle.css_selectors.specs.declared.components.Function.TheVariants.{Numbered, Language}
 use Rattle.css_selectors.specs.declared.components.ListKind.{ListKind}
 use Rattle.css_selectors.specs.declared.components.Nesting.{Nesting}
-use Rattle.css_selectors.specs.declared.components.ListKind.TheVariants.{Not, Is, Where}
+use Rattle.css_selectors.specs.declared.components.ListKind.TheVariants.{Not, Is, Where, Has}
+use Rattle.css_selectors.specs.declared.room.Room.{Room}
 use Rattle.css_selectors.specs.declared.reading.Start.{Start}
 use Rattle.css_selectors.specs.declared.reading.Start.TheVariants.{Plain, Relative}
 use Rattle.css_selectors.specs.declared.refusal.Why.{Why}
 use Rattle.css_selectors.specs.declared.refusal.Why.TheVariants.{NoSelector, NoName, BrokenString, NoOperator, NoValue, UnknownFlag, NoProgression, UnknownName, UnknownFunction, TooDeep, Unexpected}
-use Rattle.css_selectors.specs.Components.{Comparison, Signed, Progression, Structure, Namespace, Local, Simple, outermost, Condition, Part, PseudoElement, Placed, Selector, selectors_from}
+use Rattle.css_selectors.specs.Components.{Comparison, Signed, Progression, Structure, Namespace, Local, Simple, outermost, ListTest, Condition, Part, PseudoElement, Placed, Selector, selectors_from}
 use Rattle.css_selectors.specs.Components.Comparison.{equals, has_word, has_subtag, starts as starts_with, ends as ends_with, contains}
+use Rattle.css_selectors.specs.Components.ListTest.{has, nth_child as nth_child_list, nth_last_child as nth_last_child_list}
 use Rattle.css_selectors.specs.Components.Structure.{root, scope, empty, first_child, last_child, only_child, first_of_type, last_of_type, only_of_type, nth_child, nth_last_child, nth_of_type, nth_last_of_type}
 use Rattle.css_selectors.specs.Components.Namespace.{absent, any_namespace, of_prefix}
 use Rattle.css_selectors.specs.Components.Local.{any_type, a_type, some_attribute, an_attribute}
 use Rattle.css_selectors.specs.Components.Simple.{universal, type_name, id, class, has_attribute, attribute, structure, language, state, function, named_element, nesting, namespaced}
-use Rattle.css_selectors.specs.Components.Condition.{simple, negation, any_of, where_any, nth_of}
+use Rattle.css_selectors.specs.Components.Condition.{simple, negation, any_of, where_any, tested}
 use Rattle.css_selectors.specs.KnownNames.{is_one_of, states, functions, is_element, element_functions}
 use Rattle.css_selectors.specs.Readings.{Reading, got, refused, Reader, follow, ◌>>=◌, ◌>>◌, give, Step, item, none, stop, step_after, as_item, with_first, items}
 
@@ -382,7 +384,8 @@ abbrev pub list_kind : List ℕ → Option ListKind
 list_kind n =
     if is_word (codes "not") n then Some Not
     else (if is_word (codes "is") n then Some Is
-    else (if is_word (codes "where") n then Some Where else None))
+    else (if is_word (codes "where") n then Some Where
+    else (if is_word (codes "has") n then Some Has else None)))
 
 -- a pseudo-class that is only a name, by the structural one of this name; `opened` is the text from its
 -- colon on
@@ -557,11 +560,31 @@ part_after one (got spaced rest) = by_sign one spaced rest (first_sign rest)
 unfoldable pub next_part_in : Finder → List ℕ → Step Part
 next_part_in next text = part_after (compound next) (gap text)
 
--- a complex selector in a list
-unfoldable pub complex : Finder → Reader (List Part)
-complex next = do
+-- a complex selector in a list, of which the first compound selector is joined so to what is before it
+unfoldable pub complex_by : Combinator → Finder → Reader (List Part)
+complex_by combinator next = do
   first ← compound next
-  one_more (joined_by Descendant first) (items (next_part_in next))
+  one_more (joined_by combinator first) (items (next_part_in next))
+
+-- whether the selectors of a list are relative, as those of `:has()` are (Selectors 4, section 4.5)
+abbrev pub is_relative : ListKind → Bool
+is_relative Not = false
+is_relative Is = false
+is_relative Where = false
+is_relative Has = true
+
+-- the sign of a combinator before a relative selector
+abbrev pub leading_sign : ListKind → List ℕ → Option Combinator
+leading_sign kind text = if is_relative kind then first_sign text else None
+
+-- Without a sign a relative selector is of descendants.
+abbrev pub after_leading : Finder → List ℕ → Option Combinator → Reading (List Part)
+after_leading next text None = complex_by Descendant next text
+after_leading next text (Some combinator) = (gap >> complex_by combinator next) (past_one text)
+
+-- a complex selector in a list of this kind
+unfoldable pub complex : ListKind → Finder → Reader (List Part)
+complex kind next text = after_leading next text (leading_sign kind text)
 
 -- A part of a list ends at a comma, at the closing parenthesis, or with the text.
 abbrev pub ends_part : List ℕ → Bool
@@ -594,18 +617,25 @@ part_end forgiving text s (refused why rest) = refused why rest
 part_end forgiving text s (got spaced rest) =
     if ends_part rest then got (Some s) rest else no_selector forgiving text Unexpected rest
 
+-- whether a list leaves out what is no selector
+abbrev pub is_forgiving : ListKind → Bool
+is_forgiving Not = false
+is_forgiving Is = true
+is_forgiving Where = true
+is_forgiving Has = false
+
 abbrev pub judged : Bool → List ℕ → Reading (List Part) → Reading (Option (List Part))
 judged forgiving text (got s rest) = part_end forgiving text s (gap rest)
 judged forgiving text (refused why rest) = no_selector forgiving text why rest
 
--- A part of a list: the selector that it is, or none. `forgiving` is whether the list is.
-unfoldable pub listed_part : Bool → Finder → Reader (Option (List Part))
-listed_part forgiving next text = judged forgiving text ((gap >> complex next) text)
+-- a part of a list of this kind: the selector that it is, or none
+unfoldable pub listed_part : ListKind → Finder → Reader (Option (List Part))
+listed_part kind next text = judged (is_forgiving kind) text ((gap >> complex kind next) text)
 
 -- a further part, after a comma
-unfoldable pub next_listed : Bool → Finder → List ℕ → Step (Option (List Part))
-next_listed forgiving next text =
-    if starts comma text then as_item (λ s. s) (listed_part forgiving next (past_one text)) else none
+unfoldable pub next_listed : ListKind → Finder → List ℕ → Step (Option (List Part))
+next_listed kind next text =
+    if starts comma text then as_item (λ s. s) (listed_part kind next (past_one text)) else none
 
 -- the selectors of parts
 abbrev pub kept : List (Option (List Part)) → List (List Part)
@@ -618,27 +648,20 @@ keep (got all rest) = got (kept all) rest
 keep (refused why rest) = refused why rest
 
 -- the selectors of a list, of which the first part was read
-abbrev pub selectors_after : Bool → Finder → Option (List Part) → Reader (List (List Part))
-selectors_after forgiving next first text =
-    keep (with_first first (items (next_listed forgiving next) text))
-
--- whether a list leaves out what is no selector
-abbrev pub is_forgiving : ListKind → Bool
-is_forgiving Not = false
-is_forgiving Is = true
-is_forgiving Where = true
+abbrev pub selectors_after : ListKind → Finder → Option (List Part) → Reader (List (List Part))
+selectors_after kind next first text = keep (with_first first (items (next_listed kind next) text))
 
 abbrev pub listed : ListKind → List (List Part) → Condition
 listed Not selectors = negation (selectors_from selectors)
 listed Is selectors = any_of (selectors_from selectors)
 listed Where selectors = where_any (selectors_from selectors)
+listed Has selectors = tested has (selectors_from selectors)
 
--- A list of a pseudo-class, from after its parenthesis, by whether it is forgiving and what finds a
--- condition.
-unfoldable pub complex_list : Bool → Finder → Reader (List (List Part))
-complex_list forgiving next = do
-  first ← listed_part forgiving next
-  selectors ← selectors_after forgiving next first
+-- a list of a pseudo-class, from after its parenthesis, by its kind and what finds a condition
+unfoldable pub complex_list : ListKind → Finder → Reader (List (List Part))
+complex_list kind next = do
+  first ← listed_part kind next
+  selectors ← selectors_after kind next first
   closing close_parenthesis
   give selectors
 
@@ -646,40 +669,47 @@ complex_list forgiving next = do
 abbrev pub ListReader : Type 0
 ListReader = ListKind → List ℕ → Reader (List (List Part))
 
-abbrev pub list_by : Finder → ListReader
-list_by next kind opened = complex_list (is_forgiving kind) next
+-- Whether a list of this kind may be open, where one that is open may be of `:has()`: no `:has()` is
+-- within another, at whatever depth (Selectors 4, section 4.5).
+abbrev pub may_open : ListKind → Bool → Bool
+may_open kind in_has = not (is_relative kind && in_has)
+
+-- by what finds a condition where a list of `:has()` is open, and where none is
+abbrev pub list_by : Bool → (Bool → Finder) → ListReader
+list_by in_has next kind opened text =
+    if may_open kind in_has then complex_list kind (next (is_relative kind || in_has)) text
+    else refused Unexpected opened
 
 -- ---- functional pseudo-classes
 
 -- the list after `of`
-abbrev pub of_list : ListReader → Bool → Progression → List ℕ → Reader Condition
-of_list list last p opened =
-    list Not opened >>= λ selectors. give (nth_of last p (selectors_from selectors))
+abbrev pub of_list : ListReader → ListTest → List ℕ → Reader Condition
+of_list list test opened =
+    list Not opened >>= λ selectors. give (tested test (selectors_from selectors))
 
 -- a word after `An+B`: only `of` may be one
-abbrev pub after_word
-    : ListReader → List ℕ → Bool → Progression → List ℕ → List ℕ → Reader Condition
-after_word list opened last p text word rest =
-    if is_word (codes "of") word then of_list list last p opened rest else refused Unexpected text
+abbrev pub after_word : ListReader → List ℕ → ListTest → List ℕ → List ℕ → Reader Condition
+after_word list opened test text word rest =
+    if is_word (codes "of") word then of_list list test opened rest else refused Unexpected text
 
 -- no list is after `An+B`
 abbrev pub without_list : Numbering → Progression → Reader Condition
 without_list kind p = closing close_parenthesis >> give (simple (structure (numbered_by kind p)))
 
--- whether elements are numbered from the last, if all siblings are: only then a list may be after `An+B`
+-- what is asked of a list after `An+B`, if one may be there: only where all siblings are numbered
 -- (Selectors 4, section 14.3)
-abbrev pub from_last : Numbering → Option Bool
-from_last OfChild = Some false
-from_last OfLastChild = Some true
-from_last OfType = None
-from_last OfLastType = None
+abbrev pub list_test : Numbering → Progression → Option ListTest
+list_test OfChild p = Some (nth_child_list p)
+list_test OfLastChild p = Some (nth_last_child_list p)
+list_test OfType p = None
+list_test OfLastType p = None
 
 -- what is after `An+B`
 abbrev pub after_progression
-    : ListReader → List ℕ → Numbering → Progression → Option Bool → Reader Condition
+    : ListReader → List ℕ → Numbering → Progression → Option ListTest → Reader Condition
 after_progression list opened kind p None text = without_list kind p text
-after_progression list opened kind p (Some last) text =
-    if begins_name text then follow (name text) (after_word list opened last p text)
+after_progression list opened kind p (Some test) text =
+    if begins_name text then follow (name text) (after_word list opened test text)
     else without_list kind p text
 
 -- the argument of a pseudo-class with this name, by what reads a list; `opened` is the text from its
@@ -693,7 +723,7 @@ functional list opened n (Some (Numbered kind)) = do
   gap
   p ← progression
   gap
-  after_progression list opened kind p (from_last kind)
+  after_progression list opened kind p (list_test kind p)
 
 -- one colon
 abbrev pub begins_pseudo_class : List ℕ → Bool
@@ -739,23 +769,46 @@ deepest = 32
 abbrev pub too_deep : ListReader
 too_deep kind opened text = refused TooDeep opened
 
--- the next condition of a compound selector, with lists nested at most `n` deep
-unfoldable pub next_condition : ℕ → Finder
-next_condition zero text = condition_by too_deep text
-next_condition (suc n) text = condition_by (list_by (next_condition n)) text
+-- the next condition of a compound selector, with lists nested at most `n` deep, by whether one that is
+-- open is of `:has()`
+unfoldable pub condition_at : ℕ → Bool → Finder
+condition_at zero in_has text = condition_by too_deep text
+condition_at (suc n) in_has text = condition_by (list_by in_has (condition_at n)) text
+
+-- the same, by which lists may be open
+abbrev pub next_condition : Room → Finder
+next_condition room = condition_at room.depth room.in_has
 
 -- the list of a pseudo-class, with lists nested at most `n` deep, itself included
-abbrev pub list_within : ℕ → ListReader
-list_within zero = too_deep
-list_within (suc n) = list_by (next_condition n)
+abbrev pub list_at : ℕ → Bool → ListReader
+list_at zero in_has = too_deep
+list_at (suc n) in_has = list_by in_has (condition_at n)
+
+abbrev pub list_within : Room → ListReader
+list_within room = list_at room.depth room.in_has
+
+abbrev pub one_less : ℕ → ℕ
+one_less zero = zero
+one_less (suc n) = n
+
+-- which lists may be open in a list of this kind
+abbrev pub room_in : ListKind → Room → Room
+room_in kind room = record {
+  depth = one_less room.depth;
+  in_has = is_relative kind || room.in_has;
+}
+
+-- which lists may be open in a selector that is in none
+abbrev pub outside : Room
+outside = record { depth = deepest; in_has = false }
 
 -- A compound selector may be empty before a pseudo-element: before a colon that begins no condition.
 abbrev pub some_or_element : List ℕ → Reading (List Condition) → Reading (List Condition)
 some_or_element text reading = if starts colon text then reading else some_of text reading
 
 abbrev pub after_type_name : List ℕ → Step Simple → Reading (List Condition)
-after_type_name text (item s rest) = with_first (simple s) (items (next_condition deepest) rest)
-after_type_name text none = some_or_element text (items (next_condition deepest) text)
+after_type_name text (item s rest) = with_first (simple s) (items (next_condition outside) rest)
+after_type_name text none = some_or_element text (items (next_condition outside) text)
 after_type_name text (stop why rest) = refused why rest
 
 -- a compound selector
@@ -799,7 +852,7 @@ class_or_element text (stop why rest) = stop why rest
 
 abbrev pub after_element_here : List ℕ → Step Condition
 after_element_here text =
-    if starts colon text then class_or_element text (next_condition deepest text) else none
+    if starts colon text then class_or_element text (next_condition outside text) else none
 
 -- what may follow a pseudo-element: a pseudo-class or a further pseudo-element
 unfoldable pub after_element : Finder

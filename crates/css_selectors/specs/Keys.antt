@@ -5,7 +5,7 @@ use Rattle.std.specs.Option.{option_map_or}
 use Rattle.css_selectors.specs.Documents.{Document}
 use Rattle.css_selectors.specs.Components.{Simple, Condition, Conditions, Parts, Selectors, Part, Selector}
 use Rattle.css_selectors.specs.Components.Simple.{universal, type_name, id, class, has_attribute, attribute, structure, language, state, function, named_element, nesting, namespaced}
-use Rattle.css_selectors.specs.Components.Condition.{simple, negation, any_of, where_any, nth_of}
+use Rattle.css_selectors.specs.Components.Condition.{simple, negation, any_of, where_any, tested}
 use Rattle.css_selectors.specs.Components.Conditions.{end_of_compound, with_condition}
 use Rattle.css_selectors.specs.Components.Parts.{end_of_selector, with_part}
 use Rattle.css_selectors.specs.Components.Selectors.{end_of_list, with_selector}
@@ -61,7 +61,7 @@ lone_key (simple s) = simple_key s
 lone_key (negation selectors) = by_nothing
 lone_key (any_of selectors) = by_nothing
 lone_key (where_any selectors) = by_nothing
-lone_key (nth_of last p selectors) = by_nothing
+lone_key (tested test selectors) = by_nothing
 
 -- the first key of the greatest rank among this one and those of conditions
 abbrev pub best_key : Key → Conditions → Key
@@ -86,14 +86,14 @@ abbrev pub selector_keys : Selectors → List Key
 selector_keys end_of_list = []
 selector_keys (with_selector s selectors) = parts_key s ∷ selector_keys selectors
 
--- the keys of a condition, of which a node that satisfies it has one; nothing within `:not()` is a
--- key
+-- the keys of a condition, of which a node that satisfies it has one; nothing within `:not()`
+-- is a key, nor within a list that is answered by its number
 abbrev pub condition_keys : Condition → List Key
 condition_keys (simple s) = simple_key s ∷ []
 condition_keys (negation selectors) = by_nothing ∷ []
 condition_keys (any_of selectors) = selector_keys selectors
 condition_keys (where_any selectors) = selector_keys selectors
-condition_keys (nth_of last p selectors) = selector_keys selectors
+condition_keys (tested test selectors) = by_nothing ∷ []
 
 -- the least rank of keys
 abbrev pub least_rank : List Key → ℕ

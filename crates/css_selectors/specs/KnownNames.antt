@@ -83,7 +83,6 @@ functions =
     codes "-webkit-any"
     ∷ codes "active-view-transition-type"
     ∷ codes "dir"
-    ∷ codes "has"
     ∷ codes "host"
     ∷ codes "host-context"
     ∷ codes "state" ∷ []

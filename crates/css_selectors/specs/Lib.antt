@@ -6,13 +6,16 @@ pub mod Components
 pub mod Costs
 pub mod CostLemmas
 pub mod CutLists
+pub mod Directions
 pub mod Documents
 pub mod Grammar
 pub mod KeyViews
 pub mod KnownNames
+pub mod MarkedLists
 pub mod Keys
 pub mod Meanings
 pub mod Numbers
+pub mod Numberings
 pub mod Originating
 pub mod PlacementLists
 pub mod Printing
@@ -23,7 +26,6 @@ pub mod Readings
 pub mod RefusalWords
 pub mod Nested
 pub mod Simples
-pub mod SiblingCounts
 pub mod Specificities
 pub mod SpelledOut
 pub mod Supported

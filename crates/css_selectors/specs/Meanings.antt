@@ -10,13 +10,13 @@ use Rattle.css_selectors.specs.Components.{Comparison, Structure, Simple, Condit
 use Rattle.css_selectors.specs.Components.Comparison.{equals, has_word}
 use Rattle.css_selectors.specs.Components.Structure.{root, scope, empty, first_child, last_child, only_child, first_of_type, last_of_type, only_of_type, nth_child, nth_last_child, nth_of_type, nth_last_of_type}
 use Rattle.css_selectors.specs.Components.Simple.{universal, type_name, id, class, has_attribute, attribute, structure, language, state, function, named_element, nesting, namespaced}
-use Rattle.css_selectors.specs.Components.Condition.{simple, negation, any_of, where_any, nth_of}
+use Rattle.css_selectors.specs.Components.Condition.{simple, negation, any_of, where_any, tested}
 use Rattle.css_selectors.specs.Components.Conditions.{end_of_compound, with_condition}
 use Rattle.css_selectors.specs.Components.Parts.{end_of_selector, with_part}
 use Rattle.css_selectors.specs.Components.Selectors.{end_of_list, with_selector}
 use Rattle.css_selectors.specs.AttributeTests.{is_satisfied}
+use Rattle.css_selectors.specs.Directions.{direction_state}
 use Rattle.css_selectors.specs.Numbers.{is_numbered}
-use Rattle.css_selectors.specs.SiblingCounts.{IsNumberedAmong}
 
 -- there is a value, and it satisfies the comparison
 abbrev pub satisfies : Comparison → Bool → List ℕ → Option (List ℕ) → Bool
@@ -52,7 +52,8 @@ holds document n (attribute name comparison text ignores) =
 holds document n (structure s) = is_placed document n s
 holds document n (language ranges) = list_any (document.is_in_language n) ranges
 holds document n (state name) = document.is_in_state n name
-holds document n (function name argument) = false
+holds document n (function name argument) =
+    option_map_or (document.is_in_state n) (direction_state name argument) false
 holds document n (named_element name argument) = false
 holds document n (nesting list) = document.is_in_list n list.number
 holds document n (namespaced namespace local) = false
@@ -68,17 +69,14 @@ part_count end_of_selector = 0
 part_count (with_part c conditions parts) = part_count parts + 1
 
 abbrev mutual
-  -- The node satisfies the condition. `:nth-child(An+B of S)` is true of the elements that S matches,
-  -- of which the number among those siblings that S matches is one of `An+B` (Selectors 4, section
-  -- 13.3.1). From the last on it has no meaning here.
+  -- The node satisfies the condition. `:has()` and a list after `An+B` have no meaning until the list
+  -- has a number, of which the document is asked in its place: so no node satisfies them.
   pub IsMet : {Node : Type 0} → Document Node → Condition → Node → Type 0
   IsMet document (simple s) n = IsTrue (holds document n s)
   IsMet document (negation selectors) n = MatchesAny document selectors n → ⊥
   IsMet document (any_of selectors) n = MatchesAny document selectors n
   IsMet document (where_any selectors) n = MatchesAny document selectors n
-  IsMet document (nth_of last p selectors) n =
-      (last ≡ false) × MatchesAny document selectors n
-      × IsNumberedAmong document.previous_sibling (MatchesAny document selectors) p n
+  IsMet document (tested test selectors) n = ⊥
 
   -- it satisfies all conditions of a compound selector
   pub AreMet : {Node : Type 0} → Document Node → Conditions → Node → Type 0

@@ -7,7 +7,7 @@ use Rattle.css_selectors.specs.declared.components.Nesting.{Nesting}
 use Rattle.css_selectors.specs.declared.reading.Start.TheVariants.{Relative}
 use Rattle.css_selectors.specs.Components.{Simple, Condition, Conditions, Parts, Selectors, PseudoElement, Selector, Placed, outermost, conditions_from, parts_from}
 use Rattle.css_selectors.specs.Components.Simple.{function, named_element, nesting}
-use Rattle.css_selectors.specs.Components.Condition.{simple, negation, any_of, where_any, nth_of}
+use Rattle.css_selectors.specs.Components.Condition.{simple, negation, any_of, where_any, tested}
 use Rattle.css_selectors.specs.Components.Conditions.{end_of_compound, with_condition}
 use Rattle.css_selectors.specs.Components.Parts.{end_of_selector, with_part}
 use Rattle.css_selectors.specs.Components.Selectors.{end_of_list, with_selector}
@@ -35,7 +35,7 @@ abbrev mutual
   nests so_far (negation selectors) = list_nests so_far selectors
   nests so_far (any_of selectors) = list_nests so_far selectors
   nests so_far (where_any selectors) = list_nests so_far selectors
-  nests so_far (nth_of last p selectors) = list_nests so_far selectors
+  nests so_far (tested test selectors) = list_nests so_far selectors
 
   -- or in a compound selector
   pub compound_nests : Bool → Conditions → Bool

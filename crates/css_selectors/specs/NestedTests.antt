@@ -1,20 +1,20 @@
 -- How many tests matching makes at most, by how deep selectors with combinators are nested.
 use Rattle.std.specs.Prelude.{ℕ, zero, suc, ◌+◌, ◌-◌, ◌*◌, ◌≤◌, Bool, true, false}
 use Rattle.css_selectors.specs.Components.{Condition, Conditions, Parts, Selectors}
-use Rattle.css_selectors.specs.Components.Condition.{simple, negation, any_of, where_any, nth_of}
+use Rattle.css_selectors.specs.Components.Condition.{simple, negation, any_of, where_any, tested}
 use Rattle.css_selectors.specs.Components.Conditions.{end_of_compound, with_condition}
 use Rattle.css_selectors.specs.Components.Parts.{end_of_selector, with_part}
 use Rattle.css_selectors.specs.Components.Selectors.{end_of_list, with_selector}
 use Rattle.css_selectors.specs.Costs.{is_lone}
 
--- how many compound selectors there are, including those within lists; a list after `An+B` is one more
+-- how many compound selectors there are, including those within lists that make tests
 abbrev mutual
   pub condition_size : Condition → ℕ
   condition_size (simple s) = 0
   condition_size (negation selectors) = selectors_size selectors
   condition_size (any_of selectors) = selectors_size selectors
   condition_size (where_any selectors) = selectors_size selectors
-  condition_size (nth_of last p selectors) = selectors_size selectors + 1
+  condition_size (tested test selectors) = 0
 
   pub compound_size : Conditions → ℕ
   compound_size end_of_compound = 0
@@ -36,15 +36,15 @@ searches_if false = 1
 abbrev pub search_count : Parts → ℕ
 search_count parts = searches_if (is_lone parts)
 
--- of the selectors with combinators that stand in lists, and of the lists after `An+B`, at most `k` are
--- within one another
+-- of the selectors with combinators that stand in lists that make tests, at most `k` are within one
+-- another
 abbrev mutual
   pub JoinsWithin : ℕ → Condition → Type 0
   JoinsWithin k (simple s) = Unit {0}
   JoinsWithin k (negation selectors) = ListJoinsWithin k selectors
   JoinsWithin k (any_of selectors) = ListJoinsWithin k selectors
   JoinsWithin k (where_any selectors) = ListJoinsWithin k selectors
-  JoinsWithin k (nth_of last p selectors) = (1 ≤ k) × ListJoinsWithin (k - 1) selectors
+  JoinsWithin k (tested test selectors) = Unit {0}
 
   pub CompoundJoinsWithin : ℕ → Conditions → Type 0
   CompoundJoinsWithin k end_of_compound = Unit {0}

@@ -11,13 +11,14 @@ use Rattle.css_syntax.specs.Escapes.{replacement}
 use Rattle.css_syntax.specs.Tokens.{is_name_byte}
 use Rattle.css_matching.specs.declared.Combinator.{Combinator}
 use Rattle.css_matching.specs.declared.Combinator.TheVariants.{Descendant, Child, Adjacent, Sibling}
-use Rattle.css_selectors.specs.Components.{Comparison, Signed, Progression, Structure, Namespace, Local, Simple, Condition, Conditions, Parts, Selectors, Part, PseudoElement, Selector}
+use Rattle.css_selectors.specs.Components.{Comparison, Signed, Progression, Structure, Namespace, Local, Simple, ListTest, Condition, Conditions, Parts, Selectors, Part, PseudoElement, Selector}
 use Rattle.css_selectors.specs.Components.Comparison.{equals, has_word, has_subtag, starts as starts_with, ends as ends_with, contains}
+use Rattle.css_selectors.specs.Components.ListTest.{has, nth_child as nth_child_list, nth_last_child as nth_last_child_list}
 use Rattle.css_selectors.specs.Components.Structure.{root, scope, empty, first_child, last_child, only_child, first_of_type, last_of_type, only_of_type, nth_child, nth_last_child, nth_of_type, nth_last_of_type}
 use Rattle.css_selectors.specs.Components.Namespace.{absent, any_namespace, of_prefix}
 use Rattle.css_selectors.specs.Components.Local.{any_type, a_type, some_attribute, an_attribute}
 use Rattle.css_selectors.specs.Components.Simple.{universal, type_name, id, class, has_attribute, attribute, structure, language, state, function, named_element, nesting, namespaced}
-use Rattle.css_selectors.specs.Components.Condition.{simple, negation, any_of, where_any, nth_of}
+use Rattle.css_selectors.specs.Components.Condition.{simple, negation, any_of, where_any, tested}
 use Rattle.css_selectors.specs.Components.Conditions.{end_of_compound, with_condition}
 use Rattle.css_selectors.specs.Components.Parts.{end_of_selector, with_part}
 use Rattle.css_selectors.specs.Components.Selectors.{end_of_list, with_selector}
@@ -147,10 +148,6 @@ abbrev pub argument_text : Option (List ℕ) → List ℕ
 argument_text None = []
 argument_text (Some argument) = codes "(" ++ argument ++ codes ")"
 
--- by whether elements are numbered from the last
-abbrev pub nth_name : Bool → List ℕ
-nth_name last = if last then codes ":nth-last-child(" else codes ":nth-child("
-
 -- `An+B of` and a list
 abbrev pub nth_of_text : Progression → List ℕ → List ℕ
 nth_of_text p selectors = progression_text p ++ codes " of " ++ selectors
@@ -204,24 +201,40 @@ combinator_text Child = codes " > "
 combinator_text Adjacent = codes " + "
 combinator_text Sibling = codes " ~ "
 
+-- what joins the first compound selector of a list of `:has()` to the element that is asked: a
+-- descendant has no sign
+abbrev pub leading_text : Combinator → List ℕ
+leading_text Descendant = []
+leading_text Child = codes "> "
+leading_text Adjacent = codes "+ "
+leading_text Sibling = codes "~ "
+
+-- a pseudo-class with a list, by the text of the list
+abbrev pub test_text : ListTest → List ℕ → List ℕ
+test_text has selectors = function_text (codes ":has(") selectors
+test_text (nth_child_list p) selectors =
+    function_text (codes ":nth-child(") (nth_of_text p selectors)
+test_text (nth_last_child_list p) selectors =
+    function_text (codes ":nth-last-child(") (nth_of_text p selectors)
+
 abbrev mutual
   pub condition_text : Condition → List ℕ
   condition_text (simple s) = simple_text s
   condition_text (negation selectors) = function_text (codes ":not(") (selectors_text selectors)
   condition_text (any_of selectors) = function_text (codes ":is(") (selectors_text selectors)
   condition_text (where_any selectors) = function_text (codes ":where(") (selectors_text selectors)
-  condition_text (nth_of last p selectors) =
-      function_text (nth_name last) (nth_of_text p (selectors_text selectors))
+  condition_text (tested test selectors) = test_text test (selectors_text selectors)
 
   -- a compound selector in a list
   pub compound_text : Conditions → List ℕ
   compound_text end_of_compound = []
   compound_text (with_condition c conditions) = condition_text c ++ compound_text conditions
 
-  -- a complex selector in a list; what joins the first part to the one before is not written
+  -- a complex selector in a list
   pub complex_text : Parts → List ℕ
   complex_text end_of_selector = []
-  complex_text (with_part k c parts) = compound_text c ++ further_parts_text parts
+  complex_text (with_part k c parts) =
+      leading_text k ++ (compound_text c ++ further_parts_text parts)
 
   pub further_parts_text : Parts → List ℕ
   further_parts_text end_of_selector = []
@@ -249,6 +262,15 @@ part_text part = combinator_text part.combinator ++ flat_map condition_text part
 abbrev pub parts_text : List Part → List ℕ
 parts_text [] = []
 parts_text (part ∷ parts) = flat_map condition_text part.conditions ++ flat_map part_text parts
+
+-- what joins the first of them to what is before a complex selector in a list
+abbrev pub first_text : List Part → List ℕ
+first_text [] = []
+first_text (part ∷ parts) = leading_text part.combinator
+
+-- those of a complex selector in a list
+abbrev pub listed_text : List Part → List ℕ
+listed_text parts = first_text parts ++ parts_text parts
 
 -- a pseudo-element and what follows it
 abbrev pub pseudo_element_text : Option PseudoElement → List ℕ

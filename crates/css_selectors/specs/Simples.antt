@@ -2,7 +2,7 @@
 use Rattle.std.specs.Prelude.{map}
 use Rattle.std.specs.Option.{option_map}
 use Rattle.css_selectors.specs.Components.{Simple, Condition, Conditions, Parts, Selectors, Part, PseudoElement, Selector}
-use Rattle.css_selectors.specs.Components.Condition.{simple, negation, any_of, where_any, nth_of}
+use Rattle.css_selectors.specs.Components.Condition.{simple, negation, any_of, where_any, tested}
 use Rattle.css_selectors.specs.Components.Conditions.{end_of_compound, with_condition}
 use Rattle.css_selectors.specs.Components.Parts.{end_of_selector, with_part}
 use Rattle.css_selectors.specs.Components.Selectors.{end_of_list, with_selector}
@@ -13,8 +13,8 @@ abbrev mutual
   condition_with change (negation selectors) = negation (selectors_with change selectors)
   condition_with change (any_of selectors) = any_of (selectors_with change selectors)
   condition_with change (where_any selectors) = where_any (selectors_with change selectors)
-  condition_with change (nth_of last p selectors) =
-      nth_of last p (selectors_with change selectors)
+  condition_with change (tested test selectors) =
+      tested test (selectors_with change selectors)
 
   -- a compound selector in a list
   pub compound_with : (Simple → Simple) → Conditions → Conditions

@@ -1,9 +1,10 @@
 -- Specificity (section 9; Selectors 4, section 17, for lists). Each count stops at 4,294,967,295.
 use Rattle.std.specs.Prelude.{ℕ, ◌+◌, Bool, ◌&&◌, ◌||◌, ◌==◌, nat_lt, min, if◌then◌else◌, Option, None, Some}
-use Rattle.css_selectors.specs.Components.{Local, Simple, Condition, Conditions, Parts, Selectors, conditions_from, parts_from, PseudoElement, Selector}
+use Rattle.css_selectors.specs.Components.{Local, Simple, ListTest, Condition, Conditions, Parts, Selectors, conditions_from, parts_from, PseudoElement, Selector}
+use Rattle.css_selectors.specs.Components.ListTest.{has, nth_child, nth_last_child}
 use Rattle.css_selectors.specs.Components.Local.{any_type, a_type, some_attribute, an_attribute}
 use Rattle.css_selectors.specs.Components.Simple.{universal, type_name, id, class, has_attribute, attribute, structure, language, state, function, named_element, nesting, namespaced}
-use Rattle.css_selectors.specs.Components.Condition.{simple, negation, any_of, where_any, nth_of}
+use Rattle.css_selectors.specs.Components.Condition.{simple, negation, any_of, where_any, tested}
 use Rattle.css_selectors.specs.Components.Conditions.{end_of_compound, with_condition}
 use Rattle.css_selectors.specs.Components.Parts.{end_of_selector, with_part}
 use Rattle.css_selectors.specs.Components.Selectors.{end_of_list, with_selector}
@@ -73,15 +74,21 @@ of_simple (nesting list) = record {
 }
 of_simple (namespaced namespace local) = of_local local
 
+-- a pseudo-class with a list of which the greatest counts so much
+abbrev pub of_test : ListTest → Counts → Counts
+of_test has most = most
+of_test (nth_child p) most = plus one_class most
+of_test (nth_last_child p) most = plus one_class most
+
 abbrev mutual
-  -- `:not()` and `:is()` count as the greatest of their lists, `:where()` counts nothing, and a list
-  -- after `An+B` counts besides the pseudo-class
+  -- `:not()`, `:is()` and `:has()` count as the greatest of their lists, `:where()` counts nothing, and
+  -- a list after `An+B` counts besides the pseudo-class
   pub of_condition : Condition → Counts
   of_condition (simple s) = of_simple s
   of_condition (negation selectors) = greatest nothing selectors
   of_condition (any_of selectors) = greatest nothing selectors
   of_condition (where_any selectors) = nothing
-  of_condition (nth_of last p selectors) = plus one_class (greatest nothing selectors)
+  of_condition (tested test selectors) = of_test test (greatest nothing selectors)
 
   -- what is counted so far, and the conditions of a compound selector
   pub of_compound : Counts → Conditions → Counts

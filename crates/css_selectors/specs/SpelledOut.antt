@@ -4,7 +4,7 @@ use Rattle.std.specs.Option.{option_map}
 use Rattle.css_selectors.specs.declared.components.Nesting.{Nesting}
 use Rattle.css_selectors.specs.Components.{Simple, Condition, Conditions, Parts, Selectors, Part, PseudoElement, Selector}
 use Rattle.css_selectors.specs.Components.Simple.{nesting}
-use Rattle.css_selectors.specs.Components.Condition.{simple, negation, any_of, where_any, nth_of}
+use Rattle.css_selectors.specs.Components.Condition.{simple, negation, any_of, where_any, tested}
 use Rattle.css_selectors.specs.Components.Conditions.{end_of_compound, with_condition}
 use Rattle.css_selectors.specs.Components.Parts.{end_of_selector, with_part}
 use Rattle.css_selectors.specs.Components.Selectors.{end_of_list, with_selector}
@@ -19,7 +19,7 @@ abbrev mutual
   spelled_condition spell (negation selectors) = negation (spelled_list spell selectors)
   spelled_condition spell (any_of selectors) = any_of (spelled_list spell selectors)
   spelled_condition spell (where_any selectors) = where_any (spelled_list spell selectors)
-  spelled_condition spell (nth_of last p selectors) = nth_of last p (spelled_list spell selectors)
+  spelled_condition spell (tested test selectors) = tested test (spelled_list spell selectors)
 
   -- a compound selector in a list
   pub spelled_compound : (Nesting → Condition) → Conditions → Conditions

@@ -1,40 +1,41 @@
 -- Selectors that have a meaning here. A text may be a selector and have none: it is unsupported.
-use Rattle.std.specs.Prelude.{◌&&◌, ◌-◌, nat_le, ℕ, Bool, true, false, not, if◌then◌else◌, List, [], ◌∷◌, map, codes, Option, None, Some, is_none}
+use Rattle.std.specs.Prelude.{◌&&◌, ◌+◌, ◌-◌, nat_le, ℕ, Bool, true, false, not, if◌then◌else◌, List, [], ◌∷◌, map, codes, Option, None, Some, is_none, is_some}
 use Rattle.css_selectors.specs.declared.refusal.Why.TheVariants.{Unsupported}
 use Rattle.css_selectors.specs.Components.{Simple, Condition, Conditions, Parts, Selectors, parts_from, PseudoElement, Selector, Placed}
 use Rattle.css_selectors.specs.Components.Simple.{state, function, named_element, namespaced}
-use Rattle.css_selectors.specs.Components.Condition.{simple, negation, any_of, where_any, nth_of}
+use Rattle.css_selectors.specs.Components.Condition.{simple, negation, any_of, where_any, tested}
 use Rattle.css_selectors.specs.Components.Conditions.{end_of_compound, with_condition}
 use Rattle.css_selectors.specs.Components.Parts.{end_of_selector, with_part}
 use Rattle.css_selectors.specs.Components.Selectors.{end_of_list, with_selector}
+use Rattle.css_selectors.specs.Directions.{direction_state}
 use Rattle.css_selectors.specs.Grammar.{is_word, placed_selector, placed_list}
 use Rattle.css_selectors.specs.NestedTests.{search_count}
 use Rattle.css_selectors.specs.Readings.{Reading, got, refused, Reader}
 
--- What has an argument that is kept as it is written has no meaning, nor has `:host`, which is an
--- element outside of the tree, nor what has a namespace.
+-- Of what has an argument that is kept as it is written only `:dir()` with a direction has a meaning. `:host`,
+-- which is an element outside of the tree, has none, nor has what has a namespace.
 abbrev pub is_supported_simple : Simple → Bool
 is_supported_simple (state name) = not (is_word (codes "host") name)
-is_supported_simple (function name argument) = false
+is_supported_simple (function name argument) = is_some (direction_state name argument)
 is_supported_simple (named_element name argument) = false
 is_supported_simple (namespaced namespace local) = false
 is_supported_simple s = true
 
--- How many selectors with combinators that stand in lists, and lists after `An+B`, may be within one
--- another: their tests multiply. (Selectors 4 has no limit.)
+-- How many selectors with combinators that stand in lists may be within one another: their tests
+-- multiply. (Selectors 4 has no limit.)
 abbrev pub deepest_joined : ℕ
 deepest_joined = 1
 
 abbrev mutual
   -- A condition has a meaning, if all in its list has, and at most `k` selectors with combinators are
-  -- within one another there. A list after `An+B` counts as one of them, and numbers from the first on.
+  -- within one another there. The list of `:has()`, and one after `An+B`, is answered on its own: its
+  -- selectors are as those that stand in no list, of which the own search counts there.
   pub is_supported : ℕ → Condition → Bool
   is_supported k (simple s) = is_supported_simple s
   is_supported k (negation selectors) = are_supported k true selectors
   is_supported k (any_of selectors) = are_supported k true selectors
   is_supported k (where_any selectors) = are_supported k true selectors
-  is_supported k (nth_of last p selectors) =
-      not last && nat_le 1 k && are_supported (k - 1) true selectors
+  is_supported k (tested test selectors) = are_supported (deepest_joined + 1) true selectors
 
   -- what was found so far has a meaning, and the conditions of a compound selector have
   pub have_meaning : ℕ → Bool → Conditions → Bool

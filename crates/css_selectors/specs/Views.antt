@@ -8,6 +8,8 @@ use Rattle.css_selectors.specs.declared.components.Signed.{Signed as SignedOf}
 use Rattle.css_selectors.specs.declared.components.Progression.{Progression as ProgressionOf}
 use Rattle.css_selectors.specs.declared.components.Structure.{Structure as StructureOf}
 use Rattle.css_selectors.specs.declared.components.Structure.TheVariants.{Root, Scope, Empty, FirstChild, LastChild, OnlyChild, FirstOfType, LastOfType, OnlyOfType, NthChild, NthLastChild, NthOfType, NthLastOfType}
+use Rattle.css_selectors.specs.declared.components.ListTest.{ListTest as ListTestOf}
+use Rattle.css_selectors.specs.declared.components.ListTest.TheVariants.{Has, NthChild as NthChildList, NthLastChild as NthLastChildList}
 use Rattle.css_selectors.specs.declared.components.Simple.{Simple as SimpleOf}
 use Rattle.css_selectors.specs.declared.components.Simple.TheVariants.{Universal, TypeName, Id, Class, HasAttribute, Attribute, Structure as StructureIs, Language, State, Function, Element, Nesting as NestingIs, Namespaced as NamespacedIs}
 use Rattle.css_selectors.specs.declared.components.Namespace.{Namespace as NamespaceOf}
@@ -20,13 +22,14 @@ use Rattle.css_selectors.specs.declared.components.Condition.TheOpen.{Condition-
 use Rattle.css_selectors.specs.declared.components.Part.{Part as PartOf}
 use Rattle.css_selectors.specs.declared.components.ElementName.{ElementName}
 use Rattle.css_selectors.specs.declared.components.PseudoElement.{PseudoElement as PseudoElementOf}
-use Rattle.css_selectors.specs.Components.{Comparison, Signed, Progression, Structure, Namespace, Local, Simple, Condition, selectors_from, Part, PseudoElement}
+use Rattle.css_selectors.specs.Components.{Comparison, Signed, Progression, Structure, Namespace, Local, Simple, ListTest, Condition, selectors_from, Part, PseudoElement}
 use Rattle.css_selectors.specs.Components.Comparison.{equals, has_word, has_subtag, starts, ends, contains}
+use Rattle.css_selectors.specs.Components.ListTest.{has, nth_child as nth_child_list, nth_last_child as nth_last_child_list}
 use Rattle.css_selectors.specs.Components.Structure.{root, scope, empty, first_child, last_child, only_child, first_of_type, last_of_type, only_of_type, nth_child, nth_last_child, nth_of_type, nth_last_of_type}
 use Rattle.css_selectors.specs.Components.Namespace.{absent, any_namespace, of_prefix}
 use Rattle.css_selectors.specs.Components.Local.{any_type, a_type, some_attribute, an_attribute}
 use Rattle.css_selectors.specs.Components.Simple.{universal, type_name, id, class, has_attribute, attribute, structure, language, state, function, named_element, nesting, namespaced}
-use Rattle.css_selectors.specs.Components.Condition.{simple, negation, any_of, where_any, nth_of}
+use Rattle.css_selectors.specs.Components.Condition.{simple, negation, any_of, where_any, tested}
 
 abbrev pub comparison_of : ComparisonOf → Comparison
 comparison_of Equals = equals
@@ -87,14 +90,19 @@ simple_of (Element e) = named_element (cow_str_bytes e.name) (option_map cow_str
 simple_of (NestingIs n) = nesting n
 simple_of (NamespacedIs n) = namespaced (namespace_of n.namespace) (local_of n.local)
 
+abbrev pub list_test_of : ListTestOf → ListTest
+list_test_of Has = has
+list_test_of (NthChildList p) = nth_child_list (progression_of p)
+list_test_of (NthLastChildList p) = nth_last_child_list (progression_of p)
+
 -- one level, with what is within its lists already seen as the definitions see it
 abbrev pub condition_step : Condition-F Condition (List Part) Part → Condition
 condition_step (Condition-F.Simple s) = simple (simple_of s)
 condition_step (Condition-F.Not selectors) = negation (selectors_from selectors.items)
 condition_step (Condition-F.Is selectors) = any_of (selectors_from selectors.items)
 condition_step (Condition-F.Where selectors) = where_any (selectors_from selectors.items)
-condition_step (Condition-F.NthOf numbered selectors) =
-    nth_of numbered.from_last (progression_of numbered.progression) (selectors_from selectors.items)
+condition_step (Condition-F.Tested test selectors) =
+    tested (list_test_of test) (selectors_from selectors.items)
 
 abbrev pub complex_step : Complex-F Condition (List Part) Part → List Part
 complex_step s = s.parts.items

@@ -1,20 +1,25 @@
 -- Selectors that some text reads as.
-use Rattle.std.specs.Prelude.{◌≡◌, ◌<◌, ◌≤◌, ◌&&◌, ℕ, zero, suc, Bool, true, false, List, [], ◌∷◌, ◌++◌, codes, length, All, Option, None, Some}
+use Rattle.std.specs.Prelude.{◌≡◌, ◌<◌, ◌≤◌, ◌&&◌, ℕ, Bool, true, false, List, [], ◌∷◌, ◌++◌, codes, length, All, Option, None, Some}
 use Rattle.std.specs.Option.{ForSome, is_some}
+use Rattle.css_matching.specs.declared.Combinator.{Combinator}
 use Rattle.css_matching.specs.declared.Combinator.TheVariants.{Descendant}
 use Rattle.css_syntax.specs.Escapes.{without_nul}
-use Rattle.css_selectors.specs.Components.{Signed, Progression, Structure, Namespace, Local, Simple, outermost, Condition, Conditions, Parts, Selectors, Part, PseudoElement, Selector}
+use Rattle.css_selectors.specs.Components.{Signed, Progression, Structure, Namespace, Local, Simple, outermost, ListTest, Condition, Conditions, Parts, Selectors, Part, PseudoElement, Selector}
+use Rattle.css_selectors.specs.declared.components.ListKind.{ListKind}
+use Rattle.css_selectors.specs.declared.components.ListKind.TheVariants.{Not, Is, Where, Has}
+use Rattle.css_selectors.specs.declared.room.Room.{Room}
+use Rattle.css_selectors.specs.Components.ListTest.{has, nth_child as nth_child_list, nth_last_child as nth_last_child_list}
 use Rattle.css_selectors.specs.Components.Structure.{nth_child, nth_last_child, nth_of_type, nth_last_of_type}
 use Rattle.css_selectors.specs.Components.Namespace.{absent, any_namespace, of_prefix}
 use Rattle.css_selectors.specs.Components.Local.{any_type, a_type, some_attribute, an_attribute}
 use Rattle.css_selectors.specs.Components.Simple.{universal, type_name, id, class, has_attribute, attribute, structure, language, state, function, named_element, nesting, namespaced}
-use Rattle.css_selectors.specs.Components.Condition.{simple, negation, any_of, where_any, nth_of}
+use Rattle.css_selectors.specs.Components.Condition.{simple, negation, any_of, where_any, tested}
 use Rattle.css_selectors.specs.Components.Conditions.{end_of_compound, with_condition}
 use Rattle.css_selectors.specs.Components.Parts.{end_of_selector, with_part}
 use Rattle.css_selectors.specs.Components.Selectors.{end_of_list, with_selector}
 use Rattle.css_selectors.specs.KnownNames.{is_one_of, states, functions, is_element, element_functions}
 use Rattle.css_selectors.specs.Readings.{got}
-use Rattle.css_selectors.specs.Grammar.{argument, plain_structure, is_old_element, list_kind, function_named, deepest}
+use Rattle.css_selectors.specs.Grammar.{argument, plain_structure, is_old_element, list_kind, function_named, is_forgiving, may_open, room_in, outside}
 
 -- a text that is denoted has no U+0000
 abbrev pub IsDenoted : List ℕ → Type 0
@@ -93,48 +98,71 @@ IsFirst (type_name name) = IsName name
 IsFirst (namespaced namespace local) = IsNamespace namespace × IsLocal local
 IsFirst s = IsFurther s
 
+-- what joins the first compound selector of a list of this kind to what is before it
+abbrev pub IsLeading : ListKind → Combinator → Type 0
+IsLeading Not k = k ≡ Descendant
+IsLeading Is k = k ≡ Descendant
+IsLeading Where k = k ≡ Descendant
+IsLeading Has k = Unit {0}
+
+-- a list of this kind may be open
+abbrev pub MayOpen : ListKind → Room → Type 0
+MayOpen kind room = (0 < room.depth) × (may_open kind room.in_has ≡ true)
+
+-- what is asked of a list, which is of such a kind
+abbrev pub kind_of : ListTest → ListKind
+kind_of has = Has
+kind_of (nth_child_list p) = Not
+kind_of (nth_last_child_list p) = Not
+
+abbrev pub IsTest : ListTest → Type 0
+IsTest has = Unit {0}
+IsTest (nth_child_list p) = IsProgression p
+IsTest (nth_last_child_list p) = IsProgression p
+
 abbrev mutual
-  -- a condition that may follow others, with lists nested at most `n` deep
-  pub IsFurtherCondition : ℕ → Condition → Type 0
+  -- a condition that may follow others, by which lists may be open
+  pub IsFurtherCondition : Room → Condition → Type 0
   IsFurtherCondition n (simple s) = IsFurther s
-  IsFurtherCondition n (negation selectors) = IsList false n selectors
-  IsFurtherCondition n (any_of selectors) = IsList true n selectors
-  IsFurtherCondition n (where_any selectors) = IsList true n selectors
-  IsFurtherCondition n (nth_of last p selectors) = IsProgression p × IsList false n selectors
+  IsFurtherCondition n (negation selectors) = IsList Not n selectors
+  IsFurtherCondition n (any_of selectors) = IsList Is n selectors
+  IsFurtherCondition n (where_any selectors) = IsList Where n selectors
+  IsFurtherCondition n (tested test selectors) = IsTest test × IsList (kind_of test) n selectors
 
   -- a condition that may be the first
-  pub IsFirstCondition : ℕ → Condition → Type 0
+  pub IsFirstCondition : Room → Condition → Type 0
   IsFirstCondition n (simple s) = IsFirst s
-  IsFirstCondition n (negation selectors) = IsList false n selectors
-  IsFirstCondition n (any_of selectors) = IsList true n selectors
-  IsFirstCondition n (where_any selectors) = IsList true n selectors
-  IsFirstCondition n (nth_of last p selectors) = IsProgression p × IsList false n selectors
+  IsFirstCondition n (negation selectors) = IsList Not n selectors
+  IsFirstCondition n (any_of selectors) = IsList Is n selectors
+  IsFirstCondition n (where_any selectors) = IsList Where n selectors
+  IsFirstCondition n (tested test selectors) = IsTest test × IsList (kind_of test) n selectors
 
-  -- a list is one of those that are nested; only a forgiving one may be empty
-  pub IsList : Bool → ℕ → Selectors → Type 0
-  IsList forgiving zero selectors = ⊥
-  IsList forgiving (suc n) end_of_list = forgiving ≡ true
-  IsList forgiving (suc n) (with_selector s selectors) = IsComplex n s × AreComplex n selectors
+  -- a list is one of those that may be open; only a forgiving one may be empty
+  pub IsList : ListKind → Room → Selectors → Type 0
+  IsList kind n end_of_list = MayOpen kind n × (is_forgiving kind ≡ true)
+  IsList kind n (with_selector s selectors) =
+      MayOpen kind n × IsComplex kind (room_in kind n) s × AreComplex kind (room_in kind n) selectors
 
-  pub AreComplex : ℕ → Selectors → Type 0
-  AreComplex n end_of_list = Unit {0}
-  AreComplex n (with_selector s selectors) = IsComplex n s × AreComplex n selectors
+  pub AreComplex : ListKind → Room → Selectors → Type 0
+  AreComplex kind n end_of_list = Unit {0}
+  AreComplex kind n (with_selector s selectors) =
+      IsComplex kind n s × AreComplex kind n selectors
 
-  -- a complex selector in a list has a first compound selector, which is joined to none
-  pub IsComplex : ℕ → Parts → Type 0
-  IsComplex n end_of_selector = ⊥
-  IsComplex n (with_part k c parts) = (k ≡ Descendant) × IsCompound n c × AreJoined n parts
+  -- a complex selector in a list has a first compound selector
+  pub IsComplex : ListKind → Room → Parts → Type 0
+  IsComplex kind n end_of_selector = ⊥
+  IsComplex kind n (with_part k c parts) = IsLeading kind k × IsCompound n c × AreJoined n parts
 
-  pub AreJoined : ℕ → Parts → Type 0
+  pub AreJoined : Room → Parts → Type 0
   AreJoined n end_of_selector = Unit {0}
   AreJoined n (with_part k c parts) = IsCompound n c × AreJoined n parts
 
   -- a compound selector in a list has a condition at least
-  pub IsCompound : ℕ → Conditions → Type 0
+  pub IsCompound : Room → Conditions → Type 0
   IsCompound n end_of_compound = ⊥
   IsCompound n (with_condition c conditions) = IsFirstCondition n c × AreFurther n conditions
 
-  pub AreFurther : ℕ → Conditions → Type 0
+  pub AreFurther : Room → Conditions → Type 0
   AreFurther n end_of_compound = Unit {0}
   AreFurther n (with_condition c conditions) = IsFurtherCondition n c × AreFurther n conditions
 
@@ -142,7 +170,7 @@ abbrev mutual
 abbrev pub AreConditions : Bool → List Condition → Type 0
 AreConditions before_element [] = before_element ≡ true
 AreConditions before_element (c ∷ conditions) =
-    IsFirstCondition deepest c × All (IsFurtherCondition deepest) conditions
+    IsFirstCondition outside c × All (IsFurtherCondition outside) conditions
 
 abbrev pub is_last : List Part → Bool
 is_last [] = true
@@ -180,7 +208,7 @@ IsElementName name a = IsName name × IsElementArgument name a
 abbrev pub IsAfterElement : Condition → Type 0
 IsAfterElement (simple (named_element name a)) = IsElementName name a
 IsAfterElement (simple s) = (is_pseudo_class s ≡ true) × IsFurther s
-IsAfterElement c = IsFurtherCondition deepest c
+IsAfterElement c = IsFurtherCondition outside c
 
 abbrev pub IsPseudoElement : PseudoElement → Type 0
 IsPseudoElement e = IsElementName e.name e.argument × All IsAfterElement e.after

@@ -120,7 +120,7 @@ fn is_only_key(condition: &Condition<'_>) -> bool
         Condition::Simple(simple) => {
             matches!(simple, Simple::Universal | Simple::Id(_) | Simple::Class(_))
         }
-        Condition::Not(_) | Condition::NthOf(..) => false,
+        Condition::Not(_) | Condition::Tested(..) => false,
         Condition::Is(selectors) | Condition::Where(selectors) => {
             are_ids_or_classes(selectors.as_slice())
         }

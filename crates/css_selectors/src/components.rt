@@ -100,6 +100,8 @@ pub(crate) enum ListKind {
     Is,
     /// `:where(..)`
     Where,
+    /// `:has(..)`
+    Has,
 }
 
 /// A condition on an attribute.
@@ -148,7 +150,7 @@ pub struct Namespaced<'a> {
     pub local: Local<'a>,
 }
 
-/// A pseudo-class with an argument that has no meaning here.
+/// A pseudo-class with an argument that is kept as it is written.
 #[derive(Drop)]
 pub struct FunctionCall<'a> {
     /// The name of the pseudo-class.
@@ -166,13 +168,15 @@ pub struct ElementName<'a> {
     pub argument: Option<CowStr<'a>>,
 }
 
-/// What is before the list in `:nth-child(An+B of S)` or `:nth-last-child(An+B of S)`.
+/// What a pseudo-class asks of its list.
 #[derive(Clone, Copy, Debug, PartialEq)]
-pub struct NthOf {
-    /// Whether elements are numbered from the last. Then no element satisfies the condition.
-    pub from_last: bool,
-    /// `An+B`.
-    pub progression: Progression,
+pub enum ListTest {
+    /// `:has(..)`
+    Has,
+    /// `:nth-child(An+B of ..)`
+    NthChild(Progression),
+    /// `:nth-last-child(An+B of ..)`
+    NthLastChild(Progression),
 }
 
 /// What `&` stands for: a list of selectors.
@@ -211,7 +215,7 @@ pub enum Simple<'a> {
     Language(Vec<CowStr<'a>>),
     /// Any other pseudo-class without an argument, by its name.
     State(CowStr<'a>),
-    /// Any other pseudo-class with an argument. No element satisfies it.
+    /// Any other pseudo-class with an argument. Of these elements satisfy `:dir(ltr)` and `:dir(rtl)` only.
     Function(FunctionCall<'a>),
     /// A pseudo-element after another one. No element satisfies it.
     Element(ElementName<'a>),
@@ -233,15 +237,17 @@ pub enum Condition<'a> {
     Is(Vec<Complex<'a>>),
     /// `:where(..)`
     Where(Vec<Complex<'a>>),
-    /// `:nth-child(..)` or `:nth-last-child(..)` with a list.
-    NthOf(NthOf, Vec<Complex<'a>>),
+    /// A pseudo-class that is answered for all elements of a document at once, by a list that has a
+    /// number. Until then no element satisfies it.
+    Tested(ListTest, Vec<Complex<'a>>),
 }
 
 /// A compound selector, and how it is joined to the one before it.
 #[cycle(lists)]
 #[derive(Drop)]
 pub struct Part<'a> {
-    /// How it is joined to the one before it. Of the first one this says nothing.
+    /// How it is joined to the one before it. In a list of `:has()` the first one is joined so to the
+    /// element that is asked. Of any other first one this says nothing.
     pub combinator: Combinator,
     /// What an element must satisfy.
     pub conditions: Vec<Condition<'a>>,

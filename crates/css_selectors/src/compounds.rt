@@ -1,33 +1,34 @@
 //! Reads compound selectors and lists of them.
 ghost use Rattle.std.specs.Prelude.{◌≡◌, ◌∷◌, ◌++◌, [], ℕ, List, map, IfOk, option_map, option_to_list};
 ghost use Rattle.css_selectors.specs.Grammar.{next_simple as next_simple_of, compound as compound_of_text};
-ghost use Rattle.css_selectors.specs.Grammar.{next_part_in as next_part_of, complex as complex_of_text};
+ghost use Rattle.css_selectors.specs.Grammar.{next_part_in as next_part_of, complex_by, complex as complex_of_text};
 ghost use Rattle.css_selectors.specs.Grammar.{ends_part as ends_part_of, past_part as past_part_of, is_lasting as is_lasting_of, no_selector as no_selector_of, part_end, gap};
 ghost use Rattle.css_selectors.specs.Grammar.{listed_part, next_listed as next_listed_of, selectors_after, is_forgiving as is_forgiving_of, list_by, listed as listed_as};
-ghost use Rattle.css_selectors.specs.Grammar.{list_kind as list_kind_of, function_named as function_of, of_list, after_progression, from_last as from_last_of, functional};
+ghost use Rattle.css_selectors.specs.Grammar.{list_kind as list_kind_of, function_named as function_of, of_list, after_progression, list_test as list_test_for, functional};
 ghost use Rattle.std.specs.Cow.{cow_str_bytes};
 ghost use Rattle.css_selectors.specs.Grammar.{name as name_of, list_within, with_argument, pseudo_condition, begins_pseudo_class as begins_pseudo_class_of};
 ghost use Rattle.css_selectors.specs.Grammar.{next_condition as next_condition_of, conditions as conditions_of};
 ghost use Rattle.css_selectors.specs.Components.Condition.{simple};
 ghost use Rattle.css_selectors.specs.Readings.{step_after, items, found_before};
 ghost use Rattle.css_selectors.specs.internal.Reads.{Reads, Finds};
-ghost use Rattle.css_selectors.specs.Views.{progression_of, simple_of, condition_of, part_of, complex_of};
+ghost use Rattle.css_selectors.specs.Views.{list_test_of, progression_of, simple_of, condition_of, part_of, complex_of};
 
 use crate::Combinator;
 use crate::attribute_selectors::read_attribute;
 use crate::components::{
-    Complex, Condition, Function, FunctionCall, ListKind, NthOf, Numbering, OUTERMOST, Part,
+    Complex, Condition, Function, FunctionCall, ListKind, ListTest, Numbering, OUTERMOST, Part,
     Progression, Simple,
 };
-use crate::joins::{begins_compound, take_sign};
+use crate::joins::{begins_compound, take_leading, take_sign};
 use crate::languages::read_ranges;
 use crate::namespaces::read_type;
 use crate::numbers::read_progression;
 use crate::pseudo_classes::{
-    from_last, function_named, is_old_element, list_kind, numbered_by, plain_pseudo,
+    function_named, is_old_element, list_kind, list_test, numbered_by, plain_pseudo,
     read_argument_of,
 };
 use crate::refusal::{Refusal, Why};
+use crate::room::{OUTSIDE, Room, may_open, within};
 use crate::texts::split_ascii;
 use crate::words::{
     begins_name, past_comments, read_closing, read_gap, read_ident_sequence, read_name,
@@ -36,9 +37,6 @@ use css_syntax::texts::{past_ascii, read_value};
 use css_text::readers;
 use std::alloc::{AllocFailed, Global};
 use std::borrow::CowStr;
-
-/// How many lists may be open at once.
-pub(crate) const DEEPEST: usize = 32;
 
 /// Reads the next simple selector of a compound selector, if one is next that is no pseudo-class.
 #[tactic(auto, unfolding(crate::specs::Grammar::next_simple))]
@@ -71,6 +69,7 @@ fn listed<'a>(kind: ListKind, selectors: Vec<Complex<'a>>) -> Condition<'a>
         ListKind::Not => Condition::Not(selectors),
         ListKind::Is => Condition::Is(selectors),
         ListKind::Where => Condition::Where(selectors),
+        ListKind::Has => Condition::Tested(ListTest::Has, selectors),
     }
 }
 
@@ -154,7 +153,7 @@ fn is_forgiving(kind: ListKind) -> bool
     ensures { result ≡ is_forgiving_of kind }
 {
     match kind {
-        ListKind::Not => false,
+        ListKind::Not | ListKind::Has => false,
         ListKind::Is | ListKind::Where => true,
     }
 }
@@ -183,20 +182,20 @@ fn begins_pseudo_class(text: &str) -> bool
     }
 }
 
-/// Reads a compound selector in a list, in which lists may nest `depth` deep.
+/// Reads a compound selector in a list, in which these lists may be open.
 #[cycle(lists)]
 #[tactic(auto, unfolding(crate::specs::Grammar::compound))]
 fn read_compound<'a>(
     alloc: Global,
-    depth: usize,
+    room: Room,
     text: &'a str,
 ) -> Result<(Vec<Condition<'a>>, &'a str), Refusal<'a>>
     ensures { Reads (λ v. map condition_of v.items) result
-        (compound_of_text (next_condition_of depth) text.now) }
+        (compound_of_text (next_condition_of room) text.now) }
 {
     let (conditions, rest) = match read_type(alloc, text)? {
-        Some((simple, rest)) => read_more(alloc, depth, Some(simple), rest)?,
-        None => read_more(alloc, depth, None, text)?,
+        Some((simple, rest)) => read_more(alloc, room, Some(simple), rest)?,
+        None => read_more(alloc, room, None, text)?,
     };
     if conditions.is_empty() {
         return Err(Refusal::new(Why::NoSelector, text));
@@ -209,15 +208,15 @@ fn read_compound<'a>(
 #[tactic(auto, unfolding(crate::specs::Grammar::next_part_in))]
 fn next_part<'a>(
     alloc: Global,
-    depth: usize,
+    room: Room,
     text: &'a str,
 ) -> Result<Option<(Part<'a>, &'a str)>, Refusal<'a>>
-    ensures { Finds part_of result (next_part_of (next_condition_of depth) text.now) }
+    ensures { Finds part_of result (next_part_of (next_condition_of room) text.now) }
 {
     let (spaced, rest) = read_gap(text);
     if let Some((combinator, rest)) = take_sign(rest) {
         let (_, rest) = read_gap(rest);
-        let (conditions, rest) = read_compound(alloc, depth, rest)?;
+        let (conditions, rest) = read_compound(alloc, room, rest)?;
         let part = Part {
             combinator,
             conditions,
@@ -227,7 +226,7 @@ fn next_part<'a>(
     if !(spaced && begins_compound(rest)) {
         return Ok(None);
     }
-    let (conditions, rest) = read_compound(alloc, depth, rest)?;
+    let (conditions, rest) = read_compound(alloc, room, rest)?;
     let part = Part {
         combinator: Combinator::Descendant,
         conditions,
@@ -239,20 +238,20 @@ fn next_part<'a>(
 #[cycle(lists)]
 fn read_parts<'a>(
     alloc: Global,
-    depth: usize,
+    room: Room,
     first: Part<'a>,
     text: &'a str,
 ) -> Result<(Vec<Part<'a>>, &'a str), Refusal<'a>>
     ensures { Reads (λ v. map part_of v.items) result
         (found_before (part_of first.entry ∷ [])
-        (items (next_part_of (next_condition_of depth)) text.now)) }
+        (items (next_part_of (next_condition_of room)) text.now)) }
 {
     let mut parts = Vec::new(alloc);
     parts.push(first)?;
     let mut rest = text;
     let mut left = text.len();
     'parts: while left > 0 {
-        match next_part(alloc, depth, rest)? {
+        match next_part(alloc, room, rest)? {
             Some((part, after)) => {
                 parts.push(part)?;
                 rest = after;
@@ -264,42 +263,64 @@ fn read_parts<'a>(
     Ok((parts, rest))
 }
 
-/// Reads a complex selector in a list.
+/// Reads a complex selector in a list, of which the first compound selector is joined so to what is
+/// before it.
+#[cycle(lists)]
+#[tactic(auto, unfolding(crate::specs::Grammar::complex_by))]
+fn read_joined<'a>(
+    alloc: Global,
+    room: Room,
+    combinator: Combinator,
+    text: &'a str,
+) -> Result<(Complex<'a>, &'a str), Refusal<'a>>
+    ensures { Reads complex_of result (complex_by combinator (next_condition_of room) text.now) }
+{
+    let (conditions, rest) = read_compound(alloc, room, text)?;
+    let first = Part {
+        combinator,
+        conditions,
+    };
+    let (parts, rest) = read_parts(alloc, room, first, rest)?;
+    Ok((Complex { parts }, rest))
+}
+
+/// Reads a complex selector in a list of this kind.
 #[cycle(lists)]
 #[tactic(auto, unfolding(crate::specs::Grammar::complex))]
 fn read_complex<'a>(
     alloc: Global,
-    depth: usize,
+    room: Room,
+    kind: ListKind,
     text: &'a str,
 ) -> Result<(Complex<'a>, &'a str), Refusal<'a>>
-    ensures { Reads complex_of result (complex_of_text (next_condition_of depth) text.now) }
+    ensures { Reads complex_of result (complex_of_text kind (next_condition_of room) text.now) }
 {
-    let (conditions, rest) = read_compound(alloc, depth, text)?;
-    let first = Part {
-        combinator: Combinator::Descendant,
-        conditions,
-    };
-    let (parts, rest) = read_parts(alloc, depth, first, rest)?;
-    Ok((Complex { parts }, rest))
+    match take_leading(kind, text) {
+        Some((combinator, rest)) => {
+            let (_, rest) = read_gap(rest);
+            read_joined(alloc, room, combinator, rest)
+        }
+        None => read_joined(alloc, room, Combinator::Descendant, text),
+    }
 }
 
-/// Reads a part of a list. In a forgiving list it may be no selector.
+/// Reads a part of a list of this kind. In a forgiving list it may be no selector.
 #[cycle(lists)]
 #[tactic(auto, unfolding(crate::specs::Grammar::listed_part))]
 fn read_listed<'a>(
     alloc: Global,
-    depth: usize,
-    forgiving: bool,
+    room: Room,
+    kind: ListKind,
     text: &'a str,
 ) -> Result<(Option<Complex<'a>>, &'a str), Refusal<'a>>
     ensures { Reads (option_map complex_of) result
-        (listed_part forgiving (next_condition_of depth) text.now) }
+        (listed_part kind (next_condition_of room) text.now) }
 {
     let (_, start) = read_gap(text);
-    match read_complex(alloc, depth, start) {
-        Ok((selector, rest)) => end_part(forgiving, text, selector, rest),
+    match read_complex(alloc, room, kind, start) {
+        Ok((selector, rest)) => end_part(is_forgiving(kind), text, selector, rest),
         Err(refusal) if refusal.why == Why::Memory => Err(refusal),
-        Err(refusal) => leave_out(forgiving, text, refusal),
+        Err(refusal) => leave_out(is_forgiving(kind), text, refusal),
     }
 }
 
@@ -308,15 +329,15 @@ fn read_listed<'a>(
 #[tactic(auto, unfolding(crate::specs::Grammar::next_listed))]
 fn next_listed<'a>(
     alloc: Global,
-    depth: usize,
-    forgiving: bool,
+    room: Room,
+    kind: ListKind,
     text: &'a str,
 ) -> Result<Option<(Option<Complex<'a>>, &'a str)>, Refusal<'a>>
     ensures { Finds (option_map complex_of) result
-        (next_listed_of forgiving (next_condition_of depth) text.now) }
+        (next_listed_of kind (next_condition_of room) text.now) }
 {
     match split_ascii(text) {
-        Some((b',', rest)) => Ok(Some(read_listed(alloc, depth, forgiving, rest)?)),
+        Some((b',', rest)) => Ok(Some(read_listed(alloc, room, kind, rest)?)),
         _ => Ok(None),
     }
 }
@@ -325,20 +346,20 @@ fn next_listed<'a>(
 #[cycle(lists)]
 fn read_selectors<'a>(
     alloc: Global,
-    depth: usize,
-    forgiving: bool,
+    room: Room,
+    kind: ListKind,
     first: Option<Complex<'a>>,
     text: &'a str,
 ) -> Result<(Vec<Complex<'a>>, &'a str), Refusal<'a>>
     ensures { Reads (λ v. map complex_of v.items) result
-        (selectors_after forgiving (next_condition_of depth) (option_map complex_of first.entry) text.now) }
+        (selectors_after kind (next_condition_of room) (option_map complex_of first.entry) text.now) }
 {
     let mut selectors = Vec::new(alloc);
     keep(&mut selectors, first)?;
     let mut rest = text;
     let mut left = text.len();
     'selectors: while left > 0 {
-        match next_listed(alloc, depth, forgiving, rest)? {
+        match next_listed(alloc, room, kind, rest)? {
             Some((selector, after)) => {
                 keep(&mut selectors, selector)?;
                 rest = after;
@@ -350,26 +371,29 @@ fn read_selectors<'a>(
     Ok((selectors, rest))
 }
 
-/// Reads the list of a pseudo-class, from after its parenthesis. Lists may nest `depth` deep, itself
-/// included. `opened` is the text from its colon on.
+/// Reads the list of a pseudo-class, from after its parenthesis. It is one of those that may be
+/// open. `opened` is the text from its colon on.
 #[cycle(lists)]
 #[tactic(auto, unfolding(crate::specs::Grammar::complex_list))]
 fn read_list<'a>(
     alloc: Global,
-    depth: usize,
+    room: Room,
     kind: ListKind,
     opened: &'a str,
     text: &'a str,
 ) -> Result<(Vec<Complex<'a>>, &'a str), Refusal<'a>>
     ensures { Reads (λ v. map complex_of v.items) result
-        (list_within depth kind opened.now text.now) }
+        (list_within room kind opened.now text.now) }
 {
-    let Some(inner) = depth.checked_sub(1) else {
+    if room.depth == 0 {
         return Err(Refusal::new(Why::TooDeep, opened));
-    };
-    let forgiving = is_forgiving(kind);
-    let (first, rest) = read_listed(alloc, inner, forgiving, text)?;
-    let (selectors, rest) = read_selectors(alloc, inner, forgiving, first, rest)?;
+    }
+    if !may_open(kind, room.in_has) {
+        return Err(Refusal::new(Why::Unexpected, opened));
+    }
+    let inner = within(kind, room);
+    let (first, rest) = read_listed(alloc, inner, kind, text)?;
+    let (selectors, rest) = read_selectors(alloc, inner, kind, first, rest)?;
     let (_, rest) = read_closing(b')', rest)?;
     Ok((selectors, rest))
 }
@@ -378,42 +402,37 @@ fn read_list<'a>(
 #[cycle(lists)]
 fn read_of<'a>(
     alloc: Global,
-    depth: usize,
+    room: Room,
     opened: &'a str,
-    from_last: bool,
-    progression: Progression,
+    test: ListTest,
     text: &'a str,
 ) -> Result<(Condition<'a>, &'a str), Refusal<'a>>
     ensures { Reads condition_of result
-        (of_list (list_within depth) from_last (progression_of progression) opened.now text.now) }
+        (of_list (list_within room) (list_test_of test) opened.now text.now) }
 {
-    let (selectors, rest) = read_list(alloc, depth, ListKind::Not, opened, text)?;
-    let numbered = NthOf {
-        from_last,
-        progression,
-    };
-    Ok((Condition::NthOf(numbered, selectors), rest))
+    let (selectors, rest) = read_list(alloc, room, ListKind::Not, opened, text)?;
+    Ok((Condition::Tested(test, selectors), rest))
 }
 
 /// Reads what is after `An+B`. `opened` is the text from the colon of the pseudo-class on.
 #[cycle(lists)]
 fn read_after_progression<'a>(
     alloc: Global,
-    depth: usize,
+    room: Room,
     opened: &'a str,
     numbering: Numbering,
     progression: Progression,
     text: &'a str,
 ) -> Result<(Condition<'a>, &'a str), Refusal<'a>>
     ensures { Reads condition_of result
-        (after_progression (list_within depth) opened.now numbering (progression_of progression)
-        (from_last_of numbering) text.now) }
+        (after_progression (list_within room) opened.now numbering (progression_of progression)
+        (list_test_for numbering (progression_of progression)) text.now) }
 {
-    match from_last(numbering) {
-        Some(from_last) if begins_name(text) => {
+    match list_test(numbering, progression) {
+        Some(test) if begins_name(text) => {
             let (word, rest) = read_name(alloc, text)?;
             if word.as_str().eq_ignore_ascii_case("of") {
-                read_of(alloc, depth, opened, from_last, progression, rest)
+                read_of(alloc, room, opened, test, rest)
             } else {
                 Err(Refusal::new(Why::Unexpected, text))
             }
@@ -431,14 +450,14 @@ fn read_after_progression<'a>(
 #[cycle(lists)]
 fn read_functional<'a>(
     alloc: Global,
-    depth: usize,
+    room: Room,
     opened: &'a str,
     name: CowStr<'a>,
     function: Option<Function>,
     text: &'a str,
 ) -> Result<(Condition<'a>, &'a str), Refusal<'a>>
     ensures { Reads condition_of result
-        (functional (list_within depth) opened.now (cow_str_bytes name.entry) function text.now) }
+        (functional (list_within room) opened.now (cow_str_bytes name.entry) function text.now) }
 {
     match function {
         None => {
@@ -454,7 +473,7 @@ fn read_functional<'a>(
             let (_, rest) = read_gap(text);
             let (progression, rest) = read_progression(alloc, rest)?;
             let (_, rest) = read_gap(rest);
-            read_after_progression(alloc, depth, opened, numbering, progression, rest)
+            read_after_progression(alloc, room, opened, numbering, progression, rest)
         }
     }
 }
@@ -464,23 +483,23 @@ fn read_functional<'a>(
 #[cycle(lists)]
 fn read_argument<'a>(
     alloc: Global,
-    depth: usize,
+    room: Room,
     opened: &'a str,
     name: CowStr<'a>,
     text: &'a str,
 ) -> Result<(Condition<'a>, &'a str), Refusal<'a>>
     ensures { Reads condition_of result
         (let n : List ℕ = cow_str_bytes name.entry in
-        with_argument (list_within depth) opened.now n (list_kind_of n) (function_of n) text.now) }
+        with_argument (list_within room) opened.now n (list_kind_of n) (function_of n) text.now) }
 {
     match list_kind(name.as_str()) {
         Some(kind) => {
-            let (selectors, rest) = read_list(alloc, depth, kind, opened, text)?;
+            let (selectors, rest) = read_list(alloc, room, kind, opened, text)?;
             Ok((listed(kind, selectors), rest))
         }
         None => {
             let function = function_named(name.as_str());
-            read_functional(alloc, depth, opened, name, function, text)
+            read_functional(alloc, room, opened, name, function, text)
         }
     }
 }
@@ -490,16 +509,16 @@ fn read_argument<'a>(
 #[cycle(lists)]
 fn read_pseudo_condition<'a>(
     alloc: Global,
-    depth: usize,
+    room: Room,
     opened: &'a str,
     text: &'a str,
 ) -> Result<Option<(Condition<'a>, &'a str)>, Refusal<'a>>
     ensures { Finds condition_of result
-        (step_after (name_of text.now) (pseudo_condition (list_within depth) opened.now)) }
+        (step_after (name_of text.now) (pseudo_condition (list_within room) opened.now)) }
 {
     let (name, rest) = read_name(alloc, text)?;
     if let Some((b'(', after)) = split_ascii(rest) {
-        return Ok(Some(read_argument(alloc, depth, opened, name, after)?));
+        return Ok(Some(read_argument(alloc, room, opened, name, after)?));
     }
     if is_old_element(name.as_str()) {
         return Ok(None);
@@ -508,19 +527,19 @@ fn read_pseudo_condition<'a>(
     Ok(Some((Condition::Simple(simple), rest)))
 }
 
-/// Reads the next condition of a compound selector, if there is one, in which lists may nest `depth`
-/// deep.
+/// Reads the next condition of a compound selector, if there is one, in which these lists may
+/// be open.
 #[cycle(lists)]
 pub(crate) fn next_condition<'a>(
     alloc: Global,
-    depth: usize,
+    room: Room,
     text: &'a str,
 ) -> Result<Option<(Condition<'a>, &'a str)>, Refusal<'a>>
-    ensures { Finds condition_of result (next_condition_of depth text.now) }
+    ensures { Finds condition_of result (next_condition_of room text.now) }
 {
     let text = past_comments(text);
     if begins_pseudo_class(text) {
-        return read_pseudo_condition(alloc, depth, text, past_comments(past_ascii(text)));
+        return read_pseudo_condition(alloc, room, text, past_comments(past_ascii(text)));
     }
     match next_simple(alloc, text)? {
         Some((simple, rest)) => Ok(Some((Condition::Simple(simple), rest))),
@@ -532,13 +551,13 @@ pub(crate) fn next_condition<'a>(
 #[cycle(lists)]
 fn read_more<'a>(
     alloc: Global,
-    depth: usize,
+    room: Room,
     first: Option<Simple<'a>>,
     text: &'a str,
 ) -> Result<(Vec<Condition<'a>>, &'a str), Refusal<'a>>
     ensures { Reads (λ v. map condition_of v.items) result
         (found_before (map (λ s. simple (simple_of s)) (option_to_list first.entry))
-        (items (next_condition_of depth) text.now)) }
+        (items (next_condition_of room) text.now)) }
 {
     let mut conditions = Vec::with_capacity(alloc, 2)?;
     if let Some(simple) = first {
@@ -547,7 +566,7 @@ fn read_more<'a>(
     let mut rest = text;
     let mut left = text.len();
     'conditions: while left > 0 {
-        match next_condition(alloc, depth, rest)? {
+        match next_condition(alloc, room, rest)? {
             Some((condition, after)) => {
                 conditions.push(condition)?;
                 rest = after;
@@ -569,8 +588,8 @@ pub(crate) fn read_conditions<'a>(
     ensures { Reads (λ v. map condition_of v.items) result (conditions_of text.now) }
 {
     let (conditions, rest) = match read_type(alloc, text)? {
-        Some((simple, rest)) => read_more(alloc, DEEPEST, Some(simple), rest)?,
-        None => read_more(alloc, DEEPEST, None, text)?,
+        Some((simple, rest)) => read_more(alloc, OUTSIDE, Some(simple), rest)?,
+        None => read_more(alloc, OUTSIDE, None, text)?,
     };
     if conditions.is_empty() && !readers::starts(text, b':') {
         return Err(Refusal::new(Why::NoSelector, text));

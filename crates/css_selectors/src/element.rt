@@ -51,7 +51,7 @@ pub trait Element: Drop {
 
     /// Whether the element is in the state of this name, as `hover` or `checked`. The name is as the
     /// selector has it; names of states are the same in any case. A name that the element does not know
-    /// is no state of it.
+    /// is no state of it. `:dir(ltr)` tests the state `dir(ltr)`, and `:dir(rtl)` the state `dir(rtl)`.
     fn is_in_state(&self, name: &str) -> bool
         ensures { result ≡ document.is_in_state (node self.now) name.now };
 

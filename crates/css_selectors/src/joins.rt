@@ -1,10 +1,12 @@
 //! What joins compound selectors.
 ghost use Rattle.std.specs.Prelude.{◌≡◌, IfNone, IfSome, None, Some};
 ghost use Rattle.css_selectors.specs.Grammar.{sign_combinator as sign_combinator_of};
-ghost use Rattle.css_selectors.specs.Grammar.{begins_compound as begins_compound_of, first_sign};
+ghost use Rattle.css_selectors.specs.Grammar.{begins_compound as begins_compound_of, first_sign, leading_sign};
 ghost use Rattle.css_text.specs.Bytes.{starts_by, past_one};
 
 use crate::Combinator;
+use crate::components::ListKind;
+use crate::room::is_relative;
 use crate::texts::split_ascii;
 
 /// Returns the combinator of a sign.
@@ -28,6 +30,19 @@ pub(crate) fn take_sign<'a>(text: &'a str) -> Option<(Combinator, &'a str)>
     let (byte, rest) = split_ascii(text)?;
     let combinator = sign_combinator(byte)?;
     Some((combinator, rest))
+}
+
+/// Returns the combinator before a relative selector, and the rest after its sign, if there is one.
+pub(crate) fn take_leading<'a>(kind: ListKind, text: &'a str) -> Option<(Combinator, &'a str)>
+    ensures none { IfNone result (leading_sign kind text.now ≡ None) }
+    ensures some { IfSome result
+        (λ it. (leading_sign kind text.now ≡ Some it.0) × (it.1.now ≡ past_one text.now)) }
+{
+    if is_relative(kind) {
+        take_sign(text)
+    } else {
+        None
+    }
 }
 
 /// Whether a compound selector may begin here.

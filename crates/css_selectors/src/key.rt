@@ -69,7 +69,7 @@ fn lone_key_of<'s>(condition: &'s Condition<'_>) -> Key<'s>
 {
     match condition {
         Condition::Simple(simple) => key_of_simple(simple),
-        Condition::Not(_) | Condition::Is(_) | Condition::Where(_) | Condition::NthOf(..) => {
+        Condition::Not(_) | Condition::Is(_) | Condition::Where(_) | Condition::Tested(..) => {
             Key::Any
         }
     }
@@ -123,9 +123,8 @@ pub(crate) fn rank_of_condition(condition: &Condition<'_>) -> u8
 {
     match condition {
         Condition::Simple(simple) => key_of_simple(simple).rank(),
-        Condition::Not(_) => 0,
+        Condition::Not(_) | Condition::Tested(..) => 0,
         Condition::Is(selectors) | Condition::Where(selectors) => least_of(selectors.as_slice()),
-        Condition::NthOf(_, selectors) => least_of(selectors.as_slice()),
     }
 }
 
@@ -175,14 +174,13 @@ fn push_condition<'s>(
             keys.push(key_of_simple(simple))?;
             Ok(())
         }
-        Condition::Not(_) => {
+        Condition::Not(_) | Condition::Tested(..) => {
             keys.push(Key::Any)?;
             Ok(())
         }
         Condition::Is(selectors) | Condition::Where(selectors) => {
             push_selectors(selectors.as_slice(), keys)
         }
-        Condition::NthOf(_, selectors) => push_selectors(selectors.as_slice(), keys),
     }
 }
 
@@ -219,7 +217,7 @@ impl<'a> Selector<'a> {
 
     /// Appends the selector's keys: each element that it matches has one of them. They are those of
     /// one condition of the last compound selector, of one that few elements satisfy. Nothing
-    /// within `:not()` is a key.
+    /// within `:not()` is a key, nor within a list that is answered by its number.
     pub fn push_keys<'s>(&'s self, keys: &mut Vec<Key<'s>>) -> Result<(), AllocError>
         ensures { OnOk result (map key_of keys.new.items
             ≡ map key_of keys.old.items ++ keys_of self.now) }

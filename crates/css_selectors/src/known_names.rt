@@ -75,11 +75,10 @@ const STATES_LONGER: [&str; 12] = [
 ];
 
 /// The functional pseudo-classes without a meaning here.
-const FUNCTIONS: [&str; 7] = [
+const FUNCTIONS: [&str; 6] = [
     "-webkit-any",
     "active-view-transition-type",
     "dir",
-    "has",
     "host",
     "host-context",
     "state",

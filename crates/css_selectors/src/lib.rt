@@ -1,6 +1,7 @@
 //! Modern selectors (Selectors Level 4) and what they mean on elements: all of Level 3, the flags `i`
-//! and `s`, `:is()`, `:where()` and `:not()` with lists of complex selectors, and `:lang()` with lists
-//! of ranges. What is no selector is left out of `:is()` and `:where()`, which may be empty.
+//! and `s`, `:is()`, `:where()`, `:not()` and `:has()` with lists of complex selectors, lists after
+//! `An+B`, and `:lang()` with lists of ranges. What is no selector is left out of `:is()` and
+//! `:where()`, which may be empty.
 //!
 //! `Selector::parse` and `parse_list` read a text as `specs/Grammar` says, or report why and where it
 //! is refused. Names, keywords and strings are what their escapes spell, with U+FFFD in place of U+0000,
@@ -14,12 +15,16 @@
 //!
 //! A pseudo-element may have an argument, and pseudo-classes and further pseudo-elements after it. Its
 //! argument, and that of a pseudo-class that has no meaning here, is kept as it is written. A selector
-//! with one of these, with `:host`, a namespace, or a list after `An+B`, is unsupported: `parse` refuses
-//! it as such, and `read_list` reads it.
+//! with one of these, with `:host` or a namespace, is unsupported: `parse` refuses it as such, and
+//! `read_list` reads it.
 //!
 //! `&` stands for a list of selectors by its number, of which the element is asked. `parse` reads it as
 //! what it is outside of nested rules, `:scope`. `parse_nested_list` reads the list of a nested rule, whose
 //! selectors may begin with a combinator (CSS Nesting 1).
+//!
+//! `:has()` and a list after `An+B` are answered for all elements of a document at once. `Numbering`
+//! puts the number of their list in place of them, of which the element is asked as for `&`. A selector
+//! that is not numbered is matched as if no element satisfied them.
 //!
 //! A selector has a specificity, and `matches` is true exactly if there is a placement: an element for
 //! each compound selector, related as the combinators say. An element is any type with the trait
@@ -36,6 +41,7 @@ mod attribute_selectors;
 mod attributes;
 mod components;
 mod compounds;
+mod directions;
 mod element;
 mod escaping;
 mod joins;
@@ -43,6 +49,7 @@ mod key;
 mod key_laws;
 mod known_names;
 mod languages;
+mod marked_list;
 mod matching;
 mod matching_laws;
 mod meeting;
@@ -50,6 +57,8 @@ mod namespaces;
 mod nested;
 mod nesting;
 mod nesting_laws;
+mod numbering;
+mod numbering_laws;
 mod numbers;
 mod occurrences;
 mod originating;
@@ -63,6 +72,7 @@ mod reading;
 mod reading_laws;
 mod refusal;
 mod refusal_words;
+mod room;
 mod selector;
 mod specificity;
 mod spelling;
@@ -71,14 +81,17 @@ mod texts;
 mod words;
 
 pub use components::{
-    AttributeTest, Comparison, Complex, Condition, ElementName, FunctionCall, Local, Namespace,
-    Namespaced, Nesting, NthOf, OUTERMOST, Part, Progression, PseudoElement, Signed, Simple,
+    AttributeTest, Comparison, Complex, Condition, ElementName, FunctionCall, ListTest, Local,
+    Namespace, Namespaced, Nesting, OUTERMOST, Part, Progression, PseudoElement, Signed, Simple,
     Structure,
 };
 pub use css_matching::{Combinator, Tests};
 pub use element::Element;
 pub use escaping::{escape, quote};
 pub use key::Key;
+pub use marked_list::MarkedList;
+pub use meeting::{matches_any, meets};
+pub use numbering::Numbering;
 pub use refusal::{Refusal, Why};
 pub use selector::{Listed, Selector};
 pub use specificity::{NOTHING, Specificity, greater};

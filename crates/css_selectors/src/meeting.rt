@@ -6,13 +6,13 @@ ghost use Rattle.css_selectors.specs.Meanings.{satisfies, is_placed as is_placed
 ghost use Rattle.css_selectors.specs.Components.{conditions_from, parts_from, selectors_from};
 ghost use Rattle.css_selectors.specs.Costs.{condition_cost, compound_cost, dearest_part, list_cost, selector_cost, most_tests as most};
 ghost use Rattle.css_selectors.specs.Meanings.{IsMet, AreMet, MeetsPart, MatchesAny, IsPlaced};
-ghost use Rattle.css_selectors.specs.Components.Condition.{nth_of};
-ghost use Rattle.css_selectors.specs.SiblingCounts.{HasCount};
+ghost use Rattle.css_selectors.specs.declared.components.Simple.TheVariants.{Function};
 ghost use Rattle.css_selectors.specs.TriedElements.{element_of};
 ghost use Rattle.css_selectors.specs.Views.{comparison_of, progression_of, structure_of, simple_of, condition_of, part_of, complex_of};
 
 use crate::attributes::is_satisfied;
-use crate::{Comparison, Complex, Condition, Element, NthOf, Part, Simple, Structure};
+use crate::directions::direction_state;
+use crate::{Comparison, Complex, Condition, Element, FunctionCall, Part, Simple, Structure};
 use css_matching::{Candidate, Combinator, Parts, Tests, matches};
 use std::borrow::CowStr;
 
@@ -63,6 +63,16 @@ fn is_in_any<E: Element>(ranges: &[CowStr<'_>], element: &E) -> bool
     false
 }
 
+/// Whether the element has the direction that a pseudo-class tests.
+fn is_directed<E: Element>(call: &FunctionCall<'_>, element: &E) -> bool
+    ensures { result ≡ holds_on E.document (E.node element.now) (simple_of (Function call.now)) }
+{
+    match direction_state(call.name.as_str(), call.argument.as_str()) {
+        Some(state) => element.is_in_state(state),
+        None => false,
+    }
+}
+
 /// Whether the element satisfies the simple selector.
 fn holds<E: Element>(simple: &Simple<'_>, element: &E) -> bool
     ensures { result ≡ holds_on E.document (E.node element.now) (simple_of simple.now) }
@@ -94,7 +104,8 @@ fn holds<E: Element>(simple: &Simple<'_>, element: &E) -> bool
         Simple::Structure(structure) => is_placed_on(*structure, element),
         Simple::Language(ranges) => is_in_any(ranges.as_slice(), element),
         Simple::State(name) => element.is_in_state(name.as_str()),
-        Simple::Function(_) | Simple::Element(_) | Simple::Namespaced(_) => false,
+        Simple::Function(call) => is_directed(call, element),
+        Simple::Element(_) | Simple::Namespaced(_) => false,
         Simple::Nesting(list) => element.is_in_list(list.number),
     }
 }
@@ -239,9 +250,10 @@ fn is_matched<E: Element>(parts: &[Part<'_>], element: &E, tests: &mut Tests) ->
     is_placed(parts, element, tests)
 }
 
-/// Whether the element matches one of the complex selectors.
+/// Whether the element matches one of the complex selectors. The tests made are counted: each is one
+/// of a compound selector on an element, but for lone ones of the list.
 #[cycle(meeting)]
-fn is_placed_any<E: Element>(selectors: &[Complex<'_>], element: &E, tests: &mut Tests) -> bool
+pub fn matches_any<E: Element>(selectors: &[Complex<'_>], element: &E, tests: &mut Tests) -> bool
     ensures answer { IsTrue result
         ↔ MatchesAny E.document (selectors_from (map complex_of selectors.now)) (E.node element.now) }
     ensures bounded { tests.new ≤ tests.old
@@ -256,55 +268,6 @@ fn is_placed_any<E: Element>(selectors: &[Complex<'_>], element: &E, tests: &mut
     false
 }
 
-/// Returns how many of the element's earlier siblings match one of the complex selectors.
-#[cycle(meeting)]
-fn count_earlier<E: Element>(selectors: &[Complex<'_>], element: &E, tests: &mut Tests) -> u32
-    ensures answer { HasCount E.document.previous_sibling
-        (MatchesAny E.document (selectors_from (map complex_of selectors.now)))
-        (E.document.previous_sibling (E.node element.now)) result }
-    ensures bounded { tests.new ≤ tests.old + E.document.earlier (E.node element.now)
-        * (list_cost E.document (selectors_from (map complex_of selectors.now)) (E.node element.now) + 1) }
-    ensures counts { tests.old ≤ tests.new }
-{
-    let mut count = 0;
-    let mut next = element.previous_sibling();
-    'siblings: for _ in 0..element.earlier_siblings() {
-        let Some(sibling) = next else {
-            return count;
-        };
-        tests.tick();
-        if is_placed_any(selectors, &sibling, tests) {
-            count += 1;
-        }
-        next = sibling.previous_sibling();
-    }
-    count
-}
-
-/// Whether the element matches one of the complex selectors, and its number among those siblings that
-/// do is one of `An+B`.
-#[cycle(meeting)]
-fn is_numbered_among<E: Element>(
-    numbered: NthOf,
-    selectors: &[Complex<'_>],
-    element: &E,
-    tests: &mut Tests,
-) -> bool
-    ensures answer { IsTrue result ↔ IsMet E.document (nth_of numbered.from_last
-        (progression_of numbered.progression) (selectors_from (map complex_of selectors.now)))
-        (E.node element.now) }
-    ensures bounded { tests.new ≤ tests.old + condition_cost E.document (nth_of numbered.from_last
-        (progression_of numbered.progression) (selectors_from (map complex_of selectors.now)))
-        (E.node element.now) }
-    ensures counts { tests.old ≤ tests.new }
-{
-    if numbered.from_last || !is_placed_any(selectors, element, tests) {
-        return false;
-    }
-    let earlier = count_earlier(selectors, element, tests);
-    numbered.progression.contains(u64::from(earlier) + 1)
-}
-
 /// Whether the element satisfies the condition.
 #[cycle(meeting)]
 fn is_met<E: Element>(condition: &Condition<'_>, element: &E, tests: &mut Tests) -> bool
@@ -315,13 +278,11 @@ fn is_met<E: Element>(condition: &Condition<'_>, element: &E, tests: &mut Tests)
 {
     match condition {
         Condition::Simple(simple) => holds(simple, element),
-        Condition::Not(selectors) => !is_placed_any(selectors.as_slice(), element, tests),
+        Condition::Not(selectors) => !matches_any(selectors.as_slice(), element, tests),
         Condition::Is(selectors) | Condition::Where(selectors) => {
-            is_placed_any(selectors.as_slice(), element, tests)
+            matches_any(selectors.as_slice(), element, tests)
         }
-        Condition::NthOf(numbered, selectors) => {
-            is_numbered_among(*numbered, selectors.as_slice(), element, tests)
-        }
+        Condition::Tested(..) => false,
     }
 }
 
@@ -344,4 +305,16 @@ pub(crate) fn are_met<E: Element>(
         }
     }
     true
+}
+
+/// Whether the element satisfies all conditions of the compound selector. The tests that their lists
+/// make are counted.
+pub fn meets<E: Element>(part: &Part<'_>, element: &E, tests: &mut Tests) -> bool
+    ensures answer { IsTrue result ↔ AreMet E.document
+        (conditions_from (part_of part.now).conditions) (E.node element.now) }
+    ensures bounded { tests.new ≤ tests.old + compound_cost E.document
+        (conditions_from (part_of part.now).conditions) (E.node element.now) }
+    ensures counts { tests.old ≤ tests.new }
+{
+    are_met(part.conditions.as_slice(), element, tests)
 }

@@ -70,7 +70,7 @@ fn nests(so_far: bool, condition: &Condition<'_>) -> bool
         Condition::Not(selectors) | Condition::Is(selectors) | Condition::Where(selectors) => {
             list_nests(so_far, selectors.as_slice())
         }
-        Condition::NthOf(_, selectors) => list_nests(so_far, selectors.as_slice()),
+        Condition::Tested(_, selectors) => list_nests(so_far, selectors.as_slice()),
     }
 }
 
@@ -176,8 +176,8 @@ fn condition_under<'a>(
         Condition::Not(all) => Ok(Condition::Not(selectors_under(alloc, list, all)?)),
         Condition::Is(all) => Ok(Condition::Is(selectors_under(alloc, list, all)?)),
         Condition::Where(all) => Ok(Condition::Where(selectors_under(alloc, list, all)?)),
-        Condition::NthOf(numbered, all) => {
-            Ok(Condition::NthOf(numbered, selectors_under(alloc, list, all)?))
+        Condition::Tested(test, all) => {
+            Ok(Condition::Tested(test, selectors_under(alloc, list, all)?))
         }
     }
 }

@@ -8,14 +8,14 @@ ghost use Rattle.std.specs.Option.{option_map};
 ghost use Rattle.std.specs.Result.{IsOk};
 ghost use Rattle.css_selectors.specs.Printing.{minus_text, signed_text, is_zero as is_zero_number, size_text, plus_text, offset_text, progression_text};
 ghost use Rattle.css_selectors.specs.Printing.{comparison_text, flag_text, function_text, structure_text, list_text, further_text, string_text, identifier_text, argument_text};
-ghost use Rattle.css_selectors.specs.Printing.{nth_name, nth_of_text, namespace_text, some_attribute_text, attribute_text, local_text, simple_text, condition_text, combinator_text, part_text, parts_text};
+ghost use Rattle.css_selectors.specs.Printing.{first_text, listed_text, nth_of_text, test_text, namespace_text, some_attribute_text, attribute_text, local_text, simple_text, condition_text, combinator_text, part_text, parts_text};
 ghost use Rattle.css_selectors.specs.Printing.{pseudo_element_text, selector_text};
-ghost use Rattle.css_selectors.specs.Views.{comparison_of, signed_of, progression_of, structure_of, namespace_of, local_of, simple_of, complex_of, condition_of, part_of, pseudo_element_of};
+ghost use Rattle.css_selectors.specs.Views.{comparison_of, list_test_of, signed_of, progression_of, structure_of, namespace_of, local_of, simple_of, complex_of, condition_of, part_of, pseudo_element_of};
 ghost use Rattle.css_selectors.specs.declared.components.Simple.TheVariants.{Function, Element};
 
 use crate::components::{
-    AttributeTest, Comparison, Complex, Condition, ElementName, FunctionCall, Local, Namespace,
-    Namespaced, NthOf, Part, Progression, PseudoElement, Signed, Simple, Structure,
+    AttributeTest, Comparison, Complex, Condition, ElementName, FunctionCall, ListTest, Local,
+    Namespace, Namespaced, Part, Progression, PseudoElement, Signed, Simple, Structure,
 };
 use crate::spelling::{write_identifier, write_string};
 use crate::{Combinator, Selector};
@@ -393,17 +393,6 @@ fn write_namespaced<W: fmt::Write>(
     }
 }
 
-/// Returns the start of a pseudo-class with a list, by whether elements are numbered from the last.
-fn nth_start(from_last: bool) -> &'static str
-    ensures { result.now ≡ nth_name from_last }
-{
-    if from_last {
-        ":nth-last-child("
-    } else {
-        ":nth-child("
-    }
-}
-
 /// Writes a simple selector.
 fn write_simple<W: fmt::Write>(f: &mut fmt::Formatter<W>, simple: &Simple) -> fmt::Result
     ensures { WritesStyledOnOk W.write_str_gives f.old result
@@ -426,16 +415,41 @@ fn write_simple<W: fmt::Write>(f: &mut fmt::Formatter<W>, simple: &Simple) -> fm
     }
 }
 
+/// Returns what joins the first compound selector to what is before a complex selector in a list.
+fn leading(parts: &[Part]) -> &'static str
+    ensures { result.now ≡ first_text (map part_of parts.now) }
+{
+    let [first, ..] = parts else {
+        return "";
+    };
+    match first.combinator {
+        Combinator::Descendant => "",
+        Combinator::Child => "> ",
+        Combinator::Adjacent => "+ ",
+        Combinator::Sibling => "~ ",
+    }
+}
+
+/// Writes the compound selectors of a complex selector in a list.
+#[cycle(printing)]
+fn write_listed<W: fmt::Write>(f: &mut fmt::Formatter<W>, parts: &[Part]) -> fmt::Result
+    ensures { WritesStyledOnOk W.write_str_gives f.old result
+        (listed_text (map part_of parts.now)) f.new }
+{
+    f.write_str(leading(parts))?;
+    write_parts(f, parts)
+}
+
 /// Writes complex selectors with commas between them.
 #[cycle(printing)]
 fn write_selectors<W: fmt::Write>(f: &mut fmt::Formatter<W>, selectors: &[Complex]) -> fmt::Result
     ensures { WritesStyledOnOk W.write_str_gives f.old result
-        (list_text (λ s. parts_text (complex_of s)) selectors.now) f.new }
+        (list_text (λ s. listed_text (complex_of s)) selectors.now) f.new }
 {
     let mut separator = "";
     for selector in selectors {
         f.write_str(separator)?;
-        write_parts(f, selector.parts.as_slice())?;
+        write_listed(f, selector.parts.as_slice())?;
         separator = ", ";
     }
     Ok(())
@@ -450,7 +464,7 @@ fn write_list<W: fmt::Write>(
 ) -> fmt::Result
     ensures { WritesStyledOnOk W.write_str_gives f.old result
         (function_text name.now
-        (list_text (λ s. parts_text (complex_of s)) selectors.now)) f.new }
+        (list_text (λ s. listed_text (complex_of s)) selectors.now)) f.new }
 {
     f.write_str(name)?;
     write_selectors(f, selectors)?;
@@ -466,28 +480,46 @@ fn write_of<W: fmt::Write>(
 ) -> fmt::Result
     ensures { WritesStyledOnOk W.write_str_gives f.old result
         (nth_of_text (progression_of progression)
-        (list_text (λ s. parts_text (complex_of s)) selectors.now)) f.new }
+        (list_text (λ s. listed_text (complex_of s)) selectors.now)) f.new }
 {
     write_progression(f, progression)?;
     f.write_str(" of ")?;
     write_selectors(f, selectors)
 }
 
-/// Writes `:nth-child(..)` or `:nth-last-child(..)` with a list.
+/// Writes a pseudo-class of this name with `An+B` and a list.
 #[cycle(printing)]
 fn write_nth_of<W: fmt::Write>(
     f: &mut fmt::Formatter<W>,
-    numbered: NthOf,
+    name: &str,
+    progression: Progression,
     selectors: &[Complex],
 ) -> fmt::Result
     ensures { WritesStyledOnOk W.write_str_gives f.old result
-        (function_text (nth_name numbered.from_last)
-        (nth_of_text (progression_of numbered.progression)
-        (list_text (λ s. parts_text (complex_of s)) selectors.now))) f.new }
+        (function_text name.now (nth_of_text (progression_of progression)
+        (list_text (λ s. listed_text (complex_of s)) selectors.now))) f.new }
 {
-    f.write_str(nth_start(numbered.from_last))?;
-    write_of(f, numbered.progression, selectors)?;
+    f.write_str(name)?;
+    write_of(f, progression, selectors)?;
     f.write_str(")")
+}
+
+/// Writes a pseudo-class that is answered by the number of its list.
+#[cycle(printing)]
+fn write_tested<W: fmt::Write>(
+    f: &mut fmt::Formatter<W>,
+    test: ListTest,
+    selectors: &[Complex],
+) -> fmt::Result
+    ensures { WritesStyledOnOk W.write_str_gives f.old result
+        (test_text (list_test_of test)
+        (list_text (λ s. listed_text (complex_of s)) selectors.now)) f.new }
+{
+    match test {
+        ListTest::Has => write_list(f, ":has(", selectors),
+        ListTest::NthChild(p) => write_nth_of(f, ":nth-child(", p, selectors),
+        ListTest::NthLastChild(p) => write_nth_of(f, ":nth-last-child(", p, selectors),
+    }
 }
 
 /// Writes a condition.
@@ -501,7 +533,7 @@ fn write_condition<W: fmt::Write>(f: &mut fmt::Formatter<W>, condition: &Conditi
         Condition::Not(selectors) => write_list(f, ":not(", selectors.as_slice()),
         Condition::Is(selectors) => write_list(f, ":is(", selectors.as_slice()),
         Condition::Where(selectors) => write_list(f, ":where(", selectors.as_slice()),
-        Condition::NthOf(numbered, selectors) => write_nth_of(f, *numbered, selectors.as_slice()),
+        Condition::Tested(test, selectors) => write_tested(f, *test, selectors.as_slice()),
     }
 }
 

@@ -1,17 +1,17 @@
 //! Reads pseudo-classes.
 ghost use Rattle.std.specs.Prelude.{◌≡◌, ℕ, List, option_map};
 ghost use Rattle.css_selectors.specs.Grammar.{plain_structure, numbering as numbering_of, numbered_by as numbered_by_of};
-ghost use Rattle.css_selectors.specs.Grammar.{list_kind as list_kind_of, from_last as from_last_of};
+ghost use Rattle.css_selectors.specs.Grammar.{list_kind as list_kind_of, list_test as list_test_for};
 ghost use Rattle.css_selectors.specs.Grammar.{is_old_element as is_old_element_of, argument_of};
 ghost use Rattle.css_selectors.specs.KnownNames.{functions};
 ghost use Rattle.css_selectors.specs.internal.Reads.{Reads};
 ghost use Rattle.std.specs.Cow.{cow_str_bytes};
 ghost use Rattle.css_selectors.specs.Grammar.{function_named as function_named_of, plain_pseudo as plain_pseudo_of};
-ghost use Rattle.css_selectors.specs.Views.{structure_of, progression_of, simple_of};
+ghost use Rattle.css_selectors.specs.Views.{list_test_of, structure_of, progression_of, simple_of};
 
 use crate::arguments::read_kept;
 use crate::components::{
-    Function, FunctionCall, ListKind, Numbering, Progression, Simple, Structure,
+    Function, FunctionCall, ListKind, ListTest, Numbering, Progression, Simple, Structure,
 };
 use crate::known_names::{is_function, is_state};
 use crate::languages::read_ranges;
@@ -97,6 +97,8 @@ pub(crate) fn list_kind(name: &str) -> Option<ListKind>
         Some(ListKind::Is)
     } else if name.eq_ignore_ascii_case("where") {
         Some(ListKind::Where)
+    } else if name.eq_ignore_ascii_case("has") {
+        Some(ListKind::Has)
     } else {
         None
     }
@@ -145,14 +147,15 @@ pub(crate) fn plain_pseudo<'a>(
     }
 }
 
-/// Returns whether elements are numbered from the last, if all siblings are: only then a list may be
-/// after `An+B`.
-pub(crate) fn from_last(numbering: Numbering) -> Option<bool>
-    ensures { result ≡ from_last_of numbering }
+/// Returns what is asked of a list after `An+B`, if one may be there: only where all siblings are
+/// numbered.
+pub(crate) fn list_test(numbering: Numbering, progression: Progression) -> Option<ListTest>
+    ensures { option_map list_test_of result
+        ≡ list_test_for numbering (progression_of progression) }
 {
     match numbering {
-        Numbering::Child => Some(false),
-        Numbering::LastChild => Some(true),
+        Numbering::Child => Some(ListTest::NthChild(progression)),
+        Numbering::LastChild => Some(ListTest::NthLastChild(progression)),
         Numbering::OfType | Numbering::LastOfType => None,
     }
 }

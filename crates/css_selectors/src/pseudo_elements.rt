@@ -8,9 +8,10 @@ ghost use Rattle.css_selectors.specs.Views.{condition_of, element_name_of, pseud
 
 use crate::arguments::read_kept;
 use crate::components::{Condition, ElementName, PseudoElement, Simple};
-use crate::compounds::{DEEPEST, next_condition};
+use crate::compounds::next_condition;
 use crate::known_names::{is_element, is_element_function};
 use crate::refusal::{Refusal, Why};
+use crate::room::OUTSIDE;
 use crate::texts::split_ascii;
 use crate::words::{past_comments, read_name};
 use std::alloc::Global;
@@ -77,7 +78,7 @@ fn next_after_element<'a>(
     let Some((b':', rest)) = split_ascii(text) else {
         return Ok(None);
     };
-    if let Some((condition, rest)) = next_condition(alloc, DEEPEST, text)? {
+    if let Some((condition, rest)) = next_condition(alloc, OUTSIDE, text)? {
         return Ok(Some((condition, rest)));
     }
     let (element, rest) = read_element_name(alloc, text, rest)?;

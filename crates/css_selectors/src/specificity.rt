@@ -3,13 +3,13 @@ ghost use Rattle.std.specs.Prelude.{◌≡◌, map, option_map};
 ghost use Rattle.css_selectors.specs.Specificities.{Counts, nothing, one_id, one_class, one_name};
 ghost use Rattle.css_selectors.specs.Specificities.{plus as sum_of, greater as greater_of, is_less};
 ghost use Rattle.css_selectors.specs.Specificities.{of_local as counts_of_local, of_simple as counts_of_simple, of_pseudo_element as counts_of_element};
-ghost use Rattle.css_selectors.specs.Specificities.{greatest as greatest_of};
+ghost use Rattle.css_selectors.specs.Specificities.{greatest as greatest_of, of_test as counts_of_test};
 ghost use Rattle.css_selectors.specs.Specificities.{of_condition as counts_of_condition, of_compound, of_parts as counts_of_parts};
 ghost use Rattle.css_selectors.specs.Components.{conditions_from, parts_from, selectors_from};
 ghost use Rattle.css_selectors.specs.SpecificityViews.{counts_of};
-ghost use Rattle.css_selectors.specs.Views.{local_of, simple_of, complex_of, condition_of, part_of, pseudo_element_of};
+ghost use Rattle.css_selectors.specs.Views.{list_test_of, local_of, simple_of, complex_of, condition_of, part_of, pseudo_element_of};
 
-use crate::{Complex, Condition, Local, Part, PseudoElement, Selector, Simple};
+use crate::{Complex, Condition, ListTest, Local, Part, PseudoElement, Selector, Simple};
 
 /// How specific a selector is: ids count more than classes, and these more than names.
 #[derive(Clone, Copy, Debug, PartialEq, Eq, PartialOrd, Ord)]
@@ -105,9 +105,19 @@ fn of_simple(simple: &Simple<'_>) -> Specificity
     }
 }
 
+/// Returns what a pseudo-class counts of whose list the greatest counts so much.
+pub(crate) fn of_test(test: ListTest, most: Specificity) -> Specificity
+    ensures { counts_of result ≡ counts_of_test (list_test_of test) (counts_of most) }
+{
+    match test {
+        ListTest::Has => most,
+        ListTest::NthChild(_) | ListTest::NthLastChild(_) => plus(ONE_CLASS, most),
+    }
+}
+
 /// Returns the greatest that one of the complex selectors counts.
 #[cycle(counting)]
-fn greatest(selectors: &[Complex<'_>]) -> Specificity
+pub(crate) fn greatest(selectors: &[Complex<'_>]) -> Specificity
     ensures { counts_of result
         ≡ greatest_of nothing (selectors_from (map complex_of selectors.now)) }
 {
@@ -127,7 +137,7 @@ fn of_condition(condition: &Condition<'_>) -> Specificity
         Condition::Simple(simple) => of_simple(simple),
         Condition::Not(selectors) | Condition::Is(selectors) => greatest(selectors.as_slice()),
         Condition::Where(_) => NOTHING,
-        Condition::NthOf(_, selectors) => plus(ONE_CLASS, greatest(selectors.as_slice())),
+        Condition::Tested(test, selectors) => of_test(*test, greatest(selectors.as_slice())),
     }
 }
 
@@ -175,8 +185,8 @@ impl<'a> Selector<'a> {
     ghost use Rattle.css_selectors.specs.Specificities.{specificity as specificity_of};
     ghost use Rattle.css_selectors.specs.SpecificityViews.{counts_of};
 
-    /// Returns the specificity. `:is()` and `:not()` count as the most specific of their lists, a list
-    /// after `An+B` counts so besides its pseudo-class, and `:where()` counts nothing.
+    /// Returns the specificity. `:is()`, `:not()` and `:has()` count as the most specific of their
+    /// lists, a list after `An+B` counts so besides its pseudo-class, and `:where()` counts nothing.
     pub fn specificity(&self) -> Specificity
         ensures { counts_of result ≡ specificity_of self.now }
     {

@@ -7,10 +7,11 @@ ghost use Rattle.css_selectors.specs.NestedTests.{search_count as search_count_o
 ghost use Rattle.css_selectors.specs.Supported.{is_plain_element as is_plain_element_of};
 ghost use Rattle.css_selectors.specs.Views.{simple_of, complex_of, condition_of, part_of, pseudo_element_of};
 
+use crate::directions::direction_state;
 use crate::{Complex, Condition, Part, PseudoElement, Selector, Simple};
 
-/// How many selectors with combinators that stand in lists, and lists after `An+B`, may be within one
-/// another. Their tests multiply.
+/// How many selectors with combinators that stand in lists may be within one another. Their tests
+/// multiply.
 const DEEPEST_JOINED: usize = 1;
 
 /// Whether the simple selector has a meaning.
@@ -19,7 +20,10 @@ fn is_supported_simple(simple: &Simple<'_>) -> bool
 {
     match simple {
         Simple::State(name) => !name.as_str().eq_ignore_ascii_case("host"),
-        Simple::Function(_) | Simple::Element(_) | Simple::Namespaced(_) => false,
+        Simple::Function(call) => {
+            direction_state(call.name.as_str(), call.argument.as_str()).is_some()
+        }
+        Simple::Element(_) | Simple::Namespaced(_) => false,
         Simple::Universal
         | Simple::TypeName(_)
         | Simple::Id(_)
@@ -76,13 +80,9 @@ fn is_supported(left: usize, condition: &Condition<'_>) -> bool
         Condition::Not(selectors) | Condition::Is(selectors) | Condition::Where(selectors) => {
             are_supported(left, selectors.as_slice())
         }
-        Condition::NthOf(numbered, selectors) => both(
-            !numbered.from_last,
-            both(
-                1 <= left,
-                are_supported(left.saturating_sub(1), selectors.as_slice()),
-            ),
-        ),
+        Condition::Tested(_, selectors) => {
+            are_supported(DEEPEST_JOINED + 1, selectors.as_slice())
+        }
     }
 }
 
@@ -126,9 +126,10 @@ impl<'a> Selector<'a> {
     ghost use Rattle.css_selectors.specs.Supported.{is_supported_selector};
 
     /// Whether the selector has a meaning here. A pseudo-class or a pseudo-element with an argument that
-    /// is kept as it is written has none, nor has `:host`, `:nth-last-child()` with a list, what has a
-    /// namespace, or what follows a pseudo-element. Nor has a selector with combinators in a list of
-    /// another that is in a list, nor either with a list after `An+B`: their tests multiply.
+    /// is kept as it is written has none, nor has `:host`, what has a namespace, or what follows a
+    /// pseudo-element. Nor has a selector with combinators in a list of another that is in a list: their
+    /// tests multiply. The selectors of `:has()`, and those after `An+B`, are as selectors that stand in
+    /// no list.
     pub fn is_supported(&self) -> bool
         ensures { result ≡ is_supported_selector self.now }
     {

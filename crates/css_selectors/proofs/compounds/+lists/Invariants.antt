@@ -11,8 +11,8 @@ use Rattle.css_selectors.proofs.compounds.+lists.Given as goal
 abbrev pub invariant-read_more-conditions : goal.invariant-read_more-conditions
 invariant-read_more-conditions l = record {
   text : shadow (Utf8 l.rest);
-  found : found_before (map condition_of l.conditions.items) (items_up_to l.left (next_condition l.depth) l.rest)
-      ≡ found_before (map (λ s. simple (simple_of s)) (option_to_list l.fn.first)) (items (next_condition l.fn.depth) l.fn.text);
+  found : found_before (map condition_of l.conditions.items) (items_up_to l.left (next_condition l.room) l.rest)
+      ≡ found_before (map (λ s. simple (simple_of s)) (option_to_list l.fn.first)) (items (next_condition l.fn.room) l.fn.text);
 }
 
 abbrev pub decreases-read_more-conditions : goal.decreases-read_more-conditions
@@ -22,9 +22,9 @@ abbrev pub invariant-read_parts-parts : goal.invariant-read_parts-parts
 invariant-read_parts-parts l = record {
   text : shadow (Utf8 l.rest);
   found : found_before (map part_of l.parts.items)
-      (items_up_to l.left (next_part_in (next_condition l.depth)) l.rest)
+      (items_up_to l.left (next_part_in (next_condition l.room)) l.rest)
       ≡ found_before (part_of l.fn.first ∷ [])
-      (items (next_part_in (next_condition l.fn.depth)) l.fn.text);
+      (items (next_part_in (next_condition l.fn.room)) l.fn.text);
 }
 
 abbrev pub decreases-read_parts-parts : goal.decreases-read_parts-parts
@@ -34,8 +34,8 @@ abbrev pub invariant-read_selectors-selectors : goal.invariant-read_selectors-se
 invariant-read_selectors-selectors l = record {
   text : shadow (Utf8 l.rest);
   found : found_before (map complex_of l.selectors.items)
-      (keep (items_up_to l.left (next_listed l.forgiving (next_condition l.depth)) l.rest))
-      ≡ selectors_after l.fn.forgiving (next_condition l.fn.depth) (option_map complex_of l.fn.first) l.fn.text;
+      (keep (items_up_to l.left (next_listed l.kind (next_condition l.room)) l.rest))
+      ≡ selectors_after l.fn.kind (next_condition l.fn.room) (option_map complex_of l.fn.first) l.fn.text;
 }
 
 abbrev pub decreases-read_selectors-selectors : goal.decreases-read_selectors-selectors
@@ -43,46 +43,49 @@ decreases-read_selectors-selectors l = l.left
 
 -- each function calls those before it at the same depth, and `read_list` all at one less
 abbrev pub decreases-read_list : goal.decreases-read_list
-decreases-read_list l = 15 * l.depth
+decreases-read_list l = 16 * l.room.depth
 
 abbrev pub decreases-read_of : goal.decreases-read_of
-decreases-read_of l = 15 * l.depth + 1
+decreases-read_of l = 16 * l.room.depth + 1
 
 abbrev pub decreases-read_after_progression : goal.decreases-read_after_progression
-decreases-read_after_progression l = 15 * l.depth + 2
+decreases-read_after_progression l = 16 * l.room.depth + 2
 
 abbrev pub decreases-read_functional : goal.decreases-read_functional
-decreases-read_functional l = 15 * l.depth + 3
+decreases-read_functional l = 16 * l.room.depth + 3
 
 abbrev pub decreases-read_argument : goal.decreases-read_argument
-decreases-read_argument l = 15 * l.depth + 4
+decreases-read_argument l = 16 * l.room.depth + 4
 
 abbrev pub decreases-read_pseudo_condition : goal.decreases-read_pseudo_condition
-decreases-read_pseudo_condition l = 15 * l.depth + 5
+decreases-read_pseudo_condition l = 16 * l.room.depth + 5
 
 abbrev pub decreases-next_condition : goal.decreases-next_condition
-decreases-next_condition l = 15 * l.depth + 6
+decreases-next_condition l = 16 * l.room.depth + 6
 
 abbrev pub decreases-read_more : goal.decreases-read_more
-decreases-read_more l = 15 * l.depth + 7
+decreases-read_more l = 16 * l.room.depth + 7
 
 abbrev pub decreases-read_compound : goal.decreases-read_compound
-decreases-read_compound l = 15 * l.depth + 8
+decreases-read_compound l = 16 * l.room.depth + 8
 
 abbrev pub decreases-next_part : goal.decreases-next_part
-decreases-next_part l = 15 * l.depth + 9
+decreases-next_part l = 16 * l.room.depth + 9
 
 abbrev pub decreases-read_parts : goal.decreases-read_parts
-decreases-read_parts l = 15 * l.depth + 10
+decreases-read_parts l = 16 * l.room.depth + 10
+
+abbrev pub decreases-read_joined : goal.decreases-read_joined
+decreases-read_joined l = 16 * l.room.depth + 11
 
 abbrev pub decreases-read_complex : goal.decreases-read_complex
-decreases-read_complex l = 15 * l.depth + 11
+decreases-read_complex l = 16 * l.room.depth + 12
 
 abbrev pub decreases-read_listed : goal.decreases-read_listed
-decreases-read_listed l = 15 * l.depth + 12
+decreases-read_listed l = 16 * l.room.depth + 13
 
 abbrev pub decreases-next_listed : goal.decreases-next_listed
-decreases-next_listed l = 15 * l.depth + 13
+decreases-next_listed l = 16 * l.room.depth + 14
 
 abbrev pub decreases-read_selectors : goal.decreases-read_selectors
-decreases-read_selectors l = 15 * l.depth + 14
+decreases-read_selectors l = 16 * l.room.depth + 15

@@ -1,20 +1,12 @@
 use Rattle.std.proofs.Common.{◌≡◌, ◌++◌, map, subst}
 use Rattle.std.specs.Result.{OnOk}
 use Rattle.css_selectors.specs.KeyViews.{key_of}
-use Rattle.css_selectors.proofs.KeyLemmas.{keys_listed, keys_numbered}
+use Rattle.css_selectors.proofs.KeyLemmas.{keys_listed}
 use Rattle.css_selectors.proofs.key.push_condition.Goals as goal
 
 pub returns-in-Is : goal.returns-in-Is
 returns-in-Is c =
-    subst (λ keys. OnOk c.push_selectors-in-Is.result
-    (map key_of c.push_selectors-in-Is.new.keys.items ≡ map key_of c.args.keys.now.items ++ keys))
-    (keys_listed c.args.condition.now c.in-Is.selectors c.as_slice-in-Is.result.now c.in-Is.is c.as_slice-in-Is.ensures.value)
-    c.push_selectors-in-Is.ensures
-
-pub returns-in-NthOf : goal.returns-in-NthOf
-returns-in-NthOf c =
     subst (λ keys. OnOk c.push_selectors.result
     (map key_of c.push_selectors.new.keys.items ≡ map key_of c.args.keys.now.items ++ keys))
-    (keys_numbered c.args.condition.now c.in-NthOf.selectors c.as_slice.result.now _ c.in-NthOf.is
-    c.as_slice.ensures.value)
+    (keys_listed c.args.condition.now c.in-Is.selectors c.as_slice.result.now c.in-Is.is c.as_slice.ensures.value)
     c.push_selectors.ensures

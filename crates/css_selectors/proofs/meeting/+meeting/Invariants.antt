@@ -1,10 +1,8 @@
-use Rattle.std.proofs.Common.{◌≡◌, ℕ, ◌+◌, ◌*◌, ◌≤◌, ◌↔◌, IfSome, drop, map, option_map}
+use Rattle.std.proofs.Common.{◌+◌, ◌*◌, ◌≤◌, ◌↔◌, drop, map}
 use denote.Param.Weighed.{most}
 use Rattle.css_selectors.specs.Components.{conditions_from, selectors_from}
 use Rattle.css_selectors.specs.Costs.{compound_cost, list_cost}
 use Rattle.css_selectors.specs.Meanings.{AreMet, MatchesAny}
-use Rattle.css_selectors.specs.SiblingCounts.{HasCount}
-use Rattle.css_selectors.proofs.SiblingCountLemmas.{left_from}
 use Rattle.css_selectors.specs.Views.{condition_of, complex_of}
 use Rattle.css_selectors.specs.declared.components.Part.{size-Part}
 use Rattle.css_selectors.proofs.meeting.+meeting.Given as goal
@@ -22,8 +20,8 @@ decreases-is_placed-matches g l = 8 * most (λ x. size-Part x) l.parts.now + 2
 abbrev pub decreases-is_placed : goal.decreases-is_placed
 decreases-is_placed g l = 8 * goal.size-is_placed g l + 3
 
-abbrev pub decreases-is_placed_any : goal.decreases-is_placed_any
-decreases-is_placed_any g l = 8 * goal.size-is_placed_any g l + 5
+abbrev pub decreases-matches_any : goal.decreases-matches_any
+decreases-matches_any g l = 8 * goal.size-matches_any g l + 5
 
 abbrev pub decreases-is_matched : goal.decreases-is_matched
 decreases-is_matched g l = 8 * goal.size-is_matched g l + 4
@@ -40,8 +38,8 @@ invariant-are_met-loop-condition g l =
           ≤ l.fn.tests + compound_cost d (conditions_from (map condition_of l.conditions)) n;
     }
 
-abbrev pub invariant-is_placed_any-loop-selector : goal.invariant-is_placed_any-loop-selector
-invariant-is_placed_any-loop-selector g l =
+abbrev pub invariant-matches_any-loop-selector : goal.invariant-matches_any-loop-selector
+invariant-matches_any-loop-selector g l =
     let d = g.E.Element.document in
     let n = g.E.Element.node l.element in
     record {
@@ -50,27 +48,4 @@ invariant-is_placed_any-loop-selector g l =
       kept : l.fn.tests ≤ l.tests;
       spent : l.tests + list_cost d (selectors_from (map complex_of (drop l.selector-index l.selectors))) n
           ≤ l.fn.tests + list_cost d (selectors_from (map complex_of l.selectors)) n;
-    }
-
-abbrev pub decreases-count_earlier : goal.decreases-count_earlier
-decreases-count_earlier g l = 8 * goal.size-count_earlier g l + 6
-
-abbrev pub decreases-is_numbered_among : goal.decreases-is_numbered_among
-decreases-is_numbered_among g l = 8 * goal.size-is_numbered_among g l + 7
-
--- what was counted, and what is left to count
-abbrev pub invariant-count_earlier-siblings : goal.invariant-count_earlier-siblings
-invariant-count_earlier-siblings g l =
-    let d = g.E.Element.document in
-    let n = g.E.Element.node l.element in
-    let S = selectors_from (map complex_of l.selectors) in
-    let next = option_map g.E.Element.node l.next in
-    record {
-      rest : (k : ℕ) → HasCount d.previous_sibling (MatchesAny d S) next k
-          → HasCount d.previous_sibling (MatchesAny d S) (d.previous_sibling n) (k + l.count);
-      passed : d.earlier n ≡ l.counter + left_from d.earlier next;
-      few : l.count ≤ l.counter;
-      cheap : IfSome next (λ s. list_cost d S s ≤ list_cost d S n);
-      kept : l.fn.tests ≤ l.tests;
-      spent : l.tests ≤ l.fn.tests + l.counter * (list_cost d S n + 1);
     }

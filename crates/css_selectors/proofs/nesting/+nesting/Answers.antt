@@ -1,6 +1,6 @@
 use Rattle.std.proofs.Common.{refl}
 use Rattle.css_selectors.specs.Nested.{simple_under}
-use Rattle.css_selectors.proofs.NestingLemmas.{not_with, is_with, where_with, nth_with}
+use Rattle.css_selectors.proofs.NestingLemmas.{not_with, is_with, where_with, tested_with}
 use Rattle.css_selectors.proofs.nesting.+nesting.Goals as goal
 
 pub condition_under-returns-in_ok-selectors_under-in-Not : goal.condition_under-returns-in_ok-selectors_under-in-Not
@@ -21,8 +21,8 @@ condition_under-returns-in_ok-selectors_under-in-Where t c =
     c.in_ok-selectors_under-in-Where.field-0 c.in-Where.all.items refl
     c.in_ok-selectors_under-in-Where.ensures c.in-Where.is
 
-pub condition_under-returns-in_ok-selectors_under-in-NthOf : goal.condition_under-returns-in_ok-selectors_under-in-NthOf
-condition_under-returns-in_ok-selectors_under-in-NthOf t c =
-    nth_with (simple_under c.args.list) c.args.condition c.in-NthOf.all
-    c.in_ok-selectors_under-in-NthOf.field-0 c.in-NthOf.all.items refl
-    c.in_ok-selectors_under-in-NthOf.ensures c.in-NthOf.numbered c.in-NthOf.is
+pub condition_under-returns-in_ok-selectors_under-in-Tested : goal.condition_under-returns-in_ok-selectors_under-in-Tested
+condition_under-returns-in_ok-selectors_under-in-Tested t c =
+    tested_with (simple_under c.args.list) c.args.condition c.in-Tested.all
+    c.in_ok-selectors_under-in-Tested.field-0 c.in-Tested.all.items refl
+    c.in_ok-selectors_under-in-Tested.ensures c.in-Tested.test c.in-Tested.is

@@ -6,10 +6,10 @@ use Rattle.std.proofs.lemmas.List.{take_all}
 use Rattle.std.proofs.Output.{has_written_styled_of_eq}
 use Rattle.std.proofs.lemmas.List.Folds.{flat_map-map}
 use Rattle.css_text.proofs.round_trip.StyledWrites.{styled_step, styled_two, styled_three}
-use Rattle.css_selectors.proofs.PrintLemmas.{both, all_three, parts_first}
-use Rattle.css_selectors.specs.Printing.{condition_text, part_text, parts_text, list_text}
+use Rattle.css_selectors.proofs.PrintLemmas.{both, parts_first}
+use Rattle.css_selectors.specs.Printing.{condition_text, part_text, parts_text, listed_text, list_text}
 use Rattle.css_selectors.specs.Views.{condition_of, part_of}
-use Rattle.css_selectors.proofs.ListTexts.{text_not, text_is, text_where, text_nth, selector_shown, separator, separator_later, list_step}
+use Rattle.css_selectors.proofs.ListTexts.{text_not, text_is, text_where, text_tested, selector_shown, separator, separator_later, list_step}
 use Rattle.css_selectors.proofs.printing.+printing.Goals as goal
 
 pub write_selectors-loop-selector-preserved : goal.write_selectors-loop-selector-preserved
@@ -19,12 +19,12 @@ write_selectors-loop-selector-preserved g t c = (
       let so_far = c.loop-selector.invariant.1 plain in
       let within : c.loop-selector.selector-index < length c.args.selectors.now = omega arith in
       let joined = c.in_ok-write_str.ensures.styled so_far.flush (refl {a = true}) in
-      let one = c.in_ok-write_parts.ensures joined.flush (refl {a = true}) in
+      let one = c.in_ok-write_listed.ensures joined.flush (refl {a = true}) in
       styled_three _ _ _ _ _ _ _ _ _ so_far joined one
       (ap (λ s. (list_text selector_shown (take c.loop-selector.selector-index c.args.selectors.now) ++ s)
-      ++ parts_text (map part_of c.as_slice.result.now)) c.loop-selector.invariant.0
+      ++ listed_text (map part_of c.as_slice.result.now)) c.loop-selector.invariant.0
       ∙ ap (λ cs. (list_text selector_shown (take c.loop-selector.selector-index c.args.selectors.now)
-      ++ separator c.loop-selector.selector-index) ++ parts_text (map part_of cs)) c.as_slice.ensures.value
+      ++ separator c.loop-selector.selector-index) ++ listed_text (map part_of cs)) c.as_slice.ensures.value
       ∙ list_step selector_shown c.args.selectors.now c.loop-selector.selector-index
       c.selector-item.result within c.selector-item.is),
 )
@@ -106,15 +106,22 @@ write_parts-write_more-requires g t c κs within =
     let split : c.args.parts.now ≡ c.in-Some.first.now ∷ c.in-Some.rest.now = search rules in
     let low : most (λ x. size-Part x) c.in-Some.rest.now ≤ most (λ x. size-Part x) c.args.parts.now =
     rw split (omega arith) in
-    let h : 8 * most (λ x. size-Part x) c.args.parts.now + 3 ≡ t = c.decreases in
+    let h : 10 * most (λ x. size-Part x) c.args.parts.now + 3 ≡ t = c.decreases in
     (omega (arith, low, h), within)
 
-pub write_condition-returns-in-NthOf : goal.write_condition-returns-in-NthOf
-write_condition-returns-in-NthOf g t c = λ flush ok.
+pub write_condition-returns-in-Tested : goal.write_condition-returns-in-Tested
+write_condition-returns-in-Tested g t c = λ flush ok.
     has_written_styled_of_eq _ _ _ _ _
-    (text_nth c.args.condition.now c.in-NthOf.selectors c.as_slice-in-NthOf.result.now _ c.in-NthOf.is
-    c.as_slice-in-NthOf.ensures.value)
-    (c.write_nth_of.ensures flush ok)
+    (text_tested c.args.condition.now c.in-Tested.selectors c.as_slice-in-Tested.result.now _
+    c.in-Tested.is c.as_slice-in-Tested.ensures.value)
+    (c.write_tested.ensures flush ok)
+
+pub write_listed-returns : goal.write_listed-returns
+write_listed-returns g t c = λ flush ok.
+    let one = c.in_ok-write_str.ensures.styled flush (refl {a = true}) in
+    let two = c.write_parts.ensures one.flush ok in
+    styled_two _ _ _ _ _ _ _ one two
+    (ap (λ s. s ++ parts_text (map part_of c.args.parts.now)) c.leading.ensures)
 
 pub write_of-returns : goal.write_of-returns
 write_of-returns g t c = λ flush ok.
@@ -128,4 +135,4 @@ write_nth_of-returns g t c = λ flush ok.
     let one = c.in_ok-write_str.ensures.styled flush (refl {a = true}) in
     let two = c.in_ok-write_of.ensures one.flush (refl {a = true}) in
     let three = c.write_str-2.ensures.styled two.flush ok in
-    styled_three _ _ _ _ _ _ _ _ _ one two three (all_three c.nth_start.ensures refl refl)
+    styled_three _ _ _ _ _ _ _ _ _ one two three refl

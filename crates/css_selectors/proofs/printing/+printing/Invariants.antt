@@ -25,25 +25,31 @@ invariant-write_more-loop-part g l =
 
 -- at the same depth, each function calls those before it
 abbrev pub decreases-write_condition : goal.decreases-write_condition
-decreases-write_condition g l = 8 * goal.size-write_condition g l
+decreases-write_condition g l = 10 * goal.size-write_condition g l
 
 abbrev pub decreases-write_conditions : goal.decreases-write_conditions
-decreases-write_conditions g l = 8 * goal.size-write_conditions g l + 1
+decreases-write_conditions g l = 10 * goal.size-write_conditions g l + 1
 
 abbrev pub decreases-write_more : goal.decreases-write_more
-decreases-write_more g l = 8 * goal.size-write_more g l + 2
+decreases-write_more g l = 10 * goal.size-write_more g l + 2
 
 abbrev pub decreases-write_parts : goal.decreases-write_parts
-decreases-write_parts g l = 8 * goal.size-write_parts g l + 3
+decreases-write_parts g l = 10 * goal.size-write_parts g l + 3
+
+abbrev pub decreases-write_listed : goal.decreases-write_listed
+decreases-write_listed g l = 10 * goal.size-write_listed g l + 4
 
 abbrev pub decreases-write_selectors : goal.decreases-write_selectors
-decreases-write_selectors g l = 8 * goal.size-write_selectors g l + 4
+decreases-write_selectors g l = 10 * goal.size-write_selectors g l + 5
 
 abbrev pub decreases-write_list : goal.decreases-write_list
-decreases-write_list g l = 8 * goal.size-write_list g l + 5
+decreases-write_list g l = 10 * goal.size-write_list g l + 6
 
 abbrev pub decreases-write_of : goal.decreases-write_of
-decreases-write_of g l = 8 * goal.size-write_of g l + 6
+decreases-write_of g l = 10 * goal.size-write_of g l + 7
 
 abbrev pub decreases-write_nth_of : goal.decreases-write_nth_of
-decreases-write_nth_of g l = 8 * goal.size-write_nth_of g l + 7
+decreases-write_nth_of g l = 10 * goal.size-write_nth_of g l + 8
+
+abbrev pub decreases-write_tested : goal.decreases-write_tested
+decreases-write_tested g l = 10 * goal.size-write_tested g l + 9
