@@ -4,7 +4,7 @@ use Rattle.std.proofs.Common.{ℕ, ◌<◌, List, [], ◌∷◌, map}
 use Rattle.css_selectors.specs.declared.components.Nesting.{Nesting}
 use Rattle.css_selectors.specs.Components.{Simple, Condition, Conditions, Parts, Selectors, Part, Selector, conditions_from, parts_from}
 use Rattle.css_selectors.specs.Components.Simple.{universal, type_name, id, class, has_attribute, attribute, structure, language, state, function, named_element, nesting, namespaced}
-use Rattle.css_selectors.specs.Components.Condition.{simple, negation, any_of, where_any, nth_of}
+use Rattle.css_selectors.specs.Components.Condition.{simple, negation, any_of, where_any, tested}
 use Rattle.css_selectors.specs.Components.Conditions.{end_of_compound, with_condition}
 use Rattle.css_selectors.specs.Components.Parts.{end_of_selector, with_part}
 use Rattle.css_selectors.specs.Components.Selectors.{end_of_list, with_selector}
@@ -37,7 +37,7 @@ module _ (list : Nesting) (n : ℕ) (below : list.number < n) where
     condition-under (negation selectors) = selectors-under selectors
     condition-under (any_of selectors) = selectors-under selectors
     condition-under (where_any selectors) = selectors-under selectors
-    condition-under (nth_of last p selectors) = selectors-under selectors
+    condition-under (tested test selectors) = selectors-under selectors
 
     compound-under : (cs : Conditions) → CompoundAsksBelow n (compound_with (simple_under list) cs)
     compound-under end_of_compound = tt

@@ -9,13 +9,14 @@ use Rattle.css_matching.specs.declared.Combinator.{Combinator}
 use Rattle.css_matching.specs.declared.Combinator.TheVariants.{Descendant}
 use Rattle.css_selectors.specs.declared.refusal.Why.{Why}
 use Rattle.css_selectors.specs.declared.refusal.Why.TheVariants.{Unexpected}
-use Rattle.css_selectors.specs.Components.{Progression, Structure, Namespace, Local, Simple, Condition, Part, Placed, conditions_from, parts_from, selectors_from}
+use Rattle.css_selectors.specs.Components.{ListTest, Progression, Structure, Namespace, Local, Simple, Condition, Part, Placed, conditions_from, parts_from, selectors_from}
+use Rattle.css_selectors.specs.Components.ListTest.{nth_child, nth_last_child}
 use Rattle.css_selectors.specs.Components.Local.{any_type, a_type, some_attribute, an_attribute}
 use Rattle.css_selectors.specs.Components.Simple.{id, class}
 use Rattle.css_selectors.specs.Components.Condition.{simple}
 use Rattle.css_selectors.specs.KnownNames.{is_one_of, states, functions}
 use Rattle.css_selectors.specs.Readings.{Reading, got, refused, Reader, follow, Step, item, none, stop, step_after, as_item, with_first, go_on, items_up_to, items}
-use Rattle.css_selectors.specs.Grammar.{gap, name, ident_sequence, namespace, in_namespace, attribute_from_name, attribute_selector, any_or_name, type_after, type_selector, ampersand, next_simple, plain_structure, plain_pseudo, is_old_element, named_pseudo, list_kind, function_named, argument_of, language_ranges, progression, closing, is_word, begins_name, of_list, after_word, functional, begins_pseudo_class, simple_item, with_argument, pseudo_condition, condition_here, condition_by, too_deep, next_condition, deepest, Finder, ListReader, CompoundReader, some_of, after_type, compound, first_sign, joined_by, signed_part, by_sign, part_after, begins_compound, next_part_in, complex, ends_part, is_lasting, no_selector, part_end, judged, listed_part, next_listed, kept, keep, selectors_after, is_forgiving, complex_list, list_by, after_type_name, conditions, next_part, parts, placed, placed_by, next_placed, placed_list_by, placed_list, past_comments, pseudo_element, at_end}
+use Rattle.css_selectors.specs.Grammar.{gap, name, ident_sequence, namespace, in_namespace, attribute_from_name, attribute_selector, any_or_name, type_after, type_selector, ampersand, next_simple, plain_structure, plain_pseudo, is_old_element, named_pseudo, list_kind, function_named, argument_of, language_ranges, progression, closing, is_word, begins_name, of_list, after_word, functional, begins_pseudo_class, simple_item, with_argument, pseudo_condition, condition_here, condition_by, too_deep, next_condition, deepest, condition_at, outside, Finder, ListReader, CompoundReader, some_of, after_type, compound, first_sign, joined_by, signed_part, by_sign, part_after, begins_compound, next_part_in, complex_by, is_relative, leading_sign, after_leading, complex, ends_part, is_lasting, no_selector, part_end, judged, listed_part, next_listed, kept, keep, selectors_after, is_forgiving, complex_list, may_open, list_by, after_type_name, conditions, next_part, parts, placed, placed_by, next_placed, placed_list_by, placed_list, past_comments, pseudo_element, at_end}
 use Rattle.css_tree.specs.Asked.{SimpleAsksBelow, AsksBelow, CompoundAsksBelow, PartsAskBelow, ListAsksBelow, SelectorAsksBelow}
 
 -- ---- readers
@@ -176,20 +177,19 @@ module _ (n : ℕ) (some : 0 < n) where
   FinderGood next = (t : List ℕ) → Finds C (next t)
 
   module _ (list : ListReader) (good : ListGood list) where
-    of-gets : (last : Bool) (p : Progression) (opened t : List ℕ)
-        → Gets C (of_list list last p opened t)
-    of-gets last p opened t =
+    of-gets : (test : ListTest) (opened t : List ℕ) → Gets C (of_list list test opened t)
+    of-gets test opened t =
         follow-gets (Every L) C (list _ opened t) _ (good _ opened t)
         (λ ss u h. complexes-ask ss h)
 
     -- what may be after `An+B`, if a list may be
-    list_or-gets : (last : Bool) (p : Progression) (opened t : List ℕ) (other : Reading Condition)
+    list_or-gets : (test : ListTest) (opened t : List ℕ) (other : Reading Condition)
         → Gets C other
-        → Gets C (if begins_name t then follow (name t) (after_word list opened last p t) else other)
-    list_or-gets last p opened t other h =
+        → Gets C (if begins_name t then follow (name t) (after_word list opened test t) else other)
+    list_or-gets test opened t other h =
         if-gets C (begins_name t) _ other
         (then-gets C (name t) _ (λ word u.
-        if-gets C (is_word (codes "of") word) _ _ (of-gets last p opened u) tt)) h
+        if-gets C (is_word (codes "of") word) _ _ (of-gets test opened u) tt)) h
 
     functional-gets : (opened x t : List ℕ)
         → Gets C (functional list opened x (function_named x) t)
@@ -206,11 +206,11 @@ module _ (n : ℕ) (some : 0 < n) where
             rw e (then-gets C (language_ranges t) _ (λ a u. tt))
         by false true c d f e g h i j =
             rw (e, g) (then-gets C (gap t) _ (λ x u. then-gets C (progression u) _ (λ p v.
-            then-gets C (gap v) _ (λ y w. list_or-gets false p opened w _
+            then-gets C (gap v) _ (λ y w. list_or-gets (nth_child p) opened w _
             (then-gets C (closing close_parenthesis w) _ (λ z o. tt))))))
         by false false true d f e g h i j =
             rw (e, g, h) (then-gets C (gap t) _ (λ x u. then-gets C (progression u) _ (λ p v.
-            then-gets C (gap v) _ (λ y w. list_or-gets true p opened w _
+            then-gets C (gap v) _ (λ y w. list_or-gets (nth_last_child p) opened w _
             (then-gets C (closing close_parenthesis w) _ (λ z o. tt))))))
         by false false false true f e g h i j =
             rw (e, g, h, i) (then-gets C (gap t) _ (λ x u. then-gets C (progression u) _ (λ p v.
@@ -224,23 +224,26 @@ module _ (n : ℕ) (some : 0 < n) where
     argument-gets : (opened x t : List ℕ)
         → Gets C (with_argument list opened x (list_kind x) (function_named x) t)
     argument-gets opened x t =
-        by (is_word (codes "not") x) (is_word (codes "is") x) (is_word (codes "where") x) refl refl
-        refl
+        by (is_word (codes "not") x) (is_word (codes "is") x) (is_word (codes "where") x)
+        (is_word (codes "has") x) refl refl refl refl
       where
-        by : (a b c : Bool) → is_word (codes "not") x ≡ a → is_word (codes "is") x ≡ b
-            → is_word (codes "where") x ≡ c
+        by : (a b c d : Bool) → is_word (codes "not") x ≡ a → is_word (codes "is") x ≡ b
+            → is_word (codes "where") x ≡ c → is_word (codes "has") x ≡ d
             → Gets C (with_argument list opened x (list_kind x) (function_named x) t)
-        by true b c e f g =
+        by true b c d e f g h =
             rw e (follow-gets (Every L) C (list _ opened t) _ (good _ opened t)
-            (λ ss u h. complexes-ask ss h))
-        by false true c e f g =
+            (λ ss u k. complexes-ask ss k))
+        by false true c d e f g h =
             rw (e, f) (follow-gets (Every L) C (list _ opened t) _ (good _ opened t)
-            (λ ss u h. complexes-ask ss h))
-        by false false true e f g =
+            (λ ss u k. complexes-ask ss k))
+        by false false true d e f g h =
             rw (e, f, g) (follow-gets (Every L) C (list _ opened t) _ (good _ opened t)
-            (λ ss u h. complexes-ask ss h))
-        by false false false e f g =
-            rw (e, f, g) (functional-gets opened x t)
+            (λ ss u k. complexes-ask ss k))
+        by false false false true e f g h =
+            rw (e, f, g, h) (follow-gets (Every L) C (list _ opened t) _ (good _ opened t)
+            (λ ss u k. complexes-ask ss k))
+        by false false false false e f g h =
+            rw (e, f, g, h) (functional-gets opened x t)
 
     pseudo-finds : (opened x t : List ℕ) → Finds C (pseudo_condition list opened x t)
     pseudo-finds opened x t =
@@ -300,17 +303,25 @@ module _ (n : ℕ) (some : 0 < n) where
     unfolding next_part_in
     further-finds t = part-finds (compound next) compound-gets t (gap t)
 
-    complex-gets : (t : List ℕ) → Gets L (complex next t)
-    unfolding complex
-    complex-gets t =
+    complex_by-gets : (c : Combinator) (t : List ℕ) → Gets L (complex_by c next t)
+    unfolding complex_by
+    complex_by-gets c t =
         follow-gets (Every C) L (compound next t) _ (compound-gets t) (λ first u h.
-        all (with_first (joined_by Descendant first) (items (next_part_in next) u))
-        (first-gets P (joined_by Descendant first) (items (next_part_in next) u)
+        all (with_first (joined_by c first) (items (next_part_in next) u))
+        (first-gets P (joined_by c first) (items (next_part_in next) u)
         (conditions-ask first h) (items-get P (next_part_in next) further-finds (length u) u)))
       where
         all : (r : Reading (List Part)) → Gets (Every P) r → Gets L r
         all (got ps v) h = parts-ask ps h
         all (refused why v) h = tt
+
+    complex-gets : (kind : _) (t : List ℕ) → Gets L (complex kind next t)
+    unfolding complex
+    complex-gets kind t = by (leading_sign kind t)
+      where
+        by : (o : Option Combinator) → Gets L (after_leading next t o)
+        by None = complex_by-gets Descendant t
+        by (Some c) = then-gets L (gap (past_one t)) _ (λ x u. complex_by-gets c u)
 
     -- a part of a list, if it is a selector
     abbrev O : Option (List Part) → Type 0
@@ -330,17 +341,17 @@ module _ (n : ℕ) (some : 0 < n) where
         by (refused why v) = tt
     judged-gets forgiving t (refused why u) h = none-gets forgiving t why u
 
-    listed-gets : (forgiving : Bool) (t : List ℕ) → Gets O (listed_part forgiving next t)
+    listed-gets : (kind : _) (t : List ℕ) → Gets O (listed_part kind next t)
     unfolding listed_part
-    listed-gets forgiving t =
-        judged-gets forgiving t _ (then-gets L (gap t) _ (λ x u. complex-gets u))
+    listed-gets kind t =
+        judged-gets (is_forgiving kind) t _ (then-gets L (gap t) _ (λ x u. complex-gets kind u))
 
-    listed-finds : (forgiving : Bool) (t : List ℕ) → Finds O (next_listed forgiving next t)
+    listed-finds : (kind : _) (t : List ℕ) → Finds O (next_listed kind next t)
     unfolding next_listed
-    listed-finds forgiving t =
+    listed-finds kind t =
         if-finds O (starts comma t) _ _
-        (item-finds O O (λ s. s) (listed_part forgiving next (past_one t))
-        (listed-gets forgiving (past_one t)) (λ s h. h)) tt
+        (item-finds O O (λ s. s) (listed_part kind next (past_one t))
+        (listed-gets kind (past_one t)) (λ s h. h)) tt
 
     kept-ask : (all : List (Option (List Part))) → Every O all → Every L (kept all)
     kept-ask [] h = tt
@@ -352,26 +363,32 @@ module _ (n : ℕ) (some : 0 < n) where
     keep-gets (got all u) h = kept-ask all h
     keep-gets (refused why u) h = tt
 
-    list-gets : (forgiving : Bool) (t : List ℕ) → Gets (Every L) (complex_list forgiving next t)
+    list-gets : (kind : _) (t : List ℕ) → Gets (Every L) (complex_list kind next t)
     unfolding complex_list
-    list-gets forgiving t =
-        follow-gets O (Every L) (listed_part forgiving next t) _ (listed-gets forgiving t)
+    list-gets kind t =
+        follow-gets O (Every L) (listed_part kind next t) _ (listed-gets kind t)
         (λ first u h.
-        follow-gets (Every L) (Every L) (selectors_after forgiving next first u) _
-        (keep-gets (with_first first (items (next_listed forgiving next) u))
-        (first-gets O first (items (next_listed forgiving next) u) h
-        (items-get O (next_listed forgiving next) (listed-finds forgiving) (length u) u)))
+        follow-gets (Every L) (Every L) (selectors_after kind next first u) _
+        (keep-gets (with_first first (items (next_listed kind next) u))
+        (first-gets O first (items (next_listed kind next) u) h
+        (items-get O (next_listed kind next) (listed-finds kind) (length u) u)))
         (λ ss v k. then-gets (Every L) (closing close_parenthesis v) _ (λ x w. k)))
 
-    list_by-good : ListGood (list_by next)
-    list_by-good kind opened t = list-gets (is_forgiving kind) t
+  list_by-good : (in_has : Bool) (next : Bool → Finder) → ((b : Bool) → FinderGood (next b))
+      → ListGood (list_by in_has next)
+  list_by-good in_has next good kind opened t =
+      if-gets (Every L) (may_open kind in_has) _ _
+      (list-gets (next (is_relative kind || in_has)) (good (is_relative kind || in_has)) kind t) tt
 
-  next-finds : (m : ℕ) → FinderGood (next_condition m)
-  unfolding next_condition
-  next-finds zero t = condition-finds too_deep (λ kind opened u. tt) t
-  next-finds (suc m) t =
-      condition-finds (list_by (next_condition m))
-      (list_by-good (next_condition m) (next-finds m)) t
+  at-finds : (m : ℕ) (in_has : Bool) → FinderGood (condition_at m in_has)
+  unfolding condition_at
+  at-finds zero in_has t = condition-finds too_deep (λ kind opened u. tt) t
+  at-finds (suc m) in_has t =
+      condition-finds (list_by in_has (condition_at m))
+      (list_by-good in_has (condition_at m) (at-finds m)) t
+
+  outside-finds : FinderGood (next_condition outside)
+  outside-finds t = at-finds deepest false t
 
   -- ---- selectors
 
@@ -379,14 +396,14 @@ module _ (n : ℕ) (some : 0 < n) where
   unfolding conditions
   conditions-get t = by (type_selector t) (type-finds t)
     where
-      rest : (u : List ℕ) → Gets (Every C) (items (next_condition deepest) u)
-      rest u = items-get C (next_condition deepest) (next-finds deepest) (length u) u
+      rest : (u : List ℕ) → Gets (Every C) (items (next_condition outside) u)
+      rest u = items-get C (next_condition outside) outside-finds (length u) u
 
       by : (s : Step Simple) → Finds S s → Gets (Every C) (after_type_name t s)
-      by (item s u) h = first-gets C (simple s) (items (next_condition deepest) u) h (rest u)
+      by (item s u) h = first-gets C (simple s) (items (next_condition outside) u) h (rest u)
       by none h =
           if-gets (Every C) (starts colon t) _ _ (rest t)
-          (some-gets C t (items (next_condition deepest) t) (rest t))
+          (some-gets C t (items (next_condition outside) t) (rest t))
       by (stop why u) h = tt
 
   next_part-finds : (t : List ℕ) → Finds P (next_part t)

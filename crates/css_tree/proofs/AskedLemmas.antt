@@ -1,128 +1,37 @@
 -- What a selector means on an element depends only on the marks of the lists of which it asks.
 -- Serves `marking_laws`.
-use Rattle.std.proofs.Common.{◌≡◌, ℕ, zero, suc, ◌+◌, ◌-◌, ◌<◌, ◌↔◌, Bool, false, List, [], get_or, length, take, IsTrue, is_none, Option, None, Some, refl, sym, ap, subst, ◌∙◌, arith}
+use Rattle.std.proofs.Common.{◌≡◌, ℕ, zero, suc, ◌+◌, ◌-◌, ◌<◌, ◌↔◌, Bool, false, List, [], get_or, length, map, take, IsTrue, is_none, Option, None, Some, refl, sym, ap, subst, ◌∙◌, arith}
 use Rattle.std.specs.Option.{option_map}
 use Rattle.std.specs.Prelude.{All}
-use Rattle.std.proofs.lemmas.List.{get_or-take}
+use Rattle.std.proofs.lemmas.List.{get_or-map, get_or-take, length-map}
 use Rattle.css_matching.specs.declared.Combinator.{Combinator}
-use Rattle.css_matching.specs.declared.Combinator.TheVariants.{Descendant, Child, Adjacent, Sibling}
 use Rattle.css_matching.specs.ListTrees.{spot}
-use Rattle.css_matching.specs.Placements.{IsBeyond, is_next, is_further, Relates, HasPlacement}
-use Rattle.css_selectors.specs.Components.{Progression, Structure, Simple, Condition, Conditions, Parts, Selectors, Selector, parts_from}
-use Rattle.css_selectors.specs.Components.Structure.{root, scope, empty, first_child, last_child, only_child, first_of_type, last_of_type, only_of_type, nth_child, nth_last_child, nth_of_type, nth_last_of_type}
+use Rattle.css_matching.specs.Placements.{HasPlacement}
+use Rattle.css_selectors.specs.Components.{ListTest, Progression, Structure, Simple, Condition, Conditions, Parts, Selectors, Selector, parts_from}
+use Rattle.css_selectors.specs.Components.Structure.{root, scope, empty, first_child, last_child, only_child, first_of_type, last_of_type, only_of_type, nth_child as nth_child_place, nth_last_child as nth_last_child_place, nth_of_type, nth_last_of_type}
+use Rattle.css_selectors.specs.Components.ListTest.{has, nth_child, nth_last_child}
 use Rattle.css_selectors.specs.Components.Simple.{universal, type_name, id, class, has_attribute, attribute, structure, language, state, function, named_element, nesting, namespaced}
-use Rattle.css_selectors.specs.Components.Condition.{simple, negation, any_of, where_any, nth_of}
+use Rattle.css_selectors.specs.Components.Condition.{simple, negation, any_of, where_any, tested as tested_condition}
 use Rattle.css_selectors.specs.Components.Conditions.{end_of_compound, with_condition}
 use Rattle.css_selectors.specs.Components.Parts.{end_of_selector, with_part}
 use Rattle.css_selectors.specs.Components.Selectors.{end_of_list, with_selector}
 use Rattle.css_selectors.specs.Documents.{shape}
-use Rattle.css_selectors.specs.SiblingCounts.{HasCount, IsNumberedAmong}
-use Rattle.css_selectors.specs.SiblingCounts.HasCount.{no_node, one_more, another}
+use Rattle.css_selectors.specs.MarkedLists.{ListText}
+use Rattle.css_selectors.specs.MarkedLists.ListText.{matched, tested}
 use Rattle.css_selectors.specs.Meanings.{combinator_at, part_count, IsMet, AreMet, MeetsPart, MatchesAny, IsPlaced, Matches, is_placed}
 use Rattle.css_selectors.proofs.AlikeSelectors.{either_so}
-use Rattle.css_tree.specs.Asked.{SimpleAsksBelow, AsksBelow, CompoundAsksBelow, PartsAskBelow, ListAsksBelow, SelectorAsksBelow, AskEarlier}
+use Rattle.css_tree.specs.declared.nth_marks.End.{End}
+use Rattle.css_tree.specs.declared.nth_marks.End.TheVariants.{First, Last}
+use Rattle.css_tree.specs.Asked.{SimpleAsksBelow, AsksBelow, CompoundAsksBelow, PartsAskBelow, ListAsksBelow, SelectorAsksBelow, AskEarlier, MarkedAsksBelow, AskBefore}
 use Rattle.css_tree.specs.Counts.{last_below}
-use Rattle.css_tree.specs.Marks.{AreMarked, MatchesOne, with_marks}
+use Rattle.css_tree.specs.HasSelectors.{HasAny}
+use Rattle.css_tree.specs.Marks.{AreMarked, MatchesOne, IsNumberedMatch, IsTested, IsMarkedBy, sibling_toward, with_marks}
+use Rattle.css_tree.specs.NextSiblings.{next_index}
+use Rattle.css_tree.specs.Steps.{Leads}
 use Rattle.css_tree.specs.Pages.{Page, page_document, parent_index, is_sibling, is_in_list, is_marked, is_scope}
-
--- ---- elements are numbered the same, whatever the marks
-
-module _ (page : Page) (m n : List (List Bool)) (ss : Selectors) where
-  abbrev SameMatches : Type 0
-  SameMatches =
-      (j : ℕ) → MatchesAny page_document ss (spot (with_marks page m) j)
-      ↔ MatchesAny page_document ss (spot (with_marks page n) j)
-
-  count_moved : SameMatches → (x : Option (Page × ℕ)) (k : ℕ)
-      → HasCount page_document.previous_sibling (MatchesAny page_document ss) x k
-      → (o : Option ℕ) → x ≡ option_map (spot (with_marks page m)) o
-      → HasCount page_document.previous_sibling (MatchesAny page_document ss)
-      (option_map (spot (with_marks page n)) o) k
-  count_moved same None _ no_node None e = no_node
-  count_moved same None _ no_node (Some j) e = absurd (cc)
-  count_moved same (Some x) (suc k) (one_more here more) None e = absurd (cc)
-  count_moved same (Some x) (suc k) (one_more here more) (Some j) e =
-      let is : x ≡ spot (with_marks page m) j = cc in
-      one_more ((same j).0 (subst (MatchesAny page_document ss) is here))
-      (count_moved same (page_document.previous_sibling x) k more
-      (last_below (is_sibling page.rows j) j) (ap page_document.previous_sibling is))
-  count_moved same (Some x) k (another not_here more) None e = absurd (cc)
-  count_moved same (Some x) k (another not_here more) (Some j) e =
-      let is : x ≡ spot (with_marks page m) j = cc in
-      another (λ h. not_here (subst (MatchesAny page_document ss) (sym is) ((same j).1 h)))
-      (count_moved same (page_document.previous_sibling x) k more
-      (last_below (is_sibling page.rows j) j) (ap page_document.previous_sibling is))
-
-  numbered_moved : (p : Progression) → SameMatches → (i : ℕ)
-      → IsNumberedAmong page_document.previous_sibling (MatchesAny page_document ss) p
-      (spot (with_marks page m) i)
-      → IsNumberedAmong page_document.previous_sibling (MatchesAny page_document ss) p
-      (spot (with_marks page n) i)
-  numbered_moved p same i h = (
-    h.0,
-    count_moved same (page_document.previous_sibling (spot (with_marks page m) i)) h.0 h.1
-        (last_below (is_sibling page.rows i) i) refl,
-    h.2,
-  )
-
--- ---- steps stay on a page, whatever its marks
-
--- the node of the page with other marks
-abbrev remarked : List (List Bool) → Page × ℕ → Page × ℕ
-remarked marks n = (with_marks n.0 marks, n.1)
-
-step_stays : (p : Page) (r : Option ℕ) (a : Page × ℕ) → option_map (spot p) r ≡ Some a → a.0 ≡ p
-step_stays p None a e = absurd (cc)
-step_stays p (Some j) a e = let is : spot p j ≡ a = cc in ap (λ n. n.0) (sym is)
-
-step_moves : (marks : List (List Bool)) (p : Page) (r : Option ℕ) (a : Page × ℕ)
-    → option_map (spot p) r ≡ Some a
-    → option_map (spot (with_marks p marks)) r ≡ Some (remarked marks a)
-step_moves marks p None a e = absurd (cc)
-step_moves marks p (Some j) a e =
-    let is : spot p j ≡ a = cc in ap (λ n. Some (remarked marks n)) is
-
-module _ (next : Page × ℕ → Option (Page × ℕ)) where
-  beyond_stays : ((a b : Page × ℕ) → next b ≡ Some a → a.0 ≡ b.0) → (a b : Page × ℕ)
-      → IsBeyond next a b → a.0 ≡ b.0
-  beyond_stays stays a b (is_next e) = stays a b e
-  beyond_stays stays a b (is_further {p = p} e rest) = beyond_stays stays a p rest ∙ stays p b e
-
-  beyond_moves : (marks : List (List Bool))
-      → ((a b : Page × ℕ) → next b ≡ Some a → next (remarked marks b) ≡ Some (remarked marks a))
-      → (a b : Page × ℕ) → IsBeyond next a b → IsBeyond next (remarked marks a) (remarked marks b)
-  beyond_moves marks moves a b (is_next e) = is_next (moves a b e)
-  beyond_moves marks moves a b (is_further {p = p} e rest) =
-      is_further (moves p b e) (beyond_moves marks moves a p rest)
-
-parent_stays : (a b : Page × ℕ) → page_document.parent b ≡ Some a → a.0 ≡ b.0
-parent_stays a b e = step_stays b.0 _ a e
-
-sibling_stays : (a b : Page × ℕ) → page_document.previous_sibling b ≡ Some a → a.0 ≡ b.0
-sibling_stays a b e = step_stays b.0 _ a e
-
-pub related_stays : (c : Combinator) (a b : Page × ℕ) → Relates (shape page_document) c a b → a.0 ≡ b.0
-related_stays Descendant a b h = beyond_stays page_document.parent parent_stays a b h
-related_stays Child a b h = parent_stays a b h
-related_stays Adjacent a b h = sibling_stays a b h
-related_stays Sibling a b h = beyond_stays page_document.previous_sibling sibling_stays a b h
-
-module _ (marks : List (List Bool)) where
-  parent_moves : (a b : Page × ℕ) → page_document.parent b ≡ Some a
-      → page_document.parent (remarked marks b) ≡ Some (remarked marks a)
-  parent_moves a b e = step_moves marks b.0 _ a e
-
-  sibling_moves : (a b : Page × ℕ) → page_document.previous_sibling b ≡ Some a
-      → page_document.previous_sibling (remarked marks b) ≡ Some (remarked marks a)
-  sibling_moves a b e = step_moves marks b.0 _ a e
-
-  related_moves : (c : Combinator) (a b : Page × ℕ) → Relates (shape page_document) c a b
-      → Relates (shape page_document) c (remarked marks a) (remarked marks b)
-  related_moves Descendant a b h = beyond_moves page_document.parent marks parent_moves a b h
-  related_moves Child a b h = parent_moves a b h
-  related_moves Adjacent a b h = sibling_moves a b h
-  related_moves Sibling a b h =
-      beyond_moves page_document.previous_sibling marks sibling_moves a b h
+use Rattle.css_tree.proofs.CountLemmas.{numbered_moved}
+use Rattle.css_tree.proofs.HasLemmas.{match_leads}
+use Rattle.css_tree.proofs.PageSteps.{remarked, related_stays, related_moves}
 
 -- ---- placements
 
@@ -187,8 +96,8 @@ module _ (page : Page) (m n : List (List Bool)) (limit : ℕ)
   structure_same first_of_type i = refl
   structure_same last_of_type i = refl
   structure_same only_of_type i = refl
-  structure_same (nth_child p) i = refl
-  structure_same (nth_last_child p) i = refl
+  structure_same (nth_child_place p) i = refl
+  structure_same (nth_last_child_place p) i = refl
   structure_same (nth_of_type p) i = refl
   structure_same (nth_last_of_type p) i = refl
 
@@ -233,12 +142,7 @@ module _ (page : Page) (m n : List (List Bool)) (limit : ℕ)
         let k = list_same ss i asks in (λ f h. f (k.1 h), λ f h. f (k.0 h))
     condition_same (any_of ss) i asks = list_same ss i asks
     condition_same (where_any ss) i asks = list_same ss i asks
-    condition_same (nth_of last p ss) i asks =
-        let same : SameMatches page m n ss = λ j. list_same ss j asks in
-        let back : SameMatches page n m ss = λ j. (let k = list_same ss j asks in (k.1, k.0)) in (
-          λ h. (h.0, (same i).0 h.1, numbered_moved page m n ss p same i h.2),
-          λ h. (h.0, (back i).0 h.1, numbered_moved page n m ss p back i h.2),
-        )
+    condition_same (tested_condition test ss) i asks = (λ h. h, λ h. h)
 
     compound_same : (cs : Conditions) (i : ℕ) → CompoundAsksBelow (suc limit) cs
         → AreMet page_document cs (spot (with_marks page m) i)
@@ -284,14 +188,90 @@ module _ (page : Page) (m n : List (List Bool)) (limit : ℕ)
           → SelectorAsksBelow (suc limit) s
       asked k s lt is = subst (SelectorAsksBelow (suc limit)) is (asks k s lt)
 
+  -- ---- lists of pseudo-classes
+
+  leads_same : (ps : Parts) (i : ℕ) → PartsAskBelow (suc limit) ps
+      → Leads (with_marks page m) ps i ↔ Leads (with_marks page n) ps i
+  leads_same end_of_selector i asks = (λ h. h, λ h. h)
+  leads_same (with_part c cs ps) i asks = (
+    λ h. (
+      h.0,
+      h.1,
+      related_moves n c (spot (with_marks page m) i) (spot (with_marks page m) h.0) h.2,
+      ((compound_same cs h.0 asks.0).0 h.3.0, (leads_same ps h.0 asks.1).0 h.3.1),
+    ),
+    λ h. (
+      h.0,
+      h.1,
+      related_moves m c (spot (with_marks page n) i) (spot (with_marks page n) h.0) h.2,
+      ((compound_same cs h.0 asks.0).1 h.3.0, (leads_same ps h.0 asks.1).1 h.3.1),
+    ),
+  )
+
+  has_same : (ss : Selectors) (i : ℕ) → i < length page.rows → ListAsksBelow (suc limit) ss
+      → HasAny (with_marks page m) ss i ↔ HasAny (with_marks page n) ss i
+  has_same end_of_list i within asks = (λ h. h, λ h. h)
+  has_same (with_selector ps ss) i within asks =
+      let k = match_leads (with_marks page m) ps i within in
+      let l = match_leads (with_marks page n) ps i within in
+      let leads = leads_same ps i asks.0 in
+      let more = has_same ss i within asks.1 in (
+        either_so (λ h. (let j = k.0 h in l.1 (j.0, leads.0 j.1))) more.0,
+        either_so (λ h. (let j = l.0 h in k.1 (j.0, leads.1 j.1))) more.1,
+      )
+
+  -- the number among siblings, which are the same
+  nth_same : (end : End) (of : ℕ → Option ℕ)
+      → ((j : ℕ) → sibling_toward end (spot (with_marks page m) j)
+      ≡ option_map (spot (with_marks page m)) (of j))
+      → ((j : ℕ) → sibling_toward end (spot (with_marks page n) j)
+      ≡ option_map (spot (with_marks page n)) (of j))
+      → (p : Progression) (ss : Selectors) (i : ℕ) → ListAsksBelow (suc limit) ss
+      → IsNumberedMatch end p ss (with_marks page m) i
+      ↔ IsNumberedMatch end p ss (with_marks page n) i
+  nth_same end of on_m on_n p ss i asks =
+      let k = list_same ss i asks in (
+        λ h. (
+          k.0 h.0,
+          numbered_moved (with_marks page m) (with_marks page n) (sibling_toward end) of
+              on_m on_n (MatchesAny page_document ss) (λ j. list_same ss j asks) p i h.1,
+        ),
+        λ h. (
+          k.1 h.0,
+          numbered_moved (with_marks page n) (with_marks page m) (sibling_toward end) of
+              on_n on_m (MatchesAny page_document ss)
+              (λ j. (let l = list_same ss j asks in (l.1, l.0))) p i h.1,
+        ),
+      )
+
+  tested_same : (test : ListTest) (ss : Selectors) (i : ℕ) → i < length page.rows
+      → ListAsksBelow (suc limit) ss
+      → IsTested test ss (with_marks page m) i ↔ IsTested test ss (with_marks page n) i
+  tested_same has ss i within asks = has_same ss i within asks
+  tested_same (nth_child p) ss i within asks =
+      nth_same First (λ j. last_below (is_sibling page.rows j) j) (λ j. refl) (λ j. refl) p ss i asks
+  tested_same (nth_last_child p) ss i within asks =
+      nth_same Last (next_index page.rows) (λ j. refl) (λ j. refl) p ss i asks
+
+  marked_same : (list : ListText) (i : ℕ) → i < length page.rows → MarkedAsksBelow (suc limit) list
+      → IsMarkedBy list (with_marks page m) i ↔ IsMarkedBy list (with_marks page n) i
+  marked_same (matched selectors) i within asks = one_same selectors i asks
+  marked_same (tested test ss) i within asks = tested_same test ss i within asks
+
 -- ---- marked pages
 
-pub marked_matches : (lists : List (List Selector)) (page : Page) → AreMarked lists page
-    → AskEarlier lists → (list i : ℕ) → list < length lists → i < length page.rows
-    → IsTrue (is_in_list page i (suc list)) ↔ MatchesOne (get_or lists list []) page i
+pub marked_matches : (lists : List ListText) (page : Page) → AreMarked lists page
+    → AskBefore lists → (list i : ℕ) → list < length lists → i < length page.rows
+    → IsTrue (is_in_list page i (suc list)) ↔ IsMarkedBy (get_or lists list (matched [])) page i
 marked_matches lists page are asks list i lt within =
     let answered = are.each list i lt within in
-    let k = one_same page (take list page.marks) page.marks list
+    let k = marked_same page (take list page.marks) page.marks list
     (λ l j less. ap (λ answers. get_or answers j false) (get_or-take list page.marks l [] less))
-    (get_or lists list []) i (asks list lt) in
+    (get_or lists list (matched [])) i within (asks list lt) in
     (λ h. k.0 (answered.0 h), λ h. answered.1 (k.1 h))
+
+-- lists of selectors that ask of those before them
+pub asks_matched : (lists : List (List Selector)) → AskEarlier lists → AskBefore (map matched lists)
+asks_matched lists asks list lt =
+    let less : list < length lists = omega (arith, lt, length-map lists matched) in
+    subst (MarkedAsksBelow (suc list)) (sym (get_or-map matched lists list [] (matched []) less)) (asks list less)

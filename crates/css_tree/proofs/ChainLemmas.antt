@@ -4,31 +4,33 @@
 use Rattle.std.proofs.Common.{◌≡◌, ℕ, zero, suc, ◌+◌, ◌<◌, ◌≤◌, ◌↔◌, List, [], ◌∷◌, ◌++◌, get_or, length, length-append, map, IsTrue, Option, None, Some, refl, sym, ap, subst, ◌∙◌, append_assoc, append-nil, below_more, arith}
 use Rattle.std.specs.Option.{option_map}
 use Rattle.std.specs.Prelude.{All}
-use Rattle.std.proofs.lemmas.List.{length_push, get_or_append_left}
+use Rattle.std.proofs.lemmas.List.{length_push, get_or_append_left, get_or-map, length-map}
 use Rattle.std.proofs.lemmas.List.Elements.{All-head, All-tail}
 use Rattle.std.proofs.Math.Seq.{get_or-append_seam}
 use Rattle.css_matching.specs.ListTrees.{spot}
 use Rattle.css_selectors.specs.declared.components.Nesting.{Nesting}
 use Rattle.css_selectors.specs.Components.{Simple, Condition, Conditions, Part, Parts, Selectors, PseudoElement, Selector, parts_from, selectors_from}
 use Rattle.css_selectors.specs.Components.Simple.{universal, type_name, id, class, has_attribute, attribute, structure, language, state, function, named_element, nesting, namespaced}
-use Rattle.css_selectors.specs.Components.Condition.{simple, negation, any_of, where_any, nth_of}
+use Rattle.css_selectors.specs.Components.Condition.{simple, negation, any_of, where_any, tested}
 use Rattle.css_selectors.specs.Components.Conditions.{end_of_compound, with_condition}
 use Rattle.css_selectors.specs.Components.Parts.{end_of_selector, with_part}
 use Rattle.css_selectors.specs.Components.Selectors.{end_of_list, with_selector}
+use Rattle.css_selectors.specs.MarkedLists.ListText.{matched}
 use Rattle.css_selectors.specs.Meanings.{IsMet, MatchesAny, IsPlaced, Matches}
 use Rattle.css_selectors.specs.SpelledOut.{spelled_simple, spelled_condition, spelled_compound, spelled_complex, spelled_list, spelled_part, spelled_element, spelled_by}
 use Rattle.css_selectors.proofs.AlikeSelectors.{Alike, CompoundsAlike, PartsAlike, ListsAlike, AsksSame, complex_alike, either_so}
-use Rattle.css_selectors.proofs.AlikeSelectors.Alike.{simples, negations, anys, wheres, nths}
+use Rattle.css_selectors.proofs.AlikeSelectors.Alike.{simples, negations, anys, wheres, tests}
 use Rattle.css_selectors.proofs.AlikeSelectors.CompoundsAlike.{no_condition, one_condition}
 use Rattle.css_selectors.proofs.AlikeSelectors.PartsAlike.{no_part, one_part}
 use Rattle.css_selectors.proofs.AlikeSelectors.ListsAlike.{no_selector, one_selector}
 use Rattle.css_selectors.proofs.NestingLaws.{spelled_complex-from}
 use Rattle.css_tree.specs.Asked.{SimpleAsksBelow, AsksBelow, CompoundAsksBelow, PartsAskBelow, ListAsksBelow, SelectorAsksBelow, AskEarlier}
-use Rattle.css_tree.specs.Marks.{AreMarked, with_marks}
-use Rattle.css_tree.specs.Pages.{Page, page_document}
+use Rattle.css_tree.specs.Marks.{AreMarked, IsMarkedBy, with_marks}
+use Rattle.css_tree.specs.Pages.{Page, page_document, is_in_list}
 use Rattle.css_tree.specs.SpelledLists.{numbered, ampersand_of, spelled_under, spelled_after, spelled_out}
-use Rattle.css_tree.proofs.AmpersandLemmas.{IsElement, related_element, one_any}
-use Rattle.css_tree.proofs.AskedLemmas.{marked_matches, matches_same}
+use Rattle.css_tree.proofs.AmpersandLemmas.{one_any}
+use Rattle.css_tree.proofs.AskedLemmas.{asks_matched, marked_matches, matches_same}
+use Rattle.css_tree.proofs.PageElements.{IsElement, related_element}
 
 -- ---- what is spelled out asks of no list
 
@@ -65,7 +67,7 @@ module _ (lists : List Selectors) (silent : AskNothing lists) where
     condition_silent (negation ss) asks = list_silent ss asks
     condition_silent (any_of ss) asks = list_silent ss asks
     condition_silent (where_any ss) asks = list_silent ss asks
-    condition_silent (nth_of last p ss) asks = list_silent ss asks
+    condition_silent (tested test ss) asks = list_silent ss asks
 
     compound_silent : (cs : Conditions) → CompoundAsksBelow (suc (length lists)) cs
         → CompoundAsksBelow 1 (spelled_compound (ampersand_of lists) cs)
@@ -143,7 +145,7 @@ module _ (page : Page) (lists : List Selectors) (answers : Answer page lists) wh
     condition_same (negation ss) asks = negations (list_same ss asks)
     condition_same (any_of ss) asks = anys (list_same ss asks)
     condition_same (where_any ss) asks = wheres (list_same ss asks)
-    condition_same (nth_of last p ss) asks = nths (list_same ss asks)
+    condition_same (tested test ss) asks = tests (list_same ss asks)
 
     compound_same : (cs : Conditions) → CompoundAsksBelow (suc (length lists)) cs
         → CompoundsAlike (AsksSame page_document (IsElement page)) cs
@@ -203,7 +205,7 @@ module _ (page : Page) (lists : List Selectors) (answers : Answer page lists) wh
 
 -- ---- lists one after another
 
-module _ (lists : List (List Selector)) (page : Page) (are : AreMarked lists page)
+module _ (lists : List (List Selector)) (page : Page) (are : AreMarked (map matched lists) page)
     (asks : AskEarlier lists)
     (none : (k : ℕ) → k < length lists → All (λ s. s.pseudo_element ≡ None) (get_or lists k []))
   where
@@ -226,7 +228,11 @@ module _ (lists : List (List Selector)) (page : Page) (are : AreMarked lists pag
             ↔ MatchesAny page_document (selectors_from (map (λ s. s.parts) (get_or lists k [])))
             (page, j)
         here =
-            let marked = marked_matches lists page are asks k j lt at.within in
+            let within : k < length (map matched lists) = omega (arith, lt, length-map lists matched) in
+            let marked = subst (λ l. IsTrue (is_in_list page j (suc k)) ↔ IsMarkedBy l page j)
+            (get_or-map matched lists k [] (matched []) lt)
+            (marked_matches (map matched lists) page are (asks_matched lists asks) k j within
+            at.within) in
             let one = one_any (get_or lists k []) (none k lt) page j in
             (λ h. one.0 (marked.0 h), λ h. marked.1 (one.1 h))
 

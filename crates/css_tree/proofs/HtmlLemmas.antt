@@ -7,15 +7,15 @@ use Rattle.std.specs.List.{list_any}
 use Rattle.std.proofs.lemmas.Bool.Decides.{nat_tests}
 use Rattle.std.proofs.lemmas.List.{map_more, map-append, take_all}
 use Rattle.css_selectors.specs.declared.components.Complex.{Complex}
-use Rattle.css_selectors.specs.declared.components.Condition.{Condition as ConditionOf, Not, Is, Where, NthOf}
-use Rattle.css_selectors.specs.declared.components.NthOf.{NthOf as NthOfOf}
+use Rattle.css_selectors.specs.declared.components.Condition.{Condition as ConditionOf, Not, Is, Where, Tested}
+use Rattle.css_selectors.specs.declared.components.ListTest.{ListTest}
 use Rattle.css_selectors.specs.Components.{Condition, Part, conditions_from, parts_from, selectors_from}
-use Rattle.css_selectors.specs.Components.Condition.{negation, any_of, where_any, nth_of}
+use Rattle.css_selectors.specs.Components.Condition.{negation, any_of, where_any, tested}
 use Rattle.css_selectors.specs.Components.Conditions.{with_condition}
 use Rattle.css_selectors.specs.Components.Parts.{with_part}
 use Rattle.css_selectors.specs.Components.Selectors.{with_selector}
-use Rattle.css_selectors.specs.Views.{complex_of, condition_of, progression_of}
-use Rattle.css_selectors.proofs.ConditionViews.{condition_not, condition_is, condition_where, condition_nth}
+use Rattle.css_selectors.specs.Views.{complex_of, condition_of, list_test_of}
+use Rattle.css_selectors.proofs.ConditionViews.{condition_not, condition_is, condition_where, condition_tested}
 use Rattle.css_tree.specs.Html.{condition_in, compound_in, complex_in, selectors_in, part_in}
 use Rattle.css_tree.specs.declared.html.HtmlMode.{HtmlMode}
 
@@ -81,7 +81,7 @@ selectors_in-from mode (s ∷ ss) =
 module _ (mode : HtmlMode) (c : ConditionOf) (old new : Vec Complex Global) (xs : List Complex)
     (same : xs ≡ old.items)
     (are : map complex_of new.items ≡ map (map (part_in mode)) (map complex_of xs)) where
-  lists : selectors_from (map complex_of new.items)
+  pub lists : selectors_from (map complex_of new.items)
       ≡ selectors_in mode (selectors_from (map complex_of old.items))
   lists =
       ap selectors_from are ∙ sym (selectors_in-from mode (map complex_of xs))
@@ -102,9 +102,9 @@ module _ (mode : HtmlMode) (c : ConditionOf) (old new : Vec Complex Global) (xs 
       condition_where new ∙ ap where_any lists
       ∙ sym (ap (λ x. condition_in mode (condition_of x)) is ∙ ap (condition_in mode) (condition_where old))
 
-  pub read-nth : (k : NthOfOf) → c ≡ NthOf k old
-      → condition_of (NthOf k new) ≡ condition_in mode (condition_of c)
-  read-nth k is =
-      condition_nth k new ∙ ap (nth_of k.from_last (progression_of k.progression)) lists
+  pub read-tested : (k : ListTest) → c ≡ Tested k old
+      → condition_of (Tested k new) ≡ condition_in mode (condition_of c)
+  read-tested k is =
+      condition_tested k new ∙ ap (tested (list_test_of k)) lists
       ∙ sym (ap (λ x. condition_in mode (condition_of x)) is
-      ∙ ap (condition_in mode) (condition_nth k old))
+      ∙ ap (condition_in mode) (condition_tested k old))

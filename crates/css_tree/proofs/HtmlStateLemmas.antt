@@ -19,7 +19,7 @@ use Rattle.css_tree.specs.Keys.{kind_cmp}
 use Rattle.css_tree.specs.Pages.{parent_index}
 use Rattle.css_tree.specs.Surroundings.{surroundings}
 use Rattle.css_tree.specs.declared.html_states.HtmlState.{HtmlState}
-use Rattle.css_tree.specs.declared.html_states.HtmlState.TheVariants.{Checked, Disabled, Enabled, Required, Optional, ReadWrite, ReadOnly, PlaceholderShown, Default, Indeterminate, Open, Defined}
+use Rattle.css_tree.specs.declared.html_states.HtmlState.TheVariants.{Checked, Disabled, Enabled, Required, Optional, ReadWrite, ReadOnly, PlaceholderShown, Default, Indeterminate, Open, Defined, InLeftToRight, InRightToLeft}
 use Rattle.css_tree.specs.declared.html_states.HtmlStates.{HtmlStates}
 use Rattle.css_tree.proofs.KindLemmas.{equal_keys, flipped}
 use Rattle.css_tree.proofs.SurroundingLemmas.{surroundings-root, surroundings-child}
@@ -41,6 +41,8 @@ module _ (rows : List Row) (has_text : Bool) (i : ℕ) where
   in_each Indeterminate = refl
   in_each Open = refl
   in_each Defined = refl
+  in_each InLeftToRight = refl
+  in_each InRightToLeft = refl
 
   in_any : (state : Option HtmlState)
       → option_map_or (is_in (html_states rows i) has_text) state false

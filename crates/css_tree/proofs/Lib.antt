@@ -14,3 +14,9 @@ mod KindLemmas
 mod AttributeLemmas
 mod LanguageNames
 mod Walking
+mod PageSteps
+mod PageElements
+mod StepLemmas
+mod HasLemmas
+mod CountLemmas
+mod VisitLemmas

@@ -66,7 +66,7 @@ module _ (rows : List Row) (families : List ℕ) (are : AreFamilies rows familie
       ∙ ap (λ f. count_below (λ j. f == family rows j) (length rows)) (omega arith)
 
 -- numbers are less than the number of elements
-family-at_most : (rows : List Row) (i : ℕ) → family rows i ≤ i
+pub family-at_most : (rows : List Row) (i : ℕ) → family rows i ≤ i
 family-at_most rows i = of (named_parent rows i)
   where
     under : (p : ℕ) (b : Bool) → nat_lt p i ≡ b → family_under (if b then Some p else None) ≤ i

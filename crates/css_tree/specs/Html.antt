@@ -7,10 +7,12 @@ use Rattle.std.specs.List.{list_any}
 use Rattle.css_selectors.specs.Components.{Simple, Condition, Conditions, Parts, Selectors, Part, PseudoElement, Selector}
 use Rattle.std.specs.Option.{option_map}
 use Rattle.css_selectors.specs.Components.Simple.{universal, type_name, id, class, has_attribute, attribute, structure, language, state, function, named_element, nesting, namespaced}
-use Rattle.css_selectors.specs.Components.Condition.{simple, negation, any_of, where_any, nth_of}
+use Rattle.css_selectors.specs.Components.Condition.{simple, negation, any_of, where_any, tested as tested_condition}
 use Rattle.css_selectors.specs.Components.Conditions.{end_of_compound, with_condition}
 use Rattle.css_selectors.specs.Components.Parts.{end_of_selector, with_part}
 use Rattle.css_selectors.specs.Components.Selectors.{end_of_list, with_selector}
+use Rattle.css_selectors.specs.MarkedLists.{ListText}
+use Rattle.css_selectors.specs.MarkedLists.ListText.{matched, tested}
 use Rattle.css_tree.specs.declared.html.HtmlMode.{HtmlMode}
 use Rattle.css_tree.specs.declared.html.HtmlMode.TheVariants.{NoQuirks, Quirks}
 
@@ -71,7 +73,8 @@ abbrev mutual
   condition_in mode (negation selectors) = negation (selectors_in mode selectors)
   condition_in mode (any_of selectors) = any_of (selectors_in mode selectors)
   condition_in mode (where_any selectors) = where_any (selectors_in mode selectors)
-  condition_in mode (nth_of last p selectors) = nth_of last p (selectors_in mode selectors)
+  condition_in mode (tested_condition test selectors) =
+      tested_condition test (selectors_in mode selectors)
 
   -- a compound selector in a list
   pub compound_in : HtmlMode → Conditions → Conditions
@@ -110,3 +113,8 @@ html_selector mode s = record {
   parts = map (part_in mode) s.parts;
   pseudo_element = option_map (pseudo_element_in mode) s.pseudo_element;
 }
+
+-- a list that has a number, as the document reads it
+abbrev pub list_in : HtmlMode → ListText → ListText
+list_in mode (matched selectors) = matched (map (html_selector mode) selectors)
+list_in mode (tested test selectors) = tested test (selectors_in mode selectors)

@@ -106,6 +106,15 @@ is_emptied type (b ∷ value) = false
 abbrev pub is_input_of : (InputType → Bool) → List Row → ℕ → Bool
 is_input_of test rows i = is_named rows i (codes "input") && test (input_type rows i)
 
+-- an input element whose type is `tel`
+abbrev pub names_telephone : List ℕ → Bool
+names_telephone text = str_eq_ignore_ascii_case text (codes "tel")
+
+abbrev pub is_telephone : List Row → ℕ → Bool
+is_telephone rows i =
+    is_named rows i (codes "input")
+    && option_map_or names_telephone (attribute_at rows i (codes "type")) false
+
 -- controls whose value may be changed as a whole
 abbrev pub is_choice_or_area : List Row → ℕ → Bool
 is_choice_or_area rows i = is_named rows i (codes "select") || is_named rows i (codes "textarea")

@@ -1,6 +1,6 @@
 -- The states of an element of an HTML document, as attributes decide them (HTML Standard,
 -- "Pseudo-classes").
-use Rattle.std.specs.Prelude.{ℕ, Bool, false, not, ◌||◌, ◌&&◌, ◌==◌, List, [], length, Option, None, Some, bytes_eq, codes, nat_lt, if◌then◌else◌}
+use Rattle.std.specs.Prelude.{ℕ, Bool, true, false, not, ◌||◌, ◌&&◌, ◌==◌, List, [], length, Option, None, Some, bytes_eq, codes, nat_lt, if◌then◌else◌}
 use Rattle.std.specs.Option.{option_map_or, unwrap_or}
 use Rattle.std.specs.Str.{str_eq_ignore_ascii_case}
 use Rattle.simplecss_tree.specs.Rows.{Row}
@@ -8,8 +8,10 @@ use Rattle.simplecss_tree.specs.TreeNodes.{name_at, attribute_at}
 use Rattle.css_tree.specs.Counts.{any_below}
 use Rattle.css_tree.specs.HtmlElements.{is_named, has_attribute, input_type, may_be_checked, has_placeholders, may_be_read_only, may_be_required, is_emptied, is_input_of, is_choice_or_area, is_control, is_radio, is_submit, is_custom_name}
 use Rattle.css_tree.specs.Surroundings.{surroundings}
+use Rattle.css_tree.specs.declared.surroundings.Direction.{Direction}
+use Rattle.css_tree.specs.declared.surroundings.Direction.TheVariants.{LeftToRight, RightToLeft}
 use Rattle.css_tree.specs.declared.html_states.HtmlState.{HtmlState}
-use Rattle.css_tree.specs.declared.html_states.HtmlState.TheVariants.{Checked, Disabled, Enabled, Required, Optional, ReadWrite, ReadOnly, PlaceholderShown, Default, Indeterminate, Open, Defined}
+use Rattle.css_tree.specs.declared.html_states.HtmlState.TheVariants.{Checked, Disabled, Enabled, Required, Optional, ReadWrite, ReadOnly, PlaceholderShown, Default, Indeterminate, Open, Defined, InLeftToRight, InRightToLeft}
 
 -- a checkbox or a radio button with the attribute `checked`, and an option with `selected`
 abbrev pub is_checked : List Row → ℕ → Bool
@@ -118,6 +120,14 @@ abbrev pub is_defined : List Row → ℕ → Bool
 is_defined rows i =
     not (has_attribute rows i (codes "is") || is_custom_name (name_at rows i))
 
+abbrev pub is_left_to_right : Direction → Bool
+is_left_to_right LeftToRight = true
+is_left_to_right direction = false
+
+abbrev pub is_right_to_left : Direction → Bool
+is_right_to_left RightToLeft = true
+is_right_to_left direction = false
+
 -- whether an element, of which it is said whether it has a text, is in a state
 abbrev pub is_in_html_state : List Row → (has_text : Bool) → ℕ → HtmlState → Bool
 is_in_html_state rows has_text i Checked = is_checked rows i
@@ -133,6 +143,8 @@ is_in_html_state rows has_text i Default = is_default rows i
 is_in_html_state rows has_text i Indeterminate = is_indeterminate rows i
 is_in_html_state rows has_text i Open = is_open rows i
 is_in_html_state rows has_text i Defined = is_defined rows i
+is_in_html_state rows has_text i InLeftToRight = is_left_to_right (surroundings rows i).direction
+is_in_html_state rows has_text i InRightToLeft = is_right_to_left (surroundings rows i).direction
 
 -- the state of a name, whatever its case, if it is one of these
 abbrev pub state_named : List ℕ → Option HtmlState
@@ -149,7 +161,9 @@ state_named name =
     else (if str_eq_ignore_ascii_case name (codes "indeterminate") then Some Indeterminate
     else (if str_eq_ignore_ascii_case name (codes "open") then Some Open
     else (if str_eq_ignore_ascii_case name (codes "defined") then Some Defined
-    else None)))))))))))
+    else (if str_eq_ignore_ascii_case name (codes "dir(ltr)") then Some InLeftToRight
+    else (if str_eq_ignore_ascii_case name (codes "dir(rtl)") then Some InRightToLeft
+    else None)))))))))))))
 
 -- whether an element is in the state of a name
 abbrev pub is_in_state_named : List Row → (has_text : Bool) → ℕ → List ℕ → Bool

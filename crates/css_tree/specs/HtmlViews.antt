@@ -6,11 +6,11 @@ use Rattle.std.specs.BTreeMap.{BTreeMap, get}
 use Rattle.std.specs.List.{slice_get}
 use Rattle.simplecss_tree.specs.Rows.{Row}
 use Rattle.css_tree.specs.Counts.{any_below}
-use Rattle.css_tree.specs.HtmlStates.{is_checked, is_disabled, is_enabled, is_required, is_optional, is_read_write, is_input_with_placeholder, is_area_with_placeholder, is_default, is_indeterminate, is_open, is_defined, is_checked_in, is_submit_of, state_named}
+use Rattle.css_tree.specs.HtmlStates.{is_checked, is_disabled, is_enabled, is_required, is_optional, is_read_write, is_input_with_placeholder, is_area_with_placeholder, is_default, is_indeterminate, is_open, is_defined, is_checked_in, is_submit_of, is_left_to_right, is_right_to_left, state_named}
 use Rattle.css_tree.specs.Keys.{kind_cmp}
 use Rattle.css_tree.specs.Surroundings.{surroundings}
 use Rattle.css_tree.specs.declared.html_states.HtmlState.{HtmlState}
-use Rattle.css_tree.specs.declared.html_states.HtmlState.TheVariants.{Checked, Disabled, Enabled, Required, Optional, ReadWrite, ReadOnly, PlaceholderShown, Default, Indeterminate, Open, Defined}
+use Rattle.css_tree.specs.declared.html_states.HtmlState.TheVariants.{Checked, Disabled, Enabled, Required, Optional, ReadWrite, ReadOnly, PlaceholderShown, Default, Indeterminate, Open, Defined, InLeftToRight, InRightToLeft}
 use Rattle.css_tree.specs.declared.html_states.HtmlStates.{HtmlStates}
 use Rattle.css_tree.specs.declared.surroundings.Surroundings.{Surroundings}
 
@@ -29,6 +29,7 @@ html_states rows i = record {
   is_indeterminate = is_indeterminate rows i;
   is_open = is_open rows i;
   is_defined = is_defined rows i;
+  direction = (surroundings rows i).direction;
 }
 
 -- whether an element in these states, with a text or without one, is in a state
@@ -46,6 +47,8 @@ is_in states has_text Default = states.is_default
 is_in states has_text Indeterminate = states.is_indeterminate
 is_in states has_text Open = states.is_open
 is_in states has_text Defined = states.is_defined
+is_in states has_text InLeftToRight = is_left_to_right states.direction
+is_in states has_text InRightToLeft = is_right_to_left states.direction
 
 -- whether such an element is in the state of a name
 abbrev pub is_in_named : HtmlStates → (has_text : Bool) → List ℕ → Bool

@@ -7,12 +7,17 @@ pub mod HtmlElements
 pub mod HtmlStates
 pub mod HtmlViews
 pub mod Keys
+pub mod HasSelectors
 pub mod Languages
 pub mod Laws
 pub mod Marks
 pub mod Messages
+pub mod NextSiblings
 pub mod Pages
 pub mod Reports
+pub mod SiblingCounts
 pub mod SpelledLists
+pub mod Steps
 pub mod Surroundings
+pub mod Visits
 pub mod Walks

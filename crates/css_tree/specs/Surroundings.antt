@@ -1,12 +1,14 @@
 -- What the ancestors of an element of an HTML document decide for it.
 use Rattle.std.specs.Prelude.{ℕ, suc, Bool, true, false, not, ◌||◌, ◌&&◌, List, [], ◌∷◌, Option, None, Some, codes, nat_eq, if◌then◌else◌}
-use Rattle.std.specs.Option.{option_and_then, option_eq, unwrap_or}
+use Rattle.std.specs.Option.{option_and_then, option_eq, option_or, unwrap_or}
 use Rattle.std.specs.Str.{str_eq_ignore_ascii_case}
 use Rattle.css_matching.specs.ListTrees.{ancestors, parent_by}
 use Rattle.simplecss_tree.specs.Rows.{Row}
 use Rattle.simplecss_tree.specs.TreeNodes.{named_parent, attribute_at}
 use Rattle.css_tree.specs.Counts.{any_below}
-use Rattle.css_tree.specs.HtmlElements.{is_named, has_attribute}
+use Rattle.css_tree.specs.HtmlElements.{is_named, has_attribute, is_telephone}
+use Rattle.css_tree.specs.declared.surroundings.Direction.{Direction}
+use Rattle.css_tree.specs.declared.surroundings.Direction.TheVariants.{LeftToRight, RightToLeft, OfText}
 use Rattle.css_tree.specs.declared.surroundings.Surroundings.{Surroundings}
 
 -- a `legend` that is a child of the element at an index
@@ -67,6 +69,34 @@ abbrev pub is_editable : List Row → List ℕ → Bool
 is_editable rows [] = false
 is_editable rows (i ∷ more) = unwrap_or (own_editing rows i) (is_editable rows more)
 
+-- ---- directions (HTML Standard, "The directionality")
+
+-- what a value of `dir` says, if it says something: `auto`, that it depends on a text
+abbrev pub direction_named : List ℕ → Option Direction
+direction_named text =
+    if str_eq_ignore_ascii_case text (codes "ltr") then Some LeftToRight
+    else (if str_eq_ignore_ascii_case text (codes "rtl") then Some RightToLeft
+    else (if str_eq_ignore_ascii_case text (codes "auto") then Some OfText else None))
+
+-- what an element says that has no such value: a `bdi`, that it depends on a text; a telephone number is
+-- written from left to right
+abbrev pub usual_direction : List Row → ℕ → Option Direction
+usual_direction rows i =
+    if is_named rows i (codes "bdi") then Some OfText
+    else (if is_telephone rows i then Some LeftToRight else None)
+
+-- what an element says itself
+abbrev pub own_direction : List Row → ℕ → Option Direction
+own_direction rows i =
+    option_or (option_and_then direction_named (attribute_at rows i (codes "dir"))) (usual_direction rows i)
+
+-- the direction that the first of these says that says one, or else from left to right
+abbrev pub direction_of : List Row → List ℕ → Direction
+direction_of rows [] = LeftToRight
+direction_of rows (i ∷ more) = unwrap_or (own_direction rows i) (direction_of rows more)
+
+-- ---- all
+
 -- the number of a form among ancestors: one more than its index, or 0 if there is none
 abbrev pub form_among : List Row → List ℕ → ℕ
 form_among rows [] = 0
@@ -79,6 +109,7 @@ surroundings_by rows i above = record {
   is_barred = is_barred rows i above;
   is_grouped = is_grouped rows above;
   is_editable = is_editable rows (i ∷ above);
+  direction = direction_of rows (i ∷ above);
   form = form_among rows above;
 }
 
@@ -93,6 +124,7 @@ within rows parent i above = record {
   is_barred = bars rows parent i || above.is_barred;
   is_grouped = is_grouped_within rows parent above.is_grouped;
   is_editable = unwrap_or (own_editing rows i) above.is_editable;
+  direction = unwrap_or (own_direction rows i) above.direction;
   form = if is_named rows parent (codes "form") then suc parent else above.form;
 }
 
@@ -102,5 +134,6 @@ at_root rows i = record {
   is_barred = false;
   is_grouped = false;
   is_editable = unwrap_or (own_editing rows i) false;
+  direction = unwrap_or (own_direction rows i) LeftToRight;
   form = 0;
 }

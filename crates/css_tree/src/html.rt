@@ -7,16 +7,17 @@ ghost use Rattle.std.specs.Prelude.{◌≡◌, ◌<◌, IfOk, length, map, optio
 ghost use Rattle.std.specs.List.{list_any};
 ghost use Rattle.std.specs.Char.{is_ascii_uppercase};
 ghost use Rattle.std.specs.Cow.{cow_str_bytes};
+ghost use Rattle.css_selectors.specs.MarkedLists.{list_of};
 ghost use Rattle.css_selectors.specs.Views.{namespace_of, local_of, simple_of, complex_of, condition_of, part_of, element_name_of, pseudo_element_of};
 ghost use Rattle.css_selectors.specs.declared.components.Simple.TheVariants.{Attribute, Function, Namespaced as NamespacedIs};
 ghost use Rattle.css_tree.specs.Html.{caseless_attributes, quirks_attributes, is_among};
 ghost use Rattle.css_tree.specs.Html.{is_caseless};
 ghost use Rattle.css_tree.specs.Html.{lower_case, word_in, simple_in};
-ghost use Rattle.css_tree.specs.Html.{condition_in, part_in, pseudo_element_in, html_selector};
+ghost use Rattle.css_tree.specs.Html.{condition_in, part_in, pseudo_element_in, html_selector, list_in};
 
 use css_selectors::{
-    AttributeTest, Complex, Condition, ElementName, FunctionCall, Local, Namespace, Namespaced,
-    Part, PseudoElement, Selector, Simple,
+    AttributeTest, Complex, Condition, ElementName, FunctionCall, Local, MarkedList, Namespace,
+    Namespaced, Part, PseudoElement, Selector, Simple,
 };
 use std::alloc::{AllocError, Global};
 use std::borrow::CowStr;
@@ -298,8 +299,8 @@ fn condition_in<'s>(
         Condition::Not(list) => Ok(Condition::Not(selectors_in(alloc, mode, list.as_slice())?)),
         Condition::Is(list) => Ok(Condition::Is(selectors_in(alloc, mode, list.as_slice())?)),
         Condition::Where(list) => Ok(Condition::Where(selectors_in(alloc, mode, list.as_slice())?)),
-        Condition::NthOf(numbered, list) => {
-            Ok(Condition::NthOf(*numbered, selectors_in(alloc, mode, list.as_slice())?))
+        Condition::Tested(test, list) => {
+            Ok(Condition::Tested(*test, selectors_in(alloc, mode, list.as_slice())?))
         }
     }
 }
@@ -392,4 +393,37 @@ pub fn html_selector<'s>(
     let parts = parts_in(alloc, mode, selector.parts())?;
     let pseudo_element = element_in(alloc, mode, selector.pseudo_element())?;
     Ok(Selector::new(parts, pseudo_element))
+}
+
+/// Returns selectors as an HTML document in this mode reads them.
+fn html_selectors<'s>(
+    alloc: Global,
+    mode: HtmlMode,
+    selectors: &'s [Selector<'_>],
+) -> Result<Vec<Selector<'s>>, AllocError>
+    ensures { IfOk result (λ read. read.items ≡ map (html_selector mode) selectors.now) }
+{
+    let mut read = Vec::with_capacity(alloc, selectors.len())?;
+    for selector in selectors {
+        read.push(html_selector(alloc, mode, selector)?)?;
+    }
+    Ok(read)
+}
+
+/// Returns a list that has a number as an HTML document in this mode reads it.
+pub fn html_marked<'s>(
+    alloc: Global,
+    mode: HtmlMode,
+    list: &'s MarkedList<'_>,
+) -> Result<MarkedList<'s>, AllocError>
+    ensures { IfOk result (λ read. list_of read ≡ list_in mode (list_of list.now)) }
+{
+    match list {
+        MarkedList::Matched(selectors) => {
+            Ok(MarkedList::Matched(html_selectors(alloc, mode, selectors.as_slice())?))
+        }
+        MarkedList::Tested(test, selectors) => {
+            Ok(MarkedList::Tested(*test, selectors_in(alloc, mode, selectors.as_slice())?))
+        }
+    }
 }

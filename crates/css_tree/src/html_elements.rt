@@ -12,6 +12,7 @@ ghost use Rattle.css_tree.specs.HtmlElements.{may_be_required, stays_in_text, st
 ghost use Rattle.css_tree.specs.HtmlElements.{is_emptied as is_emptied_in, is_choice_or_area as is_choice};
 ghost use Rattle.css_tree.specs.HtmlElements.{is_control as is_control_of, is_automatic as has_no_command};
 ghost use Rattle.css_tree.specs.HtmlElements.{is_submit_named as is_submit_by, is_submit as is_submit_of};
+ghost use Rattle.css_tree.specs.HtmlElements.{is_telephone as is_telephone_of};
 ghost use Rattle.css_tree.specs.HtmlElements.{is_radio_type, is_submit_type, is_input_of};
 ghost use Rattle.css_tree.specs.HtmlElements.{reserved_names, begins_with_letter as has_first_letter};
 ghost use Rattle.css_tree.specs.HtmlElements.{is_custom_name as is_custom};
@@ -203,6 +204,17 @@ pub(crate) fn input_type(node: &Node<'_, '_>) -> InputType
         Some(text) => InputType::named(text),
         None => InputType::Text,
     }
+}
+
+/// Whether the element is an input element whose type is `tel`.
+pub(crate) fn is_telephone(node: &Node<'_, '_>) -> bool
+    ensures { result ≡ is_telephone_of node.now.0 node.now.1 }
+{
+    is_named(node, "input")
+        && match node.attribute("type") {
+            Some(text) => text.eq_ignore_ascii_case("tel"),
+            None => false,
+        }
 }
 
 /// Whether the element is a `select` or a `textarea`.

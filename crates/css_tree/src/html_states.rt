@@ -23,7 +23,7 @@ use crate::html_elements::{
     is_submit,
 };
 use crate::numbered_tree::no_marks;
-use crate::surroundings::{Surroundings, all_surroundings};
+use crate::surroundings::{Direction, Surroundings, all_surroundings};
 use simplecss_tree::Node;
 use std::alloc::{AllocError, Global};
 use std::collections::BTreeMap;
@@ -55,6 +55,10 @@ pub(crate) enum HtmlState {
     Open,
     /// `:defined`
     Defined,
+    /// `:dir(ltr)`
+    InLeftToRight,
+    /// `:dir(rtl)`
+    InRightToLeft,
 }
 
 impl HtmlState {
@@ -86,6 +90,10 @@ impl HtmlState {
             Some(HtmlState::Open)
         } else if name.eq_ignore_ascii_case("defined") {
             Some(HtmlState::Defined)
+        } else if name.eq_ignore_ascii_case("dir(ltr)") {
+            Some(HtmlState::InLeftToRight)
+        } else if name.eq_ignore_ascii_case("dir(rtl)") {
+            Some(HtmlState::InRightToLeft)
         } else {
             None
         }
@@ -119,6 +127,8 @@ pub(crate) struct HtmlStates {
     is_open: bool,
     /// `:defined`
     is_defined: bool,
+    /// The direction, which `:dir()` tests.
+    direction: Direction,
 }
 
 impl HtmlStates {
@@ -141,6 +151,8 @@ impl HtmlStates {
             HtmlState::Indeterminate => self.is_indeterminate,
             HtmlState::Open => self.is_open,
             HtmlState::Defined => self.is_defined,
+            HtmlState::InLeftToRight => matches!(self.direction, Direction::LeftToRight),
+            HtmlState::InRightToLeft => matches!(self.direction, Direction::RightToLeft),
         }
     }
 
@@ -400,6 +412,7 @@ fn states_of<'t>(
         is_indeterminate: is_indeterminate(node, around, groups),
         is_open: is_open(node),
         is_defined: is_defined(node),
+        direction: around.direction,
     }
 }
 

@@ -9,6 +9,7 @@
 
 mod attributes;
 mod groups;
+mod has_marks;
 pub mod html;
 mod html_elements;
 mod html_states;
@@ -17,6 +18,7 @@ pub mod languages;
 mod marking;
 mod marking_laws;
 mod node;
+mod nth_marks;
 mod numbered_tree;
 mod port_element;
 mod surroundings;

@@ -1,16 +1,18 @@
-//! Lists of selectors that have a number, each answered once for each element.
+//! Lists that have a number, each answered once for each element.
 ghost use Rattle.std.specs.Prelude.{◌≡◌, ◌<◌, ◌*◌, ◌↔◌, ◌++◌, ◌∷◌, ℕ, [], Err, IfOk, IsTrue, OnErr, OnOk, false, length, map, slice_index_or};
 ghost use Rattle.std.specs.List.{Any};
+ghost use Rattle.css_selectors.specs.MarkedLists.{list_of};
 ghost use Rattle.css_selectors.specs.Meanings.{Matches};
 ghost use Rattle.css_tree.specs.Pages.{page_document};
-ghost use Rattle.css_tree.specs.Marks.{AreMarked, MatchesOne};
+ghost use Rattle.css_tree.specs.Marks.{AreMarked, IsMarkedBy, MatchesOne};
 ghost use Rattle.css_tree.specs.declared.marking.MarkingError.TheVariants.{TooManyAnswers};
 
+use crate::nth_marks::End;
 use crate::{NumberedNode, NumberedTree};
-use css_selectors::Selector;
+use css_selectors::{ListTest, MarkedList, Selector};
 use std::alloc::{AllocError, Global};
 
-/// Why lists of selectors have no numbers.
+/// Why lists have no numbers.
 #[derive(Clone, Copy, Debug, PartialEq)]
 pub enum MarkingError {
     /// There are more answers than were allowed: one for each list and each element.
@@ -43,7 +45,7 @@ fn are_too_many(lists: usize, elements: usize, most: usize) -> bool
 
 impl<'p, 't> NumberedTree<'p, 't> {
     /// Returns for each element whether one of the selectors matches it.
-    fn answers(&self, alloc: Global, list: &[Selector<'_>]) -> Result<Vec<bool>, AllocError>
+    fn matched(&self, alloc: Global, list: &[Selector<'_>]) -> Result<Vec<bool>, AllocError>
         ensures all { IfOk result (λ answers. length answers.items ≡ length self.now.rows) }
         ensures each { IfOk result (λ answers. (i : ℕ) → i < length self.now.rows
             → IsTrue (slice_index_or answers.items i false) ↔ MatchesOne list.now self.now i) }
@@ -54,6 +56,25 @@ impl<'p, 't> NumberedTree<'p, 't> {
             answers.push(is_matched(list, &node))?;
         }
         Ok(answers)
+    }
+
+    /// Returns for each element whether it is one of those of the list.
+    fn answers(&self, alloc: Global, list: &MarkedList<'_>) -> Result<Vec<bool>, AllocError>
+        ensures all { IfOk result (λ answers. length answers.items ≡ length self.now.rows) }
+        ensures each { IfOk result (λ answers. (i : ℕ) → i < length self.now.rows
+            → IsTrue (slice_index_or answers.items i false)
+            ↔ IsMarkedBy (list_of list.now) self.now i) }
+    {
+        match list {
+            MarkedList::Matched(selectors) => self.matched(alloc, selectors.as_slice()),
+            MarkedList::Tested(ListTest::Has, list) => self.has_marks(alloc, list.as_slice()),
+            MarkedList::Tested(ListTest::NthChild(progression), list) => {
+                self.nth_marks(alloc, End::First, *progression, list.as_slice())
+            }
+            MarkedList::Tested(ListTest::NthLastChild(progression), list) => {
+                self.nth_marks(alloc, End::Last, *progression, list.as_slice())
+            }
+        }
     }
 
     /// Gives a list with these answers the next number.
@@ -69,24 +90,25 @@ impl<'p, 't> NumberedTree<'p, 't> {
     }
 
     /// Answers lists, one after another, where no list has a number yet.
-    fn mark_each(&mut self, alloc: Global, lists: &[Vec<Selector<'_>>]) -> Result<(), AllocError>
+    fn mark_each(&mut self, alloc: Global, lists: &[MarkedList<'_>]) -> Result<(), AllocError>
         requires { self.old.marks ≡ [] }
         ensures rows { self.new.rows ≡ self.old.rows }
         ensures texts { self.new.texts ≡ self.old.texts }
         ensures scope { self.new.scope ≡ self.old.scope }
         ensures html { self.new.is_html ≡ self.old.is_html }
-        ensures marks { OnOk result (AreMarked (map (λ list. list.items) lists.now) self.new) }
+        ensures marks { OnOk result (AreMarked (map list_of lists.now) self.new) }
     {
         for list in lists {
-            let answers = self.answers(alloc, list.as_slice())?;
+            let answers = self.answers(alloc, list)?;
             self.push_answers(answers)?;
         }
         Ok(())
     }
 
-    /// Numbers lists of selectors, from 1 on, for which `&` stands: each is answered once for each
-    /// element, where `&` in it is one of the lists before it. Lists that had numbers lose them. The
-    /// answers hold for the tree as it is: after [`set_text`](NumberedTree::set_text),
+    /// Numbers lists, from 1 on: each is answered for all elements at once, where a number in it, as that
+    /// of an `&`, is of a list before it. For a list of `:has()`, `:nth-child()` or `:nth-last-child()` that
+    /// takes time that is linear in the elements for each part of the list. Lists that had numbers lose
+    /// them. The answers hold for the tree as it is: after [`set_text`](NumberedTree::set_text),
     /// [`set_scope`](NumberedTree::set_scope) and [`set_html`](NumberedTree::set_html) mark again.
     ///
     /// Fails with [`MarkingError::TooManyAnswers`] if there are more than `most` answers, and else only
@@ -94,14 +116,14 @@ impl<'p, 't> NumberedTree<'p, 't> {
     pub fn mark(
         &mut self,
         alloc: Global,
-        lists: &[Vec<Selector<'_>>],
+        lists: &[MarkedList<'_>],
         most: usize,
     ) -> Result<(), MarkingError>
         ensures rows { self.new.rows ≡ self.old.rows }
         ensures texts { self.new.texts ≡ self.old.texts }
         ensures scope { self.new.scope ≡ self.old.scope }
         ensures html { self.new.is_html ≡ self.old.is_html }
-        ensures marks { OnOk result (AreMarked (map (λ list. list.items) lists.now) self.new) }
+        ensures marks { OnOk result (AreMarked (map list_of lists.now) self.new) }
         ensures too_many { (result ≡ Err TooManyAnswers)
             ↔ (most < length lists.now * length self.old.rows) }
         ensures err { OnErr result (self.new.marks ≡ []) }

@@ -92,7 +92,7 @@ pub struct NumberedTree<'p, 't> {
 }
 
 impl<'p, 't> Model for NumberedTree<'p, 't> {
-    ghost use Rattle.std.specs.Prelude.{◌≡◌, IfSome, is_some, length, map};
+    ghost use Rattle.std.specs.Prelude.{◌≡◌, ◌<◌, ◌^◌, IfSome, is_some, length, map};
     ghost use Rattle.css_tree.specs.HtmlViews.{AreStates};
     ghost use Rattle.css_tree.specs.Pages.{Page};
     ghost use Rattle.css_tree.specs.Attributes.{AreFound};
@@ -112,7 +112,8 @@ impl<'p, 't> Model for NumberedTree<'p, 't> {
         × AreLanguages t.tree.now t.languages.items (length t.tree.now)
         × AreFound t.tree.now t.attributes
         × (length t.texts.items ≡ length t.tree.now)
-        × IfSome t.html (λ states. AreStates t.tree.now states.items (length t.tree.now)) };
+        × IfSome t.html (λ states. AreStates t.tree.now states.items (length t.tree.now))
+        × (length t.tree.now < 2 ^ 32) };
 }
 
 /// Returns the index of the parent of an element, if it has one.
@@ -305,6 +306,16 @@ impl<'p, 't> NumberedTree<'p, 't> {
         ensures { result.now ≡ language_of self.now.rows index }
     {
         self.languages[index]
+    }
+
+    /// Returns the number of the family of an element. There are less than 2^32 elements.
+    pub(crate) fn family(&self, index: usize) -> usize
+        requires { index < length self.now.rows }
+        ensures value { result ≡ family self.now.rows index }
+        ensures within { result < length self.now.rows }
+        ensures few { length self.now.rows < 2 ^ 32 }
+    {
+        self.families.number(index)
     }
 
     /// Returns the number of siblings before an element, and the last of them.

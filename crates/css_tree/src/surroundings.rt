@@ -3,15 +3,28 @@ ghost use Rattle.std.specs.Prelude.{◌≡◌, ◌<◌, Some, IfOk, length};
 ghost use Rattle.css_tree.specs.HtmlViews.{AreAround};
 ghost use Rattle.css_tree.specs.Pages.{parent_index};
 ghost use Rattle.css_tree.specs.Surroundings.{own_editing as says_editing, editing_named as editing_by};
+ghost use Rattle.css_tree.specs.Surroundings.{own_direction as says_direction, direction_named as direction_by};
+ghost use Rattle.css_tree.specs.Surroundings.{usual_direction as usual_direction_of};
 ghost use Rattle.css_tree.specs.Surroundings.{bars as bars_child, ends_group as is_end_of_group};
 ghost use Rattle.css_tree.specs.Surroundings.{within as decided_within, surroundings as decided};
 ghost use Rattle.css_tree.specs.Surroundings.{at_root as decided_at_root, is_grouped_within};
 ghost use Rattle.css_tree.specs.Surroundings.{is_first_legend as is_first_legend_of};
 
 use crate::NumberedTree;
-use crate::html_elements::{has_attribute, is_named};
+use crate::html_elements::{has_attribute, is_named, is_telephone};
 use simplecss_tree::Node;
 use std::alloc::{AllocError, Global};
+
+/// The direction of an element.
+#[derive(Clone, Copy, Debug, PartialEq)]
+pub(crate) enum Direction {
+    /// From left to right.
+    LeftToRight,
+    /// From right to left.
+    RightToLeft,
+    /// It depends on a text.
+    OfText,
+}
 
 /// What ancestors decide for an element.
 #[derive(Clone, Copy, Debug, PartialEq)]
@@ -22,6 +35,8 @@ pub(crate) struct Surroundings {
     pub(crate) is_grouped: bool,
     /// Whether the element is edited.
     pub(crate) is_editable: bool,
+    /// The direction of the element.
+    pub(crate) direction: Direction,
     /// The number of the form: one more than its index, or 0 if there is none.
     pub(crate) form: usize,
 }
@@ -47,6 +62,47 @@ fn own_editing(node: &Node<'_, '_>) -> Option<bool>
     ensures { result ≡ says_editing node.now.0 node.now.1 }
 {
     editing_named(node.attribute("contenteditable")?)
+}
+
+/// Returns what a value of `dir` says.
+fn direction_named(text: &str) -> Option<Direction>
+    ensures { result ≡ direction_by text.now }
+{
+    if text.eq_ignore_ascii_case("ltr") {
+        Some(Direction::LeftToRight)
+    } else if text.eq_ignore_ascii_case("rtl") {
+        Some(Direction::RightToLeft)
+    } else if text.eq_ignore_ascii_case("auto") {
+        Some(Direction::OfText)
+    } else {
+        None
+    }
+}
+
+/// Returns what an element says of its direction without a value of `dir` that says something.
+fn usual_direction(node: &Node<'_, '_>) -> Option<Direction>
+    ensures { result ≡ usual_direction_of node.now.0 node.now.1 }
+{
+    if is_named(node, "bdi") {
+        Some(Direction::OfText)
+    } else if is_telephone(node) {
+        Some(Direction::LeftToRight)
+    } else {
+        None
+    }
+}
+
+/// Returns what an element says of its direction.
+fn own_direction(node: &Node<'_, '_>) -> Option<Direction>
+    ensures { result ≡ says_direction node.now.0 node.now.1 }
+{
+    match node.attribute("dir") {
+        Some(text) => match direction_named(text) {
+            Some(direction) => Some(direction),
+            None => usual_direction(node),
+        },
+        None => usual_direction(node),
+    }
 }
 
 /// Whether the options in an element have no `optgroup` around it.
@@ -114,6 +170,7 @@ fn surroundings_within(
         is_barred: bars(page, parent, index) || above.is_barred,
         is_grouped: is_grouped(&node, above.is_grouped),
         is_editable: own_editing(&page.plain(index)).unwrap_or(above.is_editable),
+        direction: own_direction(&page.plain(index)).unwrap_or(above.direction),
         form,
     }
 }
@@ -127,6 +184,7 @@ fn surroundings_at_root(page: &NumberedTree<'_, '_>, index: usize) -> Surroundin
         is_barred: false,
         is_grouped: false,
         is_editable: own_editing(&page.plain(index)).unwrap_or(false),
+        direction: own_direction(&page.plain(index)).unwrap_or(Direction::LeftToRight),
         form: 0,
     }
 }

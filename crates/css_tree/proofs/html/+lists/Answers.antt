@@ -2,7 +2,7 @@ use Rattle.std.proofs.Common.{map, ap, ◌∙◌, refl}
 use Rattle.css_selectors.specs.declared.components.Complex.{roll-Complex, out-roll-Complex}
 use Rattle.css_selectors.specs.Views.{complex_of, condition_of, part_of}
 use Rattle.css_tree.specs.Html.{condition_in, part_in}
-use Rattle.css_tree.proofs.HtmlLemmas.{read-more, read-all, read-not, read-is, read-where, read-nth}
+use Rattle.css_tree.proofs.HtmlLemmas.{read-more, read-all, read-not, read-is, read-where, read-tested}
 use Rattle.css_tree.proofs.html.+lists.Goals as goal
 
 -- one more
@@ -71,8 +71,10 @@ condition_in-returns-in_ok-selectors_in-in-Where t c =
     read-where c.args.mode c.args.condition.now c.in-Where.list c.in_ok-selectors_in-in-Where.field-0
     c.as_slice-in-Where.result.now c.as_slice-in-Where.ensures.value c.in_ok-selectors_in-in-Where.ensures c.in-Where.is
 
-pub condition_in-returns-in_ok-selectors_in-in-NthOf : goal.condition_in-returns-in_ok-selectors_in-in-NthOf
-condition_in-returns-in_ok-selectors_in-in-NthOf t c =
-    read-nth c.args.mode c.args.condition.now c.in-NthOf.list c.in_ok-selectors_in-in-NthOf.field-0
-    c.as_slice-in-NthOf.result.now c.as_slice-in-NthOf.ensures.value c.in_ok-selectors_in-in-NthOf.ensures
-    c.in-NthOf.numbered c.in-NthOf.is
+pub condition_in-returns-in_ok-selectors_in-in-Tested :
+    goal.condition_in-returns-in_ok-selectors_in-in-Tested
+condition_in-returns-in_ok-selectors_in-in-Tested t c =
+    read-tested c.args.mode c.args.condition.now c.in-Tested.list
+    c.in_ok-selectors_in-in-Tested.field-0 c.as_slice-in-Tested.result.now
+    c.as_slice-in-Tested.ensures.value c.in_ok-selectors_in-in-Tested.ensures c.in-Tested.test
+    c.in-Tested.is

@@ -1,5 +1,6 @@
 use Rattle.std.proofs.Common.{◌<◌, ◌∷◌, ◌++◌, [], length, map, take, ap, sym, subst, ◌∙◌, arith}
 use Rattle.std.proofs.lemmas.List.{map_more}
+use Rattle.css_selectors.specs.MarkedLists.{list_of}
 use Rattle.css_tree.specs.Marks.{AreMarked}
 use Rattle.css_tree.proofs.MarkLemmas.{marked_more}
 use Rattle.css_tree.proofs.numbered_tree.NumberedTree.mark_each.Goals as goal
@@ -11,16 +12,15 @@ loop-list-preserved c =
     let old = c.loop-list.invariant in
     let pushed = c.push_answers.ensures in
     let within : i < length lists = omega arith in
-    let more = map_more (λ list. list.items) lists i c.list-item.result within
-    ∙ ap (λ list. map (λ l. l.items) (take i lists) ++ list ∷ [])
-    (ap (λ l. l.items) (sym c.list-item.is) ∙ sym c.as_slice.ensures.value) in
+    let more = map_more list_of lists i c.list-item.result within
+    ∙ ap (λ list. map list_of (take i lists) ++ list_of list ∷ []) (sym c.list-item.is) in
     record {
       rows = pushed.rows ∙ old.rows;
       texts = pushed.texts ∙ old.texts;
       scope = pushed.scope ∙ old.scope;
       html = pushed.html ∙ old.html;
       marks = subst (λ ls. AreMarked ls c.push_answers.new.self) (sym more)
-          (marked_more (map (λ l. l.items) (take i lists)) c.as_slice.result.now c.loop-list.self
+          (marked_more (map list_of (take i lists)) (list_of c.list-item.result) c.loop-list.self
           c.push_answers.new.self c.in_ok-answers.answers.items old.marks pushed.rows pushed.texts
           pushed.scope pushed.html c.in_ok-push_answers.ensures.marks c.in_ok-answers.ensures.each);
     }

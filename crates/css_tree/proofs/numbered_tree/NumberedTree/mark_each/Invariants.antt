@@ -1,5 +1,6 @@
 -- The lists so far are marked, and nothing else is changed.
 use Rattle.std.proofs.Common.{◌≡◌, map, take}
+use Rattle.css_selectors.specs.MarkedLists.{list_of}
 use Rattle.css_tree.specs.Marks.{AreMarked}
 use Rattle.css_tree.proofs.numbered_tree.NumberedTree.mark_each.Given as goal
 
@@ -9,5 +10,5 @@ invariant-loop-list l = record {
   texts : l.self.texts ≡ l.fn.self.texts;
   scope : l.self.scope ≡ l.fn.self.scope;
   html : l.self.is_html ≡ l.fn.self.is_html;
-  marks : AreMarked (map (λ list. list.items) (take l.list-index l.lists)) l.self;
+  marks : AreMarked (map list_of (take l.list-index l.lists)) l.self;
 }

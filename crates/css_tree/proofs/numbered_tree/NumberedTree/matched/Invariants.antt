@@ -1,7 +1,7 @@
 -- The elements so far are answered.
 use Rattle.std.proofs.Common.{◌≡◌, ◌<◌, ◌↔◌, ℕ, IsTrue, length, get_or, false}
 use Rattle.css_tree.specs.Marks.{MatchesOne}
-use Rattle.css_tree.proofs.numbered_tree.NumberedTree.answers.Given as goal
+use Rattle.css_tree.proofs.numbered_tree.NumberedTree.matched.Given as goal
 
 abbrev pub invariant-loop-index : goal.invariant-loop-index
 invariant-loop-index l = record {
