@@ -22,8 +22,9 @@ use Rattle.css_sheet.specs.declared.parts.SheetParts.{SheetParts}
 use Rattle.css_sheet.specs.declared.sheet_error.SheetError.{SheetError}
 use Rattle.css_sheet.specs.declared.sheet_error.SheetError.TheVariants.{TooManyDeclarations, TooManyLayers}
 use Rattle.css_sheet.specs.declared.sheet_order.ReadRules.{ReadRules}
-use Rattle.css_sheet.specs.internal.PartViews.{part_of, given_in, open_in, left_in, parts_to_come, placed_last, source_of, GivesPart}
-use Rattle.css_sheet.specs.SheetParts.{OpenText, SheetPart, states, begins, ends, stands, PlacedPart, Source, all_parts_from, applies_at, applies_in, next_in, given_kind, given_place, nesting_at, nesting_in, nesting_of, opened, open_after, part_then, parts_from, parts_given, place_at, placed_part, sheet_parts}
+use Rattle.css_sheet.specs.ContentViews.{part_of}
+use Rattle.css_sheet.specs.internal.PartViews.{given_in, open_in, left_in, parts_to_come, placed_last, source_of, GivesPart}
+use Rattle.css_sheet.specs.SheetParts.{OpenText, SheetPart, states, begins, ends, stands, PlacedPart, Source, all_parts_from, applies_at, applies_in, from_part, next_in, given_kind, given_place, nesting_at, nesting_in, nesting_of, opened, open_after, part_then, parts_from, parts_given, place_at, placed_part, sheet_parts}
 use Rattle.css_sheet.specs.SheetLayers.{if_applies, kind_name, layer_parts, layered_parts, mentioned, number_in_all, open_name, or_none, sheet_layers, with_item, with_layers, with_list, with_names, with_part, with_parts}
 use Rattle.css_sheet.specs.SheetItems.{is_layer}
 use Rattle.css_sheet.specs.declared.parents.OpenParents.{OpenParents}
@@ -142,15 +143,15 @@ from-layers P (Err reported) of_layer.Memory is due = λ same. absurd (cc)
 -- ---- what is open after a part
 
 first-then : (holds : List ℕ → List ℕ → Bool) (source : Source)
-    (more : List OpenText → List ℕ → List PlacedPart) (around : List OpenText)
+    (more : List OpenText → List ℕ → List PlacedPart) (around : List OpenText) (from : List ℕ)
     (next : Option (SheetPart × List ℕ)) (one : PlacedPart) (parts : List PlacedPart)
-    → FoundOutside next (nesting_of around) → part_then holds source more around next ≡ one ∷ parts
+    → FoundOutside next (nesting_of around) → part_then holds source more around from next ≡ one ∷ parts
     → (place : List ℕ) × (one.around ≡ open_after holds around one.part place)
     × (one.sheet ≡ source.sheet) × StandsOutside one.part around
-first-then holds source more around None one parts out e = absurd (cc)
-first-then holds source more around (Some found) one parts out e =
+first-then holds source more around from None one parts out e = absurd (cc)
+first-then holds source more around from (Some found) one parts out e =
     let place = place_at source found.1 in
-    let same : one ≡ placed_part source found.0 (open_after holds around found.0 place) found.1 = cc in (
+    let same : one ≡ placed_part source from found.0 (open_after holds around found.0 place) found.1 = cc in (
       place,
       ap (λ (p : PlacedPart). p.around) same
           ∙ sym (ap (λ (p : PlacedPart). open_after holds around p.part place) same),
@@ -166,7 +167,8 @@ first-from : (holds : List ℕ → List ℕ → Bool) (source : Source) (n : ℕ
 unfolding parts_from
 first-from holds source zero around text one parts e = absurd (cc)
 first-from holds source (suc n) around text one parts e =
-    first-then holds source (parts_from holds source n) around (next_in source.depth around text) one parts
+    first-then holds source (parts_from holds source n) around (from_part source.depth around text)
+    (next_in source.depth around text) one parts
     (found-outside source.depth around text) e
 
 first-given : (holds : List ℕ → List ℕ → Bool) (source : Source) (around : List OpenText)
@@ -179,7 +181,7 @@ first-given holds source around [] text one parts e =
 first-given holds source around (rule ∷ rules) text one parts e =
     let kind = given_kind rule in
     let place = given_place rule in
-    let same : one ≡ placed_part source (begins kind) (open_after holds around (begins kind) place) text =
+    let same : one ≡ placed_part source text (begins kind) (open_after holds around (begins kind) place) text =
     cc in (
       place,
       ap (λ (p : PlacedPart). p.around) same

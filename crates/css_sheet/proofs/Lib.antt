@@ -12,6 +12,9 @@ mod ParentLemmas
 mod LevelLemmas
 mod PartNesting
 mod EdgeLemmas
+mod ContentLemmas
+mod PrintLemmas
+mod SaidLemmas
 mod GatherLemmas
 mod WrittenItems
 pub mod ImportLemmas

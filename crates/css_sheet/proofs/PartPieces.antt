@@ -18,10 +18,10 @@ use Rattle.css_syntax.proofs.Shorter.{each-rests}
 use Rattle.css_syntax.proofs.ItemLemmas.{between_part-takes, separator_part-takes, block-within, block-well, separators-well, between-well}
 use Rattle.css_syntax.proofs.BlockSteps.{next_rule_part-takes, next_block_part-well, next_rule_part-well}
 use Rattle.css_sheet.specs.SheetItems.{group_keyword}
-use Rattle.css_sheet.specs.SheetParts.{Nesting, outside, within, nested, OpenText, nesting_of, is_more_open, SheetPart, past_run, at_rule_in, option_inside, next_inside, at_rule_outside, option_outside, next_outside, next_by, next_in, open_after, Source, place_at, parts_in, open_given, parts_given}
+use Rattle.css_sheet.specs.SheetParts.{Nesting, outside, within, nested, OpenText, nesting_of, is_more_open, past_before, from_part, SheetPart, past_run, at_rule_in, option_inside, next_inside, at_rule_outside, option_outside, next_outside, next_by, next_in, open_after, Source, place_at, parts_in, open_given, parts_given}
 use Rattle.css_sheet.specs.Sheets.{GroupRuleText}
 use Rattle.css_sheet.specs.NothingLost.{BlankTo}
-use Rattle.css_sheet.specs.PartsAll.{past_before, PartBegins, IsPart, ArePartsIn, ArePartsOf}
+use Rattle.css_sheet.specs.PartsAll.{PartBegins, IsPart, ArePartsIn, ArePartsOf}
 use Rattle.css_sheet.specs.PartsAll.ArePartsOf.{no_part, part_then}
 use Rattle.css_sheet.proofs.GroupPieces.{Head, at-head, after_last, first-byte, parts-blank, parts-text}
 use Rattle.css_sheet.proofs.PartSteps.{run-well, parts-some, parts-none, took}
@@ -282,11 +282,11 @@ ends-by (within prelude) in_block text = (separators-well text).0
 ends-by nested in_block text = (separators-well text).0
 
 begins-at : (depth : ℕ) (around : List OpenText) (text : List ℕ)
-    → PartBegins depth around text (past_before (nesting_of around) (is_more_open depth around) text)
+    → PartBegins depth around text (from_part depth around text)
 begins-at depth around text = (refl, ends-by (nesting_of around) (is_more_open depth around) text)
 
 found-in : (depth : ℕ) (around : List OpenText) (text : List ℕ)
-    → PieceAt (past_before (nesting_of around) (is_more_open depth around) text) (next_in depth around text)
+    → PieceAt (from_part depth around text) (next_in depth around text)
 unfolding next_in
 found-in depth around text = found-by (nesting_of around) (is_more_open depth around) text
 
@@ -297,7 +297,7 @@ module _ (holds : List ℕ → List ℕ → Bool) (source : Source) where
       → ArePartsOf source around text (parts_in holds source around text)
   unfolding PieceAt
   parts-end around text e =
-      let start = past_before (nesting_of around) (is_more_open source.depth around) text in
+      let start = from_part source.depth around text in
       let none : start ≡ [] = subst (PieceAt start) e (found-in source.depth around text) in
       subst (ArePartsOf source around text) (sym (parts-none holds source around text e))
       (no_part around text (subst (PartBegins source.depth around text) none (begins-at source.depth around text)))
@@ -309,12 +309,12 @@ module _ (holds : List ℕ → List ℕ → Bool) (source : Source) where
       → ArePartsOf source around text (parts_in holds source around text)
   unfolding PieceAt
   parts-then around text rest part e more =
-      let start = past_before (nesting_of around) (is_more_open source.depth around) text in
+      let start = from_part source.depth around text in
       let after = open_after holds around part (place_at source rest) in
       let piece : IsPart part start rest = subst (PieceAt start) e (found-in source.depth around text) in
       subst (ArePartsOf source around text)
       (sym (parts-some holds source around after text rest part e refl))
-      (part_then around text start rest _ _ (begins-at source.depth around text) piece refl refl more)
+      (part_then around text start rest _ _ (begins-at source.depth around text) piece refl refl refl more)
 
   pub parts-all : (m : ℕ) (around : List OpenText) (text : List ℕ) → length text ≤ m
       → ArePartsOf source around text (parts_in holds source around text)

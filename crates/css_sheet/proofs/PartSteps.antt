@@ -15,8 +15,9 @@ use Rattle.css_sheet.specs.SheetItems.{group_keyword}
 use Rattle.css_sheet.specs.Sheets.{GroupRuleText}
 use Rattle.css_sheet.specs.declared.parts.Part.{Part}
 use Rattle.css_sheet.specs.declared.parts.SheetParts.{SheetParts}
-use Rattle.css_sheet.specs.internal.PartViews.{part_of, given_in, left_in, open_in, placed_last, source_of, GivesNext, GivesPart}
-use Rattle.css_sheet.specs.SheetParts.{Nesting, outside, within, nested, OpenText, SheetPart, PlacedPart, after_at_rule, among_declarations, run_part, past_run, at_rule_in, part_inside, option_inside, at_rule_outside, part_outside, option_outside, next_by, nesting_of, is_more_open, next_in, open_after, part_then, parts_from, parts_given, parts_in, place_at, placed_part, Source}
+use Rattle.css_sheet.specs.ContentViews.{part_of}
+use Rattle.css_sheet.specs.internal.PartViews.{given_in, left_in, open_in, placed_last, source_of, GivesNext, GivesPart}
+use Rattle.css_sheet.specs.SheetParts.{Nesting, outside, within, nested, OpenText, SheetPart, PlacedPart, after_at_rule, among_declarations, run_part, past_run, at_rule_in, part_inside, option_inside, at_rule_outside, part_outside, option_outside, next_by, nesting_of, is_more_open, from_part, next_in, open_after, part_then, parts_from, parts_given, parts_in, place_at, placed_part, Source}
 
 -- ---- declarations one after another
 
@@ -130,12 +131,12 @@ took depth around text rest part e =
 -- ---- the parts one after another
 
 module _ (holds : List ℕ → List ℕ → Bool) (source : Source) where
-  then-some : (more : List OpenText → List ℕ → List PlacedPart) (around : List OpenText)
+  then-some : (more : List OpenText → List ℕ → List PlacedPart) (around : List OpenText) (from : List ℕ)
       (part : SheetPart) (rest : List ℕ) (o : Option (SheetPart × List ℕ)) → o ≡ Some (part, rest)
-      → part_then holds source more around o
-      ≡ placed_part source part (open_after holds around part (place_at source rest)) rest
+      → part_then holds source more around from o
+      ≡ placed_part source from part (open_after holds around part (place_at source rest)) rest
       ∷ more (open_after holds around part (place_at source rest)) rest
-  then-some more around part rest o e = ap (part_then holds source more around) e
+  then-some more around from part rest o e = ap (part_then holds source more around from) e
 
   -- with enough steps, more change nothing
   enough : (m n : ℕ) (around : List OpenText) (text : List ℕ) → length text ≤ m → length text ≤ n
@@ -144,49 +145,57 @@ module _ (holds : List ℕ → List ℕ → Bool) (source : Source) where
   enough zero zero around text a b = refl
   enough zero (suc n) around text a b =
       elim (option_cases (next_in source.depth around text)) [
-        | inl e ↦ sym (ap (part_then holds source (parts_from holds source n) around) e)
+        | inl e ↦ sym (ap (part_then holds source (parts_from holds source n) around
+            (from_part source.depth around text)) e)
         | inr found ↦ absurd (omega (arith, took source.depth around text found.0.1 found.0.0 found.1))
       ]
   enough (suc m) zero around text a b =
       elim (option_cases (next_in source.depth around text)) [
-        | inl e ↦ ap (part_then holds source (parts_from holds source m) around) e
+        | inl e ↦ ap (part_then holds source (parts_from holds source m) around
+            (from_part source.depth around text)) e
         | inr found ↦ absurd (omega (arith, took source.depth around text found.0.1 found.0.0 found.1))
       ]
   enough (suc m) (suc n) around text a b =
+      let from = from_part source.depth around text in
       elim (option_cases (next_in source.depth around text)) [
         | inl e ↦
-            ap (part_then holds source (parts_from holds source m) around) e
-            ∙ sym (ap (part_then holds source (parts_from holds source n) around) e)
+            ap (part_then holds source (parts_from holds source m) around from) e
+            ∙ sym (ap (part_then holds source (parts_from holds source n) around from) e)
         | inr found ↦
             let rest = found.0.1 in
             let part = found.0.0 in
             let after = open_after holds around part (place_at source rest) in
             let less : length rest < length text = took source.depth around text rest part found.1 in
-            then-some (parts_from holds source m) around part rest (next_in source.depth around text) found.1
-            ∙ ap (λ (more : List PlacedPart). placed_part source part after rest ∷ more)
+            then-some (parts_from holds source m) around from part rest (next_in source.depth around text) found.1
+            ∙ ap (λ (more : List PlacedPart). placed_part source from part after rest ∷ more)
             (enough m n after rest (omega arith) (omega arith))
-            ∙ sym (then-some (parts_from holds source n) around part rest (next_in source.depth around text) found.1)
+            ∙ sym (then-some (parts_from holds source n) around from part rest (next_in source.depth around text)
+            found.1)
       ]
 
   pub parts-some : (around after : List OpenText) (text rest : List ℕ) (part : SheetPart)
       → next_in source.depth around text ≡ Some (part, rest) → after ≡ open_after holds around part (place_at source rest)
       → parts_in holds source around text
-      ≡ placed_part source part after rest ∷ parts_in holds source after rest
+      ≡ placed_part source (from_part source.depth around text) part after rest ∷ parts_in holds source after rest
   unfolding parts_from
   parts-some around after [] rest part e f = absurd (omega (arith, took source.depth around [] rest part e))
   parts-some around after (b ∷ text) rest part e f =
       let less : length rest < length (b ∷ text) = took source.depth around (b ∷ text) rest part e in
+      let from = from_part source.depth around (b ∷ text) in
       let now = open_after holds around part (place_at source rest) in
-      then-some (parts_from holds source (length text)) around part rest (next_in source.depth around (b ∷ text)) e
-      ∙ ap (λ (more : List PlacedPart). placed_part source part now rest ∷ more)
+      then-some (parts_from holds source (length text)) around from part rest
+      (next_in source.depth around (b ∷ text)) e
+      ∙ ap (λ (more : List PlacedPart). placed_part source from part now rest ∷ more)
       (enough (length text) (length rest) now rest (omega arith) (omega arith))
-      ∙ sym (ap (λ (os : List OpenText). placed_part source part os rest ∷ parts_in holds source os rest) f)
+      ∙ sym (ap (λ (os : List OpenText). placed_part source from part os rest ∷ parts_in holds source os rest) f)
 
   pub parts-none : (around : List OpenText) (text : List ℕ) → next_in source.depth around text ≡ None
       → parts_in holds source around text ≡ []
   unfolding parts_from
   parts-none around [] e = refl
-  parts-none around (b ∷ text) e = ap (part_then holds source (parts_from holds source (length text)) around) e
+  parts-none around (b ∷ text) e =
+      ap (part_then holds source (parts_from holds source (length text)) around
+      (from_part source.depth around (b ∷ text))) e
 
 -- ---- group rules that all of a sheet is in
 

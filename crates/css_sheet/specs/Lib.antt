@@ -15,6 +15,12 @@ pub mod Sheets
 pub mod SheetLayers
 pub mod SheetOrder
 pub mod BlockEdges
+pub mod SheetContents
+pub mod ContentViews
+pub mod Pieces
+pub mod Words
+pub mod Said
+pub mod PrintedSheets
 pub mod ImportRules
 pub mod Imports
 pub mod ImportViews

@@ -2,24 +2,15 @@
 use Rattle.std.specs.Prelude.{◌≡◌, ℕ, ◌<◌, Bool, List, [], ◌∷◌, ◌++◌, length, Some}
 use Rattle.css_text.specs.AsciiBytes.{open_brace, close_brace, at_sign}
 use Rattle.css_text.specs.Reading.{Ends}
-use Rattle.css_syntax.specs.Statements.{past_between}
-use Rattle.css_syntax.specs.DeclarationLists.{past_separators}
 use Rattle.css_sheet.specs.SheetItems.{group_keyword}
 use Rattle.css_sheet.specs.NothingLost.{BlankTo}
-use Rattle.css_sheet.specs.SheetParts.{RuleKind, style_rule, group_rule, Nesting, outside, within, nested, OpenText, nesting_of, is_more_open, SheetPart, states, begins, ends, stands, PlacedPart, Source, offset_in, given_kind, sheet_source}
+use Rattle.css_sheet.specs.SheetParts.{RuleKind, style_rule, group_rule, OpenText, from_part, SheetPart, states, begins, ends, stands, PlacedPart, Source, offset_in, given_kind, sheet_source}
 use Rattle.css_sheet.specs.Sheets.{GroupRuleText, SheetText}
-
--- what is left after what is before a part: space bytes and comments; in a style rule semicolons, too; in no
--- rule `<!--` and `-->`, too
-abbrev pub past_before : Nesting → (in_block : Bool) → List ℕ → List ℕ
-past_before outside in_block text = past_between in_block text
-past_before (within prelude) in_block text = past_separators text
-past_before nested in_block text = past_separators text
 
 -- Only these are before the rest, where these rules are open, and the text is in `depth` group rules.
 abbrev pub PartBegins : (depth : ℕ) → List OpenText → (text rest : List ℕ) → Type 0
 PartBegins depth around text rest =
-    (past_before (nesting_of around) (is_more_open depth around) text ≡ rest) × Ends text rest
+    (from_part depth around text ≡ rest) × Ends text rest
 
 -- The head of a rule is the text from its start up to the rest: of a style rule its prelude, of a group rule
 -- `@`, its name and its prelude, and then a brace. Between these are only blanks.
@@ -45,11 +36,12 @@ pub data ArePartsOf (source : Source) : List OpenText → (text : List ℕ) → 
   -- no part is left
   no_part : (around : List OpenText) (text : List ℕ) → PartBegins source.depth around text []
       → ArePartsOf source around text []
-  -- a part, which ends where it says, and then those where it leaves these rules open
+  -- a part, which is where it says, and then those where it leaves these rules open
   part_then : (around : List OpenText) (text start rest : List ℕ) (placed : PlacedPart)
       (more : List PlacedPart)
       → PartBegins source.depth around text start
       → IsPart placed.part start rest
+      → placed.from ≡ start
       → placed.sheet ≡ source.sheet
       → placed.end ≡ offset_in source rest
       → ArePartsOf source placed.around rest more

@@ -3,7 +3,7 @@
 use Rattle.std.specs.Prelude.{ℕ, zero, suc, ◌+◌, ◌-◌, Bool, true, false, ◌&&◌, List, [], ◌∷◌, ◌++◌, length, take, drop, slice_get, Option, Some, None}
 use Rattle.css_text.specs.Reading.{each, before}
 use Rattle.css_syntax.specs.Parts.{Stated}
-use Rattle.css_syntax.specs.Statements.{block, BlockText}
+use Rattle.css_syntax.specs.Statements.{block, BlockText, past_between}
 use Rattle.css_syntax.specs.DeclarationLists.{ItemText, at_rule_item, past_separators}
 use Rattle.css_syntax.specs.Blocks.{BlockPart, listed, opens_rule, opens_at_rule, closes, next_block_part, next_rule_part}
 use Rattle.css_sheet.specs.SheetItems.{group_keyword}
@@ -153,6 +153,13 @@ next_by outside in_block text = next_outside in_block text
 next_by (within prelude) in_block text = next_inside text
 next_by nested in_block text = next_inside text
 
+-- what is left after what is before a part: space bytes and comments; in a style rule semicolons, too; in no
+-- rule `<!--` and `-->`, too
+abbrev pub past_before : Nesting → (in_block : Bool) → List ℕ → List ℕ
+past_before outside in_block text = past_between in_block text
+past_before (within prelude) in_block text = past_separators text
+past_before nested in_block text = past_separators text
+
 -- whether more than `depth` rules are open
 abbrev pub is_more_open : (depth : ℕ) → List OpenText → Bool
 is_more_open depth around = is_some_open (drop depth around)
@@ -160,6 +167,10 @@ is_more_open depth around = is_some_open (drop depth around)
 -- the next part of a text that is in `depth` group rules, whose top level is no block
 unfoldable pub next_in : (depth : ℕ) → List OpenText → List ℕ → Option (SheetPart × List ℕ)
 next_in depth around text = next_by (nesting_of around) (is_more_open depth around) text
+
+-- what is left of such a text from its next part on
+abbrev pub from_part : (depth : ℕ) → List OpenText → List ℕ → List ℕ
+from_part depth around text = past_before (nesting_of around) (is_more_open depth around) text
 
 -- ---- all parts
 
@@ -181,10 +192,11 @@ open_after holds around (begins kind) place = around ++ opened holds around kind
 open_after holds around ends place = take (length around - 1) around
 open_after holds around (stands item) place = around
 
--- A part; what is open after it, with what it begins; and the number of the text that it is in and the
--- offset there at which it ends.
+-- A part; what is left of its text from it on; what is open after it, with what it begins; and the number of
+-- the text that it is in and the offset there at which it ends.
 pub record PlacedPart : Type 0 where
   pub part : SheetPart
+  pub from : List ℕ
   pub around : List OpenText
   pub sheet : ℕ
   pub end : ℕ
@@ -202,22 +214,24 @@ offset_in source rest = source.size - length rest
 abbrev pub place_at : Source → List ℕ → List ℕ
 place_at source rest = source.sheet ∷ offset_in source rest ∷ []
 
--- a part after which this is left and these rules are open
-abbrev pub placed_part : Source → SheetPart → List OpenText → List ℕ → PlacedPart
-placed_part source part around rest = record {
+-- a part from which on this is left, and after it this, where these rules are open
+abbrev pub placed_part : Source → (from : List ℕ) → SheetPart → List OpenText → (rest : List ℕ)
+    → PlacedPart
+placed_part source from part around rest = record {
   part = part;
+  from = from;
   around = around;
   sheet = source.sheet;
   end = offset_in source rest;
 }
 
--- the parts from here on, where these rules are open, by those after the first
+-- the parts where these rules are open, of which the first begins from here on, by those after it
 abbrev pub part_then : (List ℕ → List ℕ → Bool) → Source
-    → (List OpenText → List ℕ → List PlacedPart) → List OpenText → Option (SheetPart × List ℕ)
-    → List PlacedPart
-part_then holds source more around None = []
-part_then holds source more around (Some found) =
-    placed_part source found.0 (open_after holds around found.0 (place_at source found.1)) found.1
+    → (List OpenText → List ℕ → List PlacedPart) → List OpenText → (from : List ℕ)
+    → Option (SheetPart × List ℕ) → List PlacedPart
+part_then holds source more around from None = []
+part_then holds source more around from (Some found) =
+    placed_part source from found.0 (open_after holds around found.0 (place_at source found.1)) found.1
     ∷ more (open_after holds around found.0 (place_at source found.1)) found.1
 
 -- Each part takes a byte or more, so as many as there are bytes are all. They are read by the grammar of what
@@ -226,7 +240,8 @@ unfoldable pub parts_from : (List ℕ → List ℕ → Bool) → Source → ℕ 
     → List PlacedPart
 parts_from holds source zero around text = []
 parts_from holds source (suc n) around text =
-    part_then holds source (parts_from holds source n) around (next_in source.depth around text)
+    part_then holds source (parts_from holds source n) around (from_part source.depth around text)
+    (next_in source.depth around text)
 
 -- the parts from here on in a text, where these rules are open
 abbrev pub parts_in : (List ℕ → List ℕ → Bool) → Source → List OpenText → List ℕ
@@ -251,7 +266,7 @@ abbrev pub parts_given : (List ℕ → List ℕ → Bool) → Source → List Op
     → List ℕ → List PlacedPart
 parts_given holds source around [] text = parts_in holds source around text
 parts_given holds source around (rule ∷ rules) text =
-    placed_part source (begins (given_kind rule)) (open_given holds around rule) text
+    placed_part source text (begins (given_kind rule)) (open_given holds around rule) text
     ∷ parts_given holds source (open_given holds around rule) rules text
 
 -- the text of the sheet of this number

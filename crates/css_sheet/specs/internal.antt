@@ -4,3 +4,4 @@ pub mod GatherViews
 pub mod PartViews
 pub mod FoundViews
 pub mod FrontViews
+pub mod WordViews

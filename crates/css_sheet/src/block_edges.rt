@@ -1,7 +1,7 @@
 //! Where the blocks of rules begin and end.
 ghost use Rattle.std.specs.Prelude.{◌≡◌, ◌++◌, IfOk, OnOk, true, map, option_map, option_to_list};
 ghost use Rattle.css_sheet.specs.BlockEdges.{edge_of, part_edge, sheet_edges};
-ghost use Rattle.css_sheet.specs.internal.PartViews.{part_of};
+ghost use Rattle.css_sheet.specs.ContentViews.{part_of};
 
 use crate::parts::{Part, RuleKind, SheetParts};
 use crate::sheet_rules::Sheet;

@@ -1,7 +1,8 @@
 //! Gathers the rules of style rules.
 ghost use Rattle.std.specs.Prelude.{◌≡◌, IfErr, map, option_to_list};
 ghost use Rattle.css_syntax.specs.Views.{item_of, prelude_of};
-ghost use Rattle.css_sheet.specs.internal.PartViews.{part_of, placed_last};
+ghost use Rattle.css_sheet.specs.ContentViews.{part_of};
+ghost use Rattle.css_sheet.specs.internal.PartViews.{placed_last};
 ghost use Rattle.css_sheet.specs.ParentViews.{parent_of};
 ghost use Rattle.css_sheet.specs.RuleViews.{rule_selector_of};
 ghost use Rattle.css_sheet.specs.SheetOrder.{declaration_count, is_declared, rule_with, rules_with};

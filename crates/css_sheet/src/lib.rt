@@ -2,7 +2,8 @@
 //! and of the blocks of its group rules such as `@media`, in source order, each with the group
 //! rules that it is in. Whether the condition of a group rule holds is for the caller to decide.
 //!
-//! `read_sheets` returns the style rules of several sheets in the order of the cascade.
+//! `read_sheets` returns the style rules of several sheets in the order of the cascade. `print_sheet` prints a
+//! sheet, and what it returns says the same.
 #![tactic(auto)]
 
 mod block_edges;
@@ -15,17 +16,25 @@ mod nested_selectors;
 mod open_layers;
 mod parents;
 mod parts;
+mod pieces;
+mod printing;
 mod reader;
+mod said;
 mod selectors;
+mod sheet_contents;
 mod sheet_error;
 mod sheet_order;
 mod sheet_rules;
 mod state;
+mod words;
 
 pub use block_edges::{BlockEdge, read_block_edges};
 pub use import_rules::{Import, ImportLayer, ImportUrl};
 pub use imports::read_imports;
+pub use parts::{Part, RuleKind};
+pub use printing::{Layout, print_sheet};
 pub use selectors::{RuleSelector, read_listed, read_selectors, read_supported, rule_selector};
+pub use sheet_contents::{PlacedPart, read_contents};
 pub use sheet_error::SheetError;
 pub use sheet_order::{SheetRules, read_sheet, read_sheets};
 pub use sheet_rules::{GroupRule, Sheet, SheetRule};

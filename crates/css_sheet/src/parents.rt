@@ -9,7 +9,8 @@ ghost use Rattle.css_sheet.specs.OpenParents.{entered, begun, begun_style, left_
 ghost use Rattle.css_sheet.specs.OpenParents.{checked, checked_for, or_same as or_same_of};
 ghost use Rattle.css_sheet.specs.ParentViews.{parent_of, parents_of};
 ghost use Rattle.css_sheet.specs.internal.OpenViews.{is_known_dropped as is_known_dropped_of};
-ghost use Rattle.css_sheet.specs.internal.PartViews.{kind_of, open_of, part_of};
+ghost use Rattle.css_sheet.specs.ContentViews.{kind_of, part_of};
+ghost use Rattle.css_sheet.specs.internal.PartViews.{open_of};
 ghost use Rattle.css_sheet.specs.SheetParts.{applies_in as applies_in_rules};
 
 use crate::nested_selectors::list_of;

@@ -1,7 +1,8 @@
 //! The parts of a sheet, one after another and in place: declarations, and rules that begin and end.
-ghost use Rattle.std.specs.Prelude.{◌≡◌, ◌++◌, ◌∷◌, [], ℕ, Bool, List, true, map, IfOk, option_map, length};
+ghost use Rattle.std.specs.Prelude.{◌≡◌, ◌++◌, ◌∷◌, [], ℕ, Bool, List, true, map, IfOk, IfSome, option_map, length};
 ghost use Rattle.css_text.specs.Reading.{Ends};
 ghost use Rattle.css_syntax.specs.DeclarationLists.{past_separators};
+ghost use Rattle.css_syntax.specs.Statements.{past_between};
 ghost use Rattle.css_syntax.specs.Views.{prelude_of};
 ghost use Rattle.css_syntax.specs.BlockViews.{block_part_of};
 ghost use Rattle.css_sheet.specs.SheetItems.{group_keyword as group_keyword_of};
@@ -10,10 +11,11 @@ ghost use Rattle.css_sheet.specs.SheetParts.{nesting_in as nesting_in_kind, kind
 ghost use Rattle.css_sheet.specs.SheetParts.{after_at_rule, run_part as run_part_of, past_run as past_run_of};
 ghost use Rattle.css_sheet.specs.SheetParts.{stated_from, at_rule_in, part_inside as inside_of};
 ghost use Rattle.css_sheet.specs.SheetParts.{at_rule_outside, part_outside as outside_of, next_inside, next_outside};
-ghost use Rattle.css_sheet.specs.SheetParts.{is_more_open as is_more_open_in, next_in, opened, open_after, offset_in};
+ghost use Rattle.css_sheet.specs.SheetParts.{is_more_open as is_more_open_in, from_part, next_in, opened, open_after, offset_in};
 ghost use Rattle.css_sheet.specs.SheetParts.{begins, given_kind, open_given, parts_given, sheet_parts};
 ghost use Rattle.css_sheet.specs.GroupViews.{group_rule_of};
-ghost use Rattle.css_sheet.specs.internal.PartViews.{kind_of, nesting_text, open_of, part_of, open_in, left_in, given_in};
+ghost use Rattle.css_sheet.specs.ContentViews.{kind_of, part_of};
+ghost use Rattle.css_sheet.specs.internal.PartViews.{nesting_text, open_of, open_in, from_in, left_in, given_in};
 ghost use Rattle.css_sheet.specs.internal.PartViews.{parts_to_come, source_of, GivesPart, PartShrinks};
 ghost use Rattle.css_sheet.specs.internal.PartViews.{GivesNext, NextShrinks};
 ghost use Rattle.css_sheet.specs.SheetRuleViews.{Answers, sheet_of};
@@ -28,7 +30,7 @@ use std::alloc::{AllocError, Global};
 
 /// A rule.
 #[derive(Clone, Copy)]
-pub(crate) enum RuleKind<'a> {
+pub enum RuleKind<'a> {
     /// A style rule, by what is before its block.
     Style(Prelude<'a>),
     /// A group rule, by the keyword that its name is and by its prelude.
@@ -61,7 +63,7 @@ pub(crate) struct OpenRule<'a> {
 
 /// A part of a sheet.
 #[derive(Clone, Copy)]
-pub(crate) enum Part<'a> {
+pub enum Part<'a> {
     /// Declarations in a style rule, with what is skipped between them, as they stand there.
     States(&'a str),
     /// A rule begins, and its contents follow.
@@ -74,8 +76,16 @@ pub(crate) enum Part<'a> {
 
 /// A part and the rest after it.
 #[derive(Clone, Copy)]
+struct OpenedPart<'a> {
+    part: Part<'a>,
+    rest: &'a str,
+}
+
+/// A part, what is left of its text from it on, and the rest after it.
+#[derive(Clone, Copy)]
 struct FoundPart<'a> {
     part: Part<'a>,
+    from: &'a str,
     rest: &'a str,
 }
 
@@ -88,6 +98,8 @@ pub(crate) struct SheetParts<'s, 'a> {
     pub(crate) given: &'s [GroupRule<'a>],
     /// How many group rules all of it is in.
     pub(crate) depth: usize,
+    /// What is left of the sheet from the part on that was read last.
+    pub(crate) from: &'a str,
     /// What is left of the sheet.
     pub(crate) rest: &'a str,
     /// The number of the sheet.
@@ -188,12 +200,12 @@ fn past_run(text: &str) -> &str
 }
 
 /// Reads the declarations from this start on, of which this is left after the first.
-fn state_from<'a>(start: &'a str, rest: &'a str) -> FoundPart<'a>
+fn state_from<'a>(start: &'a str, rest: &'a str) -> OpenedPart<'a>
     requires { Ends start.now rest.now }
     ensures { stated_from start.now rest.now ≡ (part_of result.part, result.rest.now) }
 {
     let after = past_run(rest);
-    FoundPart {
+    OpenedPart {
         part: Part::States(front(start, after)),
         rest: after,
     }
@@ -205,14 +217,14 @@ fn begin_inside<'a>(
     name: &'a str,
     prelude: Prelude<'a>,
     rest: &'a str,
-) -> FoundPart<'a>
+) -> OpenedPart<'a>
     requires { Ends start.now rest.now }
     ensures { at_rule_in start.now (prelude_of prelude.entry) rest.now (group_keyword_of name.now)
         ≡ (part_of result.part, result.rest.now) }
 {
     match group_keyword(name) {
         None => state_from(start, read_block(rest).rest),
-        Some(keyword) => FoundPart {
+        Some(keyword) => OpenedPart {
             part: Part::Begins(RuleKind::Group(keyword, prelude.text)),
             rest,
         },
@@ -220,47 +232,61 @@ fn begin_inside<'a>(
 }
 
 /// Goes on from a part of the block of a style rule.
-fn go_on_inside(found: FoundBlockPart<'_>) -> FoundPart<'_>
+fn go_on_inside(found: FoundBlockPart<'_>) -> OpenedPart<'_>
     requires { Ends found.from.now found.rest.now }
     ensures { inside_of found.entry.from.now (block_part_of found.entry.part, found.entry.rest.now)
         ≡ (part_of result.part, result.rest.now) }
 {
     match found.part {
         BlockPart::Listed(_) => state_from(found.from, found.rest),
-        BlockPart::OpensRule(prelude) => FoundPart {
+        BlockPart::OpensRule(prelude) => OpenedPart {
             part: Part::Begins(RuleKind::Style(prelude)),
             rest: found.rest,
         },
         BlockPart::OpensAtRule(name, prelude) => {
             begin_inside(found.from, name, prelude, found.rest)
         }
-        BlockPart::Closes => FoundPart {
+        BlockPart::Closes => OpenedPart {
             part: Part::Ends,
             rest: found.rest,
         },
     }
 }
 
+/// Returns a part that begins at this text.
+fn found_from<'a>(from: &'a str, opened: OpenedPart<'a>) -> FoundPart<'a>
+    ensures part { result.part ≡ opened.entry.part }
+    ensures from { result.from.now ≡ from.now }
+    ensures rest { result.rest.now ≡ opened.entry.rest.now }
+{
+    FoundPart {
+        part: opened.part,
+        from,
+        rest: opened.rest,
+    }
+}
+
 /// Reads the next part of the block of a style rule.
 fn read_inside(text: &str) -> Option<FoundPart<'_>>
-    ensures { next_inside text.now
+    ensures read { next_inside text.now
         ≡ option_map (λ found. (part_of found.part, found.rest.now)) result }
+    ensures from { IfSome result (λ found. found.from.now ≡ past_separators text.now) }
 {
     match read_next_block_part(text) {
         None => None,
-        Some(found) => Some(go_on_inside(found)),
+        Some(found) => Some(found_from(found.from, go_on_inside(found))),
     }
 }
 
 /// Begins a group rule outside of style rules, or reads another at-rule.
-fn begin_outside<'a>(name: &'a str, prelude: Prelude<'a>, rest: &'a str) -> FoundPart<'a>
+fn begin_outside<'a>(name: &'a str, prelude: Prelude<'a>, rest: &'a str) -> OpenedPart<'a>
     ensures { at_rule_outside name.now (prelude_of prelude.entry) rest.now (group_keyword_of name.now)
         ≡ (part_of result.part, result.rest.now) }
 {
     match group_keyword(name) {
         None => {
             let found = read_block(rest);
-            FoundPart {
+            OpenedPart {
                 part: Part::Stands(Item::AtRule(AtRule {
                     name,
                     prelude,
@@ -269,7 +295,7 @@ fn begin_outside<'a>(name: &'a str, prelude: Prelude<'a>, rest: &'a str) -> Foun
                 rest: found.rest,
             }
         }
-        Some(keyword) => FoundPart {
+        Some(keyword) => OpenedPart {
             part: Part::Begins(RuleKind::Group(keyword, prelude.text)),
             rest,
         },
@@ -277,21 +303,21 @@ fn begin_outside<'a>(name: &'a str, prelude: Prelude<'a>, rest: &'a str) -> Foun
 }
 
 /// Goes on from a part outside of style rules.
-fn go_on_outside(found: FoundBlockPart<'_>) -> FoundPart<'_>
+fn go_on_outside(found: FoundBlockPart<'_>) -> OpenedPart<'_>
     ensures { outside_of (block_part_of found.entry.part, found.entry.rest.now)
         ≡ (part_of result.part, result.rest.now) }
 {
     match found.part {
-        BlockPart::Listed(item) => FoundPart {
+        BlockPart::Listed(item) => OpenedPart {
             part: Part::Stands(item),
             rest: found.rest,
         },
-        BlockPart::OpensRule(prelude) => FoundPart {
+        BlockPart::OpensRule(prelude) => OpenedPart {
             part: Part::Begins(RuleKind::Style(prelude)),
             rest: found.rest,
         },
         BlockPart::OpensAtRule(name, prelude) => begin_outside(name, prelude, found.rest),
-        BlockPart::Closes => FoundPart {
+        BlockPart::Closes => OpenedPart {
             part: Part::Ends,
             rest: found.rest,
         },
@@ -300,20 +326,23 @@ fn go_on_outside(found: FoundBlockPart<'_>) -> FoundPart<'_>
 
 /// Reads the next part outside of style rules.
 fn read_outside(text: &str, in_block: bool) -> Option<FoundPart<'_>>
-    ensures { next_outside in_block text.now
+    ensures read { next_outside in_block text.now
         ≡ option_map (λ found. (part_of found.part, found.rest.now)) result }
+    ensures from { IfSome result (λ found. found.from.now ≡ past_between in_block text.now) }
 {
     match read_next_rule_part(text, in_block) {
         None => None,
-        Some(found) => Some(go_on_outside(found)),
+        Some(found) => Some(found_from(found.from, go_on_outside(found))),
     }
 }
 
 /// Reads the next part, by the grammar of what it is in. The text is in `depth` group rules.
 #[tactic(auto, unfolding(crate::specs::SheetParts::next_in))]
 fn read_next_in<'a>(around: &[OpenRule<'_>], depth: usize, text: &'a str) -> Option<FoundPart<'a>>
-    ensures { next_in depth (map open_of around.now) text.now
+    ensures read { next_in depth (map open_of around.now) text.now
         ≡ option_map (λ found. (part_of found.part, found.rest.now)) result }
+    ensures from { IfSome result (λ found.
+        found.from.now ≡ from_part depth (map open_of around.now) text.now) }
 {
     match nesting_of(around) {
         Nesting::Outside => read_outside(text, is_more_open(around, depth)),
@@ -327,6 +356,7 @@ impl<'s, 'a> SheetParts<'s, 'a> {
     pub(crate) fn new(alloc: Global, sheet: &Sheet<'s, 'a>, number: usize) -> SheetParts<'s, 'a>
         ensures open { open_in result ≡ [] }
         ensures sheet { (source_of result).sheet ≡ number }
+        ensures size { (source_of result).size ≡ length sheet.now.text.now }
         ensures parts { (answers : List ℕ → List ℕ → Bool)
             → parts_to_come answers result ≡ sheet_parts answers number (sheet_of sheet.now) }
     {
@@ -334,6 +364,7 @@ impl<'s, 'a> SheetParts<'s, 'a> {
             around: Vec::new(alloc),
             given: sheet.around,
             depth: sheet.around.len(),
+            from: sheet.text,
             rest: sheet.text,
             sheet: number,
             size: sheet.text.len(),
@@ -423,6 +454,7 @@ impl<'s, 'a> SheetParts<'s, 'a> {
         requires { C.IsAlwaysCallable holds.now }
         ensures rest { left_in self.new ≡ left_in self.old }
         ensures source { source_of self.new ≡ source_of self.old }
+        ensures from { IfOk result (λ part. from_in self.new ≡ left_in self.old) }
         ensures part { IfOk result (λ part. part_of part ≡ begins (given_kind (group_rule_of rule.now))) }
         ensures around { (answers : List ℕ → List ℕ → Bool) → Answers (C.post holds.now) answers
             → IfOk result (λ _. open_in self.new
@@ -430,6 +462,7 @@ impl<'s, 'a> SheetParts<'s, 'a> {
     {
         let part = Part::Begins(RuleKind::Group(rule.keyword, rule.prelude));
         self.go_through(&part, [rule.number, 0], holds)?;
+        self.from = self.rest;
         Ok(part)
     }
 
@@ -440,6 +473,7 @@ impl<'s, 'a> SheetParts<'s, 'a> {
     ) -> Result<Option<Part<'a>>, AllocError>
         requires { C.IsAlwaysCallable holds.now }
         ensures given { given_in self.new ≡ given_in self.old }
+        ensures source { source_of self.new ≡ source_of self.old }
         ensures size { IfOk result (λ part. NextShrinks self.old part self.new) }
         ensures parts { (answers : List ℕ → List ℕ → Bool) → Answers (C.post holds.now) answers
             → IfOk result (λ part. GivesNext answers self.old part self.new) }
@@ -449,6 +483,7 @@ impl<'s, 'a> SheetParts<'s, 'a> {
             Some(found) => {
                 let place = [self.sheet, self.offset(found.rest)];
                 self.go_through(&found.part, place, holds)?;
+                self.from = found.from;
                 self.rest = found.rest;
                 Ok(Some(found.part))
             }
@@ -463,6 +498,7 @@ impl<'s, 'a> SheetParts<'s, 'a> {
         holds: &C,
     ) -> Result<Option<Part<'a>>, AllocError>
         requires { C.IsAlwaysCallable holds.now }
+        ensures source { source_of self.new ≡ source_of self.old }
         ensures size { IfOk result (λ part. PartShrinks self.old part self.new) }
         ensures parts { (answers : List ℕ → List ℕ → Bool) → Answers (C.post holds.now) answers
             → IfOk result (λ part. GivesPart answers self.old part self.new) }

@@ -3,7 +3,8 @@ ghost use Rattle.std.specs.Prelude.{◌≡◌, ◌≤◌, ◌<◌, ◌++◌, ◌
 ghost use Rattle.css_cascade.specs.Layers.{most_layers, outermost_number};
 ghost use Rattle.css_cascade.specs.LayerViews.{known_of};
 ghost use Rattle.css_sheet.specs.internal.OpenViews.{known_in, numbers_in, outermost_in, AreFew, AreMany, GoesOver};
-ghost use Rattle.css_sheet.specs.internal.PartViews.{open_in, part_of};
+ghost use Rattle.css_sheet.specs.ContentViews.{part_of};
+ghost use Rattle.css_sheet.specs.internal.PartViews.{open_in};
 ghost use Rattle.css_sheet.specs.SheetLayers.{layer_count, sheet_layers, with_layers as with_layers_of};
 ghost use Rattle.css_sheet.specs.SheetParts.{PlacedPart, sheet_parts};
 ghost use Rattle.css_sheet.specs.SheetOrder.{cascade_rules, nested_lists, source_rules};

@@ -1,22 +1,16 @@
 -- What contracts see of a reader of the parts of a sheet.
 use Rattle.std.specs.Prelude.{◌≡◌, ℕ, ◌+◌, ◌<◌, Bool, List, [], ◌∷◌, map, length, Option, Some, None}
-use Rattle.css_syntax.specs.Views.{item_of, prelude_of}
-use Rattle.css_sheet.specs.declared.parts.RuleKind.{RuleKind}
-use Rattle.css_sheet.specs.declared.parts.RuleKind.TheVariants as kinds
+use Rattle.css_syntax.specs.Views.{prelude_of}
 use Rattle.css_sheet.specs.declared.parts.Nesting.{Nesting}
 use Rattle.css_sheet.specs.declared.parts.Nesting.TheVariants as nestings
 use Rattle.css_sheet.specs.declared.parts.OpenRule.{OpenRule}
 use Rattle.css_sheet.specs.declared.parts.Part.{Part}
-use Rattle.css_sheet.specs.declared.parts.Part.TheVariants as parts
 use Rattle.css_sheet.specs.declared.parts.SheetParts.{SheetParts}
-use Rattle.css_sheet.specs.SheetParts.{OpenText, SheetPart, PlacedPart, Source, parts_given, parts_in, placed_part, style_rule, group_rule, outside, within, nested, states, begins, ends, stands}
+use Rattle.css_sheet.specs.SheetParts.{OpenText, SheetPart, PlacedPart, Source, parts_given, parts_in, placed_part, outside, within, nested}
 use Rattle.css_sheet.specs.Sheets.{GroupRuleText}
+use Rattle.css_sheet.specs.ContentViews.{kind_of, part_of}
 use Rattle.css_sheet.specs.GroupViews.{group_rule_of}
-use Rattle.css_sheet.specs.SheetParts.{RuleKind as KindText, Nesting as NestingText}
-
-abbrev pub kind_of : RuleKind → KindText
-kind_of (kinds.Style prelude) = style_rule (prelude_of prelude)
-kind_of (kinds.Group keyword prelude) = group_rule keyword.now prelude.now
+use Rattle.css_sheet.specs.SheetParts.{Nesting as NestingText}
 
 abbrev pub nesting_text : Nesting → NestingText
 nesting_text nestings.Outside = outside
@@ -31,12 +25,6 @@ open_of rule = record {
   place = rule.place;
 }
 
-abbrev pub part_of : Part → SheetPart
-part_of (parts.States text) = states text.now
-part_of (parts.Begins kind) = begins (kind_of kind)
-part_of parts.Ends = ends
-part_of (parts.Stands item) = stands (item_of item)
-
 -- the rules that are open, from the outermost
 abbrev pub open_in : SheetParts → List OpenText
 open_in r = map open_of r.around.items
@@ -44,6 +32,10 @@ open_in r = map open_of r.around.items
 -- what is left of the sheet
 abbrev pub left_in : SheetParts → List ℕ
 left_in r = r.rest.now
+
+-- what is left of it from the part on that was read last
+abbrev pub from_in : SheetParts → List ℕ
+from_in r = r.from.now
 
 -- the group rules that are still to begin of those that all of the sheet is in
 abbrev pub given_in : SheetParts → List GroupRuleText
@@ -59,7 +51,7 @@ parts_to_come holds r = parts_given holds (source_of r) (open_in r) (given_in r)
 
 -- a part that was read last
 abbrev pub placed_last : SheetParts → SheetPart → PlacedPart
-placed_last r part = placed_part (source_of r) part (open_in r) (left_in r)
+placed_last r part = placed_part (source_of r) (from_in r) part (open_in r) (left_in r)
 
 -- A call returned the first of the parts that were to come, and the others still are; or none was to
 -- come, and none is.

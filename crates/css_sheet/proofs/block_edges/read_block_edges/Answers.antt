@@ -2,7 +2,8 @@ use Rattle.std.proofs.Common.{◌++◌, ◌∙◌, true, List, Option, ap, subst
 use Rattle.std.specs.Prelude.{option_to_list}
 use Rattle.css_sheet.specs.declared.parts.Part.{Part}
 use Rattle.css_sheet.specs.BlockEdges.{EdgeText, edge_of, edges_in, part_edge, sheet_edges}
-use Rattle.css_sheet.specs.internal.PartViews.{GivesPart, part_of, parts_to_come, placed_last}
+use Rattle.css_sheet.specs.ContentViews.{part_of}
+use Rattle.css_sheet.specs.internal.PartViews.{GivesPart, parts_to_come, placed_last}
 use Rattle.css_sheet.specs.SheetParts.{PlacedPart}
 use Rattle.css_sheet.proofs.EdgeLemmas.{edge-more}
 use Rattle.css_sheet.proofs.block_edges.read_block_edges.Goals as goal

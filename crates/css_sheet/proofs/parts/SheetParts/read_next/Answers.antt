@@ -1,7 +1,8 @@
 use Rattle.std.proofs.Common.{◌≡◌, ◌∷◌, [], ◌∙◌, ℕ, List, Some, None, sym, ap, map}
 use Rattle.css_sheet.specs.declared.parts.OpenRule.{OpenRule}
-use Rattle.css_sheet.specs.SheetParts.{OpenText, Source, next_in, open_after, parts_in, placed_part}
-use Rattle.css_sheet.specs.internal.PartViews.{open_of, open_in, left_in, part_of, source_of}
+use Rattle.css_sheet.specs.SheetParts.{OpenText, Source, from_part, next_in, open_after, parts_in, placed_part}
+use Rattle.css_sheet.specs.ContentViews.{part_of}
+use Rattle.css_sheet.specs.internal.PartViews.{open_of, open_in, left_in, source_of}
 use Rattle.css_sheet.proofs.PartSteps.{took, parts-some, parts-none}
 use Rattle.css_sheet.proofs.parts.SheetParts.read_next.Goals as goal
 
@@ -11,7 +12,7 @@ returns-in-None-clause-parts g c = λ answers k.
     let none : next_in old.depth (open_in old) (left_in old) ≡ None =
     sym (ap (λ (rules : List OpenRule). next_in old.depth (map open_of rules) old.rest.now)
     c.deref.ensures.value)
-    ∙ c.in-None.ensures in
+    ∙ c.in-None.ensures.read in
     parts-none answers (source_of old) (open_in old) (left_in old) none
 
 pub returns-in_ok-go_through-in-Some-clause-size : goal.returns-in_ok-go_through-in-Some-clause-size
@@ -21,7 +22,7 @@ returns-in_ok-go_through-in-Some-clause-size g c =
     let some : next_in old.depth (open_in old) (left_in old) ≡ Some (part_of found.part, found.rest.now) =
     sym (ap (λ (rules : List OpenRule). next_in old.depth (map open_of rules) old.rest.now)
     c.deref.ensures.value)
-    ∙ c.in-Some.ensures in
+    ∙ c.in-Some.ensures.read in
     took old.depth (open_in old) (left_in old) found.rest.now (part_of found.part) some
 
 pub returns-in_ok-go_through-in-Some-clause-parts : goal.returns-in_ok-go_through-in-Some-clause-parts
@@ -31,13 +32,19 @@ returns-in_ok-go_through-in-Some-clause-parts g c = λ answers k.
     let some : next_in old.depth (open_in old) (left_in old) ≡ Some (part_of found.part, found.rest.now) =
     sym (ap (λ (rules : List OpenRule). next_in old.depth (map open_of rules) old.rest.now)
     c.deref.ensures.value)
-    ∙ c.in-Some.ensures in
-    parts-some answers (source_of old) (open_in old) (map open_of c.go_through.new.self.around.items) (left_in old)
-    found.rest.now (part_of found.part) some
+    ∙ c.in-Some.ensures.read in
+    let from : found.from.now ≡ from_part old.depth (open_in old) (left_in old) =
+    c.in-Some.ensures.from
+    ∙ ap (λ (rules : List OpenRule). from_part old.depth (map open_of rules) old.rest.now)
+    c.deref.ensures.value in
+    let around = map open_of c.go_through.new.self.around.items in
+    parts-some answers (source_of old) (open_in old) around (left_in old) found.rest.now (part_of found.part)
+    some
     (c.in_ok-go_through-in-Some.ensures.around answers k
     ∙ ap (λ (end : ℕ). open_after answers (open_in old) (part_of found.part) (old.sheet ∷ end ∷ []))
     c.offset.ensures)
-    ∙ ap (λ (source : Source). placed_part source (part_of found.part)
-    (map open_of c.go_through.new.self.around.items) found.rest.now
-    ∷ parts_in answers source (map open_of c.go_through.new.self.around.items) found.rest.now)
+    ∙ ap (λ (source : Source). placed_part source (from_part old.depth (open_in old) (left_in old))
+    (part_of found.part) around found.rest.now ∷ parts_in answers source around found.rest.now)
     (sym c.go_through.ensures.source)
+    ∙ ap (λ (start : List ℕ). placed_part (source_of c.go_through.new.self) start (part_of found.part) around
+    found.rest.now ∷ parts_in answers (source_of c.go_through.new.self) around found.rest.now) (sym from)

@@ -4,7 +4,8 @@ use Rattle.css_sheet.specs.OpenParents.{ParentsText, after_part_of}
 use Rattle.css_sheet.specs.ParentViews.{parents_of}
 use Rattle.css_sheet.specs.internal.GatherViews.{counts_after}
 use Rattle.css_sheet.specs.internal.OpenViews.{known_in, numbers_in, outermost_in, GoesOver, is_known_dropped}
-use Rattle.css_sheet.specs.internal.PartViews.{open_in, open_of, part_of}
+use Rattle.css_sheet.specs.ContentViews.{part_of}
+use Rattle.css_sheet.specs.internal.PartViews.{open_in, open_of}
 use Rattle.css_sheet.proofs.GatherLemmas.{handed-error}
 use Rattle.css_sheet.proofs.sheet_order.ReadRules.push_part.Goals as goal
 
