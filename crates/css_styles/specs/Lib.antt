@@ -1,4 +1,5 @@
 pub mod Contenders
+pub mod NumberedRules
 pub mod Winners
 pub mod Properties
 pub mod StyleViews

@@ -3,18 +3,18 @@ use Rattle.std.specs.Prelude.{ℕ, List, Option, map}
 use Rattle.std.specs.Borrow.{Bor}
 use Rattle.css_syntax.specs.Views.{declaration_of}
 use Rattle.css_index.specs.Walks.{Walk}
-use Rattle.css_selectors.specs.Components.{Selector}
+use Rattle.css_selectors.specs.MarkedLists.{ListText}
 use Rattle.css_sheet.specs.SheetOrder.{SheetRuleText}
 use Rattle.css_styles.specs.declared.winner.Own.{Own}
 use Rattle.css_styles.specs.declared.winner.Winner.{Winner}
 use Rattle.css_styles.specs.Contenders.{OwnText}
 use Rattle.css_styles.specs.Winners.{WinnerText}
 
--- rules in order; the lists of selectors that `&` stands for in nested ones, of which the first has number
--- 1; and the properties that the rules state, in the order in which these appear
+-- rules in order, with numbers in their selectors; the lists that have these numbers, of which the first has
+-- number 1; and the properties that the rules state, in the order in which these appear
 pub record StyleRulesText : Type 0 where
   pub rules : List SheetRuleText
-  pub lists : List (List Selector)
+  pub lists : List ListText
   pub properties : List (List ℕ)
 
 -- the rules, and a walk over a page: one of their selectors, and the index of the element that was opened

@@ -22,6 +22,7 @@ mod decide;
 mod floors;
 mod gathering;
 mod laws;
+mod numbered_rules;
 mod one_property;
 mod properties;
 mod stated;

@@ -5,12 +5,15 @@ ghost use Rattle.css_sheet.specs.SheetRuleViews.{Answers, sheet_of, sheet_rule_o
 ghost use Rattle.css_sheet.specs.declared.sheet_error.SheetError.TheVariants.{TooManyDeclarations, TooManyLayers};
 ghost use Rattle.css_sheet.specs.SheetLayers.{layer_count};
 ghost use Rattle.css_cascade.specs.Layers.{most_layers};
+ghost use Rattle.css_selectors.specs.MarkedLists.{list_of};
+ghost use Rattle.css_styles.specs.NumberedRules.{numbered_sheets};
 ghost use Rattle.css_styles.specs.internal.Numbered.{AllStated, AreStated};
 
 use crate::contest::Numbered;
+use crate::numbered_rules::number_rules;
 use crate::properties::Properties;
 use crate::stated::read_stated;
-use css_selectors::Selector;
+use css_selectors::{MarkedList, Numbering};
 use css_sheet::{Sheet, SheetError, SheetRule, SheetRules, read_sheets};
 use std::alloc::{AllocError, Global};
 use std::marker::Model;
@@ -36,8 +39,8 @@ fn read_all<'a>(
 pub struct StyleRules<'a> {
     /// The rules.
     rules: Vec<SheetRule<'a>>,
-    /// The lists of selectors that `&` stands for in nested rules.
-    lists: Vec<Vec<Selector<'a>>>,
+    /// The lists that have numbers in their selectors.
+    lists: Vec<MarkedList<'a>>,
     /// The declarations of each rule.
     stated: Vec<Vec<Numbered<'a>>>,
     /// The properties that are stated.
@@ -47,8 +50,9 @@ pub struct StyleRules<'a> {
 impl<'a> Model for StyleRules<'a> {
     ghost use Rattle.std.specs.Prelude.{map};
     ghost use Rattle.std.specs.Coded.{Coded, codes};
-    ghost use Rattle.css_selectors.specs.Codes.{condition_code};
+    ghost use Rattle.css_selectors.specs.Codes.{condition_code, selectors_code};
     ghost use Rattle.css_selectors.specs.Components.{Simple};
+    ghost use Rattle.css_selectors.specs.MarkedLists.{list_of};
     ghost use Rattle.css_sheet.specs.SheetRuleViews.{sheet_rule_of};
     ghost use Rattle.css_styles.specs.StyleViews.{StyleRulesText};
     ghost use Rattle.css_styles.specs.internal.Numbered.{AllStated};
@@ -56,11 +60,11 @@ impl<'a> Model for StyleRules<'a> {
     ghost Value = { StyleRulesText };
 
     ghost coded = { let simples : Coded Simple = Prim.hlevel codes in
-        Prim.hlevel (codes, condition_code simples) };
+        Prim.hlevel (codes, condition_code simples, selectors_code simples) };
 
     ghost view = { λ r. record {
       rules = map sheet_rule_of r.rules.items;
-      lists = map (λ list. list.items) r.lists.items;
+      lists = map list_of r.lists.items;
       properties = r.properties;
     } };
 
@@ -69,6 +73,10 @@ impl<'a> Model for StyleRules<'a> {
 
 impl<'a> StyleRules<'a> {
     /// Reads the style rules of sheets, one after another, as [`read_sheets`] does, and their declarations.
+    /// Their selectors ask lists by numbers ([`Numbering`](css_selectors::Numbering)), which [`lists`] returns:
+    /// those that `&` stands for in nested rules, and those of pseudo-classes such as `:has()`.
+    ///
+    /// [`lists`]: StyleRules::lists
     ///
     /// Fails if the rules hold more than `most` declarations, if there are more than 1,024 layers, or if an
     /// allocation fails.
@@ -81,10 +89,12 @@ impl<'a> StyleRules<'a> {
         requires { C.IsAlwaysCallable holds }
         ensures rules { (answers : List ℕ → List ℕ → Bool) → Answers (C.post holds) answers
             → IfOk result (λ read. read.rules
-            ≡ cascade_rules answers (map sheet_of sheets.now)) }
+            ≡ (numbered_sheets (nested_lists answers (map sheet_of sheets.now))
+            (cascade_rules answers (map sheet_of sheets.now))).0) }
         ensures lists { (answers : List ℕ → List ℕ → Bool) → Answers (C.post holds) answers
             → IfOk result (λ read. read.lists
-            ≡ nested_lists answers (map sheet_of sheets.now)) }
+            ≡ (numbered_sheets (nested_lists answers (map sheet_of sheets.now))
+            (cascade_rules answers (map sheet_of sheets.now))).1.lists) }
         ensures within { (answers : List ℕ → List ℕ → Bool) → Answers (C.post holds) answers
             → OnOk result
             (declarations_in (source_rules answers (map sheet_of sheets.now)) ≤ most) }
@@ -98,11 +108,13 @@ impl<'a> StyleRules<'a> {
             → most_layers < layer_count answers (map sheet_of sheets.now)) }
     {
         let SheetRules { rules, lists } = read_sheets(alloc, sheets, most, holds)?;
+        let mut numbering = Numbering::of_lists(alloc, lists)?;
+        let rules = number_rules(alloc, &mut numbering, rules)?;
         let mut properties = Properties::new(alloc);
         let stated = read_all(alloc, &rules, &mut properties)?;
         Ok(StyleRules {
             rules,
-            lists,
+            lists: numbering.into_lists(),
             stated,
             properties,
         })
@@ -123,10 +135,9 @@ impl<'a> StyleRules<'a> {
         self.rules.len()
     }
 
-    /// Returns the lists of selectors that `&` stands for in nested rules, as [`read_sheets`] does: each at
-    /// its number less one.
-    pub fn lists(&self) -> &[Vec<Selector<'a>>]
-        ensures { map (λ list. list.items) result.now ≡ self.now.lists }
+    /// Returns the lists that selectors ask by numbers, each at its number less one.
+    pub fn lists(&self) -> &[MarkedList<'a>]
+        ensures { map list_of result.now ≡ self.now.lists }
     {
         &self.lists
     }
