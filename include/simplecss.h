@@ -111,7 +111,8 @@ typedef struct simplecss_tree {
 } simplecss_tree;
 
 /* The grammars of selectors. Modern ones are Level 3, and of Level 4 `:is()`, `:where()`, `:not()` with a list,
- * `:lang()` with a list, `:any-link`, and the flags `i` and `s`. Reading takes time that grows as the text.
+ * `:lang()` with a list, `:dir(ltr)`, `:dir(rtl)`, `:any-link`, and the flags `i` and `s`. Reading takes time that
+ * grows as the text.
  *
  * Three of the numbers read modern selectors: they say how a document compares names (HTML Standard,
  * "Case-sensitivity of selectors"). The tree of an HTML document has in lower case what is compared without
@@ -119,7 +120,8 @@ typedef struct simplecss_tree {
  * vlink), and in quirks mode the values of `id` and `class`. At these values the flag `s` of an attribute selector
  * changes nothing. Attributes decide which elements of an HTML document match `:checked`, `:disabled`, `:enabled`,
  * `:required`, `:optional`, `:read-write`, `:read-only`, `:placeholder-shown`, `:default`, `:indeterminate`, `:open`
- * and `:defined`. */
+ * and `:defined`. `:dir(ltr)` and `:dir(rtl)` match there by `dir`, but no element with `dir=auto`, no `bdi` without
+ * `dir`, and none of those in it, since their directions depend on texts. */
 #define SIMPLECSS_MODERN 0u      /* names, keys and values are compared byte by byte */
 #define SIMPLECSS_HTML 1u        /* as an HTML document compares them */
 #define SIMPLECSS_HTML_QUIRKS 2u /* as an HTML document in quirks mode does */
@@ -193,7 +195,9 @@ uint32_t simplecss_refusal(const uint8_t *text, size_t text_len, size_t grammar,
  * words too, replace it by spaces.
  *
  * A modern selector with a pseudo-element matches nothing. `:nth-child()` and the like count the roots of a tree as
- * siblings, too; `:root` matches each of them. A tree of 2^32 elements or more is reported as out of memory. */
+ * siblings, too; `:root` matches each of them. A tree of 2^32 elements or more is reported as out of memory. The list of
+ * each `:has()`, and of each `:nth-child()` that has one, is tested once on each element. These tests are at most `most`,
+ * too: elements times lists, with one for each list and one for each of its selectors. */
 
 /* Writes a line for each element of a tree: its number, a colon, the number of each of the selectors that
  * matches it after a space, and a newline. Each text is a selector. Elements and selectors are numbered from 1.
@@ -259,7 +263,32 @@ uint32_t simplecss_imports(const uint8_t *text, size_t text_len,
 uint32_t simplecss_blocks(const uint8_t *text, size_t text_len,
                           uint8_t *out, size_t out_size, size_t *len);
 
-/* The kinds of statements and items. Those from SIMPLECSS_SKIPPED on are skipped. */
+/* Writes what is in the blocks of the style rules of a style sheet, in place and in order, also of rules in style rules
+ * (CSS Nesting 1): the ten numbers of each item, as simplecss_read writes them, and ten where a block begins or ends:
+ *   SIMPLECSS_RULE       start len 0  prelude prelude_len  contents 0  0 0
+ *   SIMPLECSS_GROUP      start len 0  name name_len  prelude prelude_len  contents 0
+ *   SIMPLECSS_BLOCK_END  start 1 0  0 0 0 0 0 0
+ * The rule begins at `start`, and its contents, after the brace, at `contents`, `len` bytes later. A nested rule, or a
+ * group rule in a style rule, is no item here: it begins, its contents follow, and it ends. The end of the innermost
+ * block is its brace. A block that is open at the end of the sheet has no end. What is in no style rule is not written.
+ * Of "a{b:c}" the numbers are 3 0 2 0 0 1 2 0 0 0, 0 2 3 1 2 1 4 1 0 0, and 13 5 1 0 0 0 0 0 0 0. Time and memory grow as
+ * the text. `out_size` and `*len` count numbers. */
+uint32_t simplecss_contents(const uint8_t *text, size_t text_len,
+                            size_t *out, size_t out_size, size_t *len);
+
+/* The layouts of a printed style sheet. */
+#define SIMPLECSS_SHORT 0u
+#define SIMPLECSS_LINES 1u
+
+/* Writes a style sheet, printed: without comments, and without blanks, semicolons and rules that say nothing. With
+ * `layout` SIMPLECSS_SHORT it has no more bytes than are needed, with SIMPLECSS_LINES a line for each declaration and
+ * each rule. What a custom property has, what is skipped in a style rule, and most blocks of at-rules that are no group
+ * rules are kept byte for byte. What is printed says the same; where it would not, the text itself is written. Another
+ * number of a layout is refused, with the status 1. */
+uint32_t simplecss_print(const uint8_t *text, size_t text_len, size_t layout,
+                         uint8_t *out, size_t out_size, size_t *len);
+
+/* The kinds of statements and items. Those from SIMPLECSS_SKIPPED to SIMPLECSS_INVALID_SELECTOR are skipped. */
 #define SIMPLECSS_DECLARATION 0u
 #define SIMPLECSS_AT_RULE 1u      /* with a block */
 #define SIMPLECSS_AT_STATEMENT 2u /* an at-rule without one */
@@ -273,6 +302,8 @@ uint32_t simplecss_blocks(const uint8_t *text, size_t text_len,
 #define SIMPLECSS_NO_BLOCK 9u
 #define SIMPLECSS_NESTED_RULE 10u
 #define SIMPLECSS_INVALID_SELECTOR 11u
+#define SIMPLECSS_GROUP 12u     /* the block of a group rule begins */
+#define SIMPLECSS_BLOCK_END 13u /* the innermost block ends */
 
 /* Writes the value of a declaration with what closes it: the end of a string, a url or a comment that the end
  * of the text left open, and then the brackets that are open. Pass a "value" of simplecss_declarations or
@@ -424,8 +455,9 @@ uint32_t simplecss_rule_texts(const simplecss_sheets *sheets, size_t limit, size
  * and `*len` count numbers. For each element the time grows as the declarations of all rules that match it, of which
  * `limit` is the most, and of its own; as n log n of these where one is rolled back.
  *
- * Each list of selectors of a style rule with rules in it is tested once on each element. These tests are at most
- * `most`, too: elements times lists, with one for each list and one for each of its selectors. */
+ * Each list of selectors of a style rule with rules in it, of `:has()` and of `:nth-child()` is tested once on each
+ * element. These tests are at most `most`, too: elements times lists, with one for each list and one for each of its
+ * selectors. */
 uint32_t simplecss_winners(const simplecss_sheets *sheets, size_t grammar, size_t limit,
                            const simplecss_tree *tree, const simplecss_own *own, size_t most,
                            size_t *out, size_t out_size, size_t *len, simplecss_tree_fault *fault);

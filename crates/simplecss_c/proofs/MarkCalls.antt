@@ -1,10 +1,10 @@
 -- Pages with marks, and why there are none.
--- Serves `marks::{mark_lists, mark_as, mark}` and `matches::page_matches`.
-use Rattle.std.proofs.Common.{◌≡◌, List, [], ◌∷◌, map, refl, sym, ap, ◌∙◌, subst}
+-- Serves `marks::{list_size, mark_lists, mark_as, mark}`, `modern::numbered_lines` and `matches::page_matches`.
+use Rattle.std.proofs.Common.{◌≡◌, suc, List, [], ◌∷◌, length, map, refl, sym, ap, ◌∙◌, subst}
 use Rattle.std.specs.Prelude.{Result, Ok, Err, MatchResult}
 use Rattle.std.specs.Result.{IsErrAnd}
-use Rattle.std.proofs.lemmas.List.{map-id}
-use Rattle.css_selectors.specs.Components.{Selector}
+use Rattle.css_selectors.specs.Components.{Part, selectors_from}
+use Rattle.css_selectors.specs.Numberings.{NumberingText, no_lists}
 use Rattle.css_sheet.specs.SheetOrder.{SheetRuleText}
 use Rattle.css_sheet.specs.SheetRuleViews.{sheet_rule_of}
 use Rattle.css_sheet.specs.declared.sheet_rules.SheetRule.{SheetRule}
@@ -13,6 +13,7 @@ use Rattle.css_tree.specs.Pages.{Page}
 use Rattle.simplecss_c.specs.declared.answer.CallError.{CallError}
 use Rattle.simplecss_c.specs.declared.answer.CallError.TheVariants.{Memory, AnswerTooLong}
 use Rattle.simplecss_c.specs.Calls.{FailsLonger}
+use Rattle.simplecss_c.specs.MarkedPages.{selector_count}
 
 -- nothing but the marks is new
 pub with-new-marks : (old new : Page) → new.rows ≡ old.rows → new.texts ≡ old.texts
@@ -23,11 +24,16 @@ with-new-marks old new rows texts scope html =
     ∙ ap (λ s. record { rows = old.rows; texts = old.texts; scope = s; marks = new.marks; is_html = new.is_html }) scope
     ∙ ap (λ h. record { rows = old.rows; texts = old.texts; scope = old.scope; marks = new.marks; is_html = h }) html
 
--- selectors that are read as they are written
-pub lists-written : (lists : List (List Selector)) → map (map (λ s. s)) lists ≡ lists
-lists-written [] = refl
-lists-written (list ∷ lists) =
-    ap (λ l. l ∷ map (map (λ s. s)) lists) (map-id list) ∙ ap (λ ls. list ∷ ls) (lists-written lists)
+-- how many selectors the list of a pseudo-class has
+pub selector_count-from : (ss : List (List Part)) → selector_count (selectors_from ss) ≡ length ss
+selector_count-from [] = refl
+selector_count-from (s ∷ ss) = ap suc (selector_count-from ss)
+
+-- what has no lists
+pub without-lists : (n : NumberingText) → n.lists ≡ [] → n.numbers ≡ [] → n ≡ no_lists
+without-lists n lists numbers =
+    ap (λ l. record { lists = l; numbers = n.numbers }) lists
+    ∙ ap (λ k. record { lists = []; numbers = k }) numbers
 
 -- the selectors of rules
 pub rule-selectors : (rules : List SheetRule)

@@ -8,6 +8,7 @@ use Rattle.std.specs.declared.string.String.{String}
 use Rattle.std.specs.Str.{IsUtf8}
 use Rattle.css_sheet.specs.RuleSelectors.{selector_of}
 use Rattle.css_selectors.specs.Components.{Placed, Selector}
+use Rattle.css_selectors.specs.Numberings.{no_lists, numbered_selectors}
 use Rattle.css_selectors.specs.Supported.{supported_list}
 use Rattle.css_tree.specs.Pages.{Page}
 use Rattle.simplecss_tree.specs.Rows.{Row}
@@ -18,9 +19,9 @@ use Rattle.simplecss_c.specs.declared.pages.LineContent.{LineContent}
 use Rattle.simplecss_c.specs.declared.pages.LineContent.TheVariants.{Numbers, Selected}
 use Rattle.simplecss_c.specs.Outcomes.{numbers_outcome, outcome_of}
 use Rattle.simplecss_c.specs.Calls.{FailsFor, FailsWithin, FailsLonger, HasTexts, HasNoSelector, AreSelectorsIn, HasBadEnds, IsBrokenUtf8, Passed, passed_tree}
-use Rattle.simplecss_c.specs.ModernCalls.{AreReadLines, IsOfList, IsModernRefusalCall, IsModernMatchCall, IsModernSelectCall}
-use Rattle.simplecss_c.specs.ModernLines.{IsRefusal, page_with, AreModernLines}
-use Rattle.simplecss_c.specs.Readings.{listed_in, selector_as, selectors_of}
+use Rattle.simplecss_c.specs.ModernCalls.{AreNumberedLines, AreReadLines, IsOfList, IsModernRefusalCall, IsModernMatchCall, IsModernSelectCall}
+use Rattle.simplecss_c.specs.ModernLines.{IsRefusal, page_with}
+use Rattle.simplecss_c.specs.Readings.{listed_in, selectors_of}
 use Rattle.simplecss_c.proofs.ModernPages.{fails_wider}
 use Rattle.simplecss_c.proofs.Limits.{fails_within, within_wider, longer_wider}
 
@@ -54,15 +55,15 @@ ReadLines r IsAnswer passed =
 pub lines-due : {Z : Type 0} (most : ℕ) (content : LineContent) (kind : DocumentKind)
     (selectors : List Selector) (passed : Passed) (rows : List Row) (page : Page) → IsUtf8 passed.strings → passed_tree passed ≡ Ok rows
     → page ≡ page_with kind passed.elements rows → (r : Result (String Z) CallError)
-    → MatchResult r (λ text. AreModernLines most content (map (selector_as kind) selectors) page
+    → MatchResult r (λ text. AreNumberedLines most content kind (numbered_selectors no_lists selectors) page
     (Some (string_bytes text)))
-    (FailsLonger (AreModernLines most content (map (selector_as kind) selectors) page None))
+    (FailsLonger (AreNumberedLines most content kind (numbered_selectors no_lists selectors) page None))
     → ReadLines r (AreReadLines most content kind selectors passed) passed
 lines-due most content kind selectors passed rows page utf8 tree same (Ok text) due = (
   rows,
   utf8,
   tree,
-  subst (λ p. AreModernLines most content (map (selector_as kind) selectors) p
+  subst (λ p. AreNumberedLines most content kind (numbered_selectors no_lists selectors) p
       (Some (string_bytes text))) same due,
 )
 lines-due most content kind selectors passed rows page utf8 tree same (Err error) due =
@@ -70,7 +71,7 @@ lines-due most content kind selectors passed rows page utf8 tree same (Err error
       rows,
       utf8,
       tree,
-      subst (λ p. AreModernLines most content (map (selector_as kind) selectors) p None) same
+      subst (λ p. AreNumberedLines most content kind (numbered_selectors no_lists selectors) p None) same
           longer,
     )) error due
 

@@ -5,7 +5,7 @@ use Rattle.std.specs.Prelude.{Result, Ok, Err, MatchResult, Vec, ◌⊎◌}
 use Rattle.std.specs.Result.{IsErrAnd}
 use Rattle.std.specs.Str.{IsUtf8}
 use Rattle.css_cascade.specs.Layers.{most_layers}
-use Rattle.css_selectors.specs.Components.{Selector}
+use Rattle.css_selectors.specs.MarkedLists.{ListText}
 use Rattle.css_sheet.specs.SheetOrder.{SheetRuleText}
 use Rattle.css_sheet.specs.Sheets.{GroupRuleText, SheetText}
 use Rattle.css_sheet.specs.declared.sheet_error.SheetError.{SheetError}
@@ -149,7 +149,7 @@ rules-beside P passed limit sheets groups are (Err failure) sheet.Memory is over
 -- the numbers that are due for a tree
 module _ (asked : ElementContent) (content : ContentText) (asks : IsContent asked content)
     (most limit : ℕ) (sheets : PassedSheets) (kind : DocumentKind)
-    (passed : Passed) (rules : List SheetRuleText) (lists : List (List Selector)) (rows : List Row) where
+    (passed : Passed) (rules : List SheetRuleText) (lists : List ListText) (rows : List Row) where
   abbrev are_on : Page → Option (List ℕ) → Type 0
   are_on page =
       AreOnMarked most kind lists page (AreNumbers content most (selector_as kind) rules)
@@ -176,7 +176,7 @@ module _ (asked : ElementContent) (content : ContentText) (asks : IsContent aske
 
 -- the texts that are due for the rules of sheets
 pub texts-due : {Z : Type 0} (most limit : ℕ) (sheets : PassedSheets) (rules same : List SheetRuleText)
-    (lists : List (List Selector)) → AreRules sheets limit rules lists → same ≡ rules
+    (lists : List ListText) → AreRules sheets limit rules lists → same ≡ rules
     → (r : Result (String Z) CallError)
     → MatchResult r (λ lines. (string_bytes lines ≡ rule_texts same)
     × (length (string_bytes lines) ≤ most)) (FailsLonger (most < length (rule_texts same)))

@@ -23,5 +23,7 @@ pub mod SheetNumbers
 pub mod RuleTexts
 pub mod ImportLines
 pub mod BlockLines
+pub mod ContentNumbers
+pub mod PrintedSheets
 pub mod Spellings
 pub mod internal

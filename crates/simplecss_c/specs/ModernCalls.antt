@@ -4,13 +4,16 @@ use Rattle.std.specs.Option.{option_map}
 use Rattle.std.specs.Str.{IsUtf8}
 use Rattle.css_sheet.specs.RuleSelectors.{selector_of}
 use Rattle.css_selectors.specs.Components.{Placed, Selector}
+use Rattle.css_selectors.specs.Numberings.{NumberingText, no_lists, numbered_selectors}
 use Rattle.css_selectors.specs.Supported.{supported_list}
+use Rattle.css_tree.specs.Pages.{Page}
 use Rattle.simplecss_tree.specs.Rows.{Row}
 use Rattle.simplecss_c.specs.declared.answer.CallError.{CallError}
 use Rattle.simplecss_c.specs.declared.modern.document_kind.DocumentKind.{DocumentKind}
 use Rattle.simplecss_c.specs.declared.pages.LineContent.{LineContent}
 use Rattle.simplecss_c.specs.declared.pages.LineContent.TheVariants.{Numbers, Selected}
 use Rattle.simplecss_c.specs.Calls.{FailsFor, FailsWithin, HasTexts, HasBadEnds, IsBrokenUtf8, HasRefusedText, AreSelectorsIn, Passed, passed_tree}
+use Rattle.simplecss_c.specs.MarkedPages.{AreOnMarked}
 use Rattle.simplecss_c.specs.ModernLines.{IsRefusal, page_with, AreModernLines}
 use Rattle.simplecss_c.specs.Readings.{listed_in, selector_as, selectors_of}
 use Rattle.simplecss_c.specs.SelectorNumbers.{listed_numbers, printed_texts}
@@ -35,12 +38,25 @@ abbrev pub IsModernRefusalCall : List ℕ → Result (List ℕ) CallError → Ty
 IsModernRefusalCall text (Ok bytes) = IsUtf8 text × IsRefusal text (supported_list text) bytes
 IsModernRefusalCall text (Err error) = FailsFor ⊥ (λ fault. ⊥) (¬ (IsUtf8 text)) error
 
+-- which elements of a page these selectors match, as a document reads them; or none within a limit
+abbrev pub AreLinesOn : (most : ℕ) → LineContent → DocumentKind → List Selector → Page
+    → Option (List ℕ) → Type 0
+AreLinesOn most content kind selectors page =
+    AreModernLines most content (map (selector_as kind) selectors) page
+
+-- Which elements of a page these selectors match: with numbers in them, where the lists of these numbers are
+-- answered on it.
+abbrev pub AreNumberedLines : (most : ℕ) → LineContent → DocumentKind
+    → List Selector × NumberingText → Page → Option (List ℕ) → Type 0
+AreNumberedLines most content kind numbered before answer =
+    AreOnMarked most kind numbered.1.lists before (AreLinesOn most content kind numbered.0) answer
+
 -- which elements of a tree the selectors match, as a document reads them, or none within a limit
 abbrev pub AreReadLines : (most : ℕ) → LineContent → DocumentKind → List Selector → Passed
     → Option (List ℕ) → Type 0
 AreReadLines most content kind selectors passed answer =
     (rows : List Row) × IsUtf8 passed.strings × (passed_tree passed ≡ Ok rows)
-    × AreModernLines most content (map (selector_as kind) selectors)
+    × AreNumberedLines most content kind (numbered_selectors no_lists selectors)
     (page_with kind passed.elements rows) answer
 
 -- which of the selectors of texts match each element, or none within a limit

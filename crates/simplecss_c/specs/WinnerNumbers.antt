@@ -7,7 +7,9 @@ use Rattle.css_syntax.specs.Contents.{declaration_value}
 use Rattle.css_syntax.specs.DeclarationLists.{DeclarationText, ItemText, declared, at_rule_item, skipped_item}
 use Rattle.css_syntax.specs.Placed.{PlacedItem, placed_items}
 use Rattle.css_selectors.specs.Components.{Selector}
+use Rattle.css_selectors.specs.MarkedLists.{ListText}
 use Rattle.css_selectors.specs.Meanings.{Matches}
+use Rattle.css_selectors.specs.Numberings.{NumberingText}
 use Rattle.css_selectors.specs.Specificities.{Counts}
 use Rattle.css_cascade.specs.Layers.{most_layers}
 use Rattle.css_cascade.specs.declared.weights.Origin.{Origin}
@@ -17,6 +19,7 @@ use Rattle.css_sheet.specs.SheetLayers.{layer_count}
 use Rattle.css_sheet.specs.SheetOrder.{SheetRuleText, cascade_rules, nested_lists, source_rules, declarations_in, rule_counts}
 use Rattle.css_sheet.specs.Sheets.{GroupRuleText, SheetText}
 use Rattle.css_styles.specs.Contenders.{OwnText, contenders}
+use Rattle.css_styles.specs.NumberedRules.{numbered_sheets}
 use Rattle.css_styles.specs.Winners.{WinnerText, AreWinners, Decides, winners}
 use Rattle.css_styles.specs.declared.winner.Source.{Source}
 use Rattle.css_styles.specs.declared.winner.Source.TheVariants as sources
@@ -317,6 +320,12 @@ held_declarations sheets groups = declarations_in (source_rules (is_held groups)
 abbrev pub held_layers : List SheetText → (groups : List (List ℕ)) → ℕ
 held_layers sheets groups = layer_count (is_held groups) sheets
 
+-- the rules of the sheets where these group rules hold, in the order of the cascade and with numbers in their
+-- selectors, and the lists of these numbers
+abbrev pub held_rules : List SheetText → (groups : List (List ℕ)) → List SheetRuleText × NumberingText
+held_rules sheets groups =
+    numbered_sheets (nested_lists (is_held groups) sheets) (cascade_rules (is_held groups) sheets)
+
 -- the sheets are these, and these are the texts of group rules
 abbrev pub AreSheets : PassedSheets → List SheetText → (groups : List (List ℕ)) → Type 0
 AreSheets passed sheets groups =
@@ -336,14 +345,14 @@ AreLayeredBeyond passed =
     (sheets : List SheetText) × (groups : List (List ℕ)) × AreSheets passed sheets groups
     × (most_layers < held_layers sheets groups)
 
--- The rules of the sheets, with at most this number of declarations, and the lists that `&` means in
--- them. There are no more layers than there may be.
-abbrev pub AreRules : PassedSheets → (limit : ℕ) → List SheetRuleText → List (List Selector) → Type 0
+-- The rules of the sheets, with at most this number of declarations, and the lists that their selectors ask by
+-- numbers. There are no more layers than there may be.
+abbrev pub AreRules : PassedSheets → (limit : ℕ) → List SheetRuleText → List ListText → Type 0
 AreRules passed limit rules lists =
     (sheets : List SheetText) × (groups : List (List ℕ)) × AreSheets passed sheets groups
     × (held_declarations sheets groups ≤ limit) × (held_layers sheets groups ≤ most_layers)
-    × (rules ≡ cascade_rules (is_held groups) sheets)
-    × (lists ≡ nested_lists (is_held groups) sheets)
+    × (rules ≡ (held_rules sheets groups).0)
+    × (lists ≡ (held_rules sheets groups).1.lists)
 
 -- why sheets are not read, and what is said of a tree and of other texts beside them
 abbrev pub FailsBeside : PassedSheets → (limit : ℕ) → Type 0 → (ElementFault → Type 0) → Type 0
@@ -359,16 +368,16 @@ FailsBeside sheets limit HasBad IsFaulty IsBroken IsLonger failure =
 -- the numbers of each rule of the sheets, in the order of the cascade
 abbrev pub IsRulesCall : (limit : ℕ) → PassedSheets → Result (List ℕ) CallError → Type 0
 IsRulesCall limit sheets (Ok numbers) =
-    (rules : List SheetRuleText) × (lists : List (List Selector)) × AreRules sheets limit rules lists
+    (rules : List SheetRuleText) × (lists : List ListText) × AreRules sheets limit rules lists
     × (numbers ≡ flat_map rule_numbers rules)
 IsRulesCall limit sheets (Err failure) = FailsBeside sheets limit ⊥ (λ fault. ⊥) ⊥ ⊥ failure
 
--- The numbers of each element of a tree, or none within a limit: on it the lists that `&` means are
--- answered.
+-- The numbers of each element of a tree, or none within a limit: on it the lists are answered that selectors ask
+-- by numbers.
 abbrev pub AreOnTree : ContentText → (most limit : ℕ) → PassedSheets → DocumentKind → Passed
     → Option (List ℕ) → Type 0
 AreOnTree content most limit sheets kind passed answer =
-    (rules : List SheetRuleText) × (lists : List (List Selector)) × (rows : List Row)
+    (rules : List SheetRuleText) × (lists : List ListText) × (rows : List Row)
     × AreRules sheets limit rules lists × IsUtf8 passed.strings × (passed_tree passed ≡ Ok rows)
     × AreOnMarked most kind lists (page_with kind passed.elements rows)
     (AreNumbers content most (selector_as kind) rules) answer

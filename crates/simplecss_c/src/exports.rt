@@ -11,10 +11,12 @@ ghost use Rattle.simplecss_c.specs.BlockLines.{IsBlocksCall};
 ghost use Rattle.simplecss_c.specs.Calls.{IsSelectorCall, IsSheetCall, IsPrinted, IsMatchCall};
 ghost use Rattle.simplecss_c.specs.Calls.{AreRuleTexts, IsSkippedCall, IsStyleCall, IsStylesCall};
 ghost use Rattle.simplecss_c.specs.Calls.{IsCloseCall, passed_of};
+ghost use Rattle.simplecss_c.specs.ContentNumbers.{IsContentsCall};
 ghost use Rattle.simplecss_c.specs.Conditions.{IsMediaCall, IsSupportsCall};
 ghost use Rattle.simplecss_c.specs.ImportLines.{IsImportsCall};
 ghost use Rattle.simplecss_c.specs.ItemNumbers.{IsDeclarationsCall};
 ghost use Rattle.simplecss_c.specs.NumberLines.{IsTokensCall, IsNamesCall};
+ghost use Rattle.simplecss_c.specs.PrintedSheets.{IsPrintCall};
 ghost use Rattle.simplecss_c.specs.SheetNumbers.{IsReadCall};
 ghost use Rattle.simplecss_c.specs.WinnerNumbers.{IsRulesCall, IsNumbersCall, sheets_of};
 ghost use Rattle.simplecss_c.specs.declared.contents.ElementContent.TheVariants.{Winners, Named, Matches};
@@ -35,8 +37,8 @@ use crate::contents::{AskedNames, ElementContent, OwnTexts};
 use crate::elements::PassedTree;
 use crate::winners::Sheets;
 use crate::{
-    blocks, calls, conditions, element_numbers, imports, port, rule_texts, spellings, tokens,
-    values, winners,
+    blocks, calls, conditions, element_numbers, imports, port, printing, rule_texts,
+    sheet_contents, spellings, tokens, values, winners,
 };
 use css_values::{INHERITED, SHORTHANDS};
 use std::alloc::Global;
@@ -193,6 +195,35 @@ pub extern "C" fn simplecss_blocks(
     ensures { IsAnswered (IsBlocksCall text.now) result out.old out.new len.new }
 {
     hand_over(blocks::blocks(alloc, text), out, len)
+}
+
+/// Writes ten numbers of each item in a style rule, of each style rule and group rule where its block begins, and
+/// of each block where it ends, with offsets into the sheet.
+#[unsafe(no_mangle)]
+pub extern "C" fn simplecss_contents(
+    alloc: Global,
+    text: &[u8],
+    out: &mut [usize],
+    len: &mut usize,
+) -> u32
+    ensures { IsAnswered (IsContentsCall text.now) result out.old out.new len.new }
+{
+    hand_over_numbers(sheet_contents::sheet_contents(alloc, text), out, len)
+}
+
+/// Writes a style sheet, printed: without comments, and with no more bytes than are needed or with a line for each
+/// declaration and each rule.
+#[unsafe(no_mangle)]
+pub extern "C" fn simplecss_print(
+    alloc: Global,
+    text: &[u8],
+    layout: usize,
+    out: &mut [u8],
+    len: &mut usize,
+) -> u32
+    ensures { IsAnswered (IsPrintCall layout text.now) result out.old out.new len.new }
+{
+    hand_over(printing::print(alloc, text, layout), out, len)
 }
 
 /// Writes the value of a declaration with what closes it, where the end of the text left a string, a

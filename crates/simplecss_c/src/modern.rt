@@ -1,10 +1,13 @@
 //! Modern selectors: what each call answers.
 
-ghost use Rattle.std.specs.Prelude.{◌≡◌, ◌<◌, ◌^◌, None, Some, Err, MatchResult, length, string_bytes};
+ghost use Rattle.std.specs.Prelude.{◌≡◌, ◌<◌, ◌^◌, None, Some, Err, MatchResult, length, map, string_bytes};
 ghost use Rattle.std.specs.Str.{IsUtf8};
-ghost use Rattle.simplecss_c.specs.Calls.{FailsWithin, passed_of, passed_tree};
+ghost use Rattle.css_selectors.specs.MarkedLists.{list_of};
+ghost use Rattle.css_selectors.specs.Numberings.{no_lists, numbered_selectors};
+ghost use Rattle.simplecss_c.specs.Calls.{FailsLonger, FailsWithin, passed_of, passed_tree};
+ghost use Rattle.simplecss_c.specs.MarkedPages.{AreOnMarked};
 ghost use Rattle.simplecss_c.specs.ModernCalls.{IsModernListCall, IsModernPrintedCall};
-ghost use Rattle.simplecss_c.specs.ModernCalls.{IsModernRefusalCall, AreReadLines};
+ghost use Rattle.simplecss_c.specs.ModernCalls.{IsModernRefusalCall, AreLinesOn, AreNumberedLines, AreReadLines};
 ghost use Rattle.simplecss_c.specs.ModernCalls.{IsModernMatchCall, IsModernSelectCall};
 ghost use Rattle.simplecss_c.specs.Outcomes.{numbers_outcome, outcome_of};
 
@@ -14,10 +17,12 @@ mod pages;
 
 use crate::answer::CallError;
 use crate::elements::{PassedTree, read_tree};
+use crate::marks::mark;
 use crate::pages::LineContent;
 use crate::texts::{text_of, texts_of};
-use css_selectors::Selector;
-pub use document_kind::{DocumentKind, html_lists, html_rule_selectors};
+use css_selectors::{MarkedList, Numbering, Selector};
+use css_tree::NumberedTree;
+pub use document_kind::{DocumentKind, html_rule_selectors};
 use pages::lines;
 pub use pages::page_of;
 use std::alloc::Global;
@@ -43,25 +48,71 @@ pub fn refusal(alloc: Global, text: &[u8]) -> Result<String, CallError>
     lists::refusal(alloc, text_of(text)?)
 }
 
+/// The lines of the elements of a page, by selectors with these numbers, after the lists of the numbers are
+/// answered on it.
+fn marked_lines(
+    alloc: Global,
+    content: LineContent,
+    kind: DocumentKind,
+    selectors: &[Selector<'_>],
+    lists: &[MarkedList<'_>],
+    page: NumberedTree<'_, '_>,
+    most: usize,
+) -> Result<String, CallError>
+    requires { length selectors.now < 2 ^ 63 }
+    ensures { let are = AreOnMarked most kind (map list_of lists.now) page.entry
+        (AreLinesOn most content kind selectors.now) in
+        MatchResult result (λ text. are (Some (string_bytes text))) (FailsLonger (are None)) }
+{
+    let mut page = page;
+    mark(alloc, lists, kind, &mut page, most)?;
+    lines(alloc, content, kind, selectors, &page, most)
+}
+
+/// The lines of the elements of a page, by which selectors match each as a document reads them.
+fn numbered_lines(
+    alloc: Global,
+    content: LineContent,
+    kind: DocumentKind,
+    selectors: Vec<Selector<'_>>,
+    page: NumberedTree<'_, '_>,
+    most: usize,
+) -> Result<String, CallError>
+    ensures { let are = AreNumberedLines most content kind
+        (numbered_selectors no_lists selectors.entry.items) page.entry in
+        MatchResult result (λ text. are (Some (string_bytes text))) (FailsLonger (are None)) }
+{
+    let mut numbering = Numbering::new(alloc);
+    let selectors = numbering.number_all(alloc, selectors)?;
+    marked_lines(
+        alloc,
+        content,
+        kind,
+        &selectors,
+        numbering.lists(),
+        page,
+        most,
+    )
+}
+
 /// The lines of the elements of a tree, by which selectors match each as a document reads them.
 fn page_lines(
     alloc: Global,
     content: LineContent,
     kind: DocumentKind,
-    selectors: &[Selector<'_>],
+    selectors: Vec<Selector<'_>>,
     tree: PassedTree<'_>,
     most: usize,
 ) -> Result<String, CallError>
-    requires { length selectors.now < 2 ^ 63 }
-    ensures { MatchResult result (λ text. AreReadLines most content kind selectors.now
+    ensures { MatchResult result (λ text. AreReadLines most content kind selectors.entry.items
         (passed_of tree.entry) (Some (string_bytes text)))
         (FailsWithin ⊥ (λ fault. passed_tree (passed_of tree.entry) ≡ Err fault)
         (¬ (IsUtf8 (passed_of tree.entry).strings)) ⊥
-        (AreReadLines most content kind selectors.now (passed_of tree.entry) None)) }
+        (AreReadLines most content kind selectors.entry.items (passed_of tree.entry) None)) }
 {
     let rows = read_tree(alloc, tree.elements, tree.strings, tree.ends)?;
     let page = page_of(alloc, kind, &rows, tree.elements)?;
-    lines(alloc, content, kind, selectors, &page, most)
+    numbered_lines(alloc, content, kind, selectors, page, most)
 }
 
 /// The numbers of the selectors that match each element of a tree.
@@ -78,7 +129,7 @@ pub fn match_selectors(
 {
     let texts = texts_of(alloc, buffer, ends)?;
     let selectors = lists::read_selectors(alloc, &texts)?;
-    page_lines(alloc, LineContent::Numbers, kind, &selectors, tree, most)
+    page_lines(alloc, LineContent::Numbers, kind, selectors, tree, most)
 }
 
 /// The numbers of the elements of a tree that one of the selectors of a list matches.
@@ -92,5 +143,5 @@ pub fn select(
     ensures { IsModernSelectCall most text.now kind (passed_of tree.entry) (outcome_of result) }
 {
     let selectors = lists::read_list(alloc, text_of(text)?)?;
-    page_lines(alloc, LineContent::Selected, kind, &selectors, tree, most)
+    page_lines(alloc, LineContent::Selected, kind, selectors, tree, most)
 }

@@ -6,7 +6,6 @@ ghost use Rattle.std.specs.List.{flat_map};
 ghost use Rattle.css_selectors.specs.Components.{Selector as SelectorText};
 ghost use Rattle.css_syntax.specs.Views.{declaration_of, item_of};
 ghost use Rattle.css_cascade.specs.Layers.{most_layers};
-ghost use Rattle.css_sheet.specs.SheetOrder.{cascade_rules, nested_lists};
 ghost use Rattle.css_sheet.specs.GroupViews.{group_rule_of};
 ghost use Rattle.css_sheet.specs.SheetRuleViews.{sheet_of, sheet_rule_of};
 ghost use Rattle.css_sheet.specs.declared.sheet_error.SheetError.TheVariants.{TooManyDeclarations, TooManyLayers};
@@ -27,7 +26,7 @@ ghost use Rattle.simplecss_c.specs.WinnerNumbers.{source_number as source_number
 ghost use Rattle.simplecss_c.specs.WinnerNumbers.{option_numbers, winner_numbers, winners_numbers};
 ghost use Rattle.simplecss_c.specs.WinnerNumbers.{origin_of as origin_of_number, sheets_with as sheets_with_of};
 ghost use Rattle.simplecss_c.specs.WinnerNumbers.{first_number as first_number_of, later_numbers as later_numbers_of};
-ghost use Rattle.simplecss_c.specs.WinnerNumbers.{AreNumbers, AreWon, IsWon, IsWonOf, held_declarations, held_layers};
+ghost use Rattle.simplecss_c.specs.WinnerNumbers.{AreNumbers, AreWon, IsWon, IsWonOf, held_declarations, held_layers, held_rules};
 ghost use Rattle.simplecss_c.specs.internal.Contents.{asked_by, content_of, own_by};
 ghost use Rattle.simplecss_c.specs.declared.contents.Content.TheVariants as contents;
 ghost use Rattle.simplecss_c.specs.WinnerNumbers.{sheets_of, AreRules, FailsBeside, IsRulesCall};
@@ -208,9 +207,9 @@ fn read_styles<'a>(
     limit: usize,
 ) -> Result<StyleRules<'a>, SheetError>
     ensures rules { IfOk result (λ read. read.rules
-        ≡ cascade_rules (is_held_of (map (λ text. text.now) groups.now)) (map sheet_of sheets.now)) }
+        ≡ (held_rules (map sheet_of sheets.now) (map (λ text. text.now) groups.now)).0) }
     ensures lists { IfOk result (λ read. read.lists
-        ≡ nested_lists (is_held_of (map (λ text. text.now) groups.now)) (map sheet_of sheets.now)) }
+        ≡ (held_rules (map sheet_of sheets.now) (map (λ text. text.now) groups.now)).1.lists) }
     ensures within { OnOk result (held_declarations (map sheet_of sheets.now)
         (map (λ text. text.now) groups.now) ≤ limit) }
     ensures layers_within { OnOk result (held_layers (map sheet_of sheets.now)

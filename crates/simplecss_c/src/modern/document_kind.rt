@@ -48,19 +48,3 @@ pub fn html_rule_selectors<'s>(
     }
     Ok(read)
 }
-
-/// Lists of selectors as an HTML document in this mode reads them.
-pub fn html_lists<'s>(
-    alloc: Global,
-    mode: HtmlMode,
-    lists: &'s [Vec<Selector<'_>>],
-) -> Result<Vec<Vec<Selector<'s>>>, AllocError>
-    ensures { IfOk result (λ read. map (λ list. list.items) read.items
-        ≡ map (map (html_selector mode)) (map (λ list. list.items) lists.now)) }
-{
-    let mut read = Vec::with_capacity(alloc, lists.len())?;
-    for list in lists {
-        read.push(html_selectors(alloc, mode, list)?)?;
-    }
-    Ok(read)
-}

@@ -1,4 +1,5 @@
 use Rattle.std.proofs.Common.{◌≡◌, ◌≤◌, ◌<◌, length, map, subst}
+use Rattle.css_selectors.specs.MarkedLists.{list_of}
 use Rattle.simplecss_c.specs.declared.answer.CallError.TheVariants.{AnswerTooLong}
 use Rattle.simplecss_c.specs.MarkedPages.{IsMarkedPage, tests_on}
 use Rattle.simplecss_c.proofs.MarkCalls.{after-tests, tests-failed}
@@ -6,7 +7,7 @@ use Rattle.simplecss_c.proofs.marks.mark.Goals as goal
 
 pub returns-in_err-check_tests : goal.returns-in_err-check_tests
 returns-in_err-check_tests c =
-    let all = map (λ list. list.items) c.args.lists.now in
+    let all = map list_of c.args.lists.now in
     let before = c.args.page.now in
     tests-failed (λ _. IsMarkedPage c.args.kind all before before
     × (tests_on (length before.rows) all ≤ c.args.most)) (c.args.most < tests_on (length before.rows) all)
@@ -16,7 +17,7 @@ returns-in_err-check_tests c =
 
 pub returns : goal.returns
 returns c =
-    let all = map (λ list. list.items) c.args.lists.now in
+    let all = map list_of c.args.lists.now in
     let before = c.args.page.now in
     let tests = tests_on (length before.rows) all in
     after-tests (λ _. IsMarkedPage c.args.kind all before c.mark_as.new.page) (tests ≤ c.args.most)

@@ -1,10 +1,8 @@
 use Rattle.std.proofs.Common.{Bor, List, ℕ, map, subst}
 use Rattle.css_sheet.specs.RuleSelectors.{selector_of}
-use Rattle.css_selectors.specs.Components.{Selector}
-use Rattle.simplecss_c.specs.declared.pages.LineContent.TheVariants.{Numbers}
 use Rattle.simplecss_c.specs.Calls.{passed_of, AreSelectorsIn, HasNoSelector, FailsFor}
-use Rattle.simplecss_c.specs.ModernCalls.{AreReadLines, IsModernMatchCall}
-use Rattle.simplecss_c.proofs.ModernCalls.{handed-on, ReadLines, match-due, texts-failed, selectors-failed}
+use Rattle.simplecss_c.specs.ModernCalls.{IsModernMatchCall}
+use Rattle.simplecss_c.proofs.ModernCalls.{handed-on, match-due, texts-failed, selectors-failed}
 use Rattle.simplecss_c.proofs.modern.match_selectors.Goals as goal
 
 pub returns-in_err-texts : goal.returns-in_err-texts
@@ -40,7 +38,4 @@ returns c =
     (subst (λ (texts : List (Bor (List ℕ))). AreSelectorsIn selector_of
     (map (λ text. text.now) texts) c.in_ok-selectors.selectors.items) c.deref.ensures.value
     c.in_ok-selectors.ensures)
-    c.page_lines.result
-    (subst (λ (selectors : List Selector). ReadLines c.page_lines.result
-    (AreReadLines c.args.most Numbers c.args.kind selectors passed) passed)
-    c.deref-2.ensures.value c.page_lines.ensures)
+    c.page_lines.result c.page_lines.ensures

@@ -12,10 +12,10 @@ pub returns-in_err-rows : goal.returns-in_err-rows
 returns-in_err-rows c =
     let passed = passed_of c.args.tree in
     let error = c.in_err-rows.field-0.0 in
-    let longer = AreReadLines c.args.most c.args.content c.args.kind c.args.selectors.now passed
+    let longer = AreReadLines c.args.most c.args.content c.args.kind c.args.selectors.items passed
     None in
     handed-match (λ text. AreReadLines c.args.most c.args.content c.args.kind
-    c.args.selectors.now passed (Some (string_bytes text))) (ReadFails passed longer)
+    c.args.selectors.items passed (Some (string_bytes text))) (ReadFails passed longer)
     c.from_residual.result error c.from_residual.ensures.1
     (within_wider (λ is. absurd is) (λ fault is. is) (λ broken. broken) (λ is. is)
     (λ is. absurd is) error
@@ -30,7 +30,7 @@ page_of-requires c =
 
 pub returns : goal.returns
 returns c =
-    lines-due c.args.most c.args.content c.args.kind c.args.selectors.now (passed_of c.args.tree)
+    lines-due c.args.most c.args.content c.args.kind c.args.selectors.items (passed_of c.args.tree)
     c.in_ok-rows.rows c.in_ok-page.page
-    c.in_ok-rows.ensures.0 c.in_ok-rows.ensures.1 c.in_ok-page.ensures c.lines.result
-    c.lines.ensures
+    c.in_ok-rows.ensures.0 c.in_ok-rows.ensures.1 c.in_ok-page.ensures c.numbered_lines.result
+    c.numbered_lines.ensures

@@ -1,10 +1,8 @@
-use Rattle.std.proofs.Common.{List, sym, ap, subst, ◌∙◌}
-use Rattle.css_selectors.specs.Components.{Selector}
-use Rattle.simplecss_c.specs.declared.pages.LineContent.TheVariants.{Selected}
+use Rattle.std.proofs.Common.{sym, ap, ◌∙◌}
 use Rattle.simplecss_c.specs.Calls.{passed_of}
-use Rattle.simplecss_c.specs.ModernCalls.{AreReadLines, IsModernSelectCall}
+use Rattle.simplecss_c.specs.ModernCalls.{IsModernSelectCall}
 use Rattle.simplecss_c.specs.Readings.{selectors_of}
-use Rattle.simplecss_c.proofs.ModernCalls.{handed-on, ReadLines, select-due, list-failed}
+use Rattle.simplecss_c.proofs.ModernCalls.{handed-on, select-due, list-failed}
 use Rattle.simplecss_c.proofs.modern.select.Goals as goal
 
 pub returns-in_err-selectors : goal.returns-in_err-selectors
@@ -22,7 +20,4 @@ returns c =
     select-due c.args.most c.args.text.now c.args.kind passed c.in_ok-selectors.selectors.items
     c.in_ok-text_of.ensures.1
     (ap selectors_of (sym c.in_ok-text_of.ensures.0) ∙ c.in_ok-selectors.ensures)
-    c.page_lines.result
-    (subst (λ (selectors : List Selector). ReadLines c.page_lines.result
-    (AreReadLines c.args.most Selected c.args.kind selectors passed) passed)
-    c.deref.ensures.value c.page_lines.ensures)
+    c.page_lines.result c.page_lines.ensures

@@ -3,10 +3,9 @@ use Rattle.css_sheet.specs.declared.sheet_error.SheetError.TheVariants.{TooManyD
 use Rattle.css_sheet.specs.declared.sheet_rules.GroupRule.{GroupRule}
 use Rattle.css_sheet.specs.declared.sheet_rules.Sheet.{Sheet}
 use Rattle.css_cascade.specs.Layers.{most_layers}
-use Rattle.css_sheet.specs.SheetOrder.{cascade_rules, nested_lists}
 use Rattle.css_sheet.specs.GroupViews.{group_rule_of}
 use Rattle.css_sheet.specs.SheetRuleViews.{sheet_of}
-use Rattle.simplecss_c.specs.WinnerNumbers.{AreRules, AreSheets, FailsBeside, HasSheets, group_rule_at, held_declarations, held_layers, is_held, sheets_of, sheets_with}
+use Rattle.simplecss_c.specs.WinnerNumbers.{AreRules, AreSheets, FailsBeside, HasSheets, group_rule_at, held_declarations, held_layers, held_rules, sheets_of, sheets_with}
 use Rattle.simplecss_c.proofs.ModernCalls.{handed-match}
 use Rattle.simplecss_c.proofs.WinnerCalls.{are-sheets, texts-beside, groups-beside, memory-beside, rules-beside}
 use Rattle.simplecss_c.proofs.winners.read_rules.Goals as goal
@@ -105,13 +104,13 @@ returns c =
           (map (λ g. g.now) c.deref-5.result.now) ≤ most_layers) c.deref-4.ensures.value
           c.in_ok-rules.ensures.layers_within),
       subst (λ (gs : List (Bor (List ℕ))). read.rules
-          ≡ cascade_rules (is_held (map (λ g. g.now) gs)) sheets) c.deref-5.ensures.value
+          ≡ (held_rules sheets (map (λ g. g.now) gs)).0) c.deref-5.ensures.value
           (subst (λ (ss : List Sheet). read.rules
-          ≡ cascade_rules (is_held (map (λ g. g.now) c.deref-5.result.now)) (map sheet_of ss))
+          ≡ (held_rules (map sheet_of ss) (map (λ g. g.now) c.deref-5.result.now)).0)
           c.deref-4.ensures.value c.in_ok-rules.ensures.rules),
       subst (λ (gs : List (Bor (List ℕ))). read.lists
-          ≡ nested_lists (is_held (map (λ g. g.now) gs)) sheets) c.deref-5.ensures.value
+          ≡ (held_rules sheets (map (λ g. g.now) gs)).1.lists) c.deref-5.ensures.value
           (subst (λ (ss : List Sheet). read.lists
-          ≡ nested_lists (is_held (map (λ g. g.now) c.deref-5.result.now)) (map sheet_of ss))
+          ≡ (held_rules (map sheet_of ss) (map (λ g. g.now) c.deref-5.result.now)).1.lists)
           c.deref-4.ensures.value c.in_ok-rules.ensures.lists),
     )
