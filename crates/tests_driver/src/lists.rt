@@ -2,7 +2,7 @@
 
 use crate::tree::{mark_texts, read_tree};
 use css_index::{HasSelector, SelectorIndex};
-use css_selectors::{Element, Nesting, Selector, Specificity, Tests};
+use css_selectors::{Element, Nesting, Numbering, Selector, Specificity, Tests};
 use css_tree::{NumberedTree, TreeWalk};
 use simplecss_tree::Tree;
 use std::alloc::Global;
@@ -44,18 +44,43 @@ fn write_printed<W: Write>(out: &mut W, selectors: &[Selector<'_>]) -> io::Resul
     Ok(())
 }
 
+/// Answers on a page the lists that selectors ask by numbers.
+fn mark(
+    alloc: Global,
+    page: &mut NumberedTree<'_, '_>,
+    numbering: &Numbering<'_>,
+) -> io::Result<()> {
+    match page.mark(alloc, numbering.lists(), usize::MAX) {
+        Ok(()) => Ok(()),
+        Err(_) => Err(io::Error::from(ErrorKind::OutOfMemory)),
+    }
+}
+
+/// Writes what the selectors of a list match, and the list as it is serialized.
+fn write_selectors<W: Write>(
+    alloc: Global,
+    out: &mut W,
+    page: &mut NumberedTree<'_, '_>,
+    selectors: Vec<Selector<'_>>,
+) -> io::Result<()> {
+    let mut printed: Vec<u8> = Vec::new(alloc);
+    write_printed(&mut printed, selectors.as_slice())?;
+    let mut numbering = Numbering::new(alloc);
+    let selectors = numbering.number_all(alloc, selectors)?;
+    mark(alloc, page, &numbering)?;
+    write_found(out, page, selectors.as_slice())?;
+    out.write_all(&printed)
+}
+
 /// Writes what the selectors of a list match, or why it is refused.
 fn write_list<W: Write>(
     alloc: Global,
     out: &mut W,
-    page: &NumberedTree<'_, '_>,
+    page: &mut NumberedTree<'_, '_>,
     list: &str,
 ) -> io::Result<()> {
     match Selector::parse_list(alloc, list) {
-        Ok(selectors) => {
-            write_found(out, page, selectors.as_slice())?;
-            write_printed(out, selectors.as_slice())?;
-        }
+        Ok(selectors) => write_selectors(alloc, out, page, selectors)?,
         Err(refusal) => write!(out, "refused: {}: {refusal}", refusal.position_in(list))?,
     }
     out.write_all(b"\x00")
@@ -98,7 +123,7 @@ fn numbered<'p, 't>(
 fn write_matched<W: Write>(
     alloc: Global,
     out: &mut W,
-    page: &NumberedTree<'_, '_>,
+    page: &mut NumberedTree<'_, '_>,
     lists: &str,
 ) -> io::Result<()> {
     for list in lists.split('\0') {
@@ -122,16 +147,24 @@ impl<'a> HasSelector<'a> for Listed<'a> {
     }
 }
 
-/// Returns the selectors of the lists that are not refused.
-fn read_listed<'a>(alloc: Global, lists: &'a str) -> io::Result<Vec<Listed<'a>>> {
+/// Returns the selectors of the lists that are not refused, with numbers, after what they ask by these is
+/// answered on a page.
+fn read_listed<'a>(
+    alloc: Global,
+    page: &mut NumberedTree<'_, '_>,
+    lists: &'a str,
+) -> io::Result<Vec<Listed<'a>>> {
+    let mut numbering = Numbering::new(alloc);
     let mut all = Vec::new(alloc);
     for (list, text) in lists.split('\0').enumerate() {
         if let Ok(selectors) = Selector::parse_list(alloc, text) {
             for selector in selectors {
+                let selector = numbering.number(alloc, selector)?;
                 all.push(Listed { selector, list })?;
             }
         }
     }
+    mark(alloc, page, &numbering)?;
     Ok(all)
 }
 
@@ -199,10 +232,16 @@ pub(crate) fn write_on_tree<W: Write>(
     lists: &str,
 ) -> io::Result<()> {
     let tree = read_tree(alloc, lines)?;
-    let page = numbered(alloc, &tree, lines)?;
+    let mut page = numbered(alloc, &tree, lines)?;
     match search {
-        Search::Each => write_matched(alloc, out, &page, lists),
-        Search::Index => write_indexed(alloc, out, &page, read_listed(alloc, lists)?.as_slice()),
-        Search::Walk => write_walked(alloc, out, &page, read_listed(alloc, lists)?.as_slice()),
+        Search::Each => write_matched(alloc, out, &mut page, lists),
+        Search::Index => {
+            let all = read_listed(alloc, &mut page, lists)?;
+            write_indexed(alloc, out, &page, all.as_slice())
+        }
+        Search::Walk => {
+            let all = read_listed(alloc, &mut page, lists)?;
+            write_walked(alloc, out, &page, all.as_slice())
+        }
     }
 }
