@@ -116,7 +116,7 @@ class Selectors(unittest.TestCase):
             "p:not(:hover)",
             "b ~ p:focus-within",
             "p:is(:checked, a)",
-            "p:has(b)",
+            "p:has(:hover)",
         ):
             text = inline("<p>", f"{selector}, p {{ n: 1 }}")
             self.assertEqual(
@@ -137,6 +137,8 @@ class Selectors(unittest.TestCase):
             "p[title='b:c|d']",
             r"p.a\:b",
             "p:not(.x:nth-child(2))",
+            "body:has(> p) p",
+            "p:nth-last-child(1 of p)",
             ":root p",
         ):
             style = style_of(selector + " { n: 1 }", "<body><p class='a:b' title='b:c|d'>x")
@@ -618,7 +620,9 @@ class KeptRules(unittest.TestCase):
             ("a { n: 1 } a:is(:hover, :checked) { n: 2 }", ""),
             ("a { n: 1 } [title=':hover']:hover { n: 2 }", "n: 1"),
             ("a { n: 1 } b:has(c) { n: 2 }", "n: 1"),
-            ("a { n: 1 } a:has(c) { n: 2 }", ""),
+            ("a { n: 1 } a:has(c) { n: 2 }", "n: 1"),
+            ("a { n: 1 } a:has(:hover) { n: 2 }", ""),
+            ("a { n: 1 } body:has(> a) a { n: 2 }", "n: 2"),
             ("a { n: 1 } :checked + b { n: 2 }", "n: 1"),
             ("a { n: 1 } :nth-child(2):hover { n: 2 }", "n: 1"),
             ("a { n: 1 } :nth-child(1):hover { n: 2 }", ""),

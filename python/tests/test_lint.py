@@ -251,10 +251,10 @@ PAGES = (
 )
 USED = """p, .a, main, a:link, a:visited, a:hover, .a::before, ::before, p::first-line, input:checked,
 div:hover > p:not(:hover), div:not(.x):hover, a:not(:visited), main a:not(:link), :is(.b, .x):focus-within, :root:hover,
-p:not(:empty):active, main:not(.a:hover), x:has(b)"""
+p:not(:empty):active, main:not(.a:hover), x:host, div:has(> p:hover), p:nth-last-child(1 of .b)"""
 UNUSED = """p.x, .x, .x:hover, p:visited, .y:checked, .x::after, [href=':hover'], div:not(.a):hover,
 .x:not(:hover), p:not(:hover).x, p:empty, :is(.x,.y):focus-within, main a:link, div main, .a:focus ~ main, nav:target,
-a:autofill.x, .x:hover::before"""
+a:autofill.x, .x:hover::before, div:has(.x), p:nth-child(2 of .b)"""
 
 
 class Usage(unittest.TestCase):

@@ -19,7 +19,7 @@ if TYPE_CHECKING:
     from ._library import LibraryError, LimitError, __version__, is_proved, library_path
     from ._linked import Unread
     from ._lint import Finding, lint
-    from ._minify import minify
+    from ._minify import minify, prettify
     from ._properties import is_inherited, is_valid_value, longhands, shorthands
     from ._reading import AtRule, Condition, declarations
     from ._resolving import resolve
@@ -67,6 +67,7 @@ __all__ = [
     "lint",
     "longhands",
     "minify",
+    "prettify",
     "quote",
     "resolve",
     "shorthands",
@@ -84,7 +85,7 @@ if not TYPE_CHECKING:
         "_library": "LibraryError LimitError __version__ is_proved library_path",
         "_linked": "Unread",
         "_lint": "Finding lint",
-        "_minify": "minify",
+        "_minify": "minify prettify",
         "_properties": "is_inherited is_valid_value longhands shorthands",
         "_reading": "AtRule Condition declarations",
         "_resolving": "resolve",

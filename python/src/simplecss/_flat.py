@@ -5,19 +5,20 @@ What `&` stands for is written as `:is()` of the selectors around (CSS Nesting 1
 
 from __future__ import annotations
 
+import functools
 import itertools
-from typing import Iterable, Iterator, List, NamedTuple, Optional, Sequence, Tuple
+from typing import Iterable, Iterator, List, NamedTuple, Sequence, Tuple, Union
 
 from . import _library as library
 from ._found_names import find_names
 from ._nested import DEEPEST, has_rules
 from ._order import LAYER
 from ._reading import (
-    NESTED,
     STYLE,
     BlockItem,
     Condition,
-    Fault,
+    Contents,
+    InnerRule,
     Level,
     MadeItems,
     ReadAtRule,
@@ -27,8 +28,6 @@ from ._reading import (
     Source,
     Span,
     Statement,
-    moved,
-    read_block,
     read_sheet,
 )
 from ._tokens import COMBINATORS, GAPS, Token, is_escaping, tokens
@@ -39,54 +38,18 @@ from ._traits import traits_of
 _LONGEST, _MOST = 4000, 16
 # How many selectors are written one by one.
 _FEW = 16
-# The group rules that may be in style rules.
+# The group rules that may be in style rules, and the at-rule in which the library reads nothing.
 _GROUPS = frozenset("container layer media starting-style supports".split())
+_STARTING = "starting-style"
 _NESTING = "&"
 # What may follow the selector that `&` stands for and is no part of its last name.
 _APART = frozenset((".", ":", "["))
 _IDS = frozenset(("hash", "id"))
 _OPENING, _CLOSING = frozenset("([{"), frozenset(")]}")
-# What makes an at-rule of a style rule, and a sheet of the contents of a block.
-_AS_AT_RULE, _AS_RULE = "@x ", "*{"
 
 
 class _Unclear(Exception):
     """A rule cannot be written without rules in it."""
-
-
-class InnerRule(NamedTuple):
-    """A rule in the block of a style rule: its group rule, if it is one; and where it is, what is
-    before its block, and what is in that."""
-
-    condition: Optional[Condition]
-    span: Span
-    head: Span
-    inner: Span
-
-
-def inner_rule(source: Source, item: BlockItem, by: int) -> Optional[InnerRule]:
-    """Returns the rule that an item of a block is, whose offsets are so much less than those of the
-    sheet."""
-    if isinstance(item, ReadAtRule) and item.rule.block is not None:
-        condition = Condition(item.rule.name, item.rule.prelude)
-        span, inner = moved(item.span, by), moved(item.inner, by)
-        return InnerRule(condition, span, (span[0], inner[0] - 1), inner)
-    if not isinstance(item, Fault) or item.reason != NESTED:
-        return None
-    span = moved(item.span, by)
-    found = read_block(_AS_AT_RULE + source.at(span))[1]
-    if len(found) != 1 or not isinstance(found[0], ReadAtRule):
-        return None
-    end = span[0] + len(found[0].rule.prelude.encode("utf-8"))
-    return InnerRule(None, span, (span[0], end), moved(found[0].inner, span[0] - len(_AS_AT_RULE)))
-
-
-def contents_of(source: Source, inner: Span) -> Tuple[Iterable[BlockItem], int]:
-    """Returns what is in the block of a rule, and by how much its offsets are less than those of
-    the sheet."""
-    found = read_sheet(_AS_RULE + source.at(inner))[1]
-    items = found[0].items if found and isinstance(found[0], RuleSet) else ()
-    return items, inner[0] - len(_AS_RULE)
 
 
 class _Within(NamedTuple):
@@ -102,7 +65,8 @@ def flattened(source: Source, statements: Iterable[Statement]) -> List[Statement
     """Returns statements, and for each style rule with rules in it rule sets that say the same,
     with the style rules around as levels; or the rule itself if that is not clear, or if a browser may
     drop one of the lists of selectors."""
-    parts = [(each, _sets_of(source, each)) for each in statements]
+    flat = _Sheet(source)
+    parts = [(each, flat.sets_of(each)) for each in statements]
     find_names(one.text for _, sets in parts for each in sets for one in each.selectors)
     found: List[Statement] = []
     for statement, sets in parts:
@@ -114,21 +78,32 @@ def flattened(source: Source, statements: Iterable[Statement]) -> List[Statement
     return found
 
 
-def _sets_of(source: Source, statement: Statement) -> List[RuleSet]:
-    """Returns the rule sets that a style rule with rules in it is, if that is clear."""
-    if isinstance(statement, RuleSet) and statement.is_closed and has_rules(statement.items):
-        try:
-            return _Flat(source, statement).sets()
-        except (_Unclear, library.LimitError):
-            pass
-    return []
+class _Sheet:
+    """A sheet that has style rules with rules in them."""
+
+    def __init__(self, source: Source) -> None:
+        self._source = source
+
+    @functools.cached_property
+    def _contents(self) -> Contents:
+        return Contents(self._source)
+
+    def sets_of(self, statement: Statement) -> List[RuleSet]:
+        """Returns the rule sets that a style rule with rules in it is, if that is clear."""
+        if isinstance(statement, RuleSet) and statement.is_closed and has_rules(statement.items):
+            try:
+                return _Flat(self._source, self._contents, statement).sets()
+            except (_Unclear, library.LimitError):
+                pass
+        return []
 
 
 class _Flat:
     """A style rule with rules in it."""
 
-    def __init__(self, source: Source, rule: RuleSet) -> None:
+    def __init__(self, source: Source, contents: Contents, rule: RuleSet) -> None:
         self._source = source
+        self._contents = contents
         self._rule = rule
         # How long the selectors may yet be.
         self._room = library.Room(_LONGEST + _MOST * (rule.span[1] - rule.span[0]))
@@ -138,20 +113,20 @@ class _Flat:
         rule = self._rule
         level = Level(Condition(STYLE, self._source.at(rule.head)), rule.span, rule.head)
         within = _Within(tuple(rule.selectors), rule.head, (*rule.levels, level))
-        return list(self._sets_in(within, rule.items, 0, 0))
+        return list(self._sets_in(within, self._contents.of_rule(rule.span[0]), 0))
 
     def _sets_in(
-        self, within: _Within, items: Iterable[BlockItem], by: int, depth: int
+        self, within: _Within, items: Iterable[Union[BlockItem, InnerRule]], depth: int
     ) -> Iterator[RuleSet]:
-        """Yields the rule sets of a block, whose offsets are so much less than in the sheet."""
+        """Yields the rule sets of a block."""
         run: List[ReadDeclaration] = []
         for item in items:
             if isinstance(item, ReadDeclaration):
-                run.append(item._replace(span=moved(item.span, by), end=item.end + by))
-            elif has_rules((item,)):
+                run.append(item)
+            elif isinstance(item, InnerRule) or has_rules((item,)):
                 yield from self._set_of(within, run)
                 run = []
-                yield from self._sets_of(within, inner_rule(self._source, item, by), depth)
+                yield from self._sets_of(within, item, depth)
         yield from self._set_of(within, run)
 
     def _set_of(self, within: _Within, run: Sequence[ReadDeclaration]) -> Iterator[RuleSet]:
@@ -164,14 +139,16 @@ class _Flat:
             items = MadeItems(run)
             yield RuleSet(within.selectors, items, within.levels, within.head, True, span, True)
 
-    def _sets_of(self, around: _Within, rule: Optional[InnerRule], depth: int) -> List[RuleSet]:
-        """Returns the rule sets of a rule in a style rule."""
-        if rule is None or depth == DEEPEST:
+    def _sets_of(
+        self, around: _Within, item: Union[BlockItem, InnerRule], depth: int
+    ) -> List[RuleSet]:
+        """Returns the rule sets of what may be a rule in a style rule."""
+        if isinstance(item, ReadAtRule) and item.rule.name == _STARTING and depth < DEEPEST:
+            item = self._contents.of_at_rule(item)
+        if not isinstance(item, InnerRule) or depth == DEEPEST:
             raise _Unclear
-        items, by = contents_of(self._source, rule.inner)
-        within = self._within(around, rule)
-        found = list(self._sets_in(within, items, by, depth + 1))
-        if not found and rule.condition is not None and rule.condition.name == LAYER:
+        found = list(self._sets_in(self._within(around, item), item.inside, depth + 1))
+        if not found and item.condition is not None and item.condition.name == LAYER:
             # It says the order of layers.
             raise _Unclear
         return found

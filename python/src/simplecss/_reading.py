@@ -26,7 +26,7 @@ from . import _library as library
 from ._declaration import Declaration
 from ._found_names import names_in
 from ._selectors import Specificity
-from ._tokens import originating
+from ._tokens import originating, tokens
 from ._words import lower
 
 Span = Tuple[int, int]
@@ -43,6 +43,9 @@ NESTED = "nested rule"
 _OF_STATEMENT, _OF_LEVEL, _OF_SELECTOR, _OF_ITEM = 13, 6, 9, 10
 # The kinds of statements and items, as it numbers them, and then why others are skipped.
 _DECLARATION, _AT_RULE, _AT_STATEMENT, _RULE = range(4)
+# Those of group rules whose blocks begin, and of blocks that end; and of all that begin.
+_GROUP, _END = 12, 13
+_BEGUN = frozenset((_RULE, _GROUP))
 _FAULTS = {
     4: "broken declaration",
     5: "bad string",
@@ -358,8 +361,8 @@ class DeclarationReader:
 class _Reader(DeclarationReader):
     """Makes statements and items of what the library writes of a text."""
 
-    def __init__(self, text: str) -> None:
-        super().__init__(Source(text))
+    def __init__(self, source: Source) -> None:
+        super().__init__(source)
         self._levels: Dict[bytes, Tuple[Level, ...]] = {}
         # Most selectors have one of few.
         self._specificities: Dict[Specificity, Specificity] = {}
@@ -516,6 +519,89 @@ class _Reader(DeclarationReader):
         return ReadAtRule(rule, levels, is_closed == 1, (start, end), inner)
 
 
+class InnerRule(NamedTuple):
+    """A rule in the block of a style rule: its group rule, if it is one; where it is, and what is
+    before its block; and what is in that."""
+
+    condition: Optional[Condition]
+    span: Span
+    head: Span
+    inside: "Iterator[Union[BlockItem, InnerRule]]"
+
+
+class Contents:
+    """What the blocks of the style rules of a sheet have, in place, and those of the rules in them."""
+
+    def __init__(self, source: Source, place: Optional[Span] = None) -> None:
+        """Reads all of the sheet, or what is between two offsets."""
+        self._reader = _Reader(source)
+        self._start, end = place or (0, len(source.data))
+        data = source.data[self._start : end]
+        self._numbers = library.numbers_of("simplecss_contents", data, room=1024 + 2 * len(data))
+        self._kinds = self._numbers[::_OF_ITEM]
+        # They do not fall.
+        self._starts = self._numbers[1::_OF_ITEM]
+        self._ends = self._ends_of()
+
+    def _ends_of(self) -> Dict[int, int]:
+        """Returns at which row the block ends that begins at each. One that the end of the sheet closes
+        has none."""
+        ends: Dict[int, int] = {}
+        begun: List[int] = []
+        for row, kind in enumerate(self._kinds):
+            if kind == _END:
+                ends[begun.pop()] = row
+            elif kind in _BEGUN:
+                begun.append(row)
+        return ends
+
+    def of_rule(self, start: int) -> Iterator[Union[BlockItem, InnerRule]]:
+        """Yields what is in the block of the style rule that begins at an offset, which is closed."""
+        row = bisect.bisect_left(self._starts, start - self._start)
+        while self._kinds[row] != _RULE:
+            row += 1
+        return self._inside(row)
+
+    def of_at_rule(self, item: ReadAtRule) -> InnerRule:
+        """Returns an at-rule as a group rule. What is in its block is read as in that of a style rule."""
+        source, (start, end) = self._reader.source, item.span
+        braces = [each for each in tokens(source.at((start, item.inner[0]))) if each.text == "{"]
+        brace = start + len(library.encode(source.at((start, item.inner[0]))[: braces[-1].start]))
+        condition = Condition(item.rule.name, item.rule.prelude)
+        inside = Contents(source, (brace, end)).of_rule(brace)
+        return InnerRule(condition, item.span, (start, brace), inside)
+
+    def _inside(self, row: int) -> Iterator[Union[BlockItem, InnerRule]]:
+        """Yields what is in the block of the rule of a row."""
+        end = self._ends[row]
+        row += 1
+        while row < end:
+            if self._kinds[row] in _BEGUN:
+                yield self._rule(row)
+                row = self._ends[row]
+            else:
+                yield from self._reader.items(self._row(row), ())
+            row += 1
+
+    def _row(self, row: int) -> "array.array[int]":
+        """Returns the numbers of a row, with offsets into the sheet."""
+        found = self._numbers[row * _OF_ITEM : (row + 1) * _OF_ITEM]
+        for column in (1, 4, 6) if found[0] == _DECLARATION else (1, 4, 6, 8):
+            found[column] += self._start
+        return found
+
+    def _rule(self, row: int) -> InnerRule:
+        """Makes the rule of a row."""
+        kind, start, _, _, name, name_length, prelude, prelude_length = self._row(row)[:8]
+        span, inside = (start, self._row(self._ends[row])[1] + 1), self._inside(row)
+        if kind == _RULE:
+            return InnerRule(None, span, (name, name + name_length), inside)
+        at = self._reader.source.at
+        end = prelude + prelude_length
+        condition = Condition(lower(at((name, name + name_length))), at((prelude, end)))
+        return InnerRule(condition, span, (start, end), inside)
+
+
 def before_element(text: str, at: int) -> str:
     """Returns the selector of the elements that a pseudo-element is of, whose name is from an index on."""
     return originating(text[: max(each.start for each in names_in(text) if each.start <= at)])
@@ -563,14 +649,14 @@ def read_sheet(text: str) -> Tuple[Source, List[Statement]]:
     found = _in_use.get(text)
     if found is not None:
         return Source(text), found
-    reader = _Reader(text)
+    reader = _Reader(Source(text))
     found = _in_use[text] = _Statements(reader.statements())
     return reader.source, found
 
 
 def read_block(text: str) -> Tuple[Source, List[BlockItem]]:
     """Returns what a style attribute or the block of a rule has."""
-    reader = _Reader(text)
+    reader = _Reader(Source(text))
     return reader.source, reader.block_items()
 
 

@@ -46,7 +46,7 @@ _WITHOUT_CASE = frozenset(
 # The pseudo-classes that depend only on the tree.
 OF_TREE = frozenset(
     "root empty first-child last-child only-child first-of-type last-of-type only-of-type nth-child"
-    " nth-last-child nth-of-type nth-last-of-type lang not is where".split()
+    " nth-last-child nth-of-type nth-last-of-type lang not is where has".split()
 )
 
 # The kinds of names of which an element has each in an attribute of its own.
