@@ -295,6 +295,7 @@ def placed(text: str, crate: str, crates: List[str]) -> str:
     for name in ("to_ascii_lowercase", "to_string"):
         text = text.replace(f".{name}(alloc)", f".{name}_in(alloc)")
     text = re.sub(r"\bformat!\(in ", "crate::rattle_std::string::format_in!(", text)
+    text = re.sub(r"\bvec!\[in ", "crate::rattle_std::vec::vec_in![", text)
     lines = text.split("\n")
     head = 0
     while lines[head].startswith(("//!", "#![")) or not lines[head].strip():

@@ -419,9 +419,10 @@ impl<'p, 't> Document<'p, 't> {
         done(self.0.set_html(Global));
     }
 
-    /// Answers the lists of selectors that `&` stands for in the nested rules of a sheet, each once for each
-    /// element. Until then no nested rule matches. The lists of another sheet lose their answers. Mark again after
-    /// [`Document::set_text`], [`Document::set_scope`] and [`Document::set_html`].
+    /// Answers the lists of selectors that `&` stands for in the nested rules of a sheet, and those of `:has()`,
+    /// `:nth-child()` and `:nth-last-child()`, each once for each element. Until then no rule with one of them matches.
+    /// What was marked before loses its answers. Mark again after [`Document::set_text`], [`Document::set_scope`] and
+    /// [`Document::set_html`].
     ///
     /// Fails if there are more than `most` answers, one for each list and each element; then no list has any.
     ///
@@ -448,6 +449,42 @@ impl<'p, 't> Document<'p, 't> {
             outcome => {
                 done(outcome);
                 Ok(())
+            }
+        }
+    }
+
+    /// Answers `:has()` and `:nth-child()` and `:nth-last-child()` with a list of selectors in these selectors, each
+    /// once for each element, and returns the selectors that ask for the answers, which match what these do. Until
+    /// then such a selector matches nothing. What was marked before loses its answers.
+    ///
+    /// Fails if there are more than `most` answers, one for each list and each element; then no list has any.
+    ///
+    /// ```
+    /// use simplecss::modern::{Document, Selector};
+    /// use simplecss::tree::Tree;
+    ///
+    /// let mut tree = Tree::new();
+    /// let list = tree.push(None, "ul").unwrap();
+    /// let item = tree.push(Some(list), "li").unwrap();
+    /// tree.push(Some(item), "a").unwrap();
+    /// let mut document = Document::new(&tree);
+    /// let selectors = Selector::parse_list("ul:has(> li > a), li:has(> li)").unwrap();
+    /// let asking = document.mark_selectors(selectors, 1_000_000).unwrap();
+    /// let list = document.node(list).unwrap();
+    /// assert_eq!(asking.iter().map(|it| it.matches(&list)).collect::<Vec<_>>(), [true, false]);
+    /// ```
+    pub fn mark_selectors<'a>(
+        &mut self,
+        selectors: Vec<Selector<'a>>,
+        most: usize,
+    ) -> Result<Vec<Selector<'a>>, TooManyAnswers> {
+        let mut numbering = css_selectors::Numbering::new(Global);
+        let asking = selectors.into_iter().map(|it| Selector(done(numbering.number(Global, it.0)))).collect();
+        match self.0.mark(Global, numbering.lists(), most) {
+            Err(css_tree::MarkingError::TooManyAnswers) => Err(TooManyAnswers),
+            outcome => {
+                done(outcome);
+                Ok(asking)
             }
         }
     }

@@ -33,6 +33,10 @@ impl String {
         Ok(copy)
     }
 
+    pub fn from_utf8(bytes: super::vec::Vec<u8>) -> Result<Self, string::FromUtf8Error> {
+        string::String::from_utf8(bytes.0).map(String)
+    }
+
     pub fn as_str(&self) -> &str {
         &self.0
     }

@@ -197,3 +197,20 @@ impl<'a, T> IntoIterator for &'a mut Vec<T> {
         self.0.iter_mut()
     }
 }
+
+impl<T: Clone> Vec<T> {
+    pub fn repeated(alloc: Global, item: T, n: usize) -> Result<Self, AllocError> {
+        let mut items = Vec::with_capacity(alloc, n)?;
+        items.0.resize(n, item);
+        Ok(items)
+    }
+}
+
+#[allow(unused_macros)]
+macro_rules! vec_in {
+    ($alloc:expr; $item:expr; $n:expr) => {
+        $crate::rattle_std::vec::Vec::repeated($alloc, $item, $n)
+    };
+}
+#[allow(unused_imports)]
+pub(crate) use vec_in;
