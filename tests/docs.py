@@ -257,7 +257,7 @@ class Sources(Case):
         self.assertGreater(len(found), 15)
 
     def test_ticks(self) -> None:
-        """Counts of tests are raised in four places only, where an element is tested: anybody may
+        """Counts of tests are raised in three places only, where an element is tested: anybody may
         call `Tests::tick`, whose clause says no more than that it adds one. A search of
         `css_matching` counts its own tests, and all."""
         sources = [name for name in NAMES if re.fullmatch(r"crates/\w+/src/.*\.rt", name)]
@@ -266,7 +266,6 @@ class Sources(Case):
             "crates/css_matching/src/matching.rt",
             "crates/css_matching/src/matching.rt",
             "crates/css_selectors/src/after_key.rt",
-            "crates/css_selectors/src/meeting.rt",
             "crates/simplecss_selector/src/matching.rt",
         ]
         self.assertEqual(sorted(ticks), places)

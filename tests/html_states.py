@@ -1,5 +1,5 @@
 """The states that attributes decide on random forms, beside a browser and soupsieve: `:checked`, `:disabled`,
-`:default` and nine more.
+`:default` and nine more; and `:dir()`.
 
 The browser is Debian's `chromium`, soupsieve Debian's `python3-soupsieve`, used by /usr/bin/python3. The
 library is built by `./build library`. The pages are the same in each run of a seed, which `SEED` in the
@@ -22,7 +22,7 @@ from simplecss import StyleSheet, Tree  # noqa: E402
 # fmt: off
 STATES = (
     "checked", "disabled", "enabled", "required", "optional", "read-only", "read-write",
-    "placeholder-shown", "default", "indeterminate", "open", "defined",
+    "placeholder-shown", "default", "indeterminate", "open", "defined", "dir(ltr)", "dir(rtl)",
 )
 TYPES = (
     "text", "search", "url", "tel", "email", "password", "date", "month", "week", "time",
@@ -31,6 +31,7 @@ TYPES = (
 )
 BUTTON_TYPES = ("submit", "reset", "button", "", "bogus", "RESET", "SUBMIT", "Button")
 EDITING = ("", "true", "false", "TRUE", "False", "plaintext-only", "bogus", "inherit")
+DIRECTIONS = ("ltr", "rtl", "RTL", "Ltr", "auto", "", "bogus", "rtl ")
 NAMES = ("", "a", "A", "b")
 VALUES = ("", "x", " ", "\n", "1", "-1.5e3", "\t \n")
 # Words of custom elements, of which the last are none.
@@ -40,8 +41,14 @@ CUSTOM = ("x-y", "my-element", "font-face", "missing-glyph", "annotation-xml", "
 SCRIPT = """<!DOCTYPE html><meta charset=utf-8><script id=input type="application/json">%s</script><body><script>
 const names = STATES, answers = [];
 const without = ["hidden", "range", "color", "submit", "image", "reset", "button"];
+// Whether the direction of an element depends on a text.
+function isOfText(element) {
+    const said = element.closest("[dir=ltr i], [dir=rtl i], [dir=auto i], bdi, input[type=tel i]");
+    return said?.matches("[dir=auto i], bdi:not([dir=ltr i], [dir=rtl i])") ?? false;
+}
 // Which states attributes decide. What a browser changes by itself is asked of attributes.
 function isIn(element, name) {
+    if (name.startsWith("dir(")) return !isOfText(element) && element.matches(":" + name);
     const found = element.matches(":" + name), kind = element.localName;
     if (name == "checked" && kind == "option") return element.defaultSelected;
     if (name == "checked" && kind == "input") return found || element.type == "radio" && element.defaultChecked;
@@ -93,6 +100,9 @@ DIFFERENCES = (
     ("<form id=f></form><button form=f></button>", ":default", 0, 1),
     ("<svg><x-y></x-y></svg>", "x-y:defined", 0, 1),
     ("<svg></svg>", "svg:read-only", 1, 0),
+    ("<p dir=auto>a<b>b</b></p>", ":dir(ltr)", 0, 2),
+    ("<bdi>a</bdi><bdi dir=bogus></bdi>", ":dir(ltr)", 0, 2),
+    ("<input dir=auto>", ":dir(ltr)", 0, 1),
 )
 # What it does not: rare paths first.
 EQUAL = (
@@ -139,6 +149,9 @@ EQUAL = (
     ),
     ("<progress value></progress><progress></progress>", ":indeterminate", 1),
     ("<select open></select><details open></details><dialog></dialog>", ":open", 1),
+    ("<p dir=RTL><b dir=bogus><i dir></i></b><b dir=ltr></b></p>", ":dir(rtl)", 3),
+    ("<p dir=rtl><input type=TEL><input type=tel dir=rtl><input></p>", ":dir(ltr)", 1),
+    ("<p dir=auto>a<b dir=rtl></b></p>", "b:dir(R\\74 l)", 1),
     ("<b is=c></b><b is></b><x-y></x-y><font-face></font-face>", "b:defined, font-face:defined", 1),
 )
 
@@ -163,6 +176,7 @@ class Source(random.Random):
             self.has("open", 0.1),
             self.valued("contenteditable", EDITING, 0.1),
             self.has("is", 0.03),
+            self.valued("dir", DIRECTIONS, 0.15),
         )
         return "".join(dict.fromkeys(words))
 
@@ -173,7 +187,8 @@ class Source(random.Random):
         value = self.valued("value", ("", "1") if kind == "number" else VALUES, 0.4)
         return (
             f"<input{named}{value}{self.valued('name', NAMES)}{self.valued('placeholder', VALUES)}"
-            f"{self.has('readonly')}{self.has('checked')}{self.has('required')}{self.has('disabled')}>"
+            f"{self.has('readonly')}{self.has('checked')}{self.has('required')}{self.has('disabled')}"
+            f"{self.valued('dir', DIRECTIONS, 0.1)}>"
         )
 
     def option(self) -> str:
@@ -215,6 +230,7 @@ class Source(random.Random):
         if depth == 5 or self.random() < 0.4:
             return self.leaf()
         names = ["fieldset", "fieldset", "legend", "legend", "div", "details", "dialog", "progress"]
+        names += ["bdi"] if self.random() < 0.3 else []
         names += [self.choice(CUSTOM)] + ([] if in_form else ["form", "form"])
         name = self.choice(names)
         within = "".join(

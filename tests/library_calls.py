@@ -389,6 +389,39 @@ BLOCKS = (
     (b"@font-face{a:b}@import 'c';d{@e{f{}}@media;}", b"1 29 0 1\nd\n0 44 0 0\n\n"),
     (b"a:b", b""),
 )
+CONTENTS = (
+    (
+        "é{ b:c!important;@\\6d edia /**/ (d) {e:f} ;g}".encode(),
+        (
+            (3, 0, 3, 0, 0, 2, 3, 0, 0, 0),
+            (0, 4, 13, 1, 4, 1, 6, 1, 1, 0),
+            (12, 18, 20, 0, 19, 8, 33, 3, 38, 0),
+            (0, 38, 3, 1, 38, 1, 40, 1, 0, 0),
+            (13, 41, 1, *[0] * 7),
+            (4, 44, 1, *[0] * 7),
+            (13, 45, 1, *[0] * 7),
+        ),
+    ),
+    (
+        b"@import 'a';@layer{b{@c{d{}}&:e{f",
+        (
+            (12, 12, 7, 0, 13, 5, 18, 0, 19, 0),
+            (3, 19, 2, 0, 19, 1, 21, 0, 0, 0),
+            (1, 21, 7, 1, 22, 1, 23, 0, 24, 3),
+            (3, 28, 4, 0, 28, 3, 32, 0, 0, 0),
+            (4, 32, 1, *[0] * 7),
+        ),
+    ),
+    (b"@font-face{a:b}", ()),
+)
+# Sheets, a layout of each, and the printed texts.
+PRINTED = (
+    (b"/**/ @media ( a : b ) { a > b , c { d : e ; } }", 0, b"@media(a :b){a>b,c{d:e}}"),
+    (b"a{b:c!important;--d:  e  f", 1, b"a {\n  b: c !important;\n  --d: e  f;\n}\n"),
+    # What does not read back.
+    (b"a { b : c\\", 0, b"a { b : c\\"),
+    (b" ", 1, b""),
+)
 ANSWERS: Sequence[Tuple[str, Tuple[Any, ...], bytes]] = (
     ("simplecss_version", (), version().encode()),
     ("simplecss_port_selector", (b"ul>li.a , b",), b"ul > li[class~='a']\t0,1,2\n"),
@@ -433,6 +466,7 @@ ANSWERS: Sequence[Tuple[str, Tuple[Any, ...], bytes]] = (
     ),
     *(("simplecss_imports", (text,), answer) for text, answer in IMPORTS),
     *(("simplecss_blocks", (text,), answer) for text, answer in BLOCKS),
+    *(("simplecss_print", (text, layout), printed) for text, layout, printed in PRINTED),
     *(("simplecss_close", (value,), closed) for value, closed in CLOSED),
     ("simplecss_escape", (b"-1\0 a",), b"-\\31 \xef\xbf\xbd\\ a"),
     ("simplecss_escape", (b"",), b""),
@@ -554,12 +588,13 @@ FAILURES += [
     (f"simplecss_{name}", (BROKEN,), NOT_UTF8)
     for name in (
         *("port_skipped", "read", "declarations", "imports", "close", "tokens", "escape", "quote"),
-        *("valid_value", "longhands", "shorthands", "inherited"),
+        *("blocks", "contents", "valid_value", "longhands", "shorthands", "inherited"),
     )
 ]
 FAILURES += [("simplecss_decode", (BROKEN, each), NOT_UTF8) for each in (0, 1)]
 # What is no grammar is refused before anything else.
 FAILURES += [(f"simplecss_{name}", (BROKEN, 4), REFUSED) for name in ("list", "printed", "refusal")]
+FAILURES += [("simplecss_print", (b"a{}", 2), REFUSED), ("simplecss_print", (BROKEN, 0), NOT_UTF8)]
 FAILURES += [("simplecss_close", (value,), REFUSED) for value in UNCLOSED]
 FAILURES += [
     ("simplecss_media", (BROKEN, SCREEN), NOT_UTF8),
@@ -772,6 +807,7 @@ NUMBERS: Sequence[Tuple[str, Tuple[Any, ...], Sequence[Sequence[int]]]] = (
         UNREAD_NUMBERS,
     ),
     ("simplecss_read", (b" /* */ <!-- ",), ()),
+    *(("simplecss_contents", (text,), numbers) for text, numbers in CONTENTS),
     ("simplecss_declarations", (DECLARATIONS,), DECLARATION_NUMBERS),
     *(
         ("simplecss_declarations", (text,), ((kind, 0, len(text), *[0] * 7),))

@@ -164,10 +164,19 @@ class Source(random.Random):
         )
         front = self.plain() if self.random() < 0.5 else ""
         name, blank = self.choice(("not", "is", "where", "NOT")), self.choice(("", " "))
-        if self.random() < 0.15:
-            name = self.choice(("nth-child", "nth-child", "nth-last-child"))
+        kind = self.random()
+        if kind < 0.2:
+            name = self.choice(("nth-child", "nth-last-child"))
             parts = f"{self.choice(PROGRESSIONS)} of {parts}"
+        elif kind < 0.4:
+            name = "has"
+            parts = ",".join(self.relative(depth + 1) for _ in range(self.choice((1, 1, 2))))
         return f"{front}:{name}({blank}{parts}{blank})"
+
+    def relative(self, depth: int) -> str:
+        """A selector that is relative to the element which `:has()` asks about."""
+        sign = self.choice(("", "", "> ", ">", "+ ", "~ ", "/**/>"))
+        return sign + self.comment() + self.complex(depth)
 
     def part(self, depth: int) -> str:
         """A part of a list, on a rare path perhaps no selector."""
@@ -396,11 +405,10 @@ def browser_texts(texts: Sequence[str]) -> Optional[List[Optional[str]]]:
 
 # Differences that docs/DIFFERENCES.md names, by a list that is read before the place of a refusal, by
 # lists, and by a namespace.
-INNER = re.compile(r":(is|where|not|nth-[a-z-]*)\([^()]*(\([^()]*)*$", re.IGNORECASE)
+INNER = re.compile(r":(is|where|not|has|nth-[a-z-]*)\([^()]*(\([^()]*)*$", re.IGNORECASE)
 FORGIVING = re.compile(r":(is|where)\(", re.IGNORECASE)
 NESTED = re.compile(r":(is|where|not)\(.*:(is|where|not)\(", re.IGNORECASE | re.DOTALL)
 NAMESPACE = re.compile(r"\|(?!=)")
-NUMBERED_LIST = re.compile(r":nth-(last-)?child\([^()]* of ", re.IGNORECASE)
 # A browser knows no flag `s`, and takes a large number for another; it refuses pseudo-classes that
 # it does not know, and reads `:is()` and a further pseudo-element after one.
 ODD_IN_BROWSERS = re.compile(
@@ -410,7 +418,7 @@ ODD_IN_BROWSERS = re.compile(
 KNOWN = {
     *STRUCTURES,
     *ELEMENTS,
-    *(name + "(" for name in (*NUMBERINGS, "not", "is", "where", "NOT")),
+    *(name + "(" for name in (*NUMBERINGS, "not", "is", "where", "NOT", "has")),
 }
 # soupsieve leaves nothing out of a list, takes an empty value for the start of each, finds nothing by `n-1`, refuses two blanks
 # before a sign and newlines after escapes, takes away comments before it reads escapes, takes the
@@ -489,7 +497,7 @@ class Judge:
         if self.name == "soupsieve" and is_open(text):
             return True
         if reply.endswith(" is unsupported"):
-            odd_here = (FORGIVING, NESTED, NAMESPACE, NUMBERED_LIST)
+            odd_here = (FORGIVING, NESTED, NAMESPACE)
             return any(each.search(plain(text)) for each in odd_here)
         if found_of(reply) is None:
             return bool(INNER.search(front_of(text, reply)))
@@ -696,9 +704,14 @@ def as_browsers_do(printed: str) -> str:
     return re.sub(r"::[\w-]+", lambda found: found[0].lower(), shown)
 
 
+# A browser keeps what it leaves out of a list if there is an `&` or a `:scope` in it.
+LEFT_OUT = re.compile(r":has\(.*:has\(", re.IGNORECASE | re.DOTALL)
+
+
 def is_odd(text: str) -> bool:
     """Whether a browser reads the text otherwise or prints another number."""
-    return ODD_IN_BROWSERS.search(text) is not None or "-0" in text
+    is_known = any(each.search(text) for each in (ODD_IN_BROWSERS, LEFT_OUT))
+    return is_known or "-0" in text
 
 
 class Serialized(Case):

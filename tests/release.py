@@ -59,7 +59,7 @@ NO_LIMIT = 2**64 - 1
 # The length of the buffer that answers are written to.
 ROOM = 1 << 20
 # The calls of compare.c that write numbers.
-OF_NUMBERS = ("simplecss_read", "simplecss_declarations", "simplecss_list")
+OF_NUMBERS = ("simplecss_read", "simplecss_declarations", "simplecss_list", "simplecss_contents")
 # The elements of the tree of compare.rs.
 PAGE: Sequence[Tuple[int, str, List[Tuple[str, str]]]] = [
     (0, "div", [("lang", "en")]),
@@ -265,7 +265,11 @@ class Library:
             ("read", text),
             ("declarations", text),
             ("imports", text),
+            ("blocks", text),
+            ("contents", text),
             ("close", text),
+            ("print", text, 0),
+            ("print", text, 1),
             ("escape", text),
             ("quote", text),
             ("decode", text, 1),

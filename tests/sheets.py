@@ -144,7 +144,38 @@ def our_pairs(text: str, known: Dict[str, Optional[str]]) -> Counter[Pair]:
     return found
 
 
+def bare_rules(text: str) -> List[Tuple[str, List[Tuple[str, str, bool]]]]:
+    """Returns what is before the block of each rule of tinycss2 that has declarations, and these, all without
+    blanks."""
+    import tinycss2
+
+    rules = rules_in(tinycss2.parse_stylesheet(text, skip_comments=True, skip_whitespace=True))
+    found = [(bare(plain(rule.prelude)), list(declared(rule.content))) for rule in rules]
+    return [
+        (head, [(name, bare(value), important) for name, value, important in items])
+        for head, items in found
+        if items
+    ]
+
+
+def bare(text: str) -> str:
+    """Returns a text without blanks."""
+    return "".join(text.split())
+
+
 class Sheets(Case):
+    def test_printed(self) -> None:
+        """tinycss2 reads the same rules of printed sheets, but for blanks."""
+        if not importlib.util.find_spec("tinycss2"):
+            return by_debian(self, "tinycss2", "printed sheets beside tinycss2")
+        texts = real_sheets(sheets_folder())
+        random.Random(2).shuffle(texts)
+        for text in texts[: count(100)]:
+            rules = bare_rules(text)
+            for printed in (simplecss.minify(text), simplecss.prettify(text)):
+                with self.subTest(text=text[:100]):
+                    self.assertEqual(bare_rules(printed), rules)
+
     def test_real_sheets(self) -> None:
         """Each pair of tinycss2 whose selector the library reads is one of the package, but for one
         in a thousand, and none else."""

@@ -46,7 +46,10 @@ int main(void) {
         put_numbers(simplecss_declarations(text, end, NUMBERS));
         put(simplecss_imports(text, end, OUT));
         put(simplecss_blocks(text, end, OUT));
+        put_numbers(simplecss_contents(text, end, NUMBERS));
         put(simplecss_close(text, end, OUT));
+        put(simplecss_print(text, end, SIMPLECSS_SHORT, OUT));
+        put(simplecss_print(text, end, SIMPLECSS_LINES, OUT));
         put(simplecss_escape(text, end, OUT));
         put(simplecss_quote(text, end, OUT));
         put(simplecss_decode(text, end, 1, OUT));
