@@ -1,10 +1,11 @@
 -- A node that satisfies a condition has one of its keys.
 -- Serves `key_laws::key_law`.
-use Rattle.std.proofs.Common.{◌≡◌, ℕ, zero, suc, ◌+◌, ◌-◌, ◌≤◌, ◌⊎◌, Bool, true, false, not, ◌||◌, List, [], ◌∷◌, length, get_or, map, Option, None, Some, Vec, Global, IsTrue, refl, sym, ap, ◌∙◌, subst, inl, inr, arith, add-one}
+use Rattle.std.proofs.Common.{◌≡◌, ℕ, zero, suc, ◌+◌, ◌-◌, ◌≤◌, ◌⊎◌, Bool, true, false, not, ◌||◌, ◌&&◌, List, [], ◌∷◌, length, get_or, map, Option, None, Some, Vec, Global, IsTrue, refl, sym, ap, ◌∙◌, subst, inl, inr, arith, add-one}
 use Rattle.std.specs.Prelude.{is_none, nat_lt, min, if◌then◌else◌}
 use Rattle.std.specs.List.{list_any}
 use Rattle.css_selectors.specs.Documents.{Document}
-use Rattle.css_selectors.specs.Components.{Comparison, Simple, Condition, Conditions, Parts, Selectors, Part, Selector, conditions_from, parts_from, selectors_from}
+use Rattle.css_selectors.specs.Components.Local.{any_type, a_type, some_attribute, an_attribute, implied}
+use Rattle.css_selectors.specs.Components.{Comparison, Namespace, Local, is_absent, Simple, Condition, Conditions, Parts, Selectors, Part, Selector, conditions_from, parts_from, selectors_from}
 use Rattle.css_selectors.specs.Components.Simple.{universal, type_name, id, class, has_attribute, attribute, structure, language, state, function, named_element, nesting, namespaced}
 use Rattle.css_selectors.specs.Components.Condition.{simple, negation, any_of, where_any, tested}
 use Rattle.css_selectors.specs.Components.Conditions.{end_of_compound, with_condition}
@@ -15,8 +16,8 @@ use Rattle.css_selectors.specs.declared.components.Condition.{Condition as Condi
 use Rattle.css_selectors.specs.declared.components.Complex.{Complex, out-Complex}
 use Rattle.css_selectors.specs.declared.components.Part.{Part as PartOf}
 use Rattle.css_selectors.specs.Views.{condition_of, part_of, complex_of}
-use Rattle.css_selectors.specs.Meanings.{satisfies, holds, part_count, IsMet, AreMet, MeetsPart, MatchesAny, IsPlaced, Matches}
-use Rattle.css_selectors.specs.Keys.{Key, has_key, simple_key, lone_key, rank, better_key, best_key, compound_key, subject_from, parts_key, selector_keys, condition_keys, least_rank, better_keys, best_keys, conditions_at, keys_of}
+use Rattle.css_selectors.specs.Meanings.{satisfies, is_in, holds_in, holds, part_count, IsMet, AreMet, MeetsPart, MatchesAny, IsPlaced, Matches}
+use Rattle.css_selectors.specs.Keys.{Key, has_key, local_key, simple_key, lone_key, rank, better_key, best_key, compound_key, subject_from, parts_key, selector_keys, condition_keys, least_rank, better_keys, best_keys, conditions_at, keys_of}
 use Rattle.css_selectors.specs.Keys.Key.{by_nothing}
 use Rattle.css_selectors.proofs.ConditionViews.{condition_is, condition_where}
 use Rattle.css_selectors.proofs.PlacementListLemmas.{count_from}
@@ -34,7 +35,22 @@ value_there : (c : Comparison) (ignores : Bool) (text : List ℕ) (r : Option (L
 value_there c ignores text None h = absurd (cc)
 value_there c ignores text (Some value) h = refl
 
+both_second : (a b : Bool) → IsTrue (a && b) → IsTrue b
+both_second true b h = h
+both_second false b h = absurd (cc)
+
 module _ {Node : Type 0} (d : Document Node) (n : Node) where
+  local_has : (m : Namespace) (l : Local) → IsTrue (holds_in d n m l)
+      → IsTrue (has_key d n (local_key l))
+  local_has m any_type h = refl
+  local_has m (a_type name) h = both_second (is_in d n m) (d.is_named n name) h
+  local_has m (some_attribute name) h =
+      both_second (is_absent m) (not (is_none (d.attribute n name))) h
+  local_has m (an_attribute name c text ignores) h =
+      value_there c ignores text (d.attribute n name)
+      (both_second (is_absent m) (satisfies c ignores text (d.attribute n name)) h)
+  local_has m implied h = refl
+
   simple_has : (s : Simple) → IsTrue (holds d n s) → IsTrue (has_key d n (simple_key s))
   simple_has universal h = refl
   simple_has (type_name name) h = h
@@ -48,7 +64,7 @@ module _ {Node : Type 0} (d : Document Node) (n : Node) where
   simple_has (function name argument) h = refl
   simple_has (named_element name argument) h = refl
   simple_has (nesting list) h = refl
-  simple_has (namespaced namespace local) h = refl
+  simple_has (namespaced namespace local) h = local_has namespace local h
 
   chosen : (b : Bool) (one other : Key) → IsTrue (has_key d n one) → IsTrue (has_key d n other)
       → IsTrue (has_key d n (if b then other else one))

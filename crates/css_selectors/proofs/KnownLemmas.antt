@@ -1,11 +1,12 @@
 -- Names that are looked up by their lengths.
 -- Serves `known_names`.
-use Rattle.std.proofs.Common.{◌≡◌, ℕ, ◌≤◌, ◌||◌, ◌&&◌, nat_le, Bool, true, false, List, [], ◌∷◌, length, arith, refl, sym, ap, ◌∙◌}
+use Rattle.std.proofs.Common.{◌≡◌, ℕ, ◌≤◌, ◌||◌, ◌&&◌, nat_le, Bool, true, false, List, [], ◌∷◌, ◌++◌, length, arith, refl, sym, ap, ◌∙◌}
 use Rattle.std.specs.Prelude.{if◌then◌else◌}
 use Rattle.std.specs.Char.{to_ascii_lowercase}
 use Rattle.std.specs.Str.{str_eq_ignore_ascii_case}
 use Rattle.std.proofs.lemmas.Bool.Decides.{nat_tests}
 use Rattle.std.proofs.lemmas.List.{length-map}
+use Rattle.std.proofs.lemmas.List.Folds.{list_any-append}
 use Rattle.std.proofs.lemmas.Slice.Eq.{bytes_eq-Decides}
 use Rattle.css_selectors.specs.KnownNames.{is_one_of}
 
@@ -51,3 +52,20 @@ between from to names n low high =
 pub at_least : (from : ℕ) (names : List (List ℕ)) (n : List ℕ) → from ≤ length n
     → is_one_of (of_lengths (nat_le from) names) n ≡ is_one_of names n
 at_least from names n low = by_length (nat_le from) names n (grind (arith, nat_tests, low))
+
+-- a name that is declared is one of those that are known and those that are declared
+pub or_declared : (known own : List (List ℕ)) (n : List ℕ)
+    → is_one_of (known ++ own) n ≡ (is_one_of known n || is_one_of own n)
+or_declared known own n = list_any-append (str_eq_ignore_ascii_case n) known own
+
+-- a known name is one of both
+pub is_known : (known own : List (List ℕ)) (n : List ℕ) (b : Bool) → b ≡ is_one_of known n
+    → b ≡ true → b ≡ is_one_of (known ++ own) n
+is_known known own n b e is =
+    is ∙ sym (or_declared known own n ∙ ap (λ (t : Bool). t || is_one_of own n) (sym e ∙ is))
+
+-- any other is one of both if it is declared
+pub is_own : (known own : List (List ℕ)) (n : List ℕ) (b : Bool) → b ≡ is_one_of known n
+    → b ≡ false → (o : Bool) → o ≡ is_one_of own n → o ≡ is_one_of (known ++ own) n
+is_own known own n b e is o f =
+    f ∙ sym (or_declared known own n ∙ ap (λ (t : Bool). t || is_one_of own n) (sym e ∙ is))

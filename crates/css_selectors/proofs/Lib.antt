@@ -16,6 +16,7 @@ pub mod AncestorKeyLemmas
 pub mod AfterKeyLemmas
 pub mod ListTexts
 pub mod NestLemmas
+pub mod DefaultLemmas
 pub mod NestingLemmas
 pub mod OccurrenceLemmas
 mod ReadingLemmas
@@ -34,6 +35,7 @@ mod NestedReads
 mod Vectors
 mod NestedVectors
 pub mod NestingLaws
+mod DefaultTexts
 mod NestedTexts
 mod EscapedAgain
 pub mod ReadEnds

@@ -9,38 +9,39 @@ use Rattle.css_selectors.specs.Grammar.{past_comments, next_condition, next_simp
 use Rattle.css_text.specs.Bytes.{past_one}
 use Rattle.css_selectors.specs.Readings.{refused, item, step_after}
 use Rattle.css_selectors.specs.declared.components.ListKind.{ListKind}
-use Rattle.css_selectors.specs.declared.room.Room.{Room}
+use Rattle.css_selectors.specs.Rooms.{Room}
 use Rattle.css_selectors.specs.declared.refusal.Why.TheVariants.{TooDeep, Unexpected}
 use Rattle.css_selectors.specs.Views.{condition_of, simple_of}
+use Rattle.css_selectors.specs.Names.{Names}
 
-by_list : (n : ℕ) (in_has : Bool) (text : List ℕ)
-    → condition_by (list_at n in_has) text ≡ condition_at n in_has text
+by_list : (names : Names) (n : ℕ) (in_has : Bool) (text : List ℕ)
+    → condition_by names (list_at names n in_has) text ≡ condition_at names n in_has text
 unfolding condition_at
-by_list zero in_has text = refl
-by_list (suc n) in_has text = refl
+by_list names zero in_has text = refl
+by_list names (suc n) in_has text = refl
 
 pub condition_within : (room : Room) (text : List ℕ)
-    → condition_by (list_within room) text ≡ next_condition room text
-condition_within room text = by_list room.depth room.in_has text
+    → condition_by room.names (list_within room) text ≡ next_condition room text
+condition_within room text = by_list room.names room.depth room.in_has text
 
-pub none_opens : (n : ℕ) (in_has : Bool) (kind : ListKind) (opened text : List ℕ) → n ≡ 0
-    → list_at n in_has kind opened text ≡ refused TooDeep opened
-none_opens zero in_has kind opened text e = refl
-none_opens (suc n) in_has kind opened text e = absurd (cc)
+pub none_opens : (names : Names) (n : ℕ) (in_has : Bool) (kind : ListKind) (opened text : List ℕ) → n ≡ 0
+    → list_at names n in_has kind opened text ≡ refused TooDeep opened
+none_opens names zero in_has kind opened text e = refl
+none_opens names (suc n) in_has kind opened text e = absurd (cc)
 
-pub one_barred : (n : ℕ) (in_has : Bool) (kind : ListKind) (opened text : List ℕ) → 0 < n
-    → may_open kind in_has ≡ false → list_at n in_has kind opened text ≡ refused Unexpected opened
-one_barred zero in_has kind opened text some e = absurd (omega (arith, some))
-one_barred (suc n) in_has kind opened text some e =
-    ap (λ (t : Bool). if t then complex_list kind (condition_at n (is_relative kind || in_has)) text
+pub one_barred : (names : Names) (n : ℕ) (in_has : Bool) (kind : ListKind) (opened text : List ℕ) → 0 < n
+    → may_open kind in_has ≡ false → list_at names n in_has kind opened text ≡ refused Unexpected opened
+one_barred names zero in_has kind opened text some e = absurd (omega (arith, some))
+one_barred names (suc n) in_has kind opened text some e =
+    ap (λ (t : Bool). if t then complex_list names kind (condition_at names n (is_relative kind || in_has)) text
     else refused Unexpected opened) e
 
-pub one_opens : (n : ℕ) (in_has : Bool) (kind : ListKind) (opened text : List ℕ) → 0 < n
-    → may_open kind in_has ≡ true → list_at n in_has kind opened text
-    ≡ complex_list kind (condition_at (one_less n) (is_relative kind || in_has)) text
-one_opens zero in_has kind opened text some e = absurd (omega (arith, some))
-one_opens (suc n) in_has kind opened text some e =
-    ap (λ (t : Bool). if t then complex_list kind (condition_at n (is_relative kind || in_has)) text
+pub one_opens : (names : Names) (n : ℕ) (in_has : Bool) (kind : ListKind) (opened text : List ℕ) → 0 < n
+    → may_open kind in_has ≡ true → list_at names n in_has kind opened text
+    ≡ complex_list names kind (condition_at names (one_less n) (is_relative kind || in_has)) text
+one_opens names zero in_has kind opened text some e = absurd (omega (arith, some))
+one_opens names (suc n) in_has kind opened text some e =
+    ap (λ (t : Bool). if t then complex_list names kind (condition_at names n (is_relative kind || in_has)) text
     else refused Unexpected opened) e
 
 pub condition_simple : (s : SimpleOf) → condition_of (Simple s) ≡ simple (simple_of s)
@@ -53,11 +54,11 @@ plain false one other e = refl
 
 -- after comments a condition that is no pseudo-class is the simple selector that is next
 pub condition_plain : (n : Room) (text here rest : List ℕ) (s : SimpleOf) → here ≡ past_comments text
-    → begins_pseudo_class here ≡ false → item (simple_of s) rest ≡ next_simple here
+    → begins_pseudo_class here ≡ false → item (simple_of s) rest ≡ next_simple n.names here
     → item (condition_of (Simple s)) rest ≡ next_condition n text
 condition_plain n text here rest s e is_plain found =
     ap (λ c. item c rest) (condition_simple s) ∙ ap simple_item found
     ∙ plain (begins_pseudo_class here)
-    (step_after (name (past_comments (past_one here))) (pseudo_condition (list_within n) here))
-    (simple_item (next_simple here)) is_plain
-    ∙ ap (condition_here (list_within n)) e ∙ condition_within n text
+    (step_after (name (past_comments (past_one here))) (pseudo_condition n.names (list_within n) here))
+    (simple_item (next_simple n.names here)) is_plain
+    ∙ ap (condition_here n.names (list_within n)) e ∙ condition_within n text

@@ -3,7 +3,7 @@
 use Rattle.std.proofs.Common.{◌≡◌, ℕ, true, List, [], ◌∷◌, All, flat_map, refl, ap, ◌∙◌}
 use Rattle.std.proofs.lemmas.List.Elements.{All-nil, All-cons, All-head, All-tail}
 use Rattle.css_selectors.specs.declared.components.ListKind.{ListKind}
-use Rattle.css_selectors.specs.declared.room.Room.{Room}
+use Rattle.css_selectors.specs.Rooms.{Room}
 use Rattle.css_selectors.specs.Grammar.{is_forgiving, room_in}
 use Rattle.css_selectors.specs.Components.{Condition, Conditions, Parts, Selectors, Part, conditions_from, parts_from, selectors_from}
 use Rattle.css_selectors.specs.Components.Conditions.{end_of_compound, with_condition}

@@ -10,6 +10,7 @@ use Rattle.css_selectors.specs.Components.{Placed}
 use Rattle.css_selectors.specs.Grammar.{gap, ident_sequence, name, string, value, comparison, flag, compared, namespace, at_bar, attribute_from_name, attribute_selector, any_or_name, type_selector, next_simple, compound, next_part_in, complex_by, complex, past_part, listed_part, next_listed, complex_list, condition_at, conditions, next_part, element_argument, element_name, after_element, pseudo_element, parts, relative_parts, placed_by, next_placed, placed_list_by}
 use Rattle.css_selectors.specs.Nested.{nested_list}
 use Rattle.css_selectors.specs.Printing.{selector_text}
+use Rattle.css_selectors.specs.Names.{no_names}
 use Rattle.css_selectors.specs.Readings.{Reading, got, refused}
 
 abbrev parent : Nesting
@@ -21,7 +22,7 @@ shown (got all rest) = got (map (λ p. selector_text p.selector) all) rest
 shown (refused why rest) = refused why rest
 
 abbrev read : List ℕ → Reading (List (List ℕ))
-read text = shown (nested_list parent text)
+read text = shown (nested_list no_names parent text)
 
 abbrev prints : List ℕ → Reading (List (List ℕ))
 prints text = got (text ∷ []) []

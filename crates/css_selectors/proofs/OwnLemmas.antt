@@ -9,6 +9,8 @@ use Rattle.css_selectors.specs.Components.{Placed}
 use Rattle.css_selectors.specs.Grammar.{closed_gap, gap, past_comments, placed_as, placed_by, pseudo_element, start_parts}
 use Rattle.css_selectors.specs.Readings.{Reading, got, refused, follow}
 use Rattle.css_selectors.proofs.ReadEnds.{follow-holds, gap-leaves, pseudo_element-leaves, start-leaves}
+use Rattle.css_selectors.specs.Defaults.{in_default}
+use Rattle.css_selectors.specs.Names.{Names}
 
 nothing_there : closed_gap (gap_before []) ≡ got false []
 unfolding gap_before blank each
@@ -35,36 +37,36 @@ abbrev BeginsAt : List ℕ → Reading Placed → Type 0
 BeginsAt from (got p rest) = p.from ≡ from
 BeginsAt from (refused why rest) = Unit {0}
 
-pub own : (start : Start) (text : List ℕ) (p : Placed) (rest : List ℕ)
-    → placed_by start text ≡ got p rest → placed_by start p.from ≡ got p rest
+pub own : (names : Names) (start : Start) (text : List ℕ) (p : Placed) (rest : List ℕ)
+    → placed_by names start text ≡ got p rest → placed_by names start p.from ≡ got p rest
 unfolding placed_by
-own start text p rest h = by (gap text) refl h
+own names start text p rest h = by (gap text) refl h
   where
-    begins : (from : List ℕ) → BeginsAt from (follow (start_parts start from) (λ all end.
-        follow (pseudo_element (past_comments end)) (λ element after.
+    begins : (from : List ℕ) → BeginsAt from (follow (start_parts names start from) (λ all end.
+        follow (pseudo_element names (past_comments end)) (λ element after.
         follow (gap after) (λ spaced rest.
-        got (placed_as all element from end (past_comments end) after) rest))))
+        got (placed_as (in_default names.default_namespace all) element from end (past_comments end) after) rest))))
     begins from =
-        follow-holds (BeginsAt from) from (start_parts start from) _ (λ why rest. tt)
-        (start-leaves start from) (λ all end f.
-        follow-holds (BeginsAt from) (past_comments end) (pseudo_element (past_comments end)) _
-        (λ why rest. tt) (pseudo_element-leaves (past_comments end)) (λ element after g.
+        follow-holds (BeginsAt from) from (start_parts names start from) _ (λ why rest. tt)
+        (start-leaves names start from) (λ all end f.
+        follow-holds (BeginsAt from) (past_comments end) (pseudo_element names (past_comments end)) _
+        (λ why rest. tt) (pseudo_element-leaves names (past_comments end)) (λ element after g.
         follow-holds (BeginsAt from) after (gap after) _ (λ why rest. tt) (gap-leaves after)
         (λ spaced rest k. refl)))
 
     by : (r : Reading Bool) → gap text ≡ r → follow r (λ spaced from.
-        follow (start_parts start from) (λ all end.
-        follow (pseudo_element (past_comments end)) (λ element after.
+        follow (start_parts names start from) (λ all end.
+        follow (pseudo_element names (past_comments end)) (λ element after.
         follow (gap after) (λ spaced rest.
-        got (placed_as all element from end (past_comments end) after) rest)))) ≡ got p rest
-        → placed_by start p.from ≡ got p rest
+        got (placed_as (in_default names.default_namespace all) element from end (past_comments end) after) rest)))) ≡ got p rest
+        → placed_by names start p.from ≡ got p rest
     by (refused why t) e k = absurd (cc)
     by (got spaced from) e k =
         let at : p.from ≡ from = subst (BeginsAt from) k (begins from) in
-        ap (placed_by start) at
-        ∙ ap (λ r. follow r (λ spaced from. follow (start_parts start from) (λ all end.
-        follow (pseudo_element (past_comments end)) (λ element after.
+        ap (placed_by names start) at
+        ∙ ap (λ r. follow r (λ spaced from. follow (start_parts names start from) (λ all end.
+        follow (pseudo_element names (past_comments end)) (λ element after.
         follow (gap after) (λ spaced rest.
-        got (placed_as all element from end (past_comments end) after) rest)))))
+        got (placed_as (in_default names.default_namespace all) element from end (past_comments end) after) rest)))))
         (no_gap_after text spaced from e)
         ∙ k

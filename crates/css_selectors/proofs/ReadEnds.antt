@@ -33,6 +33,8 @@ use Rattle.css_selectors.specs.Components.Condition.{simple}
 use Rattle.css_selectors.specs.Readings.{Reading, got, refused, Reader, follow, give, ◌>>=◌, ◌>>◌, Step, item, none, stop, step_after, as_item, with_first, go_on, items, items_up_to}
 use Rattle.css_selectors.specs.KnownNames.{element_functions, functions, is_element, is_one_of, states}
 use Rattle.css_selectors.specs.Grammar
+use Rattle.css_selectors.specs.Defaults.{in_default}
+use Rattle.css_selectors.specs.Names.{Names}
 
 -- ---- readers
 
@@ -200,12 +202,17 @@ bar-ends : (text : List ℕ) → Ends text (Grammar.at_bar text)
 unfolding Grammar.at_bar
 bar-ends text = comments_after text (Grammar.past_any_name text) (any_name-ends text)
 
-namespace-leaves : (text : List ℕ) → Leaves text (Grammar.namespace text)
+declared-leaves : (text : List ℕ) (o : Option Namespace) (rest : List ℕ) → Ends text rest
+    → Leaves text (Grammar.if_declared text o rest)
+declared-leaves text None rest e = tt
+declared-leaves text (Some n) rest e = e
+
+namespace-leaves : (names : Names) (text : List ℕ) → Leaves text (Grammar.namespace names text)
 unfolding Grammar.namespace
-namespace-leaves text =
-    if-leaves text (Grammar.is_bar (Grammar.at_bar text))
-    (got (Some (Grammar.prefix text)) (Grammar.past_comments (past_one (Grammar.at_bar text)))) _
-    (ends-ends text (Grammar.at_bar text) _ (bar-ends text) (after_sign-ends (Grammar.at_bar text)))
+namespace-leaves names text =
+    if-leaves text (Grammar.is_bar (Grammar.at_bar text)) _ _
+    (declared-leaves text (Grammar.prefix names text) _
+    (ends-ends text (Grammar.at_bar text) _ (bar-ends text) (after_sign-ends (Grammar.at_bar text))))
     (ends-same text)
 
 compared_by-leaves : (text : List ℕ) (o : Option Comparison)
@@ -266,10 +273,10 @@ attribute_name-leaves text =
     follow-leaves text (Grammar.name text) _ (name-leaves text) (λ n t. after_gap t _ (λ t2.
     follow-leaves t2 (Grammar.comparison t2) _ (comparison-leaves t2) (by_comparison-leaves n)))
 
-attribute-leaves : (text : List ℕ) → Leaves text (Grammar.attribute_selector text)
+attribute-leaves : (names : Names) (text : List ℕ) → Leaves text (Grammar.attribute_selector names text)
 unfolding Grammar.attribute_selector
-attribute-leaves text =
-    after_gap text _ (λ t. follow-leaves t (Grammar.namespace t) _ (namespace-leaves t) (λ n t2.
+attribute-leaves names text =
+    after_gap text _ (λ t. follow-leaves t (Grammar.namespace names t) _ (namespace-leaves names t) (λ n t2.
     follow-leaves t2 (Grammar.attribute_from_name t2) _ (attribute_name-leaves t2)
     (λ local. ends-same)))
 
@@ -434,19 +441,19 @@ argument_of-leaves : (names : List (List ℕ)) (opened n text : List ℕ)
 argument_of-leaves names opened n text =
     if-leaves text (is_one_of names n) (Grammar.argument text) _ (argument-leaves text) tt
 
-plain_pseudo-leaves : (opened n : List ℕ) (o : Option Structure) (text : List ℕ)
-    → Leaves text (Grammar.plain_pseudo opened n o text)
-plain_pseudo-leaves opened n (Some s) text = ends-same text
-plain_pseudo-leaves opened n None text =
-    if-leaves text (is_one_of states n) (got (state n) text) _ (ends-same text) tt
+plain_pseudo-leaves : (names : Names) (opened n : List ℕ) (o : Option Structure) (text : List ℕ)
+    → Leaves text (Grammar.plain_pseudo names opened n o text)
+plain_pseudo-leaves names opened n (Some s) text = ends-same text
+plain_pseudo-leaves names opened n None text =
+    if-leaves text (is_one_of (states names) n) (got (state n) text) _ (ends-same text) tt
 
-named_pseudo-leaves : (opened n text : List ℕ)
-    → LeavesAfter text (Grammar.named_pseudo opened n text)
-named_pseudo-leaves opened n text =
-    let read = Grammar.plain_pseudo opened n (Grammar.plain_structure n) text in
+named_pseudo-leaves : (names : Names) (opened n text : List ℕ)
+    → LeavesAfter text (Grammar.named_pseudo names opened n text)
+named_pseudo-leaves names opened n text =
+    let read = Grammar.plain_pseudo names opened n (Grammar.plain_structure n) text in
     step_if-leaves text (Grammar.is_old_element n) none (as_item (λ s. s) read) tt
     (as_item-leaves text (λ s. s) read
-    (plain_pseudo-leaves opened n (Grammar.plain_structure n) text))
+    (plain_pseudo-leaves names opened n (Grammar.plain_structure n) text))
 
 -- ---- type selectors and the like
 
@@ -467,10 +474,10 @@ type_after-leaves (Some n) text =
     as_item-leaves text (Grammar.in_namespace (Some n)) (Grammar.any_or_name text)
     (any_or_name-leaves text)
 
-type-leaves : (text : List ℕ) → LeavesAfter text (Grammar.type_selector text)
+type-leaves : (names : Names) (text : List ℕ) → LeavesAfter text (Grammar.type_selector names text)
 unfolding Grammar.type_selector
-type-leaves text =
-    step_after-leaves text (Grammar.namespace text) Grammar.type_after (namespace-leaves text)
+type-leaves names text =
+    step_after-leaves text (Grammar.namespace names text) Grammar.type_after (namespace-leaves names text)
     type_after-leaves
 
 -- an item that is read after the first byte
@@ -479,10 +486,10 @@ item_after : {A B : Type 0} (b : ℕ) (text rest : List ℕ) (make : A → B) (r
 item_after b text rest make r e h =
     as_item-leaves (b ∷ text) make r (through (b ∷ text) rest r (ends-cons b text rest e) h)
 
-next_simple-leaves : (text : List ℕ) → LeavesAfter text (Grammar.next_simple text)
+next_simple-leaves : (names : Names) (text : List ℕ) → LeavesAfter text (Grammar.next_simple names text)
 unfolding Grammar.next_simple
-next_simple-leaves [] = tt
-next_simple-leaves (b ∷ text) =
+next_simple-leaves names [] = tt
+next_simple-leaves names (b ∷ text) =
     let after = Grammar.past_comments text in
     step_if-leaves (b ∷ text) (b == full_stop) (as_item class (Grammar.name after)) _
     (item_after b text after class (Grammar.name after) (past_comments-ends text)
@@ -490,9 +497,9 @@ next_simple-leaves (b ∷ text) =
     (step_if-leaves (b ∷ text) (b == number_sign) (as_item id (Grammar.ident_sequence text)) _
     (item_after b text text id (Grammar.ident_sequence text) (ends-same text) (ident-leaves text))
     (step_if-leaves (b ∷ text) (b == open_bracket)
-    (as_item (λ s. s) (Grammar.attribute_selector text)) _
-    (item_after b text text (λ s. s) (Grammar.attribute_selector text) (ends-same text)
-    (attribute-leaves text))
+    (as_item (λ s. s) (Grammar.attribute_selector names text)) _
+    (item_after b text text (λ s. s) (Grammar.attribute_selector names text) (ends-same text)
+    (attribute-leaves names text))
     (step_if-leaves (b ∷ text) (b == Grammar.ampersand) (item (nesting outermost) text) none
     (ends-tail b text) tt)))
 
@@ -507,10 +514,10 @@ some-leaves start text (got [] rest) h = tt
 some-leaves start text (got (x ∷ xs) rest) h = h
 some-leaves start text (refused why rest) h = tt
 
-compound-leaves : (next : Grammar.Finder) → FinderLeaves next → (text : List ℕ)
-    → Leaves text (Grammar.compound next text)
+compound-leaves : (names : Names) (next : Grammar.Finder) → FinderLeaves next → (text : List ℕ)
+    → Leaves text (Grammar.compound names next text)
 unfolding Grammar.compound
-compound-leaves next each text = by (Grammar.type_selector text) (type-leaves text)
+compound-leaves names next each text = by (Grammar.type_selector names text) (type-leaves names text)
   where
     by : (s : Step Simple) → LeavesAfter text s → Leaves text (Grammar.after_type next text s)
     by (item s rest) h =
@@ -540,28 +547,28 @@ part-leaves one each text = by (Grammar.gap text) (gap-leaves text)
         through_step text rest (Grammar.by_sign one spaced rest (Grammar.first_sign rest)) h
         (signed rest (Grammar.first_sign rest) spaced)
 
-module _ (next : Grammar.Finder) (each : FinderLeaves next) where
-  next_part_in-leaves : (text : List ℕ) → LeavesAfter text (Grammar.next_part_in next text)
+module _ (names : Names) (next : Grammar.Finder) (each : FinderLeaves next) where
+  next_part_in-leaves : (text : List ℕ) → LeavesAfter text (Grammar.next_part_in names next text)
   unfolding Grammar.next_part_in
-  next_part_in-leaves text = part-leaves (Grammar.compound next) (compound-leaves next each) text
+  next_part_in-leaves text = part-leaves (Grammar.compound names next) (compound-leaves names next each) text
 
-  complex_by-leaves : (k : Combinator) (text : List ℕ) → Leaves text (Grammar.complex_by k next text)
+  complex_by-leaves : (k : Combinator) (text : List ℕ) → Leaves text (Grammar.complex_by names k next text)
   unfolding Grammar.complex_by
   complex_by-leaves k text =
-      follow-leaves text (Grammar.compound next text) _ (compound-leaves next each text) (λ first t.
-      first-leaves t (Grammar.joined_by k first) (items (Grammar.next_part_in next) t)
-      (items-leaves (Grammar.next_part_in next) next_part_in-leaves t))
+      follow-leaves text (Grammar.compound names next text) _ (compound-leaves names next each text) (λ first t.
+      first-leaves t (Grammar.joined_by k first) (items (Grammar.next_part_in names next) t)
+      (items-leaves (Grammar.next_part_in names next) next_part_in-leaves t))
 
-  complex-leaves : (kind : ListKind) (text : List ℕ) → Leaves text (Grammar.complex kind next text)
+  complex-leaves : (kind : ListKind) (text : List ℕ) → Leaves text (Grammar.complex names kind next text)
   unfolding Grammar.complex
   complex-leaves kind text = by (Grammar.leading_sign kind text)
     where
-      by : (o : Option Combinator) → Leaves text (Grammar.after_leading next text o)
+      by : (o : Option Combinator) → Leaves text (Grammar.after_leading names next text o)
       by None = complex_by-leaves Descendant text
       by (Some k) =
           through text (past_one text) (follow (Grammar.gap (past_one text))
-          (λ spaced. Grammar.complex_by k next)) (ends-past_one text)
-          (after_gap (past_one text) (Grammar.complex_by k next) (complex_by-leaves k))
+          (λ spaced. Grammar.complex_by names k next)) (ends-past_one text)
+          (after_gap (past_one text) (Grammar.complex_by names k next) (complex_by-leaves k))
 
 -- ---- lists
 
@@ -583,12 +590,12 @@ no_selector-leaves forgiving text why rest =
     if-leaves text (forgiving && not (Grammar.is_lasting why)) (got _ (Grammar.past_part text)) _
     (past_part-ends text) tt
 
-module _ (kind : ListKind) (next : Grammar.Finder) (each : FinderLeaves next) where
-  listed_part-leaves : (text : List ℕ) → Leaves text (Grammar.listed_part kind next text)
+module _ (names : Names) (kind : ListKind) (next : Grammar.Finder) (each : FinderLeaves next) where
+  listed_part-leaves : (text : List ℕ) → Leaves text (Grammar.listed_part names kind next text)
   unfolding Grammar.listed_part
   listed_part-leaves text =
-      by (follow (Grammar.gap text) (λ spaced. Grammar.complex kind next))
-      (after_gap text (Grammar.complex kind next) (complex-leaves next each kind))
+      by (follow (Grammar.gap text) (λ spaced. Grammar.complex names kind next))
+      (after_gap text (Grammar.complex names kind next) (complex-leaves names next each kind))
     where
       ended : (s : List Part) (t : List ℕ) (r : Reading Bool) → Leaves text r
           → Leaves text (Grammar.part_end (Grammar.is_forgiving kind) text s r)
@@ -605,10 +612,10 @@ module _ (kind : ListKind) (next : Grammar.Finder) (each : FinderLeaves next) wh
       by (refused why rest) h = no_selector-leaves (Grammar.is_forgiving kind) text why rest
 
   next_listed-leaves : (text : List ℕ)
-      → LeavesAfter text (Grammar.next_listed kind next text)
+      → LeavesAfter text (Grammar.next_listed names kind next text)
   unfolding Grammar.next_listed
   next_listed-leaves text =
-      let part = Grammar.listed_part kind next (past_one text) in
+      let part = Grammar.listed_part names kind next (past_one text) in
       step_if-leaves text (starts comma text) (as_item (λ s. s) part) none
       (as_item-leaves text (λ s. s) part
       (through text (past_one text) part (ends-past_one text) (listed_part-leaves (past_one text))))
@@ -619,14 +626,14 @@ module _ (kind : ListKind) (next : Grammar.Finder) (each : FinderLeaves next) wh
   keep-leaves text (got all rest) h = h
   keep-leaves text (refused why rest) h = tt
 
-  complex_list-leaves : (text : List ℕ) → Leaves text (Grammar.complex_list kind next text)
+  complex_list-leaves : (text : List ℕ) → Leaves text (Grammar.complex_list names kind next text)
   unfolding Grammar.complex_list
   complex_list-leaves text =
-      follow-leaves text (Grammar.listed_part kind next text) _ (listed_part-leaves text)
-      (λ first t. follow-leaves t (Grammar.selectors_after kind next first t) _
-      (keep-leaves t (with_first first (items (Grammar.next_listed kind next) t))
-      (first-leaves t first (items (Grammar.next_listed kind next) t)
-      (items-leaves (Grammar.next_listed kind next) next_listed-leaves t)))
+      follow-leaves text (Grammar.listed_part names kind next text) _ (listed_part-leaves text)
+      (λ first t. follow-leaves t (Grammar.selectors_after names kind next first t) _
+      (keep-leaves t (with_first first (items (Grammar.next_listed names kind next) t))
+      (first-leaves t first (items (Grammar.next_listed names kind next) t)
+      (items-leaves (Grammar.next_listed names kind next) next_listed-leaves t)))
       (closed_with close_parenthesis))
 
 -- ---- functional pseudo-classes, by what reads a list
@@ -634,7 +641,7 @@ module _ (kind : ListKind) (next : Grammar.Finder) (each : FinderLeaves next) wh
 abbrev ListLeaves : Grammar.ListReader → Type 0
 ListLeaves list = (kind : ListKind) (opened text : List ℕ) → Leaves text (list kind opened text)
 
-module _ (list : Grammar.ListReader) (lists : ListLeaves list) (opened : List ℕ) where
+module _ (names : Names) (list : Grammar.ListReader) (lists : ListLeaves list) (opened : List ℕ) where
   of_list-leaves : (test : ListTest) (text : List ℕ)
       → Leaves text (Grammar.of_list list test opened text)
   of_list-leaves test text =
@@ -654,10 +661,10 @@ module _ (list : Grammar.ListReader) (lists : ListLeaves list) (opened : List �
       (closed_with close_parenthesis _ text)
 
   functional-leaves : (n : List ℕ) (kind : Option Function) (text : List ℕ)
-      → Leaves text (Grammar.functional list opened n kind text)
+      → Leaves text (Grammar.functional names list opened n kind text)
   functional-leaves n None text =
-      follow-leaves text (Grammar.argument_of functions opened n text) _
-      (argument_of-leaves functions opened n text) (λ a. ends-same)
+      follow-leaves text (Grammar.argument_of (functions names) opened n text) _
+      (argument_of-leaves (functions names) opened n text) (λ a. ends-same)
   functional-leaves n (Some Language) text =
       follow-leaves text (Grammar.language_ranges text) _ (language_ranges-leaves text)
       (λ ranges. ends-same)
@@ -665,11 +672,11 @@ module _ (list : Grammar.ListReader) (lists : ListLeaves list) (opened : List �
       after_gap text _ (λ t. follow-leaves t (Grammar.progression t) _ (progression-leaves t)
       (λ p t2. after_gap t2 _ (after_progression-leaves kind p (Grammar.list_test kind p))))
 
-module _ (list : Grammar.ListReader) (lists : ListLeaves list) where
+module _ (names : Names) (list : Grammar.ListReader) (lists : ListLeaves list) where
   with_argument-leaves : (opened n : List ℕ) (kind : Option ListKind) (other : Option Function)
-      (text : List ℕ) → Leaves text (Grammar.with_argument list opened n kind other text)
+      (text : List ℕ) → Leaves text (Grammar.with_argument names list opened n kind other text)
   with_argument-leaves opened n None other text =
-      functional-leaves list lists opened n other text
+      functional-leaves names list lists opened n other text
   with_argument-leaves opened n (Some kind) other text =
       follow-leaves text (list kind opened text) _ (lists kind opened text) (λ selectors. ends-same)
 
@@ -680,111 +687,111 @@ module _ (list : Grammar.ListReader) (lists : ListLeaves list) where
   simple_item-leaves text (stop why rest) h = tt
 
   pseudo_condition-leaves : (opened n text : List ℕ)
-      → LeavesAfter text (Grammar.pseudo_condition list opened n text)
+      → LeavesAfter text (Grammar.pseudo_condition names list opened n text)
   pseudo_condition-leaves opened n text =
       let kind = Grammar.list_kind n in
       let other = Grammar.function_named n in
-      let read = Grammar.with_argument list opened n kind other (past_one text) in
+      let read = Grammar.with_argument names list opened n kind other (past_one text) in
       step_if-leaves text (starts open_parenthesis text) (as_item (λ c. c) read)
-      (Grammar.simple_item (Grammar.named_pseudo opened n text))
+      (Grammar.simple_item (Grammar.named_pseudo names opened n text))
       (as_item-leaves text (λ c. c) read
       (through text (past_one text) read (ends-past_one text)
       (with_argument-leaves opened n kind other (past_one text))))
-      (simple_item-leaves text (Grammar.named_pseudo opened n text)
-      (named_pseudo-leaves opened n text))
+      (simple_item-leaves text (Grammar.named_pseudo names opened n text)
+      (named_pseudo-leaves names opened n text))
 
-  condition_by-leaves : (text : List ℕ) → LeavesAfter text (Grammar.condition_by list text)
+  condition_by-leaves : (text : List ℕ) → LeavesAfter text (Grammar.condition_by names list text)
   condition_by-leaves text =
       let start = Grammar.past_comments text in
       let after = Grammar.past_comments (past_one start) in
-      through_step text start (Grammar.condition_here list start) (past_comments-ends text)
+      through_step text start (Grammar.condition_here names list start) (past_comments-ends text)
       (step_if-leaves start (Grammar.begins_pseudo_class start)
-      (step_after (Grammar.name after) (Grammar.pseudo_condition list start)) _
-      (step_after-leaves start (Grammar.name after) (Grammar.pseudo_condition list start)
+      (step_after (Grammar.name after) (Grammar.pseudo_condition names list start)) _
+      (step_after-leaves start (Grammar.name after) (Grammar.pseudo_condition names list start)
       (through start after (Grammar.name after) (after_sign-ends start) (name-leaves after))
       (pseudo_condition-leaves start))
-      (simple_item-leaves start (Grammar.next_simple start) (next_simple-leaves start)))
+      (simple_item-leaves start (Grammar.next_simple names start) (next_simple-leaves names start)))
 
-condition_at-leaves : (n : ℕ) (in_has : Bool) → FinderLeaves (Grammar.condition_at n in_has)
+condition_at-leaves : (names : Names) (n : ℕ) (in_has : Bool) → FinderLeaves (Grammar.condition_at names n in_has)
 unfolding Grammar.condition_at
-condition_at-leaves zero in_has text =
-    condition_by-leaves Grammar.too_deep (λ kind opened rest. tt) text
-condition_at-leaves (suc n) in_has text =
-    condition_by-leaves (Grammar.list_by in_has (Grammar.condition_at n))
+condition_at-leaves names zero in_has text =
+    condition_by-leaves names Grammar.too_deep (λ kind opened rest. tt) text
+condition_at-leaves names (suc n) in_has text =
+    condition_by-leaves names (Grammar.list_by names in_has (Grammar.condition_at names n))
     (λ kind opened rest. if-leaves rest (Grammar.may_open kind in_has)
-    (Grammar.complex_list kind (Grammar.condition_at n (Grammar.is_relative kind || in_has)) rest)
+    (Grammar.complex_list names kind (Grammar.condition_at names n (Grammar.is_relative kind || in_has)) rest)
     (refused Unexpected opened)
-    (complex_list-leaves kind (Grammar.condition_at n (Grammar.is_relative kind || in_has))
-    (condition_at-leaves n (Grammar.is_relative kind || in_has)) rest) tt)
+    (complex_list-leaves names kind (Grammar.condition_at names n (Grammar.is_relative kind || in_has))
+    (condition_at-leaves names n (Grammar.is_relative kind || in_has)) rest) tt)
     text
 
 -- ---- selectors
 
-each_condition : FinderLeaves (Grammar.next_condition Grammar.outside)
-each_condition = condition_at-leaves Grammar.deepest false
+each_condition : (names : Names) → FinderLeaves (Grammar.next_condition (Grammar.outside names))
+each_condition names = condition_at-leaves names Grammar.deepest false
 
-conditions-leaves : (text : List ℕ) → Leaves text (Grammar.conditions text)
+conditions-leaves : (names : Names) (text : List ℕ) → Leaves text (Grammar.conditions names text)
 unfolding Grammar.conditions
-conditions-leaves text = by (Grammar.type_selector text) (type-leaves text)
+conditions-leaves names text = by (Grammar.type_selector names text) (type-leaves names text)
   where
-    more : (text : List ℕ) → Leaves text (items (Grammar.next_condition Grammar.outside) text)
-    more text = items-leaves (Grammar.next_condition Grammar.outside) each_condition text
+    more : (text : List ℕ) → Leaves text (items (Grammar.next_condition (Grammar.outside names)) text)
+    more text = items-leaves (Grammar.next_condition (Grammar.outside names)) (each_condition names) text
 
-    by : (s : Step Simple) → LeavesAfter text s → Leaves text (Grammar.after_type_name text s)
+    by : (s : Step Simple) → LeavesAfter text s → Leaves text (Grammar.after_type_name names text s)
     by (item s rest) h =
         through text rest
-        (with_first (simple s) (items (Grammar.next_condition Grammar.outside) rest)) h
-        (first-leaves rest (simple s) (items (Grammar.next_condition Grammar.outside) rest)
+        (with_first (simple s) (items (Grammar.next_condition (Grammar.outside names)) rest)) h
+        (first-leaves rest (simple s) (items (Grammar.next_condition (Grammar.outside names)) rest)
         (more rest))
     by none h =
-        let read = items (Grammar.next_condition Grammar.outside) text in
+        let read = items (Grammar.next_condition (Grammar.outside names)) text in
         if-leaves text (starts colon text) read (Grammar.some_of text read) (more text)
         (some-leaves text text read (more text))
     by (stop why rest) h = tt
 
-next_part-leaves : (text : List ℕ) → LeavesAfter text (Grammar.next_part text)
+next_part-leaves : (names : Names) (text : List ℕ) → LeavesAfter text (Grammar.next_part names text)
 unfolding Grammar.next_part
-next_part-leaves text = part-leaves Grammar.conditions conditions-leaves text
+next_part-leaves names text = part-leaves (Grammar.conditions names) (conditions-leaves names) text
 
 -- a first part, and those after it
-more-leaves : (first : Part) (text : List ℕ)
-    → Leaves text (Grammar.one_more first (items Grammar.next_part) text)
-more-leaves first text =
-    first-leaves text first (items Grammar.next_part text)
-    (items-leaves Grammar.next_part next_part-leaves text)
+more-leaves : (names : Names) (first : Part) (text : List ℕ)
+    → Leaves text (Grammar.one_more first (items (Grammar.next_part names)) text)
+more-leaves names first text =
+    first-leaves text first (items (Grammar.next_part names) text)
+    (items-leaves (Grammar.next_part names) (next_part-leaves names) text)
 
-parts-leaves : (text : List ℕ) → Leaves text (Grammar.parts text)
+parts-leaves : (names : Names) (text : List ℕ) → Leaves text (Grammar.parts names text)
 unfolding Grammar.parts
-parts-leaves text =
-    after_gap text _ (λ t. follow-leaves t (Grammar.conditions t) _ (conditions-leaves t)
-    (λ first. more-leaves (Grammar.joined_by Descendant first)))
+parts-leaves names text =
+    after_gap text _ (λ t. follow-leaves t (Grammar.conditions names t) _ (conditions-leaves names t)
+    (λ first. more-leaves names (Grammar.joined_by Descendant first)))
 
-pub start-leaves : (start : Start) (text : List ℕ) → Leaves text (Grammar.start_parts start text)
+pub start-leaves : (names : Names) (start : Start) (text : List ℕ) → Leaves text (Grammar.start_parts names start text)
 unfolding Grammar.relative_parts
-start-leaves Plain text = parts-leaves text
-start-leaves Relative text = by (Grammar.first_sign text)
+start-leaves names Plain text = parts-leaves names text
+start-leaves names Relative text = by (Grammar.first_sign text)
   where
-    by : (o : Option Combinator) → Leaves text (Grammar.after_sign text o)
-    by None = parts-leaves text
-    by (Some c) = more-leaves (Grammar.nesting_part outermost) text
+    by : (o : Option Combinator) → Leaves text (Grammar.after_sign names text o)
+    by None = parts-leaves names text
+    by (Some c) = more-leaves names (Grammar.nesting_part outermost) text
 
 -- ---- pseudo-elements
 
-element_argument-leaves : (opened n text : List ℕ)
-    → Leaves text (Grammar.element_argument opened n text)
+element_argument-leaves : (names : Names) (opened n text : List ℕ)
+    → Leaves text (Grammar.element_argument names opened n text)
 unfolding Grammar.element_argument
-element_argument-leaves opened n text =
-    let read = Grammar.argument_of element_functions opened n (past_one text) in
+element_argument-leaves names opened n text =
+    let read = Grammar.argument_of (element_functions names) opened n (past_one text) in
     if-leaves text (starts open_parenthesis text) (follow read (λ a. got (Some a))) _
     (follow-leaves text read (λ a. got (Some a))
     (through text (past_one text) read (ends-past_one text)
-    (argument_of-leaves element_functions opened n (past_one text)))
+    (argument_of-leaves (element_functions names) opened n (past_one text)))
     (λ a. ends-same))
-    (if-leaves text (is_element n) (got None text) _ (ends-same text) tt)
+    (if-leaves text (is_element names n) (got None text) _ (ends-same text) tt)
 
-element_name-leaves : (opened text : List ℕ) → Leaves text (Grammar.element_name opened text)
+element_name-leaves : (names : Names) (opened text : List ℕ) → Leaves text (Grammar.element_name names opened text)
 unfolding Grammar.element_name
-element_name-leaves opened text =
+element_name-leaves names opened text =
     let after = past_byte colon (Grammar.past_comments text) in
     let start = Grammar.past_comments after in
     follow-leaves text (Grammar.name start) _
@@ -792,38 +799,38 @@ element_name-leaves opened text =
     (comments_after text after (ends-ends text (Grammar.past_comments text) after
     (past_comments-ends text) (ends-past_byte colon (Grammar.past_comments text))))
     (name-leaves start))
-    (λ n t. follow-leaves t (Grammar.element_argument opened n t) _
-    (element_argument-leaves opened n t) (λ a. ends-same))
+    (λ n t. follow-leaves t (Grammar.element_argument names opened n t) _
+    (element_argument-leaves names opened n t) (λ a. ends-same))
 
-after_element-leaves : (text : List ℕ) → LeavesAfter text (Grammar.after_element text)
+after_element-leaves : (names : Names) (text : List ℕ) → LeavesAfter text (Grammar.after_element names text)
 unfolding Grammar.after_element
-after_element-leaves text =
+after_element-leaves names text =
     let start = Grammar.past_comments text in
-    through_step text start (Grammar.after_element_here start) (past_comments-ends text)
+    through_step text start (Grammar.after_element_here names start) (past_comments-ends text)
     (step_if-leaves start (starts colon start)
-    (Grammar.class_or_element start (Grammar.next_condition Grammar.outside start)) none
-    (by start (Grammar.next_condition Grammar.outside start) (each_condition start)) tt)
+    (Grammar.class_or_element names start (Grammar.next_condition (Grammar.outside names) start)) none
+    (by start (Grammar.next_condition (Grammar.outside names) start) (each_condition names start)) tt)
   where
     by : (text : List ℕ) (s : Step Condition) → LeavesAfter text s
-        → LeavesAfter text (Grammar.class_or_element text s)
+        → LeavesAfter text (Grammar.class_or_element names text s)
     by text (item c rest) h = h
     by text none h =
-        let read = Grammar.element_name text (past_one text) in
+        let read = Grammar.element_name names text (past_one text) in
         as_item-leaves text Grammar.named_condition read
         (through text (past_one text) read (ends-past_one text)
-        (element_name-leaves text (past_one text)))
+        (element_name-leaves names text (past_one text)))
     by text (stop why rest) h = tt
 
-pub pseudo_element-leaves : (text : List ℕ) → Leaves text (Grammar.pseudo_element text)
+pub pseudo_element-leaves : (names : Names) (text : List ℕ) → Leaves text (Grammar.pseudo_element names text)
 unfolding Grammar.pseudo_element
-pseudo_element-leaves text =
-    let name = Grammar.element_name text (past_one text) in
-    if-leaves text (starts colon text) (follow name Grammar.with_after) (got None text)
-    (follow-leaves text name Grammar.with_after
+pseudo_element-leaves names text =
+    let name = Grammar.element_name names text (past_one text) in
+    if-leaves text (starts colon text) (follow name (Grammar.with_after names)) (got None text)
+    (follow-leaves text name (Grammar.with_after names)
     (through text (past_one text) name (ends-past_one text)
-    (element_name-leaves text (past_one text)))
-    (λ e t. follow-leaves t (items Grammar.after_element t) _
-    (items-leaves Grammar.after_element after_element-leaves t) (λ after. ends-same)))
+    (element_name-leaves names text (past_one text)))
+    (λ e t. follow-leaves t (items (Grammar.after_element names) t) _
+    (items-leaves (Grammar.after_element names) (after_element-leaves names) t) (λ after. ends-same)))
     (ends-same text)
 
 -- ---- selectors with where they are
@@ -844,19 +851,19 @@ pub follow-holds : {A B : Type 0} (P : Reading B → Type 0) (text : List ℕ) (
 follow-holds P text (got x middle) next stopped h more = more x middle h
 follow-holds P text (refused why middle) next stopped h more = stopped why middle
 
-pub placed-leaves : (start : Start) (text : List ℕ)
-    → LeavesPlaced text (Grammar.placed_by start text)
+pub placed-leaves : (names : Names) (start : Start) (text : List ℕ)
+    → LeavesPlaced text (Grammar.placed_by names start text)
 unfolding Grammar.placed_by
-placed-leaves start text =
+placed-leaves names start text =
     let P = LeavesPlaced text in
     let stopped : (why : Why) (rest : List ℕ) → P (refused why rest) = λ why rest. tt in
     follow-holds P text (Grammar.gap text) _ stopped (gap-leaves text) (λ spaced from e.
-    follow-holds P from (Grammar.start_parts start from) _ stopped (start-leaves start from)
+    follow-holds P from (Grammar.start_parts names start from) _ stopped (start-leaves names start from)
     (λ all end f. follow-holds P (Grammar.past_comments end)
-    (Grammar.pseudo_element (Grammar.past_comments end)) _ stopped
-    (pseudo_element-leaves (Grammar.past_comments end)) (λ element after g.
+    (Grammar.pseudo_element names (Grammar.past_comments end)) _ stopped
+    (pseudo_element-leaves names (Grammar.past_comments end)) (λ element after g.
     follow-holds P after (Grammar.gap after) _ stopped (gap-leaves after) (λ spaced_after rest k.
-    by all element from end (Grammar.past_comments end) after rest e f (past_comments-ends end) g
+    by (in_default names.default_namespace all) element from end (Grammar.past_comments end) after rest e f (past_comments-ends end) g
     k))))
   where
     by : (all : List Part) (element : Option PseudoElement) (from end at after rest : List ℕ)
@@ -881,16 +888,16 @@ first_is_in : (text : List ℕ) (p : Placed) (r : Reading (List Placed)) → IsI
 first_is_in text p (got all rest) h more = All-cons (IsIn text) p all h more
 first_is_in text p (refused why rest) h more = tt
 
-module _ (start : Start) (text : List ℕ) where
+module _ (names : Names) (start : Start) (text : List ℕ) where
   more_in : (rest : List ℕ) (s : Step Placed) (next : Reader (List Placed)) → Ends text rest
-      → Grammar.next_placed start rest ≡ s
+      → Grammar.next_placed names start rest ≡ s
       → ((after : List ℕ) → Ends text after → LeavesAll text (next after))
       → LeavesAll text (go_on rest s next)
   unfolding Grammar.next_placed
   more_in rest s next e is more =
       subst (λ (s : Step Placed). LeavesAll text (go_on rest s next)) is
-      (by (starts comma rest) (Grammar.placed_by start (past_one rest))
-      (placed-leaves start (past_one rest)))
+      (by (starts comma rest) (Grammar.placed_by names start (past_one rest))
+      (placed-leaves names start (past_one rest)))
     where
       by : (k : Bool) (r : Reading Placed) → LeavesPlaced (past_one rest) r
           → LeavesAll text (go_on rest (if k then as_item (λ p. p) r else none) next)
@@ -905,18 +912,18 @@ module _ (start : Start) (text : List ℕ) where
       by false r h = All-nil (IsIn text)
 
   others_in : (n : ℕ) (rest : List ℕ) → Ends text rest
-      → LeavesAll text (items_up_to n (Grammar.next_placed start) rest)
+      → LeavesAll text (items_up_to n (Grammar.next_placed names start) rest)
   others_in zero rest e = All-nil (IsIn text)
   others_in (suc n) rest e =
-      more_in rest (Grammar.next_placed start rest) (items_up_to n (Grammar.next_placed start)) e
+      more_in rest (Grammar.next_placed names start rest) (items_up_to n (Grammar.next_placed names start)) e
       refl (others_in n)
 
 -- a list that was read is in the text
-pub all_in : (start : Start) (text rest : List ℕ) (all : List Placed)
-    → Grammar.placed_list_by start text ≡ got all rest → All (IsIn text) all
+pub all_in : (names : Names) (start : Start) (text rest : List ℕ) (all : List Placed)
+    → Grammar.placed_list_by names start text ≡ got all rest → All (IsIn text) all
 unfolding Grammar.placed_list_by
-all_in start text rest all h =
-    subst (LeavesAll text) h (by (Grammar.placed_by start text) (placed-leaves start text))
+all_in names start text rest all h =
+    subst (LeavesAll text) h (by (Grammar.placed_by names start text) (placed-leaves names start text))
   where
     ended : (r : Reading (List Placed)) → LeavesAll text r
         → LeavesAll text (follow r (λ all. Grammar.at_end >> give all))
@@ -925,12 +932,12 @@ all_in start text rest all h =
     ended (refused why rest) h = tt
 
     by : (r : Reading Placed) → LeavesPlaced text r → LeavesAll text (follow r (λ first.
-        Grammar.one_more first (items (Grammar.next_placed start)) >>= λ all.
+        Grammar.one_more first (items (Grammar.next_placed names start)) >>= λ all.
         Grammar.at_end >> give all))
     by (got p after) h =
         let e = ends-ends text p.from after h.0.0 (ends-ends p.from p.element after h.0.1
         (ends-ends p.element p.to after h.0.2 h.1)) in
-        let others = items (Grammar.next_placed start) after in
+        let others = items (Grammar.next_placed names start) after in
         ended (with_first p others)
-        (first_is_in text p others h.0 (others_in start text (length after) after e))
+        (first_is_in text p others h.0 (others_in names start text (length after) after e))
     by (refused why after) h = tt

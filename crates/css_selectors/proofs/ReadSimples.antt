@@ -1,6 +1,6 @@
 -- What a text reads as: simple selectors that are well-formed.
 -- Serves `printing_laws::printing_law`.
-use Rattle.std.proofs.Common.{◌≡◌, ℕ, zero, suc, ◌<◌, ◌≤◌, ◌==◌, ◌||◌, ◌&&◌, not, eqb-true, Bool, true, false, List, [], ◌∷◌, Option, None, Some, All, length, length-append, arith, refl, ap, subst}
+use Rattle.std.proofs.Common.{◌≡◌, ℕ, zero, suc, ◌<◌, ◌≤◌, ◌==◌, ◌||◌, ◌&&◌, not, eqb-true, Bool, true, false, List, [], ◌∷◌, Option, None, Some, All, length, length-append, option_map, arith, refl, ap, subst}
 use Rattle.std.specs.Prelude.{codes, if◌then◌else◌}
 use Rattle.std.specs.Str.{str_eq_ignore_ascii_case}
 use Rattle.std.proofs.lemmas.List.Elements.{All-nil, All-cons}
@@ -22,21 +22,22 @@ use Rattle.css_selectors.specs.declared.components.Function.{Function}
 use Rattle.css_selectors.specs.declared.components.Function.TheVariants.{Numbered, Language}
 use Rattle.css_selectors.specs.declared.components.ListKind.{ListKind}
 use Rattle.css_selectors.specs.declared.components.ListKind.TheVariants.{Not}
-use Rattle.css_selectors.specs.declared.room.Room.{Room}
+use Rattle.css_selectors.specs.Rooms.{Room}
 use Rattle.css_selectors.specs.Components.ListTest.{nth_child as nth_child_list, nth_last_child as nth_last_child_list}
 use Rattle.css_selectors.specs.Components.{Comparison, Signed, Progression, Structure, Namespace, Local, Simple, ListTest, Condition, Part, selectors_from, outermost}
 use Rattle.css_selectors.specs.Components.Structure.{root, scope, empty, first_child, last_child, only_child, first_of_type, last_of_type, only_of_type}
 use Rattle.css_selectors.specs.Components.Namespace.{absent, any_namespace, of_prefix}
-use Rattle.css_selectors.specs.Components.Local.{any_type, a_type, some_attribute, an_attribute}
+use Rattle.css_selectors.specs.Components.Local.{any_type, a_type, some_attribute, an_attribute, implied}
 use Rattle.css_selectors.specs.Components.Simple.{universal, type_name, id, class, has_attribute, attribute, structure, language, state, function, named_element, nesting, namespaced}
 use Rattle.css_selectors.specs.Components.Condition.{simple, tested}
 use Rattle.css_selectors.specs.Readings.{Reading, got, refused, follow, give, ◌>>=◌, ◌>>◌, Step, item, none, stop, step_after, as_item, with_first, go_on, items, items_up_to}
 use Rattle.css_selectors.specs.declared.refusal.Why.TheVariants.{NoName, BrokenString, NoProgression, UnknownName, UnknownFunction, Unexpected}
-use Rattle.css_selectors.specs.Grammar.{gap, past_comments, ident_sequence, name, begins_name, begins_plain_name, begins_word, string, closed_string, value, comparison, flag, compared, by_comparison, is_bar, at_bar, prefix, namespace, in_namespace, attribute_from_name, attribute_selector, any_or_name, type_after, closing, progression, digits, with_digit, sign, is_sign, is_n, signed, stepping, offset_after, offset_or_none, with_offset, is_number, subtracted, by_tail, n_word, numbered, is_lone_plus, unsigned, odd_or_even, word_progression, one_more, is_word, plain_structure, plain_pseudo, numbered_by, next_range, range_after, language_ranges, list_kind, function_named, argument, argument_of, of_list, after_word, without_list, list_test, after_progression, functional, is_old_element, ListReader, named_pseudo, type_selector, next_simple, ampersand}
+use Rattle.css_selectors.specs.Grammar.{gap, past_comments, ident_sequence, name, begins_name, begins_plain_name, begins_word, string, closed_string, value, comparison, flag, compared, by_comparison, is_bar, at_bar, prefix, of_declared, if_declared, namespace, in_namespace, attribute_from_name, attribute_selector, any_or_name, type_after, closing, progression, digits, with_digit, sign, is_sign, is_n, signed, stepping, offset_after, offset_or_none, with_offset, is_number, subtracted, by_tail, n_word, numbered, is_lone_plus, unsigned, odd_or_even, word_progression, one_more, is_word, plain_structure, plain_pseudo, numbered_by, next_range, range_after, language_ranges, list_kind, function_named, argument, argument_of, of_list, after_word, without_list, list_test, after_progression, functional, is_old_element, ListReader, named_pseudo, type_selector, next_simple, ampersand}
 use Rattle.css_selectors.specs.KnownNames.{is_one_of, states, functions}
 use Rattle.css_selectors.specs.WellFormed.{IsDenoted, IsName, IsArgumentOf, IsSize, IsProgression, IsStructure, IsNamespace, IsAttribute, IsLocal, IsFurther, IsFirst, IsFurtherCondition, kind_of, IsTest, IsList}
 use Rattle.css_selectors.proofs.ArgumentLemmas.{argument-again}
 use Rattle.css_selectors.proofs.ReadingLemmas.{followed}
+use Rattle.css_selectors.specs.Names.{Names, number_of}
 
 -- ---- readers
 
@@ -390,25 +391,46 @@ closed_well P byte x y text rest h =
 
 -- ---- namespaces
 
-prefix_well : (text : List ℕ) → IsNamespace (prefix text)
+prefix_well : (names : Names) (text : List ℕ) (p : Namespace) → prefix names text ≡ Some p
+    → IsNamespace names p
 unfolding prefix
-prefix_well text = by (starts asterisk text) (begins_name text) refl
+prefix_well names text p h = by (starts asterisk text) (begins_name text) refl h
   where
-    by : (a n : Bool) → begins_name text ≡ n
-        → IsNamespace (if a then any_namespace
-        else (if n then of_prefix (decoded_in false (before text (past_word text))) else absent))
-    by true n e = tt
-    by false true e = spelled_well text e
-    by false false e = tt
+    word : List ℕ
+    word = decoded_in false (before text (past_word text))
 
-namespace_well : (text : List ℕ) (p : Namespace) (rest : List ℕ)
-    → namespace text ≡ got (Some p) rest → IsNamespace p
+    declared : begins_name text ≡ true → (o : Option ℕ) → number_of names word ≡ o
+        → option_map (of_prefix word) o ≡ Some p → IsNamespace names p
+    declared e None is k = absurd (cc)
+    declared e (Some number) is k =
+        let same : of_prefix word number ≡ p = cc in
+        subst (IsNamespace names) same (spelled_well text e, is)
+
+    by : (a n : Bool) → begins_name text ≡ n
+        → (if a then Some any_namespace
+        else (if n then of_declared names word else Some absent)) ≡ Some p
+        → IsNamespace names p
+    by true n e k = let is : any_namespace ≡ p = cc in subst (IsNamespace names) is tt
+    by false true e k = declared e (number_of names word) refl k
+    by false false e k = let is : absent ≡ p = cc in subst (IsNamespace names) is tt
+
+namespace_well : (names : Names) (text : List ℕ) (p : Namespace) (rest : List ℕ)
+    → namespace names text ≡ got (Some p) rest → IsNamespace names p
 unfolding namespace
-namespace_well text p rest h = by (is_bar (at_bar text)) h
+namespace_well names text p rest h = by (is_bar (at_bar text)) h
   where
-    by : (t : Bool) → (if t then got (Some (prefix text)) (past_comments (past_one (at_bar text)))
-        else got None text) ≡ got (Some p) rest → IsNamespace p
-    by true k = let is : prefix text ≡ p = cc in subst IsNamespace is (prefix_well text)
+    after : List ℕ
+    after = past_comments (past_one (at_bar text))
+
+    read : (o : Option Namespace) → prefix names text ≡ o
+        → if_declared text o after ≡ got (Some p) rest → IsNamespace names p
+    read None e k = absurd (cc)
+    read (Some q) e k =
+        let is : q ≡ p = cc in subst (IsNamespace names) is (prefix_well names text q e)
+
+    by : (t : Bool) → (if t then if_declared text (prefix names text) after else got None text)
+        ≡ got (Some p) rest → IsNamespace names p
+    by true k = read (prefix names text) refl k
     by false k = absurd (cc)
 
 -- ---- attributes
@@ -443,27 +465,28 @@ from_name_well text l rest h =
     k.second
 
 -- an attribute selector, with a namespace or without one
-attribute_in_well : (o : Option Namespace) (text mid : List ℕ) → namespace text ≡ got o mid
-    → (l : Local) → IsAttribute l → IsFurther (in_namespace o l)
-attribute_in_well (Some p) text mid h l w = (namespace_well text p mid h, w)
-attribute_in_well None text mid h any_type w = absurd w
-attribute_in_well None text mid h (a_type n) w = absurd w
-attribute_in_well None text mid h (some_attribute n) w = w
-attribute_in_well None text mid h (an_attribute n c v ignores) w = w
+attribute_in_well : (names : Names) (o : Option Namespace) (text mid : List ℕ) → namespace names text ≡ got o mid
+    → (l : Local) → IsAttribute l → IsFurther names (in_namespace o l)
+attribute_in_well names (Some p) text mid h l w = (namespace_well names text p mid h, w)
+attribute_in_well names None text mid h any_type w = absurd w
+attribute_in_well names None text mid h implied w = absurd w
+attribute_in_well names None text mid h (a_type n) w = absurd w
+attribute_in_well names None text mid h (some_attribute n) w = w
+attribute_in_well names None text mid h (an_attribute n c v ignores) w = w
 
-attribute_well : (text : List ℕ) (s : Simple) (rest : List ℕ)
-    → attribute_selector text ≡ got s rest → IsFurther s
+attribute_well : (names : Names) (text : List ℕ) (s : Simple) (rest : List ℕ)
+    → attribute_selector names text ≡ got s rest → IsFurther names s
 unfolding attribute_selector
-attribute_well text s rest h =
-    let f = followed (gap text) (λ x. namespace >>= λ n. attribute_from_name >>= λ l.
+attribute_well names text s rest h =
+    let f = followed (gap text) (λ x. namespace names >>= λ n. attribute_from_name >>= λ l.
     give (in_namespace n l)) s rest h in
-    let g = followed (namespace f.middle) (λ n. attribute_from_name >>= λ l.
+    let g = followed (namespace names f.middle) (λ n. attribute_from_name >>= λ l.
     give (in_namespace n l)) s rest f.second in
     let k = followed (attribute_from_name g.middle) (λ l. give (in_namespace g.value l)) s rest
     g.second in
     let is : in_namespace g.value k.value ≡ s = (let e = k.second in cc) in
-    subst IsFurther is
-    (attribute_in_well g.value f.middle g.middle g.first k.value
+    subst (IsFurther names) is
+    (attribute_in_well names g.value f.middle g.middle g.first k.value
     (from_name_well g.middle k.value k.middle k.first))
 
 -- ---- arguments of pseudo-classes
@@ -613,13 +636,13 @@ module _ (d : Room) (list : ListReader) (opened : List ℕ)
 
   pub functional_well : (n text : List ℕ) (kind : Option Function) (c : Condition) (rest : List ℕ)
       → IsName n → list_kind n ≡ None → function_named n ≡ kind
-      → functional list opened n kind text ≡ got c rest → IsFurtherCondition d c
+      → functional d.names list opened n kind text ≡ got c rest → IsFurtherCondition d c
   functional_well n text None c rest some no_list no_kind h =
-      let f = followed (argument_of functions opened n text) (λ a. give (simple (function n a))) c rest h
+      let f = followed (argument_of (functions d.names) opened n text) (λ a. give (simple (function n a))) c rest h
       in
       let is : simple (function n f.value) ≡ c = (let e = f.second in cc) in
       subst (IsFurtherCondition d) is
-      (some, no_list, no_kind, argument_of_well functions opened n text f.value f.middle f.first)
+      (some, no_list, no_kind, argument_of_well (functions d.names) opened n text f.value f.middle f.first)
   functional_well n text (Some Language) c rest some no_list is_kind h =
       let f = followed (language_ranges text) (λ ranges. give (simple (language ranges))) c rest h in
       let is : simple (language f.value) ≡ c = (let e = f.second in cc) in
@@ -652,64 +675,64 @@ plain_well n =
     (either_plain (is_word (codes "last-of-type") n) (Some last_of_type) _ tt
     (either_plain (is_word (codes "only-of-type") n) (Some only_of_type) None tt tt))))))))
 
-plain_pseudo_well : (opened n text : List ℕ) (s : Simple) (rest : List ℕ) → IsName n
-    → is_old_element n ≡ false → plain_pseudo opened n (plain_structure n) text ≡ got s rest
-    → IsFurther s
+plain_pseudo_well : (names : Names) (opened n text : List ℕ) (s : Simple) (rest : List ℕ) → IsName n
+    → is_old_element n ≡ false → plain_pseudo names opened n (plain_structure n) text ≡ got s rest
+    → IsFurther names s
 unfolding PlainWell
-plain_pseudo_well opened n text s rest some other h = by (plain_structure n) refl (plain_well n) h
+plain_pseudo_well names opened n text s rest some other h = by (plain_structure n) refl (plain_well n) h
   where
-    known : plain_structure n ≡ None → (t : Bool) → is_one_of states n ≡ t
-        → (if t then got (state n) text else refused UnknownName opened) ≡ got s rest → IsFurther s
+    known : plain_structure n ≡ None → (t : Bool) → is_one_of (states names) n ≡ t
+        → (if t then got (state n) text else refused UnknownName opened) ≡ got s rest → IsFurther names s
     known e true q k =
-        let is : state n ≡ s = cc in subst IsFurther is (some, e, other, q)
+        let is : state n ≡ s = cc in subst (IsFurther names) is (some, e, other, q)
     known e false q k = absurd (cc)
 
     by : (o : Option Structure) → plain_structure n ≡ o → PlainWell o
-        → plain_pseudo opened n o text ≡ got s rest → IsFurther s
-    by None e w k = known e (is_one_of states n) refl k
-    by (Some t) e w k = let is : structure t ≡ s = cc in subst IsFurther is w
+        → plain_pseudo names opened n o text ≡ got s rest → IsFurther names s
+    by None e w k = known e (is_one_of (states names) n) refl k
+    by (Some t) e w k = let is : structure t ≡ s = cc in subst (IsFurther names) is w
 
-pub named_pseudo_well : (opened n text : List ℕ) (s : Simple) (rest : List ℕ) → IsName n
-    → named_pseudo opened n text ≡ item s rest → IsFurther s
-named_pseudo_well opened n text s rest some h = by (is_old_element n) refl h
+pub named_pseudo_well : (names : Names) (opened n text : List ℕ) (s : Simple) (rest : List ℕ) → IsName n
+    → named_pseudo names opened n text ≡ item s rest → IsFurther names s
+named_pseudo_well names opened n text s rest some h = by (is_old_element n) refl h
   where
     by : (t : Bool) → is_old_element n ≡ t
-        → (if t then none else as_item (λ x. x) (plain_pseudo opened n (plain_structure n) text))
+        → (if t then none else as_item (λ x. x) (plain_pseudo names opened n (plain_structure n) text))
         ≡ item s rest
-        → IsFurther s
+        → IsFurther names s
     by true e k = absurd (cc)
     by false e k =
-        let m = made (λ x. x) (plain_pseudo opened n (plain_structure n) text) s rest k in
-        subst IsFurther m.is (plain_pseudo_well opened n text m.value rest some e m.first)
+        let m = made (λ x. x) (plain_pseudo names opened n (plain_structure n) text) s rest k in
+        subst (IsFurther names) m.is (plain_pseudo_well names opened n text m.value rest some e m.first)
 
 -- what is a name after a sign
-named_well : (make : List ℕ → Simple) → ((n : List ℕ) → IsName n → IsFurther (make n))
+named_well : (names : Names) (make : List ℕ → Simple) → ((n : List ℕ) → IsName n → IsFurther names (make n))
     → (r : Reading (List ℕ)) → ((n rest : List ℕ) → r ≡ got n rest → IsName n) → (s : Simple)
-    (rest : List ℕ) → as_item make r ≡ item s rest → IsFurther s
-named_well make well r are s rest h =
+    (rest : List ℕ) → as_item make r ≡ item s rest → IsFurther names s
+named_well names make well r are s rest h =
     let m = made make r s rest h in
-    subst IsFurther m.is (well m.value (are m.value rest m.first))
+    subst (IsFurther names) m.is (well m.value (are m.value rest m.first))
 
-pub next_simple_well : (text : List ℕ) (s : Simple) (rest : List ℕ)
-    → next_simple text ≡ item s rest → IsFurther s
+pub next_simple_well : (names : Names) (text : List ℕ) (s : Simple) (rest : List ℕ)
+    → next_simple names text ≡ item s rest → IsFurther names s
 unfolding next_simple
-next_simple_well [] s rest h = absurd (cc)
-next_simple_well (b ∷ text) s rest h =
+next_simple_well names [] s rest h = absurd (cc)
+next_simple_well names (b ∷ text) s rest h =
     by (b == full_stop) (b == number_sign) (b == open_bracket) (b == ampersand) h
   where
     by : (c i o a : Bool) → (if c then as_item class (name (past_comments text))
         else (if i then as_item id (ident_sequence text)
-        else (if o then as_item (λ s. s) (attribute_selector text)
-        else (if a then item (nesting outermost) text else none)))) ≡ item s rest → IsFurther s
+        else (if o then as_item (λ s. s) (attribute_selector names text)
+        else (if a then item (nesting outermost) text else none)))) ≡ item s rest → IsFurther names s
     by true i o a k =
-        named_well class (λ n some. some) (name (past_comments text))
+        named_well names class (λ n some. some) (name (past_comments text))
         (name_well (past_comments text)) s rest k
     by false true o a k =
-        named_well id (λ n some. some) (ident_sequence text) (ident_well text) s rest k
+        named_well names id (λ n some. some) (ident_sequence text) (ident_well text) s rest k
     by false false true a k =
-        let m = made (λ x. x) (attribute_selector text) s rest k in
-        subst IsFurther m.is (attribute_well text m.value rest m.first)
-    by false false false true k = let is : nesting outermost ≡ s = cc in subst IsFurther is refl
+        let m = made (λ x. x) (attribute_selector names text) s rest k in
+        subst (IsFurther names) m.is (attribute_well names text m.value rest m.first)
+    by false false false true k = let is : nesting outermost ≡ s = cc in subst (IsFurther names) is refl
     by false false false false k = absurd (cc)
 
 any_or_name_well : (text : List ℕ) (l : Local) (rest : List ℕ) → any_or_name text ≡ got l rest
@@ -725,53 +748,55 @@ any_or_name_well text l rest h = by (starts asterisk text) h
         let is : a_type f.value ≡ l = (let e = f.second in cc) in
         subst IsLocal is (name_well text f.value f.middle f.first)
 
-type_in_well : (o : Option Namespace) (text mid : List ℕ) → namespace text ≡ got o mid
-    → (l : Local) → IsLocal l → IsFirst (in_namespace o l)
-type_in_well (Some p) text mid h l w = (namespace_well text p mid h, w)
-type_in_well None text mid h any_type w = tt
-type_in_well None text mid h (a_type n) w = w
-type_in_well None text mid h (some_attribute n) w = w
-type_in_well None text mid h (an_attribute n c v ignores) w = w
+type_in_well : (names : Names) (o : Option Namespace) (text mid : List ℕ) → namespace names text ≡ got o mid
+    → (l : Local) → IsLocal l → IsFirst names (in_namespace o l)
+type_in_well names (Some p) text mid h l w = (namespace_well names text p mid h, w)
+type_in_well names None text mid h any_type w = tt
+type_in_well names None text mid h implied w = absurd w
+type_in_well names None text mid h (a_type n) w = w
+type_in_well names None text mid h (some_attribute n) w = w
+type_in_well names None text mid h (an_attribute n c v ignores) w = w
 
-pub type_well : (text : List ℕ) (s : Simple) (rest : List ℕ) → type_selector text ≡ item s rest
-    → IsFirst s
+pub type_well : (names : Names) (text : List ℕ) (s : Simple) (rest : List ℕ) → type_selector names text ≡ item s rest
+    → IsFirst names s
 unfolding type_selector
-type_well text s rest h =
-    let f = found_after (namespace text) type_after s rest h in
+type_well names text s rest h =
+    let f = found_after (namespace names text) type_after s rest h in
     by f.value f.middle f.first f.second
   where
-    here : (o : Option Namespace) (mid : List ℕ) → namespace text ≡ got o mid
-        → as_item (in_namespace o) (any_or_name mid) ≡ item s rest → IsFirst s
+    here : (o : Option Namespace) (mid : List ℕ) → namespace names text ≡ got o mid
+        → as_item (in_namespace o) (any_or_name mid) ≡ item s rest → IsFirst names s
     here o mid e k =
         let m = made (in_namespace o) (any_or_name mid) s rest k in
-        subst IsFirst m.is
-        (type_in_well o text mid e m.value (any_or_name_well mid m.value rest m.first))
+        subst (IsFirst names) m.is
+        (type_in_well names o text mid e m.value (any_or_name_well mid m.value rest m.first))
 
-    by : (o : Option Namespace) (mid : List ℕ) → namespace text ≡ got o mid
-        → type_after o mid ≡ item s rest → IsFirst s
+    by : (o : Option Namespace) (mid : List ℕ) → namespace names text ≡ got o mid
+        → type_after o mid ≡ item s rest → IsFirst names s
     by (Some p) mid e k = here (Some p) mid e k
     by None mid e k = there (starts asterisk mid || begins_name mid) k
       where
         there : (t : Bool) → (if t then as_item (in_namespace None) (any_or_name mid) else none)
-            ≡ item s rest → IsFirst s
+            ≡ item s rest → IsFirst names s
         there true k = here None mid e k
         there false k = absurd (cc)
 
 -- what may follow others may be the first
-pub first_of_further : (s : Simple) → IsFurther s → IsFirst s
-first_of_further universal w = tt
-first_of_further (type_name n) w = absurd w
-first_of_further (id n) w = w
-first_of_further (class n) w = w
-first_of_further (has_attribute n) w = w
-first_of_further (attribute n c v ignores) w = w
-first_of_further (structure s) w = w
-first_of_further (language ranges) w = w
-first_of_further (state n) w = w
-first_of_further (function n a) w = w
-first_of_further (named_element n a) w = absurd w
-first_of_further (nesting list) w = w
-first_of_further (namespaced p any_type) w = absurd w.1
-first_of_further (namespaced p (a_type n)) w = absurd w.1
-first_of_further (namespaced p (some_attribute n)) w = w
-first_of_further (namespaced p (an_attribute n c v ignores)) w = w
+pub first_of_further : (names : Names) (s : Simple) → IsFurther names s → IsFirst names s
+first_of_further names universal w = tt
+first_of_further names (type_name n) w = absurd w
+first_of_further names (id n) w = w
+first_of_further names (class n) w = w
+first_of_further names (has_attribute n) w = w
+first_of_further names (attribute n c v ignores) w = w
+first_of_further names (structure s) w = w
+first_of_further names (language ranges) w = w
+first_of_further names (state n) w = w
+first_of_further names (function n a) w = w
+first_of_further names (named_element n a) w = absurd w
+first_of_further names (nesting list) w = w
+first_of_further names (namespaced p any_type) w = absurd w.1
+first_of_further names (namespaced p implied) w = absurd w.1
+first_of_further names (namespaced p (a_type n)) w = absurd w.1
+first_of_further names (namespaced p (some_attribute n)) w = w
+first_of_further names (namespaced p (an_attribute n c v ignores)) w = w

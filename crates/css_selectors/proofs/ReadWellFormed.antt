@@ -13,7 +13,7 @@ use Rattle.css_selectors.specs.declared.refusal.Why.{Why}
 use Rattle.css_selectors.specs.declared.refusal.Why.TheVariants.{UnknownName, Unexpected}
 use Rattle.css_selectors.specs.declared.components.ListKind.{ListKind}
 use Rattle.css_selectors.specs.declared.components.ListKind.TheVariants.{Not, Is, Where, Has}
-use Rattle.css_selectors.specs.declared.room.Room.{Room}
+use Rattle.css_selectors.specs.Rooms.{Room}
 use Rattle.css_selectors.specs.declared.components.Function.{Function}
 use Rattle.css_selectors.specs.declared.components.Numbering.{Numbering}
 use Rattle.css_selectors.specs.declared.reading.Start.{Start}
@@ -23,7 +23,7 @@ use Rattle.css_selectors.specs.Components.{Progression, Structure, Simple, ListT
 use Rattle.css_selectors.specs.Components.Simple.{universal, type_name, id, class, has_attribute, attribute, structure, language, state, function, named_element, nesting, namespaced}
 use Rattle.css_selectors.specs.Components.Condition.{simple, negation, any_of, where_any, tested}
 use Rattle.css_selectors.specs.Readings.{Reading, got, refused, follow, give, ◌>>=◌, ◌>>◌, Step, item, none, stop, step_after, as_item, go_on, items, items_up_to, with_first}
-use Rattle.css_selectors.specs.Grammar.{gap, past_comments, past_colon, condition_here, name, begins_compound, closing, one_more, numbered_by, language_ranges, plain_structure, plain_pseudo, is_old_element, list_kind, function_named, argument_of, is_word, begins_name, of_list, after_word, without_list, list_test, after_progression, functional, named_pseudo, type_selector, next_simple, some_of, Finder, compound, listed, ListReader, begins_pseudo_class, simple_item, with_argument, pseudo_condition, condition_by, too_deep, condition_at, next_condition, outside, is_relative, may_open, leading_sign, after_leading, complex_by, some_or_element, conditions, first_sign, joined_by, signed_part, by_sign, part_after, next_part, element_argument, element_name, element_named, named_condition, class_or_element, after_element, with_after, pseudo_element, at_end, parts, nesting_part, after_sign, relative_parts, start_parts, placed_as, placed_by, placed, next_placed, list_by, placed_selector, selector, CompoundReader, next_part_in, complex, complex_list, ends_part, past_part, is_lasting, no_selector, part_end, judged, listed_part, next_listed, kept, keep, selectors_after, is_forgiving, placed_list_by}
+use Rattle.css_selectors.specs.Grammar.{gap, past_comments, past_colon, condition_here, name, begins_compound, closing, one_more, numbered_by, language_ranges, plain_structure, plain_pseudo, is_old_element, list_kind, function_named, argument_of, is_word, begins_name, of_list, after_word, without_list, list_test, after_progression, functional, named_pseudo, type_selector, next_simple, some_of, Finder, compound, listed, ListReader, begins_pseudo_class, simple_item, with_argument, pseudo_condition, condition_by, too_deep, condition_at, next_condition, outside, is_relative, may_open, leading_sign, after_leading, complex_by, some_or_element, conditions, first_sign, joined_by, signed_part, by_sign, part_after, next_part, element_argument, element_name, element_named, named_condition, class_or_element, after_element, with_after, pseudo_element, at_end, parts, nesting_part, after_sign, relative_parts, start_parts, placed_as, selector_with, placed_by, placed, next_placed, list_by, placed_selector, selector, CompoundReader, next_part_in, complex, complex_list, ends_part, past_part, is_lasting, no_selector, part_end, judged, listed_part, next_listed, kept, keep, selectors_after, is_forgiving, placed_list_by}
 use Rattle.css_selectors.specs.KnownNames.{is_one_of, states, functions, is_element, element_functions}
 use Rattle.css_selectors.specs.WellFormed.{IsName, IsElementArgument, IsElementName, is_pseudo_class, IsAfterElement, IsPseudoElement, IsFurther, IsFurtherCondition, IsFirstCondition, IsLeading, IsList, AreConditions, is_last, AreParts, BeginsPlain, IsWellFormed}
 use Rattle.css_text.proofs.bytes.GapLemmas.{no_gap-byte}
@@ -32,11 +32,13 @@ use Rattle.css_selectors.proofs.CompoundsAgain.{room_of, Accept, row_after, some
 use Rattle.css_selectors.proofs.GapLemmas.{no_comments}
 use Rattle.css_selectors.proofs.ReadingLemmas.{followed}
 use Rattle.css_selectors.proofs.ReadSimples.{numbered_read, found_after, made, all_items, nothing_read, first_of_all, name_well, argument_of_well, functional_well, named_pseudo_well, next_simple_well, type_well, first_of_further}
+use Rattle.css_selectors.specs.Defaults.{in_default}
+use Rattle.css_selectors.specs.Names.{Names}
 
 -- ---- compound selectors, at a depth
 
 first_of_condition : (n : Room) (c : Condition) → IsFurtherCondition n c → IsFirstCondition n c
-first_of_condition n (simple s) w = first_of_further s w
+first_of_condition n (simple s) w = first_of_further n.names s w
 first_of_condition n (negation _) w = w
 first_of_condition n (any_of _) w = w
 first_of_condition n (where_any _) w = w
@@ -70,9 +72,9 @@ module _ (n : Room) (well : FurtherWell n) where
   row_well : (accept : Accept) → ((text : List ℕ) (r : Reading (List Condition))
       (cs : List Condition) (rest : List ℕ) → accept text r ≡ got cs rest → r ≡ got cs rest)
       → (text : List ℕ) (cs : List Condition) (rest : List ℕ)
-      → row_after accept (next_condition n) text (type_selector text) ≡ got cs rest
+      → row_after accept (next_condition n) text (type_selector n.names text) ≡ got cs rest
       → Row n accept text cs rest
-  row_well accept keeps text cs rest h = by (type_selector text) refl h
+  row_well accept keeps text cs rest h = by (type_selector n.names text) refl h
     where
       untyped : (ds : List Condition) → items (next_condition n) text ≡ got ds rest
           → accept text (got ds rest) ≡ got ds rest → Row n accept text ds rest
@@ -84,25 +86,25 @@ module _ (n : Room) (well : FurtherWell n) where
             All-tail (IsFurtherCondition n) d ds all,
           )
 
-      by : (step : Step Simple) → type_selector text ≡ step
+      by : (step : Step Simple) → type_selector n.names text ≡ step
           → row_after accept (next_condition n) text step ≡ got cs rest
           → Row n accept text cs rest
       by (item s t) e k =
           let f = first_of_all (simple s) (items (next_condition n) t) cs rest k in
           let all =
           all_items (next_condition n) (IsFurtherCondition n) well t f.others rest f.reads in
-          inl (subst (IsRow n) f.is (type_well text s t e, all))
+          inl (subst (IsRow n) f.is (type_well n.names text s t e, all))
       by none e k =
           let kept = keeps text (items (next_condition n) text) cs rest k in
           untyped cs kept (ap (accept text) (sym kept) ∙ k)
       by (stop why t) e k = absurd (cc)
 
   compound_well : (text : List ℕ) (cs : List Condition) (rest : List ℕ)
-      → compound (next_condition n) text ≡ got cs rest → IsRow n cs
+      → compound n.names (next_condition n) text ≡ got cs rest → IsRow n cs
   unfolding compound
   compound_well text cs rest h =
       by (row_well some_of some_keeps text cs rest
-      (sym (some_after (next_condition n) text (type_selector text)) ∙ h))
+      (sym (some_after (next_condition n) text (type_selector n.names text)) ∙ h))
     where
       by : Row n some_of text cs rest → IsRow n cs
       by (inl w) = w
@@ -148,19 +150,19 @@ module _ (one : CompoundReader) (P : List Condition → List ℕ → Type 0)
 
 module _ (n : Room) (well : FurtherWell n) where
   link_well : (text : List ℕ) (p : Part) (rest : List ℕ)
-      → next_part_in (next_condition n) text ≡ item p rest → IsLink n p
+      → next_part_in n.names (next_condition n) text ≡ item p rest → IsLink n p
   unfolding next_part_in
   link_well text p rest h =
-      part_after_well (compound (next_condition n)) (λ cs rest. IsRow n cs) (compound_well n well)
+      part_after_well (compound n.names (next_condition n)) (λ cs rest. IsRow n cs) (compound_well n well)
       text p rest h
 
   joined_well : (k : Combinator) (text : List ℕ) (ps : List Part) (rest : List ℕ)
-      → (kind : ListKind) → IsLeading kind k → complex_by k (next_condition n) text ≡ got ps rest
+      → (kind : ListKind) → IsLeading kind k → complex_by n.names k (next_condition n) text ≡ got ps rest
       → IsChain kind n ps
   unfolding complex_by
   joined_well k text ps rest kind leads h =
-      let next : List ℕ → Step Part = next_part_in (next_condition n) in
-      let f = followed (compound (next_condition n) text)
+      let next : List ℕ → Step Part = next_part_in n.names (next_condition n) in
+      let f = followed (compound n.names (next_condition n) text)
       (λ first. one_more (joined_by k first) (items next)) ps rest h in
       let g = first_of_all (joined_by k f.value) (items next f.middle) ps rest f.second in
       subst (IsChain kind n) g.is (
@@ -170,18 +172,18 @@ module _ (n : Room) (well : FurtherWell n) where
       )
 
   complex_well : (kind : ListKind) (text : List ℕ) (ps : List Part) (rest : List ℕ)
-      → complex kind (next_condition n) text ≡ got ps rest → IsChain kind n ps
+      → complex n.names kind (next_condition n) text ≡ got ps rest → IsChain kind n ps
   unfolding complex
   complex_well kind text ps rest h = by kind h
     where
-      led : (o : Option Combinator) → after_leading (next_condition n) text o ≡ got ps rest
+      led : (o : Option Combinator) → after_leading n.names (next_condition n) text o ≡ got ps rest
           → IsChain Has n ps
       led None k = joined_well Descendant text ps rest Has tt k
       led (Some c) k =
-          let f = followed (gap (past_one text)) (λ x. complex_by c (next_condition n)) ps rest k in
+          let f = followed (gap (past_one text)) (λ x. complex_by n.names c (next_condition n)) ps rest k in
           joined_well c f.middle ps rest Has tt f.second
 
-      by : (o : ListKind) → after_leading (next_condition n) text (leading_sign o text) ≡ got ps rest
+      by : (o : ListKind) → after_leading n.names (next_condition n) text (leading_sign o text) ≡ got ps rest
           → IsChain o n ps
       by Not k = joined_well Descendant text ps rest Not refl k
       by Is k = joined_well Descendant text ps rest Is refl k
@@ -207,9 +209,9 @@ module _ (n : Room) (well : FurtherWell n) where
       forgives true is k = by is (is_lasting why) k
 
   listed_well : (f : ListKind) (text : List ℕ) (o : Option (List Part)) (rest : List ℕ)
-      → listed_part f (next_condition n) text ≡ got o rest → IsPart f o
+      → listed_part n.names f (next_condition n) text ≡ got o rest → IsPart f o
   unfolding listed_part
-  listed_well f text o rest h = by ((gap >> complex f (next_condition n)) text) refl h
+  listed_well f text o rest h = by ((gap >> complex n.names f (next_condition n)) text) refl h
     where
       ended : (s : List Part) → IsChain f n s → (r : Reading Bool)
           → part_end (is_forgiving f) text s r ≡ got o rest → IsPart f o
@@ -221,24 +223,24 @@ module _ (n : Room) (well : FurtherWell n) where
           at true k = let is : Some s ≡ o = cc in subst (IsPart f) is w
           at false k = left_out f text Unexpected t o rest k
 
-      by : (r : Reading (List Part)) → (gap >> complex f (next_condition n)) text ≡ r
+      by : (r : Reading (List Part)) → (gap >> complex n.names f (next_condition n)) text ≡ r
           → judged (is_forgiving f) text r ≡ got o rest → IsPart f o
       by (refused why t) e k = left_out f text why t o rest k
       by (got s t) e k =
-          let m = followed (gap text) (λ x. complex f (next_condition n)) s t e in
+          let m = followed (gap text) (λ x. complex n.names f (next_condition n)) s t e in
           ended s (complex_well f m.middle s t m.second) (gap t) k
 
   next_well : (f : ListKind) (text : List ℕ) (o : Option (List Part)) (rest : List ℕ)
-      → next_listed f (next_condition n) text ≡ item o rest → IsPart f o
+      → next_listed n.names f (next_condition n) text ≡ item o rest → IsPart f o
   unfolding next_listed
   next_well f text o rest h = by (starts comma text) h
     where
       by : (c : Bool) → (if c
-          then as_item (λ s. s) (listed_part f (next_condition n) (past_one text)) else none)
+          then as_item (λ s. s) (listed_part n.names f (next_condition n) (past_one text)) else none)
           ≡ item o rest → IsPart f o
       by false k = absurd (cc)
       by true k =
-          let m = made (λ s. s) (listed_part f (next_condition n) (past_one text)) o rest k in
+          let m = made (λ s. s) (listed_part n.names f (next_condition n) (past_one text)) o rest k in
           subst (IsPart f) m.is (listed_well f (past_one text) m.value rest m.first)
 
   kept_well : (f : ListKind) (os : List (Option (List Part))) → All (IsPart f) os
@@ -260,12 +262,12 @@ module _ (n : Room) (well : FurtherWell n) where
   chains_well f (Some s) os w all = (w, kept_well f os all)
 
   selectors_well : (f : ListKind) (o : Option (List Part)) (text : List ℕ) (ss : List (List Part))
-      (rest : List ℕ) → IsPart f o → selectors_after f (next_condition n) o text ≡ got ss rest
+      (rest : List ℕ) → IsPart f o → selectors_after n.names f (next_condition n) o text ≡ got ss rest
       → AreChains f n ss
   selectors_well f o text ss rest w h = by (with_first o (items next text)) refl h
     where
       next : List ℕ → Step (Option (List Part))
-      next = next_listed f (next_condition n)
+      next = next_listed n.names f (next_condition n)
 
       by : (r : Reading (List (Option (List Part)))) → with_first o (items next text) ≡ r
           → keep r ≡ got ss rest → AreChains f n ss
@@ -277,13 +279,13 @@ module _ (n : Room) (well : FurtherWell n) where
           (chains_well f o g.others w (all_items next (IsPart f) (next_well f) text g.others t g.reads))
 
   complexes_well : (f : ListKind) (text : List ℕ) (ss : List (List Part)) (rest : List ℕ)
-      → complex_list f (next_condition n) text ≡ got ss rest → AreChains f n ss
+      → complex_list n.names f (next_condition n) text ≡ got ss rest → AreChains f n ss
   unfolding complex_list
   complexes_well f text ss rest h =
       let next : Finder = next_condition n in
-      let i = followed (listed_part f next text) (λ first. selectors_after f next first >>= λ all.
+      let i = followed (listed_part n.names f next text) (λ first. selectors_after n.names f next first >>= λ all.
       closing close_parenthesis >> give all) ss rest h in
-      let g = followed (selectors_after f next i.value i.middle) (λ all.
+      let g = followed (selectors_after n.names f next i.value i.middle) (λ all.
       closing close_parenthesis >> give all) ss rest i.second in
       let c = followed (closing close_parenthesis g.middle) (λ x. give g.value) ss rest g.second in
       let is : g.value ≡ ss = (let e = c.second in cc) in
@@ -298,7 +300,7 @@ module _ (n : Room) (list : ListReader) (well : (kind : ListKind) (opened text :
     → IsList kind n (selectors_from ss)) where
   argument_well : (opened name text : List ℕ) (kind : Option ListKind) (c : Condition)
       (rest : List ℕ) → IsName name → list_kind name ≡ kind
-      → with_argument list opened name kind (function_named name) text ≡ got c rest
+      → with_argument n.names list opened name kind (function_named name) text ≡ got c rest
       → IsFurtherCondition n c
   argument_well opened name text None c rest some no_list h =
       functional_well n list opened (well Not opened) name text (function_named name) c rest some
@@ -317,10 +319,10 @@ module _ (n : Room) (list : ListReader) (well : (kind : ListKind) (opened text :
       by Has ss w = (tt, w)
 
   condition_here_well : (text : List ℕ) (c : Condition) (rest : List ℕ)
-      → condition_here list text ≡ item c rest → IsFurtherCondition n c
+      → condition_here n.names list text ≡ item c rest → IsFurtherCondition n c
   condition_here_well text c rest h = by (begins_pseudo_class text) h
     where
-      further : (step : Step Simple) → ((s : Simple) (t : List ℕ) → step ≡ item s t → IsFurther s)
+      further : (step : Step Simple) → ((s : Simple) (t : List ℕ) → step ≡ item s t → IsFurther n.names s)
           → simple_item step ≡ item c rest → IsFurtherCondition n c
       further (item s t) well k =
           let is : simple s ≡ c = cc in
@@ -330,72 +332,72 @@ module _ (n : Room) (list : ListReader) (well : (kind : ListKind) (opened text :
 
       after : (m t : List ℕ) → IsName m → (o : Bool) → (if o
           then as_item (λ c. c)
-          (with_argument list text m (list_kind m) (function_named m) (past_one t))
-          else simple_item (named_pseudo text m t)) ≡ item c rest → IsFurtherCondition n c
+          (with_argument n.names list text m (list_kind m) (function_named m) (past_one t))
+          else simple_item (named_pseudo n.names text m t)) ≡ item c rest → IsFurtherCondition n c
       after m t some true k =
           let f = made (λ x. x)
-          (with_argument list text m (list_kind m) (function_named m) (past_one t)) c rest k in
+          (with_argument n.names list text m (list_kind m) (function_named m) (past_one t)) c rest k in
           subst (IsFurtherCondition n) f.is
           (argument_well text m (past_one t) (list_kind m) f.value rest some refl f.first)
       after m t some false k =
-          further (named_pseudo text m t) (λ s u e. named_pseudo_well text m t s u some e) k
+          further (named_pseudo n.names text m t) (λ s u e. named_pseudo_well n.names text m t s u some e) k
 
       named : List ℕ
       named = past_comments (past_one text)
 
-      by : (t : Bool) → (if t then step_after (name named) (pseudo_condition list text)
-          else simple_item (next_simple text)) ≡ item c rest → IsFurtherCondition n c
-      by false k = further (next_simple text) (next_simple_well text) k
+      by : (t : Bool) → (if t then step_after (name named) (pseudo_condition n.names list text)
+          else simple_item (next_simple n.names text)) ≡ item c rest → IsFurtherCondition n c
+      by false k = further (next_simple n.names text) (next_simple_well n.names text) k
       by true k =
-          let f = found_after (name named) (pseudo_condition list text) c rest k in
+          let f = found_after (name named) (pseudo_condition n.names list text) c rest k in
           after f.value f.middle (name_well named f.value f.middle f.first)
           (starts open_parenthesis f.middle) f.second
 
   condition_by_well : (text : List ℕ) (c : Condition) (rest : List ℕ)
-      → condition_by list text ≡ item c rest → IsFurtherCondition n c
+      → condition_by n.names list text ≡ item c rest → IsFurtherCondition n c
   condition_by_well text c rest h = condition_here_well (past_comments text) c rest h
 
 -- a list may be open where it is read
-list_well_by : (d : ℕ) (in_has : Bool) → ((h : Bool) → FurtherWell (room_of d h))
+list_well_by : (names : Names) (d : ℕ) (in_has : Bool) → ((h : Bool) → FurtherWell (room_of names d h))
     → (kind : ListKind) (opened text : List ℕ) (ss : List (List Part)) (rest : List ℕ)
-    → list_by in_has (condition_at d) kind opened text ≡ got ss rest
-    → IsList kind (room_of (suc d) in_has) (selectors_from ss)
-list_well_by d in_has well kind opened text ss rest h = by (may_open kind in_has) refl h
+    → list_by names in_has (condition_at names d) kind opened text ≡ got ss rest
+    → IsList kind (room_of names (suc d) in_has) (selectors_from ss)
+list_well_by names d in_has well kind opened text ss rest h = by (may_open kind in_has) refl h
   where
     by : (t : Bool) → may_open kind in_has ≡ t
-        → (if t then complex_list kind (condition_at d (is_relative kind || in_has)) text
+        → (if t then complex_list names kind (condition_at names d (is_relative kind || in_has)) text
         else refused Unexpected opened) ≡ got ss rest
-        → IsList kind (room_of (suc d) in_has) (selectors_from ss)
+        → IsList kind (room_of names (suc d) in_has) (selectors_from ss)
     by false e k = absurd (cc)
     by true e k =
-        chains_in kind (room_of (suc d) in_has) ss (omega arith, e)
-        (complexes_well (room_of d (is_relative kind || in_has)) (well (is_relative kind || in_has))
+        chains_in kind (room_of names (suc d) in_has) ss (omega arith, e)
+        (complexes_well (room_of names d (is_relative kind || in_has)) (well (is_relative kind || in_has))
         kind text ss rest k)
 
-condition_at_well : (d : ℕ) (in_has : Bool) → FurtherWell (room_of d in_has)
+condition_at_well : (names : Names) (d : ℕ) (in_has : Bool) → FurtherWell (room_of names d in_has)
 unfolding condition_at
-condition_at_well zero in_has text c rest h =
-    condition_by_well (room_of zero in_has) too_deep (λ kind opened t ss u e. absurd (cc)) text c rest h
-condition_at_well (suc d) in_has text c rest h =
-    condition_by_well (room_of (suc d) in_has) (list_by in_has (condition_at d))
-    (list_well_by d in_has (condition_at_well d)) text c rest h
+condition_at_well names zero in_has text c rest h =
+    condition_by_well (room_of names zero in_has) too_deep (λ kind opened t ss u e. absurd (cc)) text c rest h
+condition_at_well names (suc d) in_has text c rest h =
+    condition_by_well (room_of names (suc d) in_has) (list_by names in_has (condition_at names d))
+    (list_well_by names d in_has (condition_at_well names d)) text c rest h
 
 next_condition_well : (n : Room) → FurtherWell n
-next_condition_well n = condition_at_well n.depth n.in_has
+next_condition_well n = condition_at_well n.names n.depth n.in_has
 
 -- the conditions of a compound selector, of which there may be none before a pseudo-element
-abbrev Conditions : List Condition → List ℕ → Type 0
-Conditions cs rest =
-    AreConditions false cs ⊎ ((cs ≡ []) × (starts colon rest ≡ true))
+abbrev Conditions : (names : Names) → List Condition → List ℕ → Type 0
+Conditions names cs rest =
+    AreConditions names false cs ⊎ ((cs ≡ []) × (starts colon rest ≡ true))
 
-conditions_well : (text : List ℕ) (cs : List Condition) (rest : List ℕ)
-    → conditions text ≡ got cs rest → Conditions cs rest
+conditions_well : (names : Names) (text : List ℕ) (cs : List Condition) (rest : List ℕ)
+    → conditions names text ≡ got cs rest → Conditions names cs rest
 unfolding conditions
-conditions_well text cs rest h =
-    by (row_well outside (next_condition_well outside) some_or_element element_keeps text cs rest
-    (sym (some_or_element_after text (type_selector text)) ∙ h))
+conditions_well names text cs rest h =
+    by (row_well (outside names) (next_condition_well (outside names)) some_or_element element_keeps text cs rest
+    (sym (some_or_element_after names text (type_selector names text)) ∙ h))
   where
-    some : (ds : List Condition) → IsRow outside ds → AreConditions false ds
+    some : (ds : List Condition) → IsRow (outside names) ds → AreConditions names false ds
     some [] w = absurd w
     some (d ∷ ds) w = w
 
@@ -405,135 +407,135 @@ conditions_well text cs rest h =
     element true e k = e
     element false e k = absurd (cc)
 
-    by : Row outside some_or_element text cs rest → Conditions cs rest
+    by : Row (outside names) some_or_element text cs rest → Conditions names cs rest
     by (inl w) = inl (some cs w)
     by (inr w) = inr (w.0, ap (starts colon) w.1 ∙ element (starts colon text) refl w.2)
 
 -- ---- selectors
 
 -- a compound selector after another
-part_well : (text : List ℕ) (p : Part) (rest : List ℕ) → next_part text ≡ item p rest
-    → Conditions p.conditions rest
+part_well : (names : Names) (text : List ℕ) (p : Part) (rest : List ℕ) → next_part names text ≡ item p rest
+    → Conditions names p.conditions rest
 unfolding next_part
-part_well text p rest h = part_after_well conditions Conditions conditions_well text p rest h
+part_well names text p rest h = part_after_well (conditions names) (Conditions names) (conditions_well names) text p rest h
 
 -- no compound selector follows where a pseudo-element begins
-no_part_there : (text : List ℕ) → starts colon text ≡ true → next_part text ≡ none
+no_part_there : (names : Names) (text : List ℕ) → starts colon text ≡ true → next_part names text ≡ none
 unfolding next_part
-no_part_there [] h = absurd (cc)
-no_part_there (b ∷ text) h =
-    subst (λ (d : ℕ). next_part (d ∷ text) ≡ none) (sym (eqb-true b colon h))
-    (no_part_at conditions colon text (no_gap-byte colon text refl refl) refl)
+no_part_there names [] h = absurd (cc)
+no_part_there names (b ∷ text) h =
+    subst (λ (d : ℕ). next_part names (d ∷ text) ≡ none) (sym (eqb-true b colon h))
+    (no_part_at (conditions names) colon text (no_gap-byte colon text refl refl) refl)
 
 -- conditions of which there are some stay so before a pseudo-element
-any_conditions : (e : Bool) (cs : List Condition) → AreConditions false cs → AreConditions e cs
-any_conditions e [] w = absurd (cc)
-any_conditions e (c ∷ cs) w = w
+any_conditions : (names : Names) (e : Bool) (cs : List Condition) → AreConditions names false cs → AreConditions names e cs
+any_conditions names e [] w = absurd (cc)
+any_conditions names e (c ∷ cs) w = w
 
-last_well : (p : Part) (text : List ℕ) → Conditions p.conditions text
-    → AreConditions (starts colon text && true) p.conditions
-last_well p text (inl w) = any_conditions (starts colon text && true) p.conditions w
-last_well p text (inr w) =
-    subst (AreConditions (starts colon text && true)) (sym w.0) (ap (λ t. t && true) w.1)
+last_well : (names : Names) (p : Part) (text : List ℕ) → Conditions names p.conditions text
+    → AreConditions names (starts colon text && true) p.conditions
+last_well names p text (inl w) = any_conditions names (starts colon text && true) p.conditions w
+last_well names p text (inr w) =
+    subst (AreConditions names (starts colon text && true)) (sym w.0) (ap (λ t. t && true) w.1)
 
 -- no further part is read
-none_further : (p : Part) (text : List ℕ) (ps : List Part) (end : List ℕ)
-    → Conditions p.conditions text → [] ≡ ps → text ≡ end → AreParts (starts colon end) (p ∷ ps)
-none_further p text ps end w nothing same =
-    subst (λ (qs : List Part). AreParts (starts colon end) (p ∷ qs)) nothing (
-      subst (λ (t : List ℕ). AreConditions (starts colon t && true) p.conditions) same
-          (last_well p text w),
+none_further : (names : Names) (p : Part) (text : List ℕ) (ps : List Part) (end : List ℕ)
+    → Conditions names p.conditions text → [] ≡ ps → text ≡ end → AreParts names (starts colon end) (p ∷ ps)
+none_further names p text ps end w nothing same =
+    subst (λ (qs : List Part). AreParts names (starts colon end) (p ∷ qs)) nothing (
+      subst (λ (t : List ℕ). AreConditions names (starts colon t && true) p.conditions) same
+          (last_well names p text w),
       tt,
     )
 
-parts_up_to : (n : ℕ) (p : Part) (text : List ℕ) (ps : List Part) (end : List ℕ)
-    → Conditions p.conditions text → items_up_to n next_part text ≡ got ps end
-    → AreParts (starts colon end) (p ∷ ps)
-parts_up_to zero p text ps end w h = none_further p text ps end w (cc) (cc)
-parts_up_to (suc n) p text ps end w h = by (next_part text) refl h (parts_up_to n)
+parts_up_to : (names : Names) (n : ℕ) (p : Part) (text : List ℕ) (ps : List Part) (end : List ℕ)
+    → Conditions names p.conditions text → items_up_to n (next_part names) text ≡ got ps end
+    → AreParts names (starts colon end) (p ∷ ps)
+parts_up_to names zero p text ps end w h = none_further names p text ps end w (cc) (cc)
+parts_up_to names (suc n) p text ps end w h = by (next_part names text) refl h (parts_up_to names n)
   where
-    front : (s : Part) (t : List ℕ) → next_part text ≡ item s t → Conditions p.conditions text
-        → AreConditions false p.conditions
+    front : (s : Part) (t : List ℕ) → next_part names text ≡ item s t → Conditions names p.conditions text
+        → AreConditions names false p.conditions
     front s t e (inl v) = v
-    front s t e (inr v) = absurd (let k = no_part_there text v.1 in cc)
+    front s t e (inr v) = absurd (let k = no_part_there names text v.1 in cc)
 
-    by : (s : Step Part) → next_part text ≡ s → go_on text s (items_up_to n next_part) ≡ got ps end
-        → ((q : Part) (t : List ℕ) (qs : List Part) (u : List ℕ) → Conditions q.conditions t
-        → items_up_to n next_part t ≡ got qs u → AreParts (starts colon u) (q ∷ qs))
-        → AreParts (starts colon end) (p ∷ ps)
-    by none e k more = none_further p text ps end w (cc) (cc)
+    by : (s : Step Part) → next_part names text ≡ s → go_on text s (items_up_to n (next_part names)) ≡ got ps end
+        → ((q : Part) (t : List ℕ) (qs : List Part) (u : List ℕ) → Conditions names q.conditions t
+        → items_up_to n (next_part names) t ≡ got qs u → AreParts names (starts colon u) (q ∷ qs))
+        → AreParts names (starts colon end) (p ∷ ps)
+    by none e k more = none_further names p text ps end w (cc) (cc)
     by (stop why t) e k more = absurd (cc)
     by (item s t) e k more =
-        let f = first_of_all s (items_up_to n next_part t) ps end k in
-        subst (λ (l : List Part). AreParts (starts colon end) (p ∷ l)) f.is (
-          any_conditions (starts colon end && false) p.conditions (front s t e w),
-          more s t f.others end (part_well text s t e) f.reads,
+        let f = first_of_all s (items_up_to n (next_part names) t) ps end k in
+        subst (λ (l : List Part). AreParts names (starts colon end) (p ∷ l)) f.is (
+          any_conditions names (starts colon end && false) p.conditions (front s t e w),
+          more s t f.others end (part_well names text s t e) f.reads,
         )
 
 -- the compound selectors of a selector
-record PartsWell (ps : List Part) (end : List ℕ) : Type 0 where
+record PartsWell (names : Names) (ps : List Part) (end : List ℕ) : Type 0 where
   pub plain : BeginsPlain ps
-  pub are : AreParts (starts colon end) ps
+  pub are : AreParts names (starts colon end) ps
 
-first_parts : (p : Part) (text : List ℕ) (ps : List Part) (end : List ℕ)
-    → p.combinator ≡ Descendant → Conditions p.conditions text
-    → with_first p (items next_part text) ≡ got ps end → PartsWell ps end
-first_parts p text ps end plain w h =
-    let f = first_of_all p (items next_part text) ps end h in
-    subst (λ (l : List Part). PartsWell l end) f.is
-    (record { plain = plain; are = parts_up_to (length text) p text f.others end w f.reads })
+first_parts : (names : Names) (p : Part) (text : List ℕ) (ps : List Part) (end : List ℕ)
+    → p.combinator ≡ Descendant → Conditions names p.conditions text
+    → with_first p (items (next_part names) text) ≡ got ps end → PartsWell names ps end
+first_parts names p text ps end plain w h =
+    let f = first_of_all p (items (next_part names) text) ps end h in
+    subst (λ (l : List Part). PartsWell names l end) f.is
+    (record { plain = plain; are = parts_up_to names (length text) p text f.others end w f.reads })
 
-parts_well : (text : List ℕ) (ps : List Part) (end : List ℕ) → parts text ≡ got ps end
-    → PartsWell ps end
+parts_well : (names : Names) (text : List ℕ) (ps : List Part) (end : List ℕ) → parts names text ≡ got ps end
+    → PartsWell names ps end
 unfolding parts
-parts_well text ps end h =
-    let f = followed (gap text) (λ x. conditions >>= λ first.
-    one_more (joined_by Descendant first) (items next_part)) ps end h in
-    let g = followed (conditions f.middle) (λ first.
-    one_more (joined_by Descendant first) (items next_part)) ps end f.second in
-    first_parts (joined_by Descendant g.value) g.middle ps end refl
-    (conditions_well f.middle g.value g.middle g.first) g.second
+parts_well names text ps end h =
+    let f = followed (gap text) (λ x. conditions names >>= λ first.
+    one_more (joined_by Descendant first) (items (next_part names))) ps end h in
+    let g = followed (conditions names f.middle) (λ first.
+    one_more (joined_by Descendant first) (items (next_part names))) ps end f.second in
+    first_parts names (joined_by Descendant g.value) g.middle ps end refl
+    (conditions_well names f.middle g.value g.middle g.first) g.second
 
 -- ---- pseudo-elements
 
-element_argument_well : (opened n text : List ℕ) (a : Option (List ℕ)) (rest : List ℕ)
-    → element_argument opened n text ≡ got a rest → IsElementArgument n a
+element_argument_well : (names : Names) (opened n text : List ℕ) (a : Option (List ℕ)) (rest : List ℕ)
+    → element_argument names opened n text ≡ got a rest → IsElementArgument names n a
 unfolding element_argument
-element_argument_well opened n text a rest h = by (starts open_parenthesis text) h
+element_argument_well names opened n text a rest h = by (starts open_parenthesis text) h
   where
-    plain : (t : Bool) → is_element n ≡ t
+    plain : (t : Bool) → is_element names n ≡ t
         → (if t then got None text else refused UnknownName opened) ≡ got a rest
-        → IsElementArgument n a
-    plain true e k = let is : None ≡ a = cc in subst (IsElementArgument n) is e
+        → IsElementArgument names n a
+    plain true e k = let is : None ≡ a = cc in subst (IsElementArgument names n) is e
     plain false e k = absurd (cc)
 
     by : (t : Bool) → (if t
-        then follow (argument_of element_functions opened n (past_one text)) (λ b. give (Some b))
-        else (if is_element n then got None text else refused UnknownName opened)) ≡ got a rest
-        → IsElementArgument n a
-    by false k = plain (is_element n) refl k
+        then follow (argument_of (element_functions names) opened n (past_one text)) (λ b. give (Some b))
+        else (if is_element names n then got None text else refused UnknownName opened)) ≡ got a rest
+        → IsElementArgument names n a
+    by false k = plain (is_element names n) refl k
     by true k =
-        let f = followed (argument_of element_functions opened n (past_one text)) (λ b. give (Some b))
+        let f = followed (argument_of (element_functions names) opened n (past_one text)) (λ b. give (Some b))
         a rest k in
         let is : Some f.value ≡ a = (let e = f.second in cc) in
-        subst (IsElementArgument n) is
-        (argument_of_well element_functions opened n (past_one text) f.value f.middle f.first)
+        subst (IsElementArgument names n) is
+        (argument_of_well (element_functions names) opened n (past_one text) f.value f.middle f.first)
 
 abbrev NamedElement : Type 0
 NamedElement = List ℕ × Option (List ℕ)
 
-element_name_well : (opened text : List ℕ) (e : NamedElement) (rest : List ℕ)
-    → element_name opened text ≡ got e rest → IsElementName e.0 e.1
+element_name_well : (names : Names) (opened text : List ℕ) (e : NamedElement) (rest : List ℕ)
+    → element_name names opened text ≡ got e rest → IsElementName names e.0 e.1
 unfolding element_name
-element_name_well opened text e rest h =
+element_name_well names opened text e rest h =
     let named : List ℕ = past_colon (past_comments text) in
-    let f = followed (name named) (λ n. element_argument opened n >>= λ a. give (n, a)) e rest h in
-    let g = followed (element_argument opened f.value f.middle) (λ a. give (f.value, a)) e rest
+    let f = followed (name named) (λ n. element_argument names opened n >>= λ a. give (n, a)) e rest h in
+    let g = followed (element_argument names opened f.value f.middle) (λ a. give (f.value, a)) e rest
     f.second in
     let is : (f.value, g.value) ≡ e = (let k = g.second in cc) in
-    subst (λ (x : NamedElement). IsElementName x.0 x.1) is (
+    subst (λ (x : NamedElement). IsElementName names x.0 x.1) is (
       name_well named f.value f.middle f.first,
-      element_argument_well opened f.value f.middle g.value g.middle g.first,
+      element_argument_well names opened f.value f.middle g.value g.middle g.first,
     )
 
 -- what is read from a colon on is no other simple selector
@@ -574,24 +576,24 @@ class_of_numbered list opened kind p o text c rest h = by o h
     by None k = without k
     by (Some test) k = named test (begins_name text) k
 
-class_of_functional : (list : ListReader) (opened n text : List ℕ) (kind : Option Function)
-    (c : Condition) (rest : List ℕ) → functional list opened n kind text ≡ got c rest → IsClass c
-class_of_functional list opened n text None c rest h =
-    let f = followed (argument_of functions opened n text) (λ a. give (simple (function n a))) c rest h
+class_of_functional : (names : Names) (list : ListReader) (opened n text : List ℕ) (kind : Option Function)
+    (c : Condition) (rest : List ℕ) → functional names list opened n kind text ≡ got c rest → IsClass c
+class_of_functional names list opened n text None c rest h =
+    let f = followed (argument_of (functions names) opened n text) (λ a. give (simple (function n a))) c rest h
     in
     let is : simple (function n f.value) ≡ c = (let e = f.second in cc) in
     subst IsClass is refl
-class_of_functional list opened n text (Some Language) c rest h =
+class_of_functional names list opened n text (Some Language) c rest h =
     let f = followed (language_ranges text) (λ ranges. give (simple (language ranges))) c rest h in
     let is : simple (language f.value) ≡ c = (let e = f.second in cc) in
     subst IsClass is refl
-class_of_functional list opened n text (Some (Numbered kind)) c rest h =
+class_of_functional names list opened n text (Some (Numbered kind)) c rest h =
     let r = numbered_read list opened kind text c rest h in
     class_of_numbered list opened kind r.value (list_test kind r.value) r.after c rest r.last
 
-class_of_name : (opened n text : List ℕ) (c : Condition) (rest : List ℕ)
-    → simple_item (named_pseudo opened n text) ≡ item c rest → IsClass c
-class_of_name opened n text c rest h = by (is_old_element n) (plain_structure n) h
+class_of_name : (names : Names) (opened n text : List ℕ) (c : Condition) (rest : List ℕ)
+    → simple_item (named_pseudo names opened n text) ≡ item c rest → IsClass c
+class_of_name names opened n text c rest h = by (is_old_element n) (plain_structure n) h
   where
     known : (t : Bool) → simple_item (as_item (λ s. s)
         (if t then got (state n) text else refused UnknownName opened)) ≡ item c rest → IsClass c
@@ -599,18 +601,18 @@ class_of_name opened n text c rest h = by (is_old_element n) (plain_structure n)
     known false k = absurd (cc)
 
     by : (t : Bool) (o : Option Structure)
-        → simple_item (if t then none else as_item (λ s. s) (plain_pseudo opened n o text))
+        → simple_item (if t then none else as_item (λ s. s) (plain_pseudo names opened n o text))
         ≡ item c rest → IsClass c
     by true o k = absurd (cc)
-    by false None k = known (is_one_of states n) k
+    by false None k = known (is_one_of (states names) n) k
     by false (Some s) k = let is : simple (structure s) ≡ c = cc in subst IsClass is refl
 
-class_of_argument : (list : ListReader) (opened n text : List ℕ) (kind : Option ListKind)
+class_of_argument : (names : Names) (list : ListReader) (opened n text : List ℕ) (kind : Option ListKind)
     (c : Condition) (rest : List ℕ)
-    → with_argument list opened n kind (function_named n) text ≡ got c rest → IsClass c
-class_of_argument list opened n text None c rest h =
-    class_of_functional list opened n text (function_named n) c rest h
-class_of_argument list opened n text (Some kind) c rest h =
+    → with_argument names list opened n kind (function_named n) text ≡ got c rest → IsClass c
+class_of_argument names list opened n text None c rest h =
+    class_of_functional names list opened n text (function_named n) c rest h
+class_of_argument names list opened n text (Some kind) c rest h =
     let f = followed (list kind opened text) (λ all. give (listed kind all)) c rest h in
     let is : listed kind f.value ≡ c = (let e = f.second in cc) in
     subst IsClass is (by kind f.value)
@@ -621,220 +623,224 @@ class_of_argument list opened n text (Some kind) c rest h =
     by Where ss = tt
     by Has ss = tt
 
-class_here : (list : ListReader) (text : List ℕ) (c : Condition) (rest : List ℕ)
-    → condition_here list (colon ∷ text) ≡ item c rest → IsClass c
+class_here : (names : Names) (list : ListReader) (text : List ℕ) (c : Condition) (rest : List ℕ)
+    → condition_here names list (colon ∷ text) ≡ item c rest → IsClass c
 unfolding next_simple
-class_here list text c rest h = by (begins_pseudo_class (colon ∷ text)) h
+class_here names list text c rest h = by (begins_pseudo_class (colon ∷ text)) h
   where
     named : List ℕ
     named = past_comments text
 
     after : (m t : List ℕ) (o : Bool) → (if o
         then as_item (λ c. c)
-        (with_argument list (colon ∷ text) m (list_kind m) (function_named m) (past_one t))
-        else simple_item (named_pseudo (colon ∷ text) m t)) ≡ item c rest → IsClass c
+        (with_argument names list (colon ∷ text) m (list_kind m) (function_named m) (past_one t))
+        else simple_item (named_pseudo names (colon ∷ text) m t)) ≡ item c rest → IsClass c
     after m t true k =
         let f = made (λ x. x)
-        (with_argument list (colon ∷ text) m (list_kind m) (function_named m) (past_one t)) c rest
+        (with_argument names list (colon ∷ text) m (list_kind m) (function_named m) (past_one t)) c rest
         k in
         subst IsClass f.is
-        (class_of_argument list (colon ∷ text) m (past_one t) (list_kind m) f.value rest f.first)
-    after m t false k = class_of_name (colon ∷ text) m t c rest k
+        (class_of_argument names list (colon ∷ text) m (past_one t) (list_kind m) f.value rest f.first)
+    after m t false k = class_of_name names (colon ∷ text) m t c rest k
 
-    by : (t : Bool) → (if t then step_after (name named) (pseudo_condition list (colon ∷ text))
-        else simple_item (next_simple (colon ∷ text))) ≡ item c rest → IsClass c
+    by : (t : Bool) → (if t then step_after (name named) (pseudo_condition names list (colon ∷ text))
+        else simple_item (next_simple names (colon ∷ text))) ≡ item c rest → IsClass c
     by false k = absurd (cc)
     by true k =
-        let f = found_after (name named) (pseudo_condition list (colon ∷ text)) c rest k in
+        let f = found_after (name named) (pseudo_condition names list (colon ∷ text)) c rest k in
         after f.value f.middle (starts open_parenthesis f.middle) f.second
 
-next_class : (text : List ℕ) (c : Condition) (rest : List ℕ) → starts colon text ≡ true
-    → next_condition outside text ≡ item c rest → IsClass c
+next_class : (names : Names) (text : List ℕ) (c : Condition) (rest : List ℕ) → starts colon text ≡ true
+    → next_condition (outside names) text ≡ item c rest → IsClass c
 unfolding condition_at
-next_class [] c rest h k = absurd (cc)
-next_class (b ∷ text) c rest h k =
+next_class names [] c rest h k = absurd (cc)
+next_class names (b ∷ text) c rest h k =
     let is : b ≡ colon = eqb-true b colon h in
-    let list : ListReader = list_by false (condition_at 31) in
-    let here : condition_by list (colon ∷ text) ≡ item c rest =
-    subst (λ (d : ℕ). condition_by list (d ∷ text) ≡ item c rest) is k in
-    class_here list text c rest
-    (sym (ap (condition_here list) (no_comments (colon ∷ text) refl)) ∙ here)
+    let list : ListReader = list_by names false (condition_at names 31) in
+    let here : condition_by names list (colon ∷ text) ≡ item c rest =
+    subst (λ (d : ℕ). condition_by names list (d ∷ text) ≡ item c rest) is k in
+    class_here names list text c rest
+    (sym (ap (condition_here names list) (no_comments (colon ∷ text) refl)) ∙ here)
 
-class_after : (c : Condition) → IsClass c → IsFurtherCondition outside c → IsAfterElement c
-class_after (simple universal) k w = absurd w
-class_after (simple (type_name n)) k w = absurd w
-class_after (simple (id n)) k w = (k, w)
-class_after (simple (class n)) k w = (k, w)
-class_after (simple (has_attribute n)) k w = (k, w)
-class_after (simple (attribute n c v ignores)) k w = (k, w)
-class_after (simple (structure s)) k w = (k, w)
-class_after (simple (language ranges)) k w = (k, w)
-class_after (simple (state n)) k w = (k, w)
-class_after (simple (function n a)) k w = (k, w)
-class_after (simple (named_element n a)) k w = absurd w
-class_after (simple (nesting list)) k w = (k, w)
-class_after (simple (namespaced namespace local)) k w = (k, w)
-class_after (negation selectors) k w = w
-class_after (any_of selectors) k w = w
-class_after (where_any selectors) k w = w
-class_after (tested test selectors) k w = w
+class_after : (names : Names) (c : Condition) → IsClass c → IsFurtherCondition (outside names) c → IsAfterElement names c
+class_after names (simple universal) k w = absurd w
+class_after names (simple (type_name n)) k w = absurd w
+class_after names (simple (id n)) k w = (k, w)
+class_after names (simple (class n)) k w = (k, w)
+class_after names (simple (has_attribute n)) k w = (k, w)
+class_after names (simple (attribute n c v ignores)) k w = (k, w)
+class_after names (simple (structure s)) k w = (k, w)
+class_after names (simple (language ranges)) k w = (k, w)
+class_after names (simple (state n)) k w = (k, w)
+class_after names (simple (function n a)) k w = (k, w)
+class_after names (simple (named_element n a)) k w = absurd w
+class_after names (simple (nesting list)) k w = (k, w)
+class_after names (simple (namespaced namespace local)) k w = (k, w)
+class_after names (negation selectors) k w = w
+class_after names (any_of selectors) k w = w
+class_after names (where_any selectors) k w = w
+class_after names (tested test selectors) k w = w
 
 -- what follows a pseudo-element
-after_element_well : (text : List ℕ) (c : Condition) (rest : List ℕ)
-    → after_element text ≡ item c rest → IsAfterElement c
+after_element_well : (names : Names) (text : List ℕ) (c : Condition) (rest : List ℕ)
+    → after_element names text ≡ item c rest → IsAfterElement names c
 unfolding after_element
-after_element_well text c rest h = by (starts colon here) refl h
+after_element_well names text c rest h = by (starts colon here) refl h
   where
     here : List ℕ
     here = past_comments text
 
-    kind : starts colon here ≡ true → (step : Step Condition) → next_condition outside here ≡ step
-        → class_or_element here step ≡ item c rest → IsAfterElement c
+    kind : starts colon here ≡ true → (step : Step Condition) → next_condition (outside names) here ≡ step
+        → class_or_element names here step ≡ item c rest → IsAfterElement names c
     kind s (item d t) e k =
         let is : d ≡ c = cc in
-        subst IsAfterElement is
-        (class_after d (next_class here d t s e) (next_condition_well outside here d t e))
+        subst (IsAfterElement names) is
+        (class_after names d (next_class names here d t s e) (next_condition_well (outside names) here d t e))
     kind s none e k =
-        let f = made named_condition (element_name here (past_one here)) c rest k in
-        subst IsAfterElement f.is (element_name_well here (past_one here) f.value rest f.first)
+        let f = made named_condition (element_name names here (past_one here)) c rest k in
+        subst (IsAfterElement names) f.is (element_name_well names here (past_one here) f.value rest f.first)
     kind s (stop why t) e k = absurd (cc)
 
     by : (t : Bool) → starts colon here ≡ t
-        → (if t then class_or_element here (next_condition outside here) else none) ≡ item c rest
-        → IsAfterElement c
+        → (if t then class_or_element names here (next_condition (outside names) here) else none) ≡ item c rest
+        → IsAfterElement names c
     by false s k = absurd (cc)
-    by true s k = kind s (next_condition outside here) refl k
+    by true s k = kind s (next_condition (outside names) here) refl k
 
 -- the pseudo-element, if there is one
-record ElementWell (text : List ℕ) (element : Option PseudoElement) : Type 0 where
+record ElementWell (names : Names) (text : List ℕ) (element : Option PseudoElement) : Type 0 where
   pub there : starts colon text ≡ is_some element
-  pub well : ForSome element IsPseudoElement
+  pub well : ForSome element (IsPseudoElement names)
 
-element_well : (text : List ℕ) (element : Option PseudoElement) (rest : List ℕ)
-    → pseudo_element text ≡ got element rest → ElementWell text element
+element_well : (names : Names) (text : List ℕ) (element : Option PseudoElement) (rest : List ℕ)
+    → pseudo_element names text ≡ got element rest → ElementWell names text element
 unfolding pseudo_element
-element_well text element rest h = by (starts colon text) refl h
+element_well names text element rest h = by (starts colon text) refl h
   where
     by : (t : Bool) → starts colon text ≡ t
-        → (if t then follow (element_name text (past_one text)) with_after else got None text)
-        ≡ got element rest → ElementWell text element
+        → (if t then follow (element_name names text (past_one text)) (with_after names) else got None text)
+        ≡ got element rest → ElementWell names text element
     by false e k =
         let is : None ≡ element = cc in
-        subst (ElementWell text) is (record { there = e; well = λ n same. absurd (cc) })
+        subst (ElementWell names text) is (record { there = e; well = λ n same. absurd (cc) })
     by true e k =
-        let f = followed (element_name text (past_one text)) with_after element rest k in
-        let g = followed (items after_element f.middle)
+        let f = followed (element_name names text (past_one text)) (with_after names) element rest k in
+        let g = followed (items (after_element names) f.middle)
         (λ cs. give (Some (element_named f.value.0 f.value.1 cs))) element rest f.second in
         let is : Some (element_named f.value.0 f.value.1 g.value) ≡ element =
         (let l = g.second in cc) in
-        let named = element_name_well text (past_one text) f.value f.middle f.first in
-        let all = all_items after_element IsAfterElement after_element_well f.middle g.value
+        let named = element_name_well names text (past_one text) f.value f.middle f.first in
+        let all = all_items (after_element names) (IsAfterElement names) (after_element_well names) f.middle g.value
         g.middle g.first in
-        subst (ElementWell text) is (record {
+        subst (ElementWell names text) is (record {
           there = e;
           well = λ n same.
               let own : element_named f.value.0 f.value.1 g.value ≡ n = cc in
-              subst IsPseudoElement own (named, all);
+              subst (IsPseudoElement names) own (named, all);
         })
 
 -- what is before a pseudo-element may be before comments and one
-parts_stay : (e : Bool) (ps : List Part) → AreParts false ps → AreParts e ps
-parts_stay e [] w = tt
-parts_stay e (p ∷ ps) w =
-    (any_conditions (e && is_last ps) p.conditions w.0, parts_stay e ps w.1)
+parts_stay : (names : Names) (e : Bool) (ps : List Part) → AreParts names false ps → AreParts names e ps
+parts_stay names e [] w = tt
+parts_stay names e (p ∷ ps) w =
+    (any_conditions names (e && is_last ps) p.conditions w.0, parts_stay names e ps w.1)
 
-before_comments : (text : List ℕ) (ps : List Part) (t : Bool) → starts colon text ≡ t
-    → AreParts (starts colon text) ps → AreParts (starts colon (past_comments text)) ps
-before_comments text ps true e w = by text e w
+before_comments : (names : Names) (text : List ℕ) (ps : List Part) (t : Bool) → starts colon text ≡ t
+    → AreParts names (starts colon text) ps → AreParts names (starts colon (past_comments text)) ps
+before_comments names text ps true e w = by text e w
   where
-    by : (l : List ℕ) → starts colon l ≡ true → AreParts (starts colon l) ps
-        → AreParts (starts colon (past_comments l)) ps
+    by : (l : List ℕ) → starts colon l ≡ true → AreParts names (starts colon l) ps
+        → AreParts names (starts colon (past_comments l)) ps
     by [] h v = absurd (cc)
     by (b ∷ l) h v =
         let is : b ≡ colon = eqb-true b colon h in
         let none : opens_comment (b ∷ l) ≡ false =
         subst (λ d. opens_comment (d ∷ l) ≡ false) (sym is) refl in
-        subst (λ (m : List ℕ). AreParts (starts colon m) ps) (sym (no_comments (b ∷ l) none)) v
-before_comments text ps false e w =
-    parts_stay (starts colon (past_comments text)) ps
-    (subst (λ (t : Bool). AreParts t ps) e w)
+        subst (λ (m : List ℕ). AreParts names (starts colon m) ps) (sym (no_comments (b ∷ l) none)) v
+before_comments names text ps false e w =
+    parts_stay names (starts colon (past_comments text)) ps
+    (subst (λ (t : Bool). AreParts names t ps) e w)
 
 -- of a relative selector, too
-relative_well : (text : List ℕ) (ps : List Part) (end : List ℕ) → relative_parts text ≡ got ps end
-    → PartsWell ps end
+relative_well : (names : Names) (text : List ℕ) (ps : List Part) (end : List ℕ) → relative_parts names text ≡ got ps end
+    → PartsWell names ps end
 unfolding relative_parts
-relative_well text ps end h = by (first_sign text) h
+relative_well names text ps end h = by (first_sign text) h
   where
-    by : (k : Option Combinator) → after_sign text k ≡ got ps end → PartsWell ps end
-    by None k = parts_well text ps end k
+    by : (k : Option Combinator) → after_sign names text k ≡ got ps end → PartsWell names ps end
+    by None k = parts_well names text ps end k
     by (Some c) k =
-        first_parts (nesting_part outermost) text ps end refl
-        (inl (refl, All-nil (IsFurtherCondition outside))) k
+        first_parts names (nesting_part outermost) text ps end refl
+        (inl (refl, All-nil (IsFurtherCondition (outside names)))) k
 
-start_well : (start : Start) (text : List ℕ) (ps : List Part) (end : List ℕ)
-    → start_parts start text ≡ got ps end → PartsWell ps end
-start_well Plain text ps end h = parts_well text ps end h
-start_well Relative text ps end h = relative_well text ps end h
+start_well : (names : Names) (start : Start) (text : List ℕ) (ps : List Part) (end : List ℕ)
+    → start_parts names start text ≡ got ps end → PartsWell names ps end
+start_well names Plain text ps end h = parts_well names text ps end h
+start_well names Relative text ps end h = relative_well names text ps end h
 
-placed_well : (start : Start) (text : List ℕ) (p : Placed) (rest : List ℕ)
-    → placed_by start text ≡ got p rest → IsWellFormed p.selector
+placed_well : (names : Names) (start : Start) (text : List ℕ) (p : Placed) (rest : List ℕ)
+    → placed_by names start text ≡ got p rest → IsWellFormed names p.selector
 unfolding placed_by
-placed_well start text p rest h =
+placed_well names start text p rest h =
     let a = followed (gap text) _ p rest h in
-    let b = followed (start_parts start a.middle) _ p rest a.second in
-    let c = followed (pseudo_element (past_comments b.middle)) _ p rest b.second in
+    let b = followed (start_parts names start a.middle) _ p rest a.second in
+    let c = followed (pseudo_element names (past_comments b.middle)) _ p rest b.second in
     let d = followed (gap c.middle) _ p rest c.second in
-    let is : placed_as b.value c.value a.middle b.middle (past_comments b.middle) c.middle ≡ p =
+    let is : placed_as (in_default names.default_namespace b.value) c.value a.middle b.middle (past_comments b.middle) c.middle ≡ p =
     (let e = d.second in cc) in
-    let w = start_well start a.middle b.value b.middle b.first in
-    let e = element_well (past_comments b.middle) c.value c.middle c.first in
-    subst (λ (q : Placed). IsWellFormed q.selector) is (
-      w.plain,
-      subst (λ (t : Bool). AreParts t b.value) e.there
-          (before_comments b.middle b.value (starts colon b.middle) refl w.are),
-      e.well,
+    let w = start_well names start a.middle b.value b.middle b.first in
+    let e = element_well names (past_comments b.middle) c.value c.middle c.first in
+    subst (λ (q : Placed). IsWellFormed names q.selector) is (
+      selector_with b.value c.value,
+      (
+        w.plain,
+        subst (λ (t : Bool). AreParts names t b.value) e.there
+            (before_comments names b.middle b.value (starts colon b.middle) refl w.are),
+        e.well,
+      ),
+      refl,
     )
 
-pub selector-well : (text : List ℕ) (s : Selector) (rest : List ℕ) → selector text ≡ got s rest
-    → IsWellFormed s
+pub selector-well : (names : Names) (text : List ℕ) (s : Selector) (rest : List ℕ) → selector names text ≡ got s rest
+    → IsWellFormed names s
 unfolding selector placed_selector
-selector-well text s rest h =
-    let f = followed (placed_selector text) (λ p. give p.selector) s rest h in
-    let g = followed (placed text) (λ p. at_end >> give p) f.value f.middle f.first in
+selector-well names text s rest h =
+    let f = followed (placed_selector names text) (λ p. give p.selector) s rest h in
+    let g = followed (placed names text) (λ p. at_end >> give p) f.value f.middle f.first in
     let k = followed (at_end g.middle) (λ x. give g.value) f.value f.middle g.second in
     let same : g.value ≡ f.value = (let e = k.second in cc) in
     let is : f.value.selector ≡ s = (let e = f.second in cc) in
-    subst IsWellFormed is
-    (subst (λ (q : Placed). IsWellFormed q.selector) same
-    (placed_well Plain text g.value g.middle g.first))
+    subst (IsWellFormed names) is
+    (subst (λ (q : Placed). IsWellFormed names q.selector) same
+    (placed_well names Plain text g.value g.middle g.first))
 
-next_placed_well : (start : Start) (text : List ℕ) (p : Placed) (rest : List ℕ)
-    → next_placed start text ≡ item p rest → IsWellFormed p.selector
+next_placed_well : (names : Names) (start : Start) (text : List ℕ) (p : Placed) (rest : List ℕ)
+    → next_placed names start text ≡ item p rest → IsWellFormed names p.selector
 unfolding next_placed
-next_placed_well start text p rest h = by (starts comma text) h
+next_placed_well names start text p rest h = by (starts comma text) h
   where
-    by : (t : Bool) → (if t then as_item (λ q. q) (placed_by start (past_one text)) else none)
-        ≡ item p rest → IsWellFormed p.selector
+    by : (t : Bool) → (if t then as_item (λ q. q) (placed_by names start (past_one text)) else none)
+        ≡ item p rest → IsWellFormed names p.selector
     by false k = absurd (cc)
     by true k =
-        let m = made (λ q. q) (placed_by start (past_one text)) p rest k in
-        subst (λ (q : Placed). IsWellFormed q.selector) m.is
-        (placed_well start (past_one text) m.value rest m.first)
+        let m = made (λ q. q) (placed_by names start (past_one text)) p rest k in
+        subst (λ (q : Placed). IsWellFormed names q.selector) m.is
+        (placed_well names start (past_one text) m.value rest m.first)
 
-pub list_well : (start : Start) (text : List ℕ) (all : List Placed) (rest : List ℕ)
-    → placed_list_by start text ≡ got all rest → All (λ p. IsWellFormed p.selector) all
+pub list_well : (names : Names) (start : Start) (text : List ℕ) (all : List Placed) (rest : List ℕ)
+    → placed_list_by names start text ≡ got all rest → All (λ p. IsWellFormed names p.selector) all
 unfolding placed_list_by
-list_well start text all rest h =
-    let f = followed (placed_by start text) (λ first. one_more first (items (next_placed start))
+list_well names start text all rest h =
+    let f = followed (placed_by names start text) (λ first. one_more first (items (next_placed names start))
     >>= λ ps. at_end >> give ps) all rest h in
-    let g = followed (one_more f.value (items (next_placed start)) f.middle)
+    let g = followed (one_more f.value (items (next_placed names start)) f.middle)
     (λ ps. at_end >> give ps) all rest f.second in
     let k = followed (at_end g.middle) (λ x. give g.value) all rest g.second in
     let is : g.value ≡ all = (let e = k.second in cc) in
-    let m = first_of_all f.value (items (next_placed start) f.middle) g.value g.middle g.first in
-    let others = all_items (next_placed start) (λ p. IsWellFormed p.selector) (next_placed_well start)
+    let m = first_of_all f.value (items (next_placed names start) f.middle) g.value g.middle g.first in
+    let others = all_items (next_placed names start) (λ p. IsWellFormed names p.selector) (next_placed_well names start)
     f.middle m.others g.middle m.reads in
-    subst (All (λ p. IsWellFormed p.selector)) is
-    (subst (All (λ p. IsWellFormed p.selector)) m.is
-    (All-cons (λ p. IsWellFormed p.selector) f.value m.others
-    (placed_well start text f.value f.middle f.first) others))
+    subst (All (λ p. IsWellFormed names p.selector)) is
+    (subst (All (λ p. IsWellFormed names p.selector)) m.is
+    (All-cons (λ p. IsWellFormed names p.selector) f.value m.others
+    (placed_well names start text f.value f.middle f.first) others))

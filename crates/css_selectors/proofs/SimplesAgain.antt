@@ -1,6 +1,6 @@
 -- Printed simple selectors read back.
 -- Serves `printing_laws::printing_law`.
-use Rattle.std.proofs.Common.{◌≡◌, ℕ, zero, suc, ◌<◌, ◌≤◌, ◌==◌, ◌||◌, ◌&&◌, not, Bool, true, false, List, [], ◌∷◌, ◌++◌, Option, None, Some, All, length, length-append, flat_map, append_assoc, arith, refl, sym, ap, ◌∙◌, subst, eqb-true}
+use Rattle.std.proofs.Common.{◌≡◌, ℕ, zero, suc, ◌<◌, ◌≤◌, ◌==◌, ◌||◌, ◌&&◌, not, Bool, true, false, List, [], ◌∷◌, ◌++◌, Option, None, Some, All, length, length-append, option_map, flat_map, append_assoc, arith, refl, sym, ap, ◌∙◌, subst, eqb-true}
 use Rattle.std.specs.Prelude.{codes, if◌then◌else◌}
 use Rattle.std.proofs.lemmas.List.Elements.{All-head, All-tail}
 use Rattle.css_text.specs.AsciiBytes.{backslash, asterisk, close_bracket, close_parenthesis, colon, comma, double_quote, equals_sign, form_feed, full_stop, hyphen, newline, carriage_return, number_sign, open_bracket, open_parenthesis, slash, space, tab, vertical_bar}
@@ -14,12 +14,12 @@ use Rattle.css_selectors.specs.declared.components.Function.TheVariants.{Numbere
 use Rattle.css_selectors.specs.Components.{Comparison, Progression, Structure, Namespace, Local, Simple, ListTest, Condition}
 use Rattle.css_selectors.specs.Components.Comparison.{equals, has_word, has_subtag, starts as starts_with, ends as ends_with, contains}
 use Rattle.css_selectors.specs.Components.Structure.{root, scope, empty, first_child, last_child, only_child, first_of_type, last_of_type, only_of_type, nth_child, nth_last_child, nth_of_type, nth_last_of_type}
-use Rattle.css_selectors.specs.Components.Namespace.{absent, any_namespace, of_prefix}
-use Rattle.css_selectors.specs.Components.Local.{any_type, a_type, some_attribute, an_attribute}
+use Rattle.css_selectors.specs.Components.Namespace.{absent, any_namespace, of_prefix, default}
+use Rattle.css_selectors.specs.Components.Local.{any_type, a_type, some_attribute, an_attribute, implied}
 use Rattle.css_selectors.specs.Components.Simple.{universal, type_name, id, class, has_attribute, attribute, structure, language, state, function, named_element, nesting, namespaced}
 use Rattle.css_selectors.specs.Components.Condition.{simple}
 use Rattle.css_selectors.specs.Readings.{got, follow, give, ◌>>=◌, ◌>>◌, Step, item, none, as_item, with_first, go_on, items, items_up_to}
-use Rattle.css_selectors.specs.Grammar.{gap, past_comments, name, begins_name, begins_word, begins_compound, ampersand, value, comparison, flag, flag_named, compared, by_comparison, is_bar, at_bar, prefix, namespace, in_namespace, attribute_from_name, attribute_selector, closing, progression, one_more, plain_structure, plain_pseudo, list_kind, function_named, numbered_by, next_range, range_after, language_ranges, argument_of, of_list, after_word, list_test, after_progression, functional, is_old_element, next_simple, simple_item, ListReader, with_argument, pseudo_condition, condition_here, condition_by}
+use Rattle.css_selectors.specs.Grammar.{gap, past_comments, name, begins_name, begins_word, begins_compound, ampersand, value, comparison, flag, flag_named, compared, by_comparison, is_bar, at_bar, prefix, if_declared, of_declared, namespace, in_namespace, attribute_from_name, attribute_selector, closing, progression, one_more, plain_structure, plain_pseudo, list_kind, function_named, numbered_by, next_range, range_after, language_ranges, argument_of, of_list, after_word, list_test, after_progression, functional, is_old_element, next_simple, simple_item, ListReader, with_argument, pseudo_condition, condition_here, condition_by}
 use Rattle.css_selectors.specs.Printing.{identifier_text, string_text, progression_text, comparison_text, flag_text, structure_text, further_text, list_text, namespace_text, simple_text}
 use Rattle.css_selectors.specs.KnownNames.{functions}
 use Rattle.css_selectors.specs.WellFormed.{IsDenoted, IsName, IsArgumentOf, IsProgression, IsStructure, IsNamespace, IsFurther}
@@ -27,6 +27,7 @@ use Rattle.css_selectors.proofs.ArgumentLemmas.{argument-again}
 use Rattle.css_selectors.proofs.GapLemmas.{no_comments}
 use Rattle.css_selectors.proofs.SpelledAgain.{EndsName, ident-again, name-again, begins-again, word-again, decoded-again, value-again, all_below, passes, either_fails}
 use Rattle.css_selectors.proofs.NumbersAgain.{no_gap, one_blank, gapped_next, closed_end, of_end, progression-again, progression_calm}
+use Rattle.css_selectors.specs.Names.{Names}
 
 -- ---- items
 
@@ -221,68 +222,71 @@ bar_after n rest some e calm =
     rw (star, begins) (ap past_comments (word-again n rest some e) ∙ no_comments rest calm)
 
 -- a printed name without a bar after it has no namespace
-pub bare-again : (n rest : List ℕ) → IsName n → EndsName rest → opens_comment rest ≡ false
+pub bare-again : (names : Names) (n rest : List ℕ) → IsName n → EndsName rest → opens_comment rest ≡ false
     → is_bar rest ≡ false
-    → namespace (identifier_text n ++ rest) ≡ got None (identifier_text n ++ rest)
+    → namespace names (identifier_text n ++ rest) ≡ got None (identifier_text n ++ rest)
 unfolding namespace
-bare-again n rest some e calm bare =
+bare-again names n rest some e calm bare =
     let text : List ℕ = identifier_text n ++ rest in
-    ap (λ l. if is_bar l then got (Some (prefix text)) (past_comments (past_one l)) else got None text)
+    ap (λ l. if is_bar l then if_declared text (prefix names text) (past_comments (past_one l)) else got None text)
     (bar_after n rest some e calm)
-    ∙ ap (λ (t : Bool). if t then got (Some (prefix text)) (past_comments (past_one rest))
+    ∙ ap (λ (t : Bool). if t then if_declared text (prefix names text) (past_comments (past_one rest))
     else got None text) bare
 
 -- a bar, and what is before it
-barred : (text rest : List ℕ) (p : Namespace) → at_bar text ≡ vertical_bar ∷ rest
-    → prefix text ≡ p → opens_comment rest ≡ false → starts equals_sign rest ≡ false
-    → namespace text ≡ got (Some p) rest
+barred : (names : Names) (text rest : List ℕ) (p : Namespace) → at_bar text ≡ vertical_bar ∷ rest
+    → prefix names text ≡ Some p → opens_comment rest ≡ false → starts equals_sign rest ≡ false
+    → namespace names text ≡ got (Some p) rest
 unfolding namespace
-barred text rest p at is calm other =
+barred names text rest p at is calm other =
     let bar : is_bar (vertical_bar ∷ rest) ≡ true = rw other refl in
-    ap (λ l. if is_bar l then got (Some (prefix text)) (past_comments (past_one l)) else got None text)
+    ap (λ l. if is_bar l then if_declared text (prefix names text) (past_comments (past_one l)) else got None text)
     at
-    ∙ ap (λ (t : Bool). if t then got (Some (prefix text)) (past_comments rest)
+    ∙ ap (λ (t : Bool). if t then if_declared text (prefix names text) (past_comments rest)
     else got None text) bar
-    ∙ ap (λ q. got (Some q) (past_comments rest)) is
+    ∙ ap (λ q. if_declared text q (past_comments rest)) is
     ∙ ap (got (Some p)) (no_comments rest calm)
 
 -- a printed namespace is read before what begins neither a comment nor with an equals sign
-pub namespace-again : (p : Namespace) (rest : List ℕ) → IsNamespace p → opens_comment rest ≡ false
-    → starts equals_sign rest ≡ false → namespace (namespace_text p ++ rest) ≡ got (Some p) rest
+pub namespace-again : (names : Names) (p : Namespace) (rest : List ℕ) → IsNamespace names p → opens_comment rest ≡ false
+    → starts equals_sign rest ≡ false → namespace names (namespace_text p ++ rest) ≡ got (Some p) rest
 unfolding at_bar prefix
-namespace-again absent rest w calm other =
-    barred (vertical_bar ∷ rest) rest absent (no_comments (vertical_bar ∷ rest) refl) refl calm other
-namespace-again any_namespace rest w calm other =
-    barred (asterisk ∷ vertical_bar ∷ rest) rest any_namespace (no_comments (vertical_bar ∷ rest) refl)
+namespace-again names absent rest w calm other =
+    barred names (vertical_bar ∷ rest) rest absent (no_comments (vertical_bar ∷ rest) refl) refl calm other
+namespace-again names any_namespace rest w calm other =
+    barred names (asterisk ∷ vertical_bar ∷ rest) rest any_namespace (no_comments (vertical_bar ∷ rest) refl)
     refl calm other
-namespace-again (of_prefix n) rest w calm other =
+namespace-again names (default k) rest w calm other = absurd w
+namespace-again names (of_prefix n k) rest w calm other =
     let bar : List ℕ = vertical_bar ∷ rest in
     let text : List ℕ = identifier_text n ++ bar in
     let e : EndsName bar = record { bare = refl; calm = refl; apart = refl } in
-    let begins = begins-again n bar w e in
+    let begins = begins-again n bar w.0 e in
     let star : starts asterisk text ≡ false = name_other asterisk text begins refl in
-    ap namespace (append_assoc (identifier_text n) (vertical_bar ∷ []) rest)
-    ∙ barred text rest (of_prefix n) (bar_after n bar w e refl)
-    (rw (star, begins) (ap of_prefix (decoded-again n bar w e))) calm other
+    ap (namespace names) (append_assoc (identifier_text n) (vertical_bar ∷ []) rest)
+    ∙ barred names text rest (of_prefix n k) (bar_after n bar w.0 e refl)
+    (rw (star, begins) (ap (of_declared names) (decoded-again n bar w.0 e)
+    ∙ ap (option_map (of_prefix n)) w.1)) calm other
 
-pub namespace_begins : (p : Namespace) (rest : List ℕ) → IsNamespace p
+pub namespace_begins : (names : Names) (p : Namespace) (rest : List ℕ) → IsNamespace names p
     → starts_by begins_compound (namespace_text p ++ rest) ≡ true
-namespace_begins absent rest w = refl
-namespace_begins any_namespace rest w = refl
-namespace_begins (of_prefix n) rest w =
+namespace_begins names absent rest w = refl
+namespace_begins names any_namespace rest w = refl
+namespace_begins names (default k) rest w = absurd w
+namespace_begins names (of_prefix n k) rest w =
     let bar : List ℕ = vertical_bar ∷ rest in
     ap (starts_by begins_compound) (append_assoc (identifier_text n) (vertical_bar ∷ []) rest)
     ∙ name_compound (identifier_text n ++ bar)
-    (begins-again n bar w (record { bare = refl; calm = refl; apart = refl }))
+    (begins-again n bar w.0 (record { bare = refl; calm = refl; apart = refl }))
 
 -- and before a printed name
-pub namespace_name : (p : Namespace) (n rest : List ℕ) → IsNamespace p → IsName n → EndsName rest
-    → namespace (namespace_text p ++ (identifier_text n ++ rest))
+pub namespace_name : (names : Names) (p : Namespace) (n rest : List ℕ) → IsNamespace names p → IsName n → EndsName rest
+    → namespace names (namespace_text p ++ (identifier_text n ++ rest))
     ≡ got (Some p) (identifier_text n ++ rest)
-namespace_name p n rest w some e =
+namespace_name names p n rest w some e =
     let text : List ℕ = identifier_text n ++ rest in
     let begins = begins-again n rest some e in
-    namespace-again p text w (no_comment_here text (name_other slash text begins refl))
+    namespace-again names p text w (no_comment_here text (name_other slash text begins refl))
     (name_other equals_sign text begins refl)
 
 -- an attribute selector from its name on, as far as its operator
@@ -415,44 +419,44 @@ an_attribute-again n v rest c ignores some denoted =
     ∙ flag_end rest n v c ignores
 
 -- an attribute selector, by the namespace before its name
-attribute_by : (text mid rest : List ℕ) (p : Option Namespace) (local : Local) → NoGap text
-    → namespace text ≡ got p mid → attribute_from_name mid ≡ got local rest
-    → attribute_selector text ≡ got (in_namespace p local) rest
+attribute_by : (names : Names) (text mid rest : List ℕ) (p : Option Namespace) (local : Local) → NoGap text
+    → namespace names text ≡ got p mid → attribute_from_name mid ≡ got local rest
+    → attribute_selector names text ≡ got (in_namespace p local) rest
 unfolding attribute_selector
-attribute_by text mid rest p local solid spaced reads =
-    ap (λ r. follow r (λ x. namespace >>= λ n. attribute_from_name >>= λ l.
+attribute_by names text mid rest p local solid spaced reads =
+    ap (λ r. follow r (λ x. namespace names >>= λ n. attribute_from_name >>= λ l.
     give (in_namespace n l))) (no_gap text solid)
     ∙ ap (λ r. follow r (λ n. attribute_from_name >>= λ l. give (in_namespace n l))) spaced
     ∙ ap (λ r. follow r (λ l. give (in_namespace p l))) reads
 
 -- without a namespace
-attribute_bare : (n after rest : List ℕ) (local : Local) → IsName n → EndsName after
+attribute_bare : (names : Names) (n after rest : List ℕ) (local : Local) → IsName n → EndsName after
     → opens_comment after ≡ false → is_bar after ≡ false
     → attribute_from_name (identifier_text n ++ after) ≡ got local rest
-    → attribute_selector (identifier_text n ++ after) ≡ got (in_namespace None local) rest
-attribute_bare n after rest local some e calm bare reads =
-    attribute_by (identifier_text n ++ after) (identifier_text n ++ after) rest None local
-    (name_solid n after some e) (bare-again n after some e calm bare) reads
+    → attribute_selector names (identifier_text n ++ after) ≡ got (in_namespace None local) rest
+attribute_bare names n after rest local some e calm bare reads =
+    attribute_by names (identifier_text n ++ after) (identifier_text n ++ after) rest None local
+    (name_solid n after some e) (bare-again names n after some e calm bare) reads
 
 -- with one
-attribute_in : (p : Namespace) (n after rest : List ℕ) (local : Local) → IsNamespace p → IsName n
+attribute_in : (names : Names) (p : Namespace) (n after rest : List ℕ) (local : Local) → IsNamespace names p → IsName n
     → EndsName after → attribute_from_name (identifier_text n ++ after) ≡ got local rest
-    → attribute_selector (namespace_text p ++ (identifier_text n ++ after))
+    → attribute_selector names (namespace_text p ++ (identifier_text n ++ after))
     ≡ got (namespaced p local) rest
-attribute_in p n after rest local w some e reads =
+attribute_in names p n after rest local w some e reads =
     let text : List ℕ = namespace_text p ++ (identifier_text n ++ after) in
-    attribute_by text (identifier_text n ++ after) rest (Some p) local
-    (begins_solid text (namespace_begins p (identifier_text n ++ after) w))
-    (namespace_name p n after w some e) reads
+    attribute_by names text (identifier_text n ++ after) rest (Some p) local
+    (begins_solid text (namespace_begins names p (identifier_text n ++ after) w))
+    (namespace_name names p n after w some e) reads
 
 -- ---- arguments of pseudo-classes
 
 -- the argument of a pseudo-class with `An+B`
-numbered_argument : (list : ListReader) (opened n rest : List ℕ) (kind : Numbering) (p : Progression)
+numbered_argument : (names : Names) (list : ListReader) (opened n rest : List ℕ) (kind : Numbering) (p : Progression)
     → IsProgression p
-    → functional list opened n (Some (Numbered kind)) (progression_text p ++ (close_parenthesis ∷ rest))
+    → functional names list opened n (Some (Numbered kind)) (progression_text p ++ (close_parenthesis ∷ rest))
     ≡ got (simple (structure (numbered_by kind p))) rest
-numbered_argument list opened n rest kind p w =
+numbered_argument names list opened n rest kind p w =
     let end : List ℕ = close_parenthesis ∷ rest in
     ap (λ r. follow r (λ x. progression >>= λ q. gap >>
     after_progression list opened kind q (list_test kind q)))
@@ -469,11 +473,11 @@ numbered_argument list opened n rest kind p w =
     by (Some test) = refl
 
 -- a list after it is read by what reads lists, from the blank after `of` on
-pub of_argument : (list : ListReader) (opened n a : List ℕ) (kind : Numbering) (test : ListTest)
+pub of_argument : (names : Names) (list : ListReader) (opened n a : List ℕ) (kind : Numbering) (test : ListTest)
     (p : Progression) → list_test kind p ≡ Some test → IsProgression p
-    → functional list opened n (Some (Numbered kind)) (progression_text p ++ (codes " of " ++ a))
+    → functional names list opened n (Some (Numbered kind)) (progression_text p ++ (codes " of " ++ a))
     ≡ of_list list test opened (space ∷ a)
-of_argument list opened n a kind test p is_test w =
+of_argument names list opened n a kind test p is_test w =
     let listed : List ℕ = space ∷ a in
     let left : List ℕ = 111 ∷ 102 ∷ listed in
     let end : List ℕ = space ∷ left in
@@ -536,11 +540,11 @@ ranges-again rest (range ∷ ranges) some all =
     ∙ ap (λ r. follow r (λ x. closing close_parenthesis >> give (range ∷ ranges)))
     (no_gap end (no_gap-byte close_parenthesis rest refl refl))
 
-language_argument : (list : ListReader) (opened n rest : List ℕ) (ranges : List (List ℕ))
+language_argument : (names : Names) (list : ListReader) (opened n rest : List ℕ) (ranges : List (List ℕ))
     → 0 < length ranges × All IsDenoted ranges
-    → functional list opened n (Some Language) (list_text string_text ranges ++ (close_parenthesis ∷ rest))
+    → functional names list opened n (Some Language) (list_text string_text ranges ++ (close_parenthesis ∷ rest))
     ≡ got (simple (language ranges)) rest
-language_argument list opened n rest ranges w =
+language_argument names list opened n rest ranges w =
     ap (λ r. follow r (λ all. give (simple (language all)))) (ranges-again rest ranges w.0 w.1)
 
 -- ---- pseudo-classes without a list
@@ -567,14 +571,14 @@ by_start P pn pf po pc pa b h =
     by false false false false false en ef eo ec ea h = absurd (cc)
 
 -- a further simple selector is no type
-pub further_starts : (s : Simple) → IsFurther s → starts_by is_start (simple_text s) ≡ true
-further_starts universal w = absurd w
-further_starts (type_name n) w = absurd w
-further_starts (id n) w = refl
-further_starts (class n) w = refl
-further_starts (has_attribute n) w = refl
-further_starts (attribute n c v ignores) w = refl
-further_starts (structure s) w = by s
+pub further_starts : (names : Names) (s : Simple) → IsFurther names s → starts_by is_start (simple_text s) ≡ true
+further_starts names universal w = absurd w
+further_starts names (type_name n) w = absurd w
+further_starts names (id n) w = refl
+further_starts names (class n) w = refl
+further_starts names (has_attribute n) w = refl
+further_starts names (attribute n c v ignores) w = refl
+further_starts names (structure s) w = by s
   where
     by : (s : Structure) → starts_by is_start (structure_text s) ≡ true
     by root = refl
@@ -590,15 +594,16 @@ further_starts (structure s) w = by s
     by (nth_last_child p) = refl
     by (nth_of_type p) = refl
     by (nth_last_of_type p) = refl
-further_starts (language ranges) w = refl
-further_starts (state n) w = refl
-further_starts (function n a) w = refl
-further_starts (named_element n a) w = absurd w
-further_starts (nesting list) w = refl
-further_starts (namespaced p any_type) w = absurd w.1
-further_starts (namespaced p (a_type n)) w = absurd w.1
-further_starts (namespaced p (some_attribute n)) w = refl
-further_starts (namespaced p (an_attribute n c v ignores)) w = refl
+further_starts names (language ranges) w = refl
+further_starts names (state n) w = refl
+further_starts names (function n a) w = refl
+further_starts names (named_element n a) w = absurd w
+further_starts names (nesting list) w = refl
+further_starts names (namespaced p any_type) w = absurd w.1
+further_starts names (namespaced p implied) w = absurd w.1
+further_starts names (namespaced p (a_type n)) w = absurd w.1
+further_starts names (namespaced p (some_attribute n)) w = refl
+further_starts names (namespaced p (an_attribute n c v ignores)) w = refl
 
 pub call_end : (argument : List ℕ) → EndsName (open_parenthesis ∷ argument)
 call_end argument = record { bare = refl; calm = refl; apart = refl }
@@ -628,11 +633,11 @@ argument_of-again names opened n a rest w =
     let known = w.0 in
     rw known (argument-again (a ++ (close_parenthesis ∷ [])) a [] w.1 rest)
 
-module _ (list : ListReader) where
+module _ (names : Names) (list : ListReader) where
   -- a pseudo-class is read by its name
   pseudo_named : (n rest : List ℕ) → IsName n → EndsName rest
-      → condition_by list (colon ∷ (identifier_text n ++ rest))
-      ≡ pseudo_condition list (colon ∷ (identifier_text n ++ rest)) n rest
+      → condition_by names list (colon ∷ (identifier_text n ++ rest))
+      ≡ pseudo_condition names list (colon ∷ (identifier_text n ++ rest)) n rest
   pseudo_named n rest some e =
       let text : List ℕ = identifier_text n ++ rest in
       let one : starts colon text ≡ false =
@@ -641,13 +646,13 @@ module _ (list : ListReader) where
       no_comments text (no_comment_here text (name_other slash text (begins-again n rest some e) refl))
       in
       let reads = name-again n rest some e in
-      ap (condition_here list) (no_comments (colon ∷ text) refl) ∙ rw (none, one, reads) refl
+      ap (condition_here names list) (no_comments (colon ∷ text) refl) ∙ rw (none, one, reads) refl
 
   -- a pseudo-class that is only a name
   plain-again : (n rest : List ℕ) (s : Simple) → IsName n → is_old_element n ≡ false
       → ends rest ≡ true
-      → ((opened : List ℕ) → plain_pseudo opened n (plain_structure n) rest ≡ got s rest)
-      → condition_by list (colon ∷ (identifier_text n ++ rest)) ≡ item (simple s) rest
+      → ((opened : List ℕ) → plain_pseudo names opened n (plain_structure n) rest ≡ got s rest)
+      → condition_by names list (colon ∷ (identifier_text n ++ rest)) ≡ item (simple s) rest
   plain-again n rest s some other h is =
       let stops = opens_none rest h in
       pseudo_named n rest some (ends_name rest h)
@@ -656,8 +661,8 @@ module _ (list : ListReader) where
   -- a functional pseudo-class, by what its argument is read as
   pub call-again : (n argument rest : List ℕ) (c : Condition) → IsName n
       → ((opened : List ℕ)
-      → with_argument list opened n (list_kind n) (function_named n) argument ≡ got c rest)
-      → condition_by list (colon ∷ (identifier_text n ++ (open_parenthesis ∷ argument)))
+      → with_argument names list opened n (list_kind n) (function_named n) argument ≡ got c rest)
+      → condition_by names list (colon ∷ (identifier_text n ++ (open_parenthesis ∷ argument)))
       ≡ item c rest
   call-again n argument rest c some reads =
       pseudo_named n (open_parenthesis ∷ argument) some (call_end argument)
@@ -665,7 +670,7 @@ module _ (list : ListReader) where
 
   numbered-again : (n rest : List ℕ) (kind : Numbering) (p : Progression) → IsName n
       → list_kind n ≡ None → function_named n ≡ Some (Numbered kind) → IsProgression p
-      → condition_by list (colon ∷ (identifier_text n ++ (open_parenthesis ∷ ((progression_text p
+      → condition_by names list (colon ∷ (identifier_text n ++ (open_parenthesis ∷ ((progression_text p
       ++ (close_parenthesis ∷ [])) ++ rest))))
       ≡ item (simple (structure (numbered_by kind p))) rest
   numbered-again n rest kind p some no_list is w =
@@ -675,17 +680,17 @@ module _ (list : ListReader) where
       argument = (progression_text p ++ (close_parenthesis ∷ [])) ++ rest
 
       reads : (opened : List ℕ)
-          → with_argument list opened n (list_kind n) (function_named n) argument
+          → with_argument names list opened n (list_kind n) (function_named n) argument
           ≡ got (simple (structure (numbered_by kind p))) rest
       reads opened =
-          ap (λ k. with_argument list opened n k (function_named n) argument) no_list
-          ∙ ap (λ f. with_argument list opened n None f argument) is
-          ∙ ap (with_argument list opened n None (Some (Numbered kind)))
+          ap (λ k. with_argument names list opened n k (function_named n) argument) no_list
+          ∙ ap (λ f. with_argument names list opened n None f argument) is
+          ∙ ap (with_argument names list opened n None (Some (Numbered kind)))
           (append_assoc (progression_text p) (close_parenthesis ∷ []) rest)
-          ∙ numbered_argument list opened n rest kind p w
+          ∙ numbered_argument names list opened n rest kind p w
 
   structure-again : (s : Structure) (rest : List ℕ) → IsStructure s → ends rest ≡ true
-      → condition_by list (structure_text s ++ rest) ≡ item (simple (structure s)) rest
+      → condition_by names list (structure_text s ++ rest) ≡ item (simple (structure s)) rest
   structure-again root rest w h = plain-again (codes "root") rest _ (omega arith, refl) refl h (λ opened. refl)
   structure-again scope rest w h = plain-again (codes "scope") rest _ (omega arith, refl) refl h (λ opened. refl)
   structure-again empty rest w h = plain-again (codes "empty") rest _ (omega arith, refl) refl h (λ opened. refl)
@@ -711,59 +716,59 @@ module _ (list : ListReader) where
       numbered-again (codes "nth-last-of-type") rest OfLastType p (omega arith, refl) refl refl w
 
   language-again : (ranges : List (List ℕ)) (rest : List ℕ) → 0 < length ranges × All IsDenoted ranges
-      → condition_by list (simple_text (language ranges) ++ rest)
+      → condition_by names list (simple_text (language ranges) ++ rest)
       ≡ item (simple (language ranges)) rest
   language-again ranges rest some =
       call-again (codes "lang") ((list_text string_text ranges ++ (close_parenthesis ∷ [])) ++ rest)
       rest (simple (language ranges)) (omega arith, refl) (λ opened.
-      ap (with_argument list opened (codes "lang") None (Some Language))
+      ap (with_argument names list opened (codes "lang") None (Some Language))
       (append_assoc (list_text string_text ranges) (close_parenthesis ∷ []) rest)
-      ∙ language_argument list opened (codes "lang") rest ranges some)
+      ∙ language_argument names list opened (codes "lang") rest ranges some)
 
   -- one that has no meaning here
-  called-again : (n a rest : List ℕ) → IsFurther (function n a)
-      → condition_by list (simple_text (function n a) ++ rest) ≡ item (simple (function n a)) rest
+  called-again : (n a rest : List ℕ) → IsFurther names (function n a)
+      → condition_by names list (simple_text (function n a) ++ rest) ≡ item (simple (function n a)) rest
   called-again n a rest w =
-      ap (λ l. condition_by list (colon ∷ l)) (call_assoc (identifier_text n) a rest)
+      ap (λ l. condition_by names list (colon ∷ l)) (call_assoc (identifier_text n) a rest)
       ∙ call-again n (a ++ (close_parenthesis ∷ rest)) rest (simple (function n a)) w.0 reads
     where
       reads : (opened : List ℕ)
-          → with_argument list opened n (list_kind n) (function_named n)
+          → with_argument names list opened n (list_kind n) (function_named n)
           (a ++ (close_parenthesis ∷ rest)) ≡ got (simple (function n a)) rest
       reads opened =
           rw (w.1, w.2) (ap (λ r. follow r (λ b. give (simple (function n b))))
-          (argument_of-again functions opened n a rest w.3))
+          (argument_of-again (functions names) opened n a rest w.3))
 
   -- a simple selector that is no type
-  pub further-again : (s : Simple) (rest : List ℕ) → IsFurther s → ends rest ≡ true
-      → condition_by list (simple_text s ++ rest) ≡ item (simple s) rest
+  pub further-again : (s : Simple) (rest : List ℕ) → IsFurther names s → ends rest ≡ true
+      → condition_by names list (simple_text s ++ rest) ≡ item (simple s) rest
   unfolding next_simple
   further-again universal rest w h = absurd w
   further-again (type_name n) rest w h = absurd w
   further-again (id n) rest w h =
-      ap (condition_here list) (no_comments (number_sign ∷ (identifier_text n ++ rest)) refl)
+      ap (condition_here names list) (no_comments (number_sign ∷ (identifier_text n ++ rest)) refl)
       ∙ ap (λ r. simple_item (as_item id r)) (ident-again n rest w (ends_name rest h))
   further-again (class n) rest w h =
-      ap (condition_here list) (no_comments (full_stop ∷ (identifier_text n ++ rest)) refl)
+      ap (condition_here names list) (no_comments (full_stop ∷ (identifier_text n ++ rest)) refl)
       ∙ ap (λ l. simple_item (as_item class (name l))) (no_comments (identifier_text n ++ rest)
       (no_comment_here (identifier_text n ++ rest)
       (name_other slash (identifier_text n ++ rest) (named_text n rest w h) refl)))
       ∙ ap (λ r. simple_item (as_item class r)) (name-again n rest w (ends_name rest h))
   further-again (has_attribute n) rest w h =
-      ap (condition_here list) (no_comments (simple_text (has_attribute n) ++ rest) refl)
-      ∙ ap (λ l. simple_item (next_simple (open_bracket ∷ l)))
+      ap (condition_here names list) (no_comments (simple_text (has_attribute n) ++ rest) refl)
+      ∙ ap (λ l. simple_item (next_simple names (open_bracket ∷ l)))
       (append_assoc (identifier_text n) (close_bracket ∷ []) rest)
       ∙ ap (λ r. simple_item (as_item (λ s. s) r))
-      (attribute_bare n (close_bracket ∷ rest) rest (some_attribute n) w (bracket_end rest) refl refl
+      (attribute_bare names n (close_bracket ∷ rest) rest (some_attribute n) w (bracket_end rest) refl refl
       (some_attribute-again n rest w))
   further-again (attribute n c v ignores) rest w h =
-      ap (condition_here list)
+      ap (condition_here names list)
       (no_comments (simple_text (attribute n c v ignores) ++ rest) refl)
-      ∙ ap (λ l. simple_item (next_simple (open_bracket ∷ l)))
+      ∙ ap (λ l. simple_item (next_simple names (open_bracket ∷ l)))
       (attribute_assoc (identifier_text n) (comparison_text c) (string_text v) (flag_text ignores)
       (close_bracket ∷ []) rest)
       ∙ ap (λ r. simple_item (as_item (λ s. s) r))
-      (attribute_bare n (tested c v ignores rest) rest (an_attribute n c v ignores) w.0
+      (attribute_bare names n (tested c v ignores rest) rest (an_attribute n c v ignores) w.0
       (tested_end c v ignores rest) (operator_calm c _) (operator_bare c _)
       (an_attribute-again n v rest c ignores w.0 w.1))
   further-again (structure s) rest w h = structure-again s rest w h
@@ -771,29 +776,30 @@ module _ (list : ListReader) where
   further-again (state n) rest w h =
       let known = w.3 in
       plain-again n rest (state n) w.0 w.2 h
-      (λ opened. ap (λ o. plain_pseudo opened n o rest) w.1 ∙ rw known refl)
+      (λ opened. ap (λ o. plain_pseudo names opened n o rest) w.1 ∙ rw known refl)
   further-again (function n a) rest w h = called-again n a rest w
   further-again (named_element n a) rest w h = absurd w
   further-again (nesting stands) rest w h =
-      ap (condition_here list) (no_comments (ampersand ∷ rest) refl)
+      ap (condition_here names list) (no_comments (ampersand ∷ rest) refl)
       ∙ ap (λ l. item (simple (nesting l)) rest) (sym w)
   further-again (namespaced p any_type) rest w h = absurd w.1
+  further-again (namespaced p implied) rest w h = absurd w.1
   further-again (namespaced p (a_type n)) rest w h = absurd w.1
   further-again (namespaced p (some_attribute n)) rest w h =
-      ap (condition_here list)
+      ap (condition_here names list)
       (no_comments (simple_text (namespaced p (some_attribute n)) ++ rest) refl)
-      ∙ ap (λ l. simple_item (next_simple (open_bracket ∷ l)))
+      ∙ ap (λ l. simple_item (next_simple names (open_bracket ∷ l)))
       (some_assoc (namespace_text p) (identifier_text n) (close_bracket ∷ []) rest)
       ∙ ap (λ r. simple_item (as_item (λ s. s) r))
-      (attribute_in p n (close_bracket ∷ rest) rest (some_attribute n) w.0 w.1 (bracket_end rest)
+      (attribute_in names p n (close_bracket ∷ rest) rest (some_attribute n) w.0 w.1 (bracket_end rest)
       (some_attribute-again n rest w.1))
   further-again (namespaced p (an_attribute n c v ignores)) rest w h =
-      ap (condition_here list)
+      ap (condition_here names list)
       (no_comments (simple_text (namespaced p (an_attribute n c v ignores)) ++ rest) refl)
-      ∙ ap (λ l. simple_item (next_simple (open_bracket ∷ l)))
+      ∙ ap (λ l. simple_item (next_simple names (open_bracket ∷ l)))
       (attribute_assoc (namespace_text p ++ identifier_text n) (comparison_text c) (string_text v)
       (flag_text ignores) (close_bracket ∷ []) rest
       ∙ append_assoc (namespace_text p) (identifier_text n) (tested c v ignores rest))
       ∙ ap (λ r. simple_item (as_item (λ s. s) r))
-      (attribute_in p n (tested c v ignores rest) rest (an_attribute n c v ignores) w.0
+      (attribute_in names p n (tested c v ignores rest) rest (an_attribute n c v ignores) w.0
       w.1.0 (tested_end c v ignores rest) (an_attribute-again n v rest c ignores w.1.0 w.1.1))

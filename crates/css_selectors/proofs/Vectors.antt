@@ -1,20 +1,21 @@
 -- Worked texts, computed with the definitions.
 -- Computes `name`, `ident_sequence`, `progression`, `attribute_selector`, `next_condition` and
 -- `complex_list`.
-use Rattle.std.specs.Prelude.{◌≡◌, refl, ℕ, List, [], ◌∷◌, map, codes, true, false}
+use Rattle.std.specs.Prelude.{◌≡◌, refl, ℕ, List, [], ◌∷◌, map, codes, true, false, None}
 use Rattle.css_matching.specs.declared.Combinator.TheVariants.{Descendant}
 use Rattle.css_text.specs.Comments.{blank, comment, gap as gap_before}
 use Rattle.css_text.specs.Reading.{each}
 use Rattle.css_syntax.specs.Tokens.{past_escape, past_letter, spells, past_comment, gap_part, name_part, string_part, past_string, url_part, remnant_part, past_url, token}
 use Rattle.css_syntax.specs.ComponentValues.{block_of, past_open, component_value}
 use Rattle.css_syntax.specs.Escapes.{decoded_part, unescaped_in}
-use Rattle.css_selectors.specs.declared.refusal.Why.TheVariants.{NoSelector, NoName, NoProgression, NoValue, UnknownName, UnknownFunction, TooDeep}
+use Rattle.css_selectors.specs.declared.refusal.Why.TheVariants.{NoSelector, NoName, NoProgression, NoValue, UnknownName, UnknownFunction, TooDeep, UnknownPrefix}
 use Rattle.css_selectors.specs.Components.{Part}
 use Rattle.css_selectors.specs.Components.Comparison.{equals, has_subtag}
 use Rattle.css_selectors.specs.Components.Namespace.{absent, any_namespace, of_prefix}
 use Rattle.css_selectors.specs.Components.Local.{any_type, a_type, some_attribute, an_attribute}
 use Rattle.css_selectors.specs.Components.Simple.{type_name, class, has_attribute, attribute, state, namespaced}
 use Rattle.css_selectors.specs.Components.Condition.{simple}
+use Rattle.css_selectors.specs.Names.{Names, no_names}
 use Rattle.css_selectors.specs.Readings.{got, refused, item, stop}
 use Rattle.css_selectors.specs.declared.components.ListKind.TheVariants.{Not, Is}
 use Rattle.css_selectors.specs.Grammar.{gap, ident_sequence, name, string, value, comparison, flag, compared, namespace, at_bar, prefix, attribute_from_name, attribute_selector, signed, stepping, offset_or_none, with_offset, subtracted, by_tail, n_word, progression, any_or_name, type_selector, next_simple, Finder, condition_at, next_condition, compound, complex_by, complex, next_part_in, listed_part, next_listed, past_part, complex_list}
@@ -48,32 +49,45 @@ progressions = (refl, refl, refl, refl, refl, refl, refl, refl, refl)
 
 -- the end of the text closes what is open
 pub attributes :
-    (attribute_selector (codes "a=\"b") ≡ got (attribute (codes "a") equals (codes "b") false) [])
-    × (attribute_selector (codes "a=b/**/\\69") ≡ got (attribute (codes "a") equals (codes "b") true) [])
-    × (attribute_selector (codes "a/*") ≡ got (has_attribute (codes "a")) [])
-    × (attribute_selector (codes "a=") ≡ refused NoValue [])
-    × (attribute_selector (codes "*=b]") ≡ refused NoName (codes "*=b]"))
+    (attribute_selector no_names (codes "a=\"b") ≡ got (attribute (codes "a") equals (codes "b") false) [])
+    × (attribute_selector no_names (codes "a=b/**/\\69") ≡ got (attribute (codes "a") equals (codes "b") true) [])
+    × (attribute_selector no_names (codes "a/*") ≡ got (has_attribute (codes "a")) [])
+    × (attribute_selector no_names (codes "a=") ≡ refused NoValue [])
+    × (attribute_selector no_names (codes "*=b]") ≡ refused NoName (codes "*=b]"))
 unfolding each past_escape past_comment name_part string_part decoded_part unescaped_in blank comment gap_before
     gap ident_sequence name string value comparison flag compared namespace at_bar attribute_from_name
     attribute_selector lib.Utf8.encode
 attributes = (refl, refl, refl, refl, refl)
 
+-- a prefix that is declared twice
+abbrev own : Names
+own = record {
+  states = [];
+  functions = [];
+  elements = [];
+  element_functions = [];
+  default_namespace = None;
+  prefixes = (codes "n", 1) ∷ (codes "n", 2) ∷ [];
+  other_prefixes = None;
+}
+
 -- a namespace, which comments may be in, and white space may not
 pub namespaces :
-    (attribute_selector (codes "n/**/|/**/a]") ≡ got (namespaced (of_prefix (codes "n")) (some_attribute (codes "a"))) [])
-    × (attribute_selector (codes "*|a=b]") ≡ got (namespaced any_namespace (an_attribute (codes "a") equals (codes "b") false)) [])
-    × (attribute_selector (codes "a|=b]") ≡ got (attribute (codes "a") has_subtag (codes "b") false) [])
-    × (type_selector (codes "n|*.c") ≡ item (namespaced (of_prefix (codes "n")) any_type) (codes ".c"))
-    × (type_selector (codes "|a") ≡ item (namespaced absent (a_type (codes "a"))) [])
-    × (type_selector (codes "n| a") ≡ stop NoName (codes " a"))
+    (attribute_selector own (codes "n/**/|/**/a]") ≡ got (namespaced (of_prefix (codes "n") 2) (some_attribute (codes "a"))) [])
+    × (attribute_selector own (codes "*|a=b]") ≡ got (namespaced any_namespace (an_attribute (codes "a") equals (codes "b") false)) [])
+    × (attribute_selector own (codes "a|=b]") ≡ got (attribute (codes "a") has_subtag (codes "b") false) [])
+    × (type_selector own (codes "n|*.c") ≡ item (namespaced (of_prefix (codes "n") 2) any_type) (codes ".c"))
+    × (type_selector own (codes "|a") ≡ item (namespaced absent (a_type (codes "a"))) [])
+    × (type_selector own (codes "n| a") ≡ stop NoName (codes " a"))
+    × (type_selector own (codes "N|a") ≡ stop UnknownPrefix (codes "N|a"))
 unfolding each past_escape past_comment name_part string_part decoded_part unescaped_in blank comment gap_before
     gap ident_sequence name string value comparison flag compared namespace at_bar prefix attribute_from_name
     attribute_selector any_or_name type_selector lib.Utf8.encode
-namespaces = (refl, refl, refl, refl, refl, refl)
+namespaces = (refl, refl, refl, refl, refl, refl, refl)
 
 -- where no list may be open
 abbrev nowhere : Finder
-nowhere = next_condition (record { depth = 0; in_has = false })
+nowhere = next_condition (record { depth = 0; in_has = false; names = no_names })
 
 -- comments are between any two tokens; a url is no function; unknown names are refused
 pub conditions :
@@ -92,13 +106,13 @@ types names = map (λ n. (record { combinator = Descendant; conditions = simple 
 
 -- a forgiving list leaves out what is no selector, up to a comma or parenthesis outside brackets
 pub lists :
-    (complex_list Is nowhere (codes "a, %%, b)c") ≡ got (types (codes "a" ∷ codes "b" ∷ [])) (codes "c"))
-    × (complex_list Is nowhere (codes ")") ≡ got [] [])
-    × (complex_list Is nowhere (codes ",/**/,a 5,b,)") ≡ got (types (codes "b" ∷ [])) [])
-    × (complex_list Is nowhere (codes "{),},],b") ≡ got (types (codes "b" ∷ [])) [])
-    × (complex_list Is nowhere (codes "a!b,c") ≡ got (types (codes "c" ∷ [])) [])
-    × (complex_list Is nowhere (codes "a,:is(b))") ≡ refused TooDeep (codes ":is(b))"))
-    × (complex_list Not nowhere (codes "a, %%)") ≡ refused NoSelector (codes "%%)"))
+    (complex_list no_names Is nowhere (codes "a, %%, b)c") ≡ got (types (codes "a" ∷ codes "b" ∷ [])) (codes "c"))
+    × (complex_list no_names Is nowhere (codes ")") ≡ got [] [])
+    × (complex_list no_names Is nowhere (codes ",/**/,a 5,b,)") ≡ got (types (codes "b" ∷ [])) [])
+    × (complex_list no_names Is nowhere (codes "{),},],b") ≡ got (types (codes "b" ∷ [])) [])
+    × (complex_list no_names Is nowhere (codes "a!b,c") ≡ got (types (codes "c" ∷ [])) [])
+    × (complex_list no_names Is nowhere (codes "a,:is(b))") ≡ refused TooDeep (codes ":is(b))"))
+    × (complex_list no_names Not nowhere (codes "a, %%)") ≡ refused NoSelector (codes "%%)"))
 unfolding each past_escape past_comment name_part decoded_part unescaped_in blank comment gap_before gap
     ident_sequence name namespace at_bar any_or_name type_selector next_simple condition_at compound complex_by complex next_part_in listed_part
     next_listed past_part complex_list token block_of past_open component_value gap_part string_part

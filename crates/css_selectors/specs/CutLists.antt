@@ -5,11 +5,13 @@ use Rattle.css_selectors.specs.declared.reading.Start.{Start}
 use Rattle.css_selectors.specs.Components.{Placed}
 use Rattle.css_selectors.specs.Grammar.{placed_by}
 use Rattle.css_selectors.specs.Readings.{got}
+use Rattle.css_selectors.specs.Names.{Names}
 
 -- The text is these selectors with commas between them: the first reads from its start up to a
 -- comma, and what follows the comma is the others. The last one reads to the end of the text.
-abbrev pub AreCut : Start → List ℕ → List Placed → Type 0
-AreCut start text [] = ⊥
-AreCut start text (p ∷ []) = placed_by start text ≡ got p []
-AreCut start text (p ∷ q ∷ others) =
-    (rest : List ℕ) × (placed_by start text ≡ got p (comma ∷ rest)) × AreCut start rest (q ∷ others)
+abbrev pub AreCut : Names → Start → List ℕ → List Placed → Type 0
+AreCut names start text [] = ⊥
+AreCut names start text (p ∷ []) = placed_by names start text ≡ got p []
+AreCut names start text (p ∷ q ∷ others) =
+    (rest : List ℕ) × (placed_by names start text ≡ got p (comma ∷ rest))
+    × AreCut names start rest (q ∷ others)

@@ -4,8 +4,8 @@ use Rattle.css_matching.specs.Trees.{Tree}
 
 -- A document: for each node the parent and the previous sibling, if there are any; the numbers of its
 -- ancestors, of its siblings before and after it, and of those among them that have its type; and its
--- answers to a type name, to the name of an attribute, to the name of a state, to a language range,
--- whether it has content, and whether it is one of the elements that a list of selectors of this number
+-- answers to a type name, to the number of a namespace, to the name of an attribute, to the name of a
+-- state, to a language range, whether it has content, and whether it is one of the elements that a list of selectors of this number
 -- matches. The list of number 0 is that of the scoping root alone. Elements alone are siblings, and
 -- parents.
 pub record Document (Node : Type 0) : Type 0 where
@@ -17,6 +17,7 @@ pub record Document (Node : Type 0) : Type 0 where
   pub earlier_of_type : Node → ℕ
   pub later_of_type : Node → ℕ
   pub is_named : Node → List ℕ → Bool
+  pub is_in_namespace : Node → ℕ → Bool
   pub attribute : Node → List ℕ → Option (List ℕ)
   pub is_in_state : Node → List ℕ → Bool
   pub is_in_language : Node → List ℕ → Bool

@@ -25,21 +25,23 @@ use Rattle.css_selectors.specs.declared.components.Function.TheVariants.{Numbere
 use Rattle.css_selectors.specs.declared.components.ListKind.{ListKind}
 use Rattle.css_selectors.specs.declared.components.Nesting.{Nesting}
 use Rattle.css_selectors.specs.declared.components.ListKind.TheVariants.{Not, Is, Where, Has}
-use Rattle.css_selectors.specs.declared.room.Room.{Room}
+use Rattle.css_selectors.specs.Rooms.{Room}
 use Rattle.css_selectors.specs.declared.reading.Start.{Start}
 use Rattle.css_selectors.specs.declared.reading.Start.TheVariants.{Plain, Relative}
 use Rattle.css_selectors.specs.declared.refusal.Why.{Why}
-use Rattle.css_selectors.specs.declared.refusal.Why.TheVariants.{NoSelector, NoName, BrokenString, NoOperator, NoValue, UnknownFlag, NoProgression, UnknownName, UnknownFunction, TooDeep, Unexpected}
+use Rattle.css_selectors.specs.declared.refusal.Why.TheVariants.{NoSelector, NoName, BrokenString, NoOperator, NoValue, UnknownFlag, NoProgression, UnknownName, UnknownFunction, TooDeep, Unexpected, UnknownPrefix}
 use Rattle.css_selectors.specs.Components.{Comparison, Signed, Progression, Structure, Namespace, Local, Simple, outermost, ListTest, Condition, Part, PseudoElement, Placed, Selector, selectors_from}
 use Rattle.css_selectors.specs.Components.Comparison.{equals, has_word, has_subtag, starts as starts_with, ends as ends_with, contains}
 use Rattle.css_selectors.specs.Components.ListTest.{has, nth_child as nth_child_list, nth_last_child as nth_last_child_list}
 use Rattle.css_selectors.specs.Components.Structure.{root, scope, empty, first_child, last_child, only_child, first_of_type, last_of_type, only_of_type, nth_child, nth_last_child, nth_of_type, nth_last_of_type}
 use Rattle.css_selectors.specs.Components.Namespace.{absent, any_namespace, of_prefix}
-use Rattle.css_selectors.specs.Components.Local.{any_type, a_type, some_attribute, an_attribute}
+use Rattle.css_selectors.specs.Components.Local.{any_type, a_type, some_attribute, an_attribute, implied}
 use Rattle.css_selectors.specs.Components.Simple.{universal, type_name, id, class, has_attribute, attribute, structure, language, state, function, named_element, nesting, namespaced}
 use Rattle.css_selectors.specs.Components.Condition.{simple, negation, any_of, where_any, tested}
 use Rattle.css_selectors.specs.KnownNames.{is_one_of, states, functions, is_element, element_functions}
 use Rattle.css_selectors.specs.Readings.{Reading, got, refused, Reader, follow, ◌>>=◌, ◌>>◌, give, Step, item, none, stop, step_after, as_item, with_first, items}
+use Rattle.css_selectors.specs.Defaults.{in_default}
+use Rattle.css_selectors.specs.Names.{Names, number_of}
 
 -- ---- gaps, names, strings
 
@@ -125,17 +127,28 @@ past_any_name text =
 unfoldable pub at_bar : List ℕ → List ℕ
 at_bar text = past_comments (past_any_name text)
 
--- what is before the bar
-unfoldable pub prefix : List ℕ → Namespace
-prefix text =
-    if starts asterisk text then any_namespace
-    else (if begins_name text then of_prefix (decoded (before text (past_word text))) else absent)
+-- the namespace of a prefix, if it is declared
+abbrev pub of_declared : Names → List ℕ → Option Namespace
+of_declared names p = option_map (of_prefix p) (number_of names p)
 
--- A namespace and its bar, if they are next, and comments. There is no white space in it.
-unfoldable pub namespace : Reader (Option Namespace)
-namespace text =
+-- what is before the bar: none is a prefix that is not declared
+unfoldable pub prefix : Names → List ℕ → Option Namespace
+prefix names text =
+    if starts asterisk text then Some any_namespace
+    else (if begins_name text then of_declared names (decoded (before text (past_word text)))
+    else Some absent)
+
+-- what was before the bar is a namespace, or a prefix that is not declared
+abbrev pub if_declared : List ℕ → Option Namespace → List ℕ → Reading (Option Namespace)
+if_declared text None rest = refused UnknownPrefix text
+if_declared text (Some n) rest = got (Some n) rest
+
+-- A namespace and its bar, if they are next, and comments. There is no white space in it. A prefix that
+-- is not declared is refused.
+unfoldable pub namespace : Names → Reader (Option Namespace)
+namespace names text =
     if is_bar (at_bar text)
-    then got (Some (prefix text)) (past_comments (past_one (at_bar text)))
+    then if_declared text (prefix names text) (past_comments (past_one (at_bar text)))
     else got None text
 
 -- a type or attribute selector, by the namespace that was read before its name
@@ -145,6 +158,7 @@ in_namespace None any_type = universal
 in_namespace None (a_type n) = type_name n
 in_namespace None (some_attribute n) = has_attribute n
 in_namespace None (an_attribute n c v ignores) = attribute n c v ignores
+in_namespace None implied = universal
 
 -- ---- attributes
 
@@ -219,10 +233,10 @@ attribute_from_name = do
   by_comparison n c
 
 -- an attribute selector, from after its bracket
-unfoldable pub attribute_selector : Reader Simple
-attribute_selector = do
+unfoldable pub attribute_selector : Names → Reader Simple
+attribute_selector names = do
   gap
-  n ← namespace
+  n ← namespace names
   local ← attribute_from_name
   give (in_namespace n local)
 
@@ -389,10 +403,10 @@ list_kind n =
 
 -- a pseudo-class that is only a name, by the structural one of this name; `opened` is the text from its
 -- colon on
-abbrev pub plain_pseudo : List ℕ → List ℕ → Option Structure → Reader Simple
-plain_pseudo opened n (Some s) text = got (structure s) text
-plain_pseudo opened n None text =
-    if is_one_of states n then got (state n) text else refused UnknownName opened
+abbrev pub plain_pseudo : Names → List ℕ → List ℕ → Option Structure → Reader Simple
+plain_pseudo names opened n (Some s) text = got (structure s) text
+plain_pseudo names opened n None text =
+    if is_one_of (states names) n then got (state n) text else refused UnknownName opened
 
 -- a pseudo-class that takes no list
 abbrev pub function_named : List ℕ → Option Function
@@ -462,10 +476,10 @@ argument_of names opened n text =
     if is_one_of names n then argument text else refused UnknownFunction opened
 
 -- a pseudo-class that is only a name; a pseudo-element is none
-abbrev pub named_pseudo : List ℕ → List ℕ → List ℕ → Step Simple
-named_pseudo opened n text =
+abbrev pub named_pseudo : Names → List ℕ → List ℕ → List ℕ → Step Simple
+named_pseudo names opened n text =
     if is_old_element n then none
-    else as_item (λ s. s) (plain_pseudo opened n (plain_structure n) text)
+    else as_item (λ s. s) (plain_pseudo names opened n (plain_structure n) text)
 
 -- ---- compound selectors
 
@@ -483,20 +497,20 @@ type_after None text =
 type_after (Some n) text = as_item (in_namespace (Some n)) (any_or_name text)
 
 -- `*` or a name, with a namespace or without one
-unfoldable pub type_selector : List ℕ → Step Simple
-type_selector text = step_after (namespace text) type_after
+unfoldable pub type_selector : Names → List ℕ → Step Simple
+type_selector names text = step_after (namespace names text) type_after
 
 -- `&`
 abbrev pub ampersand : ℕ
 ampersand = 38
 
 -- the next simple selector of a compound selector, if it is no pseudo-class
-unfoldable pub next_simple : List ℕ → Step Simple
-next_simple [] = none
-next_simple (b ∷ text) =
+unfoldable pub next_simple : Names → List ℕ → Step Simple
+next_simple names [] = none
+next_simple names (b ∷ text) =
     if b == full_stop then as_item class (name (past_comments text))
     else (if b == number_sign then as_item id (ident_sequence text)
-    else (if b == open_bracket then as_item (λ s. s) (attribute_selector text)
+    else (if b == open_bracket then as_item (λ s. s) (attribute_selector names text)
     else (if b == ampersand then item (nesting outermost) text else none)))
 
 -- at least one item
@@ -515,8 +529,8 @@ after_type next text none = some_of text (items next text)
 after_type next text (stop why rest) = refused why rest
 
 -- a compound selector in a list, by what finds a condition
-unfoldable pub compound : Finder → Reader (List Condition)
-compound next text = after_type next text (type_selector text)
+unfoldable pub compound : Names → Finder → Reader (List Condition)
+compound names next text = after_type next text (type_selector names text)
 
 -- a sign that joins compound selectors
 abbrev pub sign_combinator : ℕ → Option Combinator
@@ -557,14 +571,14 @@ part_after one (refused why rest) = stop why rest
 part_after one (got spaced rest) = by_sign one spaced rest (first_sign rest)
 
 -- in a list, by what finds a condition
-unfoldable pub next_part_in : Finder → List ℕ → Step Part
-next_part_in next text = part_after (compound next) (gap text)
+unfoldable pub next_part_in : Names → Finder → List ℕ → Step Part
+next_part_in names next text = part_after (compound names next) (gap text)
 
 -- a complex selector in a list, of which the first compound selector is joined so to what is before it
-unfoldable pub complex_by : Combinator → Finder → Reader (List Part)
-complex_by combinator next = do
-  first ← compound next
-  one_more (joined_by combinator first) (items (next_part_in next))
+unfoldable pub complex_by : Names → Combinator → Finder → Reader (List Part)
+complex_by names combinator next = do
+  first ← compound names next
+  one_more (joined_by combinator first) (items (next_part_in names next))
 
 -- whether the selectors of a list are relative, as those of `:has()` are (Selectors 4, section 4.5)
 abbrev pub is_relative : ListKind → Bool
@@ -578,13 +592,14 @@ abbrev pub leading_sign : ListKind → List ℕ → Option Combinator
 leading_sign kind text = if is_relative kind then first_sign text else None
 
 -- Without a sign a relative selector is of descendants.
-abbrev pub after_leading : Finder → List ℕ → Option Combinator → Reading (List Part)
-after_leading next text None = complex_by Descendant next text
-after_leading next text (Some combinator) = (gap >> complex_by combinator next) (past_one text)
+abbrev pub after_leading : Names → Finder → List ℕ → Option Combinator → Reading (List Part)
+after_leading names next text None = complex_by names Descendant next text
+after_leading names next text (Some combinator) =
+    (gap >> complex_by names combinator next) (past_one text)
 
 -- a complex selector in a list of this kind
-unfoldable pub complex : ListKind → Finder → Reader (List Part)
-complex kind next text = after_leading next text (leading_sign kind text)
+unfoldable pub complex : Names → ListKind → Finder → Reader (List Part)
+complex names kind next text = after_leading names next text (leading_sign kind text)
 
 -- A part of a list ends at a comma, at the closing parenthesis, or with the text.
 abbrev pub ends_part : List ℕ → Bool
@@ -629,13 +644,15 @@ judged forgiving text (got s rest) = part_end forgiving text s (gap rest)
 judged forgiving text (refused why rest) = no_selector forgiving text why rest
 
 -- a part of a list of this kind: the selector that it is, or none
-unfoldable pub listed_part : ListKind → Finder → Reader (Option (List Part))
-listed_part kind next text = judged (is_forgiving kind) text ((gap >> complex kind next) text)
+unfoldable pub listed_part : Names → ListKind → Finder → Reader (Option (List Part))
+listed_part names kind next text =
+    judged (is_forgiving kind) text ((gap >> complex names kind next) text)
 
 -- a further part, after a comma
-unfoldable pub next_listed : ListKind → Finder → List ℕ → Step (Option (List Part))
-next_listed kind next text =
-    if starts comma text then as_item (λ s. s) (listed_part kind next (past_one text)) else none
+unfoldable pub next_listed : Names → ListKind → Finder → List ℕ → Step (Option (List Part))
+next_listed names kind next text =
+    if starts comma text then as_item (λ s. s) (listed_part names kind next (past_one text))
+    else none
 
 -- the selectors of parts
 abbrev pub kept : List (Option (List Part)) → List (List Part)
@@ -648,8 +665,10 @@ keep (got all rest) = got (kept all) rest
 keep (refused why rest) = refused why rest
 
 -- the selectors of a list, of which the first part was read
-abbrev pub selectors_after : ListKind → Finder → Option (List Part) → Reader (List (List Part))
-selectors_after kind next first text = keep (with_first first (items (next_listed kind next) text))
+abbrev pub selectors_after
+    : Names → ListKind → Finder → Option (List Part) → Reader (List (List Part))
+selectors_after names kind next first text =
+    keep (with_first first (items (next_listed names kind next) text))
 
 abbrev pub listed : ListKind → List (List Part) → Condition
 listed Not selectors = negation (selectors_from selectors)
@@ -658,10 +677,10 @@ listed Where selectors = where_any (selectors_from selectors)
 listed Has selectors = tested has (selectors_from selectors)
 
 -- a list of a pseudo-class, from after its parenthesis, by its kind and what finds a condition
-unfoldable pub complex_list : ListKind → Finder → Reader (List (List Part))
-complex_list kind next = do
-  first ← listed_part kind next
-  selectors ← selectors_after kind next first
+unfoldable pub complex_list : Names → ListKind → Finder → Reader (List (List Part))
+complex_list names kind next = do
+  first ← listed_part names kind next
+  selectors ← selectors_after names kind next first
   closing close_parenthesis
   give selectors
 
@@ -675,9 +694,9 @@ abbrev pub may_open : ListKind → Bool → Bool
 may_open kind in_has = not (is_relative kind && in_has)
 
 -- by what finds a condition where a list of `:has()` is open, and where none is
-abbrev pub list_by : Bool → (Bool → Finder) → ListReader
-list_by in_has next kind opened text =
-    if may_open kind in_has then complex_list kind (next (is_relative kind || in_has)) text
+abbrev pub list_by : Names → Bool → (Bool → Finder) → ListReader
+list_by names in_has next kind opened text =
+    if may_open kind in_has then complex_list names kind (next (is_relative kind || in_has)) text
     else refused Unexpected opened
 
 -- ---- functional pseudo-classes
@@ -714,12 +733,12 @@ after_progression list opened kind p (Some test) text =
 
 -- the argument of a pseudo-class with this name, by what reads a list; `opened` is the text from its
 -- colon on
-abbrev pub functional : ListReader → List ℕ → List ℕ → Option Function → Reader Condition
-functional list opened n None =
-    argument_of functions opened n >>= λ a. give (simple (function n a))
-functional list opened n (Some Language) =
+abbrev pub functional : Names → ListReader → List ℕ → List ℕ → Option Function → Reader Condition
+functional names list opened n None =
+    argument_of (functions names) opened n >>= λ a. give (simple (function n a))
+functional names list opened n (Some Language) =
     language_ranges >>= λ ranges. give (simple (language ranges))
-functional list opened n (Some (Numbered kind)) = do
+functional names list opened n (Some (Numbered kind)) = do
   gap
   p ← progression
   gap
@@ -737,29 +756,29 @@ simple_item (stop why rest) = stop why rest
 
 -- the argument of a functional pseudo-class, from after its parenthesis, by what reads a list
 abbrev pub with_argument
-    : ListReader → List ℕ → List ℕ → Option ListKind → Option Function → Reader Condition
-with_argument list opened n None kind = functional list opened n kind
-with_argument list opened n (Some kind) other =
+    : Names → ListReader → List ℕ → List ℕ → Option ListKind → Option Function → Reader Condition
+with_argument names list opened n None kind = functional names list opened n kind
+with_argument names list opened n (Some kind) other =
     list kind opened >>= λ selectors. give (listed kind selectors)
 
 -- after the name of a pseudo-class
-abbrev pub pseudo_condition : ListReader → List ℕ → List ℕ → List ℕ → Step Condition
-pseudo_condition list opened n text =
+abbrev pub pseudo_condition : Names → ListReader → List ℕ → List ℕ → List ℕ → Step Condition
+pseudo_condition names list opened n text =
     if starts open_parenthesis text
     then as_item (λ c. c)
-    (with_argument list opened n (list_kind n) (function_named n) (past_one text))
-    else simple_item (named_pseudo opened n text)
+    (with_argument names list opened n (list_kind n) (function_named n) (past_one text))
+    else simple_item (named_pseudo names opened n text)
 
 -- the condition that begins here, by what reads a list
-abbrev pub condition_here : ListReader → Finder
-condition_here list text =
+abbrev pub condition_here : Names → ListReader → Finder
+condition_here names list text =
     if begins_pseudo_class text
-    then step_after (name (past_comments (past_one text))) (pseudo_condition list text)
-    else simple_item (next_simple text)
+    then step_after (name (past_comments (past_one text))) (pseudo_condition names list text)
+    else simple_item (next_simple names text)
 
 -- the next condition, by what reads a list
-abbrev pub condition_by : ListReader → Finder
-condition_by list text = condition_here list (past_comments text)
+abbrev pub condition_by : Names → ListReader → Finder
+condition_by names list text = condition_here names list (past_comments text)
 
 -- How many lists may be open at once. (Selectors 4 has no limit.)
 abbrev pub deepest : ℕ
@@ -771,21 +790,22 @@ too_deep kind opened text = refused TooDeep opened
 
 -- the next condition of a compound selector, with lists nested at most `n` deep, by whether one that is
 -- open is of `:has()`
-unfoldable pub condition_at : ℕ → Bool → Finder
-condition_at zero in_has text = condition_by too_deep text
-condition_at (suc n) in_has text = condition_by (list_by in_has (condition_at n)) text
+unfoldable pub condition_at : Names → ℕ → Bool → Finder
+condition_at names zero in_has text = condition_by names too_deep text
+condition_at names (suc n) in_has text =
+    condition_by names (list_by names in_has (condition_at names n)) text
 
 -- the same, by which lists may be open
 abbrev pub next_condition : Room → Finder
-next_condition room = condition_at room.depth room.in_has
+next_condition room = condition_at room.names room.depth room.in_has
 
 -- the list of a pseudo-class, with lists nested at most `n` deep, itself included
-abbrev pub list_at : ℕ → Bool → ListReader
-list_at zero in_has = too_deep
-list_at (suc n) in_has = list_by in_has (condition_at n)
+abbrev pub list_at : Names → ℕ → Bool → ListReader
+list_at names zero in_has = too_deep
+list_at names (suc n) in_has = list_by names in_has (condition_at names n)
 
 abbrev pub list_within : Room → ListReader
-list_within room = list_at room.depth room.in_has
+list_within room = list_at room.names room.depth room.in_has
 
 abbrev pub one_less : ℕ → ℕ
 one_less zero = zero
@@ -796,30 +816,32 @@ abbrev pub room_in : ListKind → Room → Room
 room_in kind room = record {
   depth = one_less room.depth;
   in_has = is_relative kind || room.in_has;
+  names = room.names;
 }
 
 -- which lists may be open in a selector that is in none
-abbrev pub outside : Room
-outside = record { depth = deepest; in_has = false }
+abbrev pub outside : Names → Room
+outside names = record { depth = deepest; in_has = false; names = names }
 
 -- A compound selector may be empty before a pseudo-element: before a colon that begins no condition.
 abbrev pub some_or_element : List ℕ → Reading (List Condition) → Reading (List Condition)
 some_or_element text reading = if starts colon text then reading else some_of text reading
 
-abbrev pub after_type_name : List ℕ → Step Simple → Reading (List Condition)
-after_type_name text (item s rest) = with_first (simple s) (items (next_condition outside) rest)
-after_type_name text none = some_or_element text (items (next_condition outside) text)
-after_type_name text (stop why rest) = refused why rest
+abbrev pub after_type_name : Names → List ℕ → Step Simple → Reading (List Condition)
+after_type_name names text (item s rest) =
+    with_first (simple s) (items (next_condition (outside names)) rest)
+after_type_name names text none = some_or_element text (items (next_condition (outside names)) text)
+after_type_name names text (stop why rest) = refused why rest
 
 -- a compound selector
-unfoldable pub conditions : Reader (List Condition)
-conditions text = after_type_name text (type_selector text)
+unfoldable pub conditions : Names → Reader (List Condition)
+conditions names text = after_type_name names text (type_selector names text)
 
 -- ---- selectors
 
 -- the next compound selector and what joins it to the one before
-unfoldable pub next_part : List ℕ → Step Part
-next_part text = part_after conditions (gap text)
+unfoldable pub next_part : Names → List ℕ → Step Part
+next_part names text = part_after (conditions names) (gap text)
 
 -- the rest after a second colon, if there is one, and comments
 abbrev pub past_colon : List ℕ → List ℕ
@@ -829,43 +851,46 @@ abbrev pub element_named : List ℕ → Option (List ℕ) → List Condition →
 element_named n a after = record { name = n; argument = a; after = after }
 
 -- its argument, if it has one; `opened` is the text from its first colon on
-unfoldable pub element_argument : List ℕ → List ℕ → Reader (Option (List ℕ))
-element_argument opened n text =
+unfoldable pub element_argument : Names → List ℕ → List ℕ → Reader (Option (List ℕ))
+element_argument names opened n text =
     if starts open_parenthesis text
-    then follow (argument_of element_functions opened n (past_one text)) (λ a. give (Some a))
-    else (if is_element n then got None text else refused UnknownName opened)
+    then follow (argument_of (element_functions names) opened n (past_one text)) (λ a. give (Some a))
+    else (if is_element names n then got None text else refused UnknownName opened)
 
 -- the name of a pseudo-element after its first colon, and its argument
-unfoldable pub element_name : List ℕ → Reader (List ℕ × Option (List ℕ))
-element_name opened text =
+unfoldable pub element_name : Names → List ℕ → Reader (List ℕ × Option (List ℕ))
+element_name names opened text =
     follow (name (past_colon (past_comments text)))
-    (λ n. element_argument opened n >>= λ a. give (n, a))
+    (λ n. element_argument names opened n >>= λ a. give (n, a))
 
 abbrev pub named_condition : List ℕ × Option (List ℕ) → Condition
 named_condition e = simple (named_element e.0 e.1)
 
 -- a pseudo-class, or a pseudo-element, from its colon on
-abbrev pub class_or_element : List ℕ → Step Condition → Step Condition
-class_or_element text (item c rest) = item c rest
-class_or_element text none = as_item named_condition (element_name text (past_one text))
-class_or_element text (stop why rest) = stop why rest
+abbrev pub class_or_element : Names → List ℕ → Step Condition → Step Condition
+class_or_element names text (item c rest) = item c rest
+class_or_element names text none = as_item named_condition (element_name names text (past_one text))
+class_or_element names text (stop why rest) = stop why rest
 
-abbrev pub after_element_here : List ℕ → Step Condition
-after_element_here text =
-    if starts colon text then class_or_element text (next_condition outside text) else none
+abbrev pub after_element_here : Names → List ℕ → Step Condition
+after_element_here names text =
+    if starts colon text then class_or_element names text (next_condition (outside names) text)
+    else none
 
 -- what may follow a pseudo-element: a pseudo-class or a further pseudo-element
-unfoldable pub after_element : Finder
-after_element text = after_element_here (past_comments text)
+unfoldable pub after_element : Names → Finder
+after_element names text = after_element_here names (past_comments text)
 
-abbrev pub with_after : List ℕ × Option (List ℕ) → Reader (Option PseudoElement)
-with_after e = items after_element >>= λ after. give (Some (element_named e.0 e.1 after))
+abbrev pub with_after : Names → List ℕ × Option (List ℕ) → Reader (Option PseudoElement)
+with_after names e =
+    items (after_element names) >>= λ after. give (Some (element_named e.0 e.1 after))
 
 -- The pseudo-element after the compound selectors, if there is one: its name after two colons, or
 -- after the one of which no condition was read, and what follows it.
-unfoldable pub pseudo_element : Reader (Option PseudoElement)
-pseudo_element text =
-    if starts colon text then follow (element_name text (past_one text)) with_after else got None text
+unfoldable pub pseudo_element : Names → Reader (Option PseudoElement)
+pseudo_element names text =
+    if starts colon text then follow (element_name names text (past_one text)) (with_after names)
+    else got None text
 
 abbrev pub at_end : Reader (Unit {0})
 at_end [] = got tt []
@@ -875,28 +900,29 @@ abbrev pub selector_with : List Part → Option PseudoElement → Selector
 selector_with parts element = record { parts = parts; pseudo_element = element }
 
 -- the compound selectors of a selector
-unfoldable pub parts : Reader (List Part)
-parts = do
+unfoldable pub parts : Names → Reader (List Part)
+parts names = do
   gap
-  first ← conditions
-  one_more (joined_by Descendant first) (items next_part)
+  first ← conditions names
+  one_more (joined_by Descendant first) (items (next_part names))
 
 -- `&`, which stands for this list, as a compound selector at the start
 abbrev pub nesting_part : Nesting → Part
 nesting_part list = joined_by Descendant (simple (nesting list) ∷ [])
 
-abbrev pub after_sign : List ℕ → Option Combinator → Reading (List Part)
-after_sign text None = parts text
-after_sign text (Some combinator) = one_more (nesting_part outermost) (items next_part) text
+abbrev pub after_sign : Names → List ℕ → Option Combinator → Reading (List Part)
+after_sign names text None = parts names text
+after_sign names text (Some combinator) =
+    one_more (nesting_part outermost) (items (next_part names)) text
 
 -- the compound selectors of a relative selector: before a combinator at its start there is an `&` (CSS
 -- Nesting 1, section 3.1)
-unfoldable pub relative_parts : Reader (List Part)
-relative_parts text = after_sign text (first_sign text)
+unfoldable pub relative_parts : Names → Reader (List Part)
+relative_parts names text = after_sign names text (first_sign text)
 
-abbrev pub start_parts : Start → Reader (List Part)
-start_parts Plain = parts
-start_parts Relative = relative_parts
+abbrev pub start_parts : Names → Start → Reader (List Part)
+start_parts names Plain = parts names
+start_parts names Relative = relative_parts names
 
 -- what is left
 abbrev pub here : Reader (List ℕ)
@@ -912,47 +938,47 @@ placed_as parts element from end at after = record {
   to = if is_some element then after else end;
 }
 
--- a selector and the gaps round it
-unfoldable pub placed_by : Start → Reader Placed
-placed_by start = do
+-- a selector and the gaps round it, where a default namespace may be declared
+unfoldable pub placed_by : Names → Start → Reader Placed
+placed_by names start = do
   gap
   from ← here
-  all ← start_parts start
+  all ← start_parts names start
   end ← here
   comments
   at ← here
-  element ← pseudo_element
+  element ← pseudo_element names
   after ← here
   gap
-  give (placed_as all element from end at after)
+  give (placed_as (in_default names.default_namespace all) element from end at after)
 
-abbrev pub placed : Reader Placed
-placed = placed_by Plain
+abbrev pub placed : Names → Reader Placed
+placed names = placed_by names Plain
 
 -- a text that is a selector, with where it is in the text
-unfoldable pub placed_selector : Reader Placed
-placed_selector = do
-  p ← placed
+unfoldable pub placed_selector : Names → Reader Placed
+placed_selector names = do
+  p ← placed names
   at_end
   give p
 
 -- a comma and a further selector, if there is a comma
-unfoldable pub next_placed : Start → List ℕ → Step Placed
-next_placed start text =
-    if starts comma text then as_item (λ p. p) (placed_by start (past_one text)) else none
+unfoldable pub next_placed : Names → Start → List ℕ → Step Placed
+next_placed names start text =
+    if starts comma text then as_item (λ p. p) (placed_by names start (past_one text)) else none
 
 -- a text that is a list of selectors with commas between them (section 5): if one of them is
 -- refused, the list is
-unfoldable pub placed_list_by : Start → Reader (List Placed)
-placed_list_by start = do
-  first ← placed_by start
-  all ← one_more first (items (next_placed start))
+unfoldable pub placed_list_by : Names → Start → Reader (List Placed)
+placed_list_by names start = do
+  first ← placed_by names start
+  all ← one_more first (items (next_placed names start))
   at_end
   give all
 
-abbrev pub placed_list : Reader (List Placed)
-placed_list = placed_list_by Plain
+abbrev pub placed_list : Names → Reader (List Placed)
+placed_list names = placed_list_by names Plain
 
 -- a text that is a selector
-unfoldable pub selector : Reader Selector
-selector = placed_selector >>= λ p. give p.selector
+unfoldable pub selector : Names → Reader Selector
+selector names = placed_selector names >>= λ p. give p.selector

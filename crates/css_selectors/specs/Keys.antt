@@ -3,7 +3,8 @@
 use Rattle.std.specs.Prelude.{ℕ, ◌-◌, Bool, true, List, [], ◌∷◌, length, slice_get, min, nat_lt, if◌then◌else◌}
 use Rattle.std.specs.Option.{option_map_or}
 use Rattle.css_selectors.specs.Documents.{Document}
-use Rattle.css_selectors.specs.Components.{Simple, Condition, Conditions, Parts, Selectors, Part, Selector}
+use Rattle.css_selectors.specs.Components.Local.{any_type, a_type, some_attribute, an_attribute, implied}
+use Rattle.css_selectors.specs.Components.{Local, Simple, Condition, Conditions, Parts, Selectors, Part, Selector}
 use Rattle.css_selectors.specs.Components.Simple.{universal, type_name, id, class, has_attribute, attribute, structure, language, state, function, named_element, nesting, namespaced}
 use Rattle.css_selectors.specs.Components.Condition.{simple, negation, any_of, where_any, tested}
 use Rattle.css_selectors.specs.Components.Conditions.{end_of_compound, with_condition}
@@ -27,6 +28,14 @@ has_key document n (by_name name) = holds document n (type_name name)
 has_key document n (by_attribute name) = holds document n (has_attribute name)
 has_key document n by_nothing = true
 
+-- the key that what is in a namespace requires
+abbrev pub local_key : Local → Key
+local_key any_type = by_nothing
+local_key (a_type name) = by_name name
+local_key (some_attribute name) = by_attribute name
+local_key (an_attribute name comparison text ignores) = by_attribute name
+local_key implied = by_nothing
+
 -- the key that a simple selector requires
 abbrev pub simple_key : Simple → Key
 simple_key universal = by_nothing
@@ -41,7 +50,7 @@ simple_key (state name) = by_nothing
 simple_key (function name argument) = by_nothing
 simple_key (named_element name argument) = by_nothing
 simple_key (nesting list) = by_nothing
-simple_key (namespaced namespace local) = by_nothing
+simple_key (namespaced namespace local) = local_key local
 
 -- how few elements have a key: the greater, the fewer
 abbrev pub rank : Key → ℕ

@@ -1,18 +1,19 @@
 -- The names of pseudo-classes and pseudo-elements: those that Chromium reads in the sheets of pages, but
--- for those that begin with `-internal-`. What has any other name is no selector (Selectors 4, section
--- 3.9).
-use Rattle.std.specs.Prelude.{ℕ, Bool, true, ◌||◌, List, [], ◌∷◌, codes}
+-- for those that begin with `-internal-`, and those that the caller declares. What has any other name is
+-- no selector (Selectors 4, section 3.9).
+use Rattle.std.specs.Prelude.{ℕ, Bool, true, ◌||◌, List, [], ◌∷◌, ◌++◌, codes}
 use Rattle.std.specs.List.{list_any}
 use Rattle.std.specs.Str.{str_eq_ignore_ascii_case}
 use Rattle.css_selectors.specs.AttributeTests.{begins}
+use Rattle.css_selectors.specs.Names.{Names}
 
 -- one of the names, but for the case of ASCII letters
 abbrev pub is_one_of : List (List ℕ) → List ℕ → Bool
 is_one_of names n = list_any (str_eq_ignore_ascii_case n) names
 
 -- the pseudo-classes without an argument that are neither structural nor `:scope`
-abbrev pub states : List (List ℕ)
-states =
+abbrev pub known_states : List (List ℕ)
+known_states =
     codes "-webkit-any-link"
     ∷ codes "-webkit-autofill"
     ∷ codes "-webkit-drag"
@@ -78,8 +79,8 @@ states =
     ∷ codes "xr-overlay" ∷ []
 
 -- the functional pseudo-classes without a meaning here
-abbrev pub functions : List (List ℕ)
-functions =
+abbrev pub known_functions : List (List ℕ)
+known_functions =
     codes "-webkit-any"
     ∷ codes "active-view-transition-type"
     ∷ codes "dir"
@@ -88,8 +89,8 @@ functions =
     ∷ codes "state" ∷ []
 
 -- the pseudo-elements without an argument
-abbrev pub elements : List (List ℕ)
-elements =
+abbrev pub known_elements : List (List ℕ)
+known_elements =
     codes "after"
     ∷ codes "backdrop"
     ∷ codes "before"
@@ -116,8 +117,8 @@ elements =
     ∷ codes "view-transition" ∷ []
 
 -- the pseudo-elements with an argument
-abbrev pub element_functions : List (List ℕ)
-element_functions =
+abbrev pub known_element_functions : List (List ℕ)
+known_element_functions =
     codes "cue"
     ∷ codes "highlight"
     ∷ codes "part"
@@ -130,7 +131,20 @@ element_functions =
     ∷ codes "view-transition-new"
     ∷ codes "view-transition-old" ∷ []
 
+-- these and those that are declared
+abbrev pub states : Names → List (List ℕ)
+states names = known_states ++ names.states
+
+abbrev pub functions : Names → List (List ℕ)
+functions names = known_functions ++ names.functions
+
+abbrev pub elements : Names → List (List ℕ)
+elements names = known_elements ++ names.elements
+
+abbrev pub element_functions : Names → List (List ℕ)
+element_functions names = known_element_functions ++ names.element_functions
+
 -- one of these pseudo-elements, or any that begins with `-webkit-` (Selectors 4, "unknown -webkit-
 -- pseudo-elements")
-abbrev pub is_element : List ℕ → Bool
-is_element n = is_one_of elements n || begins true (codes "-webkit-") n
+abbrev pub is_element : Names → List ℕ → Bool
+is_element names n = is_one_of (elements names) n || begins true (codes "-webkit-") n

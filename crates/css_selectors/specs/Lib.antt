@@ -7,6 +7,7 @@ pub mod Costs
 pub mod CostLemmas
 pub mod CutLists
 pub mod Directions
+pub mod Defaults
 pub mod Documents
 pub mod Grammar
 pub mod KeyViews
@@ -14,12 +15,15 @@ pub mod KnownNames
 pub mod MarkedLists
 pub mod Keys
 pub mod Meanings
+pub mod NameViews
+pub mod Names
 pub mod Numbers
 pub mod Numberings
 pub mod Originating
 pub mod PlacementLists
 pub mod Printing
 pub mod Escaping
+pub mod Rooms
 pub mod ReadSelectors
 pub mod ReadViews
 pub mod Readings

@@ -6,7 +6,9 @@ use Rattle.css_matching.specs.declared.Combinator.{Combinator}
 use Rattle.css_matching.specs.declared.Combinator.TheVariants.{Descendant}
 use Rattle.css_matching.specs.Placements.{HasPlacement}
 use Rattle.css_selectors.specs.Documents.{Document, shape}
-use Rattle.css_selectors.specs.Components.{Comparison, Structure, Simple, Condition, Conditions, Parts, Selectors, Selector, parts_from}
+use Rattle.css_selectors.specs.Components.Namespace.{absent, any_namespace, of_prefix, default}
+use Rattle.css_selectors.specs.Components.Local.{any_type, a_type, some_attribute, an_attribute, implied}
+use Rattle.css_selectors.specs.Components.{Comparison, Namespace, Local, is_absent, Structure, Simple, Condition, Conditions, Parts, Selectors, Selector, parts_from}
 use Rattle.css_selectors.specs.Components.Comparison.{equals, has_word}
 use Rattle.css_selectors.specs.Components.Structure.{root, scope, empty, first_child, last_child, only_child, first_of_type, last_of_type, only_of_type, nth_child, nth_last_child, nth_of_type, nth_last_of_type}
 use Rattle.css_selectors.specs.Components.Simple.{universal, type_name, id, class, has_attribute, attribute, structure, language, state, function, named_element, nesting, namespaced}
@@ -40,6 +42,24 @@ is_placed document n (nth_last_child p) = is_numbered p (document.later n + 1)
 is_placed document n (nth_of_type p) = is_numbered p (document.earlier_of_type n + 1)
 is_placed document n (nth_last_of_type p) = is_numbered p (document.later_of_type n + 1)
 
+-- the node is in the namespace
+abbrev pub is_in : {Node : Type 0} → Document Node → Node → Namespace → Bool
+is_in document n absent = document.is_in_namespace n 0
+is_in document n any_namespace = true
+is_in document n (of_prefix prefix number) = document.is_in_namespace n number
+is_in document n (default number) = document.is_in_namespace n number
+
+-- The node satisfies what is in the namespace. An attribute's name without a prefix is in none; one that
+-- is in another has no meaning here, and no node satisfies it.
+abbrev pub holds_in : {Node : Type 0} → Document Node → Node → Namespace → Local → Bool
+holds_in document n namespace any_type = is_in document n namespace
+holds_in document n namespace (a_type name) = is_in document n namespace && document.is_named n name
+holds_in document n namespace (some_attribute name) =
+    is_absent namespace && not (is_none (document.attribute n name))
+holds_in document n namespace (an_attribute name comparison text ignores) =
+    is_absent namespace && satisfies comparison ignores text (document.attribute n name)
+holds_in document n namespace implied = is_in document n namespace
+
 -- the node satisfies the simple selector
 abbrev pub holds : {Node : Type 0} → Document Node → Node → Simple → Bool
 holds document n universal = true
@@ -56,7 +76,7 @@ holds document n (function name argument) =
     option_map_or (document.is_in_state n) (direction_state name argument) false
 holds document n (named_element name argument) = false
 holds document n (nesting list) = document.is_in_list n list.number
-holds document n (namespaced namespace local) = false
+holds document n (namespaced namespace local) = holds_in document n namespace local
 
 -- how the part at an index is joined to the part before it
 abbrev pub combinator_at : Parts → ℕ → Combinator

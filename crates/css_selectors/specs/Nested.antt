@@ -1,11 +1,11 @@
 -- The selectors of a nested rule (CSS Nesting 1, sections 3 and 3.1): each may be relative, and `&`
 -- stands for the list of the rule around it.
-use Rattle.std.specs.Prelude.{ℕ, Bool, true, false, ◌||◌, ◌==◌, if◌then◌else◌, List, ◌∷◌, map, Option, None, Some}
+use Rattle.std.specs.Prelude.{ℕ, Bool, true, false, ◌||◌, ◌==◌, if◌then◌else◌, List, [], ◌∷◌, ◌++◌, map, Option, None, Some}
 use Rattle.std.specs.List.{list_any}
 use Rattle.std.specs.Option.{option_map_or}
 use Rattle.css_selectors.specs.declared.components.Nesting.{Nesting}
 use Rattle.css_selectors.specs.declared.reading.Start.TheVariants.{Relative}
-use Rattle.css_selectors.specs.Components.{Simple, Condition, Conditions, Parts, Selectors, PseudoElement, Selector, Placed, outermost, conditions_from, parts_from}
+use Rattle.css_selectors.specs.Components.{Simple, Condition, Conditions, Parts, Selectors, Part, PseudoElement, Selector, Placed, outermost, conditions_from, parts_from}
 use Rattle.css_selectors.specs.Components.Simple.{function, named_element, nesting}
 use Rattle.css_selectors.specs.Components.Condition.{simple, negation, any_of, where_any, tested}
 use Rattle.css_selectors.specs.Components.Conditions.{end_of_compound, with_condition}
@@ -15,6 +15,8 @@ use Rattle.css_selectors.specs.Grammar.{ampersand, nesting_part, placed_list_by}
 use Rattle.css_selectors.specs.Readings.{Reading, got, refused, Reader}
 use Rattle.css_selectors.specs.Simples.{selector_with_each}
 use Rattle.css_selectors.specs.Supported.{supported_readings}
+use Rattle.css_selectors.specs.Defaults.{in_default}
+use Rattle.css_selectors.specs.Names.{Names}
 
 -- ---- whether there is an `&`
 
@@ -65,11 +67,15 @@ has_nesting s = element_nests (parts_nest false (parts_from s.parts)) s.pseudo_e
 
 -- ---- what the selectors are
 
+-- `&` as a compound selector, where a default namespace may be declared
+abbrev pub nesting_in : Names → Nesting → List Part
+nesting_in names list = in_default names.default_namespace (nesting_part list ∷ [])
+
 -- A selector without an `&` is joined to one before it as a descendant.
-abbrev pub absolute : Selector → Selector
-absolute s =
+abbrev pub absolute : Names → Selector → Selector
+absolute names s =
     if has_nesting s then s
-    else record { parts = nesting_part outermost ∷ s.parts; pseudo_element = s.pseudo_element }
+    else record { parts = nesting_in names outermost ++ s.parts; pseudo_element = s.pseudo_element }
 
 -- `&` stands for the list
 abbrev pub simple_under : Nesting → Simple → Simple
@@ -80,25 +86,25 @@ abbrev pub selector_under : Nesting → Selector → Selector
 selector_under list s = selector_with_each (simple_under list) s
 
 -- what a relative selector is in a rule whose parent has this list
-abbrev pub nested_selector : Nesting → Selector → Selector
-nested_selector list s = selector_under list (absolute s)
+abbrev pub nested_selector : Names → Nesting → Selector → Selector
+nested_selector names list s = selector_under list (absolute names s)
 
-abbrev pub nested : Nesting → Placed → Placed
-nested list p = record {
-  selector = nested_selector list p.selector;
+abbrev pub nested : Names → Nesting → Placed → Placed
+nested names list p = record {
+  selector = nested_selector names list p.selector;
   from = p.from;
   element = p.element;
   to = p.to;
 }
 
-abbrev pub nested_readings : Nesting → Reading (List Placed) → Reading (List Placed)
-nested_readings list (got all rest) = got (map (nested list) all) rest
-nested_readings list (refused why rest) = refused why rest
+abbrev pub nested_readings : Names → Nesting → Reading (List Placed) → Reading (List Placed)
+nested_readings names list (got all rest) = got (map (nested names list) all) rest
+nested_readings names list (refused why rest) = refused why rest
 
 -- a text that is the list of a nested rule, under a rule with this list
-abbrev pub nested_list : Nesting → Reader (List Placed)
-nested_list list text = nested_readings list (placed_list_by Relative text)
+abbrev pub nested_list : Names → Nesting → Reader (List Placed)
+nested_list names list text = nested_readings names list (placed_list_by names Relative text)
 
 -- and all its selectors have a meaning
-abbrev pub supported_nested_list : Nesting → Reader (List Selector)
-supported_nested_list list text = supported_readings (nested_list list text)
+abbrev pub supported_nested_list : Names → Nesting → Reader (List Selector)
+supported_nested_list names list text = supported_readings (nested_list names list text)

@@ -15,8 +15,8 @@ use Rattle.css_selectors.specs.Components.{Comparison, Signed, Progression, Stru
 use Rattle.css_selectors.specs.Components.Comparison.{equals, has_word, has_subtag, starts as starts_with, ends as ends_with, contains}
 use Rattle.css_selectors.specs.Components.ListTest.{has, nth_child as nth_child_list, nth_last_child as nth_last_child_list}
 use Rattle.css_selectors.specs.Components.Structure.{root, scope, empty, first_child, last_child, only_child, first_of_type, last_of_type, only_of_type, nth_child, nth_last_child, nth_of_type, nth_last_of_type}
-use Rattle.css_selectors.specs.Components.Namespace.{absent, any_namespace, of_prefix}
-use Rattle.css_selectors.specs.Components.Local.{any_type, a_type, some_attribute, an_attribute}
+use Rattle.css_selectors.specs.Components.Namespace.{absent, any_namespace, of_prefix, default}
+use Rattle.css_selectors.specs.Components.Local.{any_type, a_type, some_attribute, an_attribute, implied}
 use Rattle.css_selectors.specs.Components.Simple.{universal, type_name, id, class, has_attribute, attribute, structure, language, state, function, named_element, nesting, namespaced}
 use Rattle.css_selectors.specs.Components.Condition.{simple, negation, any_of, where_any, tested}
 use Rattle.css_selectors.specs.Components.Conditions.{end_of_compound, with_condition}
@@ -152,11 +152,12 @@ argument_text (Some argument) = codes "(" ++ argument ++ codes ")"
 abbrev pub nth_of_text : Progression → List ℕ → List ℕ
 nth_of_text p selectors = progression_text p ++ codes " of " ++ selectors
 
--- a namespace, as it is written before a name
+-- a namespace, as it is written before a name; the default one is not written
 abbrev pub namespace_text : Namespace → List ℕ
 namespace_text absent = codes "|"
 namespace_text any_namespace = codes "*|"
-namespace_text (of_prefix prefix) = identifier_text prefix ++ codes "|"
+namespace_text (of_prefix prefix number) = identifier_text prefix ++ codes "|"
+namespace_text (default number) = []
 
 -- `[name]`, by what stands for the name
 abbrev pub some_attribute_text : List ℕ → List ℕ
@@ -175,6 +176,7 @@ local_text namespace (a_type name) = namespace ++ identifier_text name
 local_text namespace (some_attribute name) = some_attribute_text (namespace ++ identifier_text name)
 local_text namespace (an_attribute name comparison value ignores_case) =
     attribute_text (namespace ++ identifier_text name) comparison value ignores_case
+local_text namespace implied = namespace
 
 -- "serialize a simple selector"
 abbrev pub simple_text : Simple → List ℕ

@@ -4,7 +4,7 @@ use Rattle.css_text.specs.AsciiBytes.{backslash, colon}
 use Rattle.css_text.specs.Bytes.{starts_by}
 use Rattle.css_syntax.specs.Tokens.{is_newline, is_name_byte}
 use Rattle.css_selectors.specs.declared.refusal.Why.{Why}
-use Rattle.css_selectors.specs.declared.refusal.Why.TheVariants.{Memory, NoSelector, NoName, BrokenString, NoOperator, NoValue, UnknownFlag, NoProgression, UnknownName, UnknownFunction, Unsupported, TooDeep, Unexpected}
+use Rattle.css_selectors.specs.declared.refusal.Why.TheVariants.{Memory, NoSelector, NoName, BrokenString, NoOperator, NoValue, UnknownFlag, NoProgression, UnknownName, UnknownFunction, Unsupported, TooDeep, UnknownPrefix, Unexpected}
 use Rattle.css_selectors.specs.declared.refusal.Quoted.{Quoted}
 use Rattle.css_selectors.specs.declared.refusal.Quoted.TheVariants.{Line, Word, Signs}
 use Rattle.css_selectors.specs.Runs.{run}
@@ -45,4 +45,5 @@ why_words UnknownName = codes "is unknown"
 why_words UnknownFunction = codes "is no function"
 why_words Unsupported = codes "is unsupported"
 why_words TooDeep = codes "is nested too deep"
+why_words UnknownPrefix = codes "is no declared prefix"
 why_words Unexpected = codes "is not expected here"

@@ -1,7 +1,9 @@
 -- Selectors that have a meaning here. A text may be a selector and have none: it is unsupported.
-use Rattle.std.specs.Prelude.{◌&&◌, ◌+◌, ◌-◌, nat_le, ℕ, Bool, true, false, not, if◌then◌else◌, List, [], ◌∷◌, map, codes, Option, None, Some, is_none, is_some}
+use Rattle.std.specs.Prelude.{◌&&◌, ◌+◌, ◌-◌, ◌==◌, nat_le, ℕ, Bool, true, false, not, if◌then◌else◌, List, [], ◌∷◌, map, codes, Option, None, Some, is_none, is_some}
 use Rattle.css_selectors.specs.declared.refusal.Why.TheVariants.{Unsupported}
-use Rattle.css_selectors.specs.Components.{Simple, Condition, Conditions, Parts, Selectors, parts_from, PseudoElement, Selector, Placed}
+use Rattle.css_selectors.specs.Components.{Namespace, Local, is_absent, Simple, Condition, Conditions, Parts, Selectors, parts_from, PseudoElement, Selector, Placed}
+use Rattle.css_selectors.specs.Components.Local.{some_attribute, an_attribute}
+use Rattle.css_selectors.specs.Components.Namespace.{of_prefix}
 use Rattle.css_selectors.specs.Components.Simple.{state, function, named_element, namespaced}
 use Rattle.css_selectors.specs.Components.Condition.{simple, negation, any_of, where_any, tested}
 use Rattle.css_selectors.specs.Components.Conditions.{end_of_compound, with_condition}
@@ -9,16 +11,29 @@ use Rattle.css_selectors.specs.Components.Parts.{end_of_selector, with_part}
 use Rattle.css_selectors.specs.Components.Selectors.{end_of_list, with_selector}
 use Rattle.css_selectors.specs.Directions.{direction_state}
 use Rattle.css_selectors.specs.Grammar.{is_word, placed_selector, placed_list}
+use Rattle.css_selectors.specs.Names.{unknown_namespace}
 use Rattle.css_selectors.specs.NestedTests.{search_count}
 use Rattle.css_selectors.specs.Readings.{Reading, got, refused, Reader}
+use Rattle.css_selectors.specs.Names.{Names}
+
+-- the namespace is known
+abbrev pub is_known_namespace : Namespace → Bool
+is_known_namespace (of_prefix prefix number) = not (number == unknown_namespace)
+is_known_namespace namespace = true
+
+-- What is in a namespace that is known has a meaning, but that attributes are only in none.
+abbrev pub is_supported_in : Namespace → Local → Bool
+is_supported_in namespace (some_attribute name) = is_absent namespace
+is_supported_in namespace (an_attribute name comparison text ignores) = is_absent namespace
+is_supported_in namespace local = is_known_namespace namespace
 
 -- Of what has an argument that is kept as it is written only `:dir()` with a direction has a meaning. `:host`,
--- which is an element outside of the tree, has none, nor has what has a namespace.
+-- which is an element outside of the tree, has none.
 abbrev pub is_supported_simple : Simple → Bool
 is_supported_simple (state name) = not (is_word (codes "host") name)
 is_supported_simple (function name argument) = is_some (direction_state name argument)
 is_supported_simple (named_element name argument) = false
-is_supported_simple (namespaced namespace local) = false
+is_supported_simple (namespaced namespace local) = is_supported_in namespace local
 is_supported_simple s = true
 
 -- How many selectors with combinators that stand in lists may be within one another: their tests
@@ -84,8 +99,8 @@ supported_reading (got p rest) =
 supported_reading (refused why rest) = refused why rest
 
 -- the text is a selector, and has a meaning
-abbrev pub supported_selector : Reader Selector
-supported_selector text = supported_reading (placed_selector text)
+abbrev pub supported_selector : Names → Reader Selector
+supported_selector names text = supported_reading (placed_selector names text)
 
 abbrev pub if_all : List Placed → List ℕ → Option (List ℕ) → Reading (List Selector)
 if_all all rest None = got (map (λ p. p.selector) all) rest
@@ -97,5 +112,5 @@ supported_readings (got all rest) = if_all all rest (first_unsupported all)
 supported_readings (refused why rest) = refused why rest
 
 -- the text is a list of selectors, and all have a meaning
-abbrev pub supported_list : Reader (List Selector)
-supported_list text = supported_readings (placed_list text)
+abbrev pub supported_list : Names → Reader (List Selector)
+supported_list names text = supported_readings (placed_list names text)

@@ -13,9 +13,9 @@ use Rattle.css_selectors.specs.declared.components.ListTest.TheVariants.{Has, Nt
 use Rattle.css_selectors.specs.declared.components.Simple.{Simple as SimpleOf}
 use Rattle.css_selectors.specs.declared.components.Simple.TheVariants.{Universal, TypeName, Id, Class, HasAttribute, Attribute, Structure as StructureIs, Language, State, Function, Element, Nesting as NestingIs, Namespaced as NamespacedIs}
 use Rattle.css_selectors.specs.declared.components.Namespace.{Namespace as NamespaceOf}
-use Rattle.css_selectors.specs.declared.components.Namespace.TheVariants.{Absent, Any, Prefix}
+use Rattle.css_selectors.specs.declared.components.Namespace.TheVariants.{Absent, Any, Prefix, Default}
 use Rattle.css_selectors.specs.declared.components.Local.{Local as LocalOf}
-use Rattle.css_selectors.specs.declared.components.Local.TheVariants.{Universal as AnyType, TypeName as AType, HasAttribute as SomeAttribute, Attribute as AnAttribute}
+use Rattle.css_selectors.specs.declared.components.Local.TheVariants.{Universal as AnyType, TypeName as AType, HasAttribute as SomeAttribute, Attribute as AnAttribute, Implied}
 use Rattle.css_selectors.specs.declared.components.Complex.{Complex, out-Complex}
 use Rattle.css_selectors.specs.declared.components.Condition.{Condition as ConditionOf, fold-Condition}
 use Rattle.css_selectors.specs.declared.components.Condition.TheOpen.{Condition-F, Complex-F, Part-F}
@@ -26,8 +26,8 @@ use Rattle.css_selectors.specs.Components.{Comparison, Signed, Progression, Stru
 use Rattle.css_selectors.specs.Components.Comparison.{equals, has_word, has_subtag, starts, ends, contains}
 use Rattle.css_selectors.specs.Components.ListTest.{has, nth_child as nth_child_list, nth_last_child as nth_last_child_list}
 use Rattle.css_selectors.specs.Components.Structure.{root, scope, empty, first_child, last_child, only_child, first_of_type, last_of_type, only_of_type, nth_child, nth_last_child, nth_of_type, nth_last_of_type}
-use Rattle.css_selectors.specs.Components.Namespace.{absent, any_namespace, of_prefix}
-use Rattle.css_selectors.specs.Components.Local.{any_type, a_type, some_attribute, an_attribute}
+use Rattle.css_selectors.specs.Components.Namespace.{absent, any_namespace, of_prefix, default}
+use Rattle.css_selectors.specs.Components.Local.{any_type, a_type, some_attribute, an_attribute, implied}
 use Rattle.css_selectors.specs.Components.Simple.{universal, type_name, id, class, has_attribute, attribute, structure, language, state, function, named_element, nesting, namespaced}
 use Rattle.css_selectors.specs.Components.Condition.{simple, negation, any_of, where_any, tested}
 
@@ -63,7 +63,8 @@ structure_of (NthLastOfType p) = nth_last_of_type (progression_of p)
 abbrev pub namespace_of : NamespaceOf → Namespace
 namespace_of Absent = absent
 namespace_of Any = any_namespace
-namespace_of (Prefix prefix) = of_prefix (cow_str_bytes prefix)
+namespace_of (Prefix prefix number) = of_prefix (cow_str_bytes prefix) number
+namespace_of (Default number) = default number
 
 abbrev pub local_of : LocalOf → Local
 local_of AnyType = any_type
@@ -72,6 +73,7 @@ local_of (SomeAttribute name) = some_attribute (cow_str_bytes name)
 local_of (AnAttribute test) =
     an_attribute (cow_str_bytes test.name) (comparison_of test.comparison) (cow_str_bytes test.text)
     test.ignores_case
+local_of Implied = implied
 
 abbrev pub simple_of : SimpleOf → Simple
 simple_of Universal = universal

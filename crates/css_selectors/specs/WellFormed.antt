@@ -7,11 +7,11 @@ use Rattle.css_syntax.specs.Escapes.{without_nul}
 use Rattle.css_selectors.specs.Components.{Signed, Progression, Structure, Namespace, Local, Simple, outermost, ListTest, Condition, Conditions, Parts, Selectors, Part, PseudoElement, Selector}
 use Rattle.css_selectors.specs.declared.components.ListKind.{ListKind}
 use Rattle.css_selectors.specs.declared.components.ListKind.TheVariants.{Not, Is, Where, Has}
-use Rattle.css_selectors.specs.declared.room.Room.{Room}
+use Rattle.css_selectors.specs.Rooms.{Room}
 use Rattle.css_selectors.specs.Components.ListTest.{has, nth_child as nth_child_list, nth_last_child as nth_last_child_list}
 use Rattle.css_selectors.specs.Components.Structure.{nth_child, nth_last_child, nth_of_type, nth_last_of_type}
-use Rattle.css_selectors.specs.Components.Namespace.{absent, any_namespace, of_prefix}
-use Rattle.css_selectors.specs.Components.Local.{any_type, a_type, some_attribute, an_attribute}
+use Rattle.css_selectors.specs.Components.Namespace.{absent, any_namespace, of_prefix, default}
+use Rattle.css_selectors.specs.Components.Local.{any_type, a_type, some_attribute, an_attribute, implied}
 use Rattle.css_selectors.specs.Components.Simple.{universal, type_name, id, class, has_attribute, attribute, structure, language, state, function, named_element, nesting, namespaced}
 use Rattle.css_selectors.specs.Components.Condition.{simple, negation, any_of, where_any, tested}
 use Rattle.css_selectors.specs.Components.Conditions.{end_of_compound, with_condition}
@@ -20,6 +20,8 @@ use Rattle.css_selectors.specs.Components.Selectors.{end_of_list, with_selector}
 use Rattle.css_selectors.specs.KnownNames.{is_one_of, states, functions, is_element, element_functions}
 use Rattle.css_selectors.specs.Readings.{got}
 use Rattle.css_selectors.specs.Grammar.{argument, plain_structure, is_old_element, list_kind, function_named, is_forgiving, may_open, room_in, outside}
+use Rattle.css_selectors.specs.Defaults.{selector_in}
+use Rattle.css_selectors.specs.Names.{Names, number_of}
 
 -- a text that is denoted has no U+0000
 abbrev pub IsDenoted : List ℕ → Type 0
@@ -51,10 +53,13 @@ IsArgument a = argument (a ++ codes ")") ≡ got a []
 abbrev pub IsArgumentOf : List (List ℕ) → List ℕ → List ℕ → Type 0
 IsArgumentOf names name a = (is_one_of names name ≡ true) × IsArgument a
 
-abbrev pub IsNamespace : Namespace → Type 0
-IsNamespace absent = Unit {0}
-IsNamespace any_namespace = Unit {0}
-IsNamespace (of_prefix prefix) = IsName prefix
+-- A namespace that is written: a prefix has the number that was declared.
+abbrev pub IsNamespace : Names → Namespace → Type 0
+IsNamespace names absent = Unit {0}
+IsNamespace names any_namespace = Unit {0}
+IsNamespace names (of_prefix prefix number) =
+    IsName prefix × (number_of names prefix ≡ Some number)
+IsNamespace names (default number) = ⊥
 
 -- an attribute selector
 abbrev pub IsAttribute : Local → Type 0
@@ -62,6 +67,7 @@ IsAttribute any_type = ⊥
 IsAttribute (a_type name) = ⊥
 IsAttribute (some_attribute name) = IsName name
 IsAttribute (an_attribute name comparison value ignores_case) = IsName name × IsDenoted value
+IsAttribute implied = ⊥
 
 -- a type or attribute selector
 abbrev pub IsLocal : Local → Type 0
@@ -72,31 +78,31 @@ IsLocal local = IsAttribute local
 -- A simple selector that may follow others. `*`, a type and a pseudo-element may not. A pseudo-class that
 -- is a structural one by its name is no other, and none has the name of a pseudo-element that may have
 -- one colon, or an unknown one. `&` stands for what it does outside of nested rules.
-abbrev pub IsFurther : Simple → Type 0
-IsFurther universal = ⊥
-IsFurther (type_name name) = ⊥
-IsFurther (id name) = IsName name
-IsFurther (class name) = IsName name
-IsFurther (has_attribute name) = IsName name
-IsFurther (attribute name comparison value ignores_case) = IsName name × IsDenoted value
-IsFurther (structure s) = IsStructure s
-IsFurther (language ranges) = 0 < length ranges × All IsDenoted ranges
-IsFurther (state name) =
+abbrev pub IsFurther : Names → Simple → Type 0
+IsFurther names universal = ⊥
+IsFurther names (type_name name) = ⊥
+IsFurther names (id name) = IsName name
+IsFurther names (class name) = IsName name
+IsFurther names (has_attribute name) = IsName name
+IsFurther names (attribute name comparison value ignores_case) = IsName name × IsDenoted value
+IsFurther names (structure s) = IsStructure s
+IsFurther names (language ranges) = 0 < length ranges × All IsDenoted ranges
+IsFurther names (state name) =
     IsName name × (plain_structure name ≡ None) × (is_old_element name ≡ false)
-    × (is_one_of states name ≡ true)
-IsFurther (function name a) =
+    × (is_one_of (states names) name ≡ true)
+IsFurther names (function name a) =
     IsName name × (list_kind name ≡ None) × (function_named name ≡ None)
-    × IsArgumentOf functions name a
-IsFurther (named_element name a) = ⊥
-IsFurther (nesting list) = list ≡ outermost
-IsFurther (namespaced namespace local) = IsNamespace namespace × IsAttribute local
+    × IsArgumentOf (functions names) name a
+IsFurther names (named_element name a) = ⊥
+IsFurther names (nesting list) = list ≡ outermost
+IsFurther names (namespaced namespace local) = IsNamespace names namespace × IsAttribute local
 
 -- a simple selector that may be the first
-abbrev pub IsFirst : Simple → Type 0
-IsFirst universal = Unit {0}
-IsFirst (type_name name) = IsName name
-IsFirst (namespaced namespace local) = IsNamespace namespace × IsLocal local
-IsFirst s = IsFurther s
+abbrev pub IsFirst : Names → Simple → Type 0
+IsFirst names universal = Unit {0}
+IsFirst names (type_name name) = IsName name
+IsFirst names (namespaced namespace local) = IsNamespace names namespace × IsLocal local
+IsFirst names s = IsFurther names s
 
 -- what joins the first compound selector of a list of this kind to what is before it
 abbrev pub IsLeading : ListKind → Combinator → Type 0
@@ -123,7 +129,7 @@ IsTest (nth_last_child_list p) = IsProgression p
 abbrev mutual
   -- a condition that may follow others, by which lists may be open
   pub IsFurtherCondition : Room → Condition → Type 0
-  IsFurtherCondition n (simple s) = IsFurther s
+  IsFurtherCondition n (simple s) = IsFurther n.names s
   IsFurtherCondition n (negation selectors) = IsList Not n selectors
   IsFurtherCondition n (any_of selectors) = IsList Is n selectors
   IsFurtherCondition n (where_any selectors) = IsList Where n selectors
@@ -131,7 +137,7 @@ abbrev mutual
 
   -- a condition that may be the first
   pub IsFirstCondition : Room → Condition → Type 0
-  IsFirstCondition n (simple s) = IsFirst s
+  IsFirstCondition n (simple s) = IsFirst n.names s
   IsFirstCondition n (negation selectors) = IsList Not n selectors
   IsFirstCondition n (any_of selectors) = IsList Is n selectors
   IsFirstCondition n (where_any selectors) = IsList Where n selectors
@@ -167,20 +173,21 @@ abbrev mutual
   AreFurther n (with_condition c conditions) = IsFurtherCondition n c × AreFurther n conditions
 
 -- the conditions of a compound selector: only before a pseudo-element there may be none
-abbrev pub AreConditions : Bool → List Condition → Type 0
-AreConditions before_element [] = before_element ≡ true
-AreConditions before_element (c ∷ conditions) =
-    IsFirstCondition outside c × All (IsFurtherCondition outside) conditions
+abbrev pub AreConditions : Names → Bool → List Condition → Type 0
+AreConditions names before_element [] = before_element ≡ true
+AreConditions names before_element (c ∷ conditions) =
+    IsFirstCondition (outside names) c × All (IsFurtherCondition (outside names)) conditions
 
 abbrev pub is_last : List Part → Bool
 is_last [] = true
 is_last (part ∷ parts) = false
 
 -- compound selectors, with a pseudo-element after the last or without one
-abbrev pub AreParts : Bool → List Part → Type 0
-AreParts has_element [] = Unit {0}
-AreParts has_element (part ∷ parts) =
-    AreConditions (has_element && is_last parts) part.conditions × AreParts has_element parts
+abbrev pub AreParts : Names → Bool → List Part → Type 0
+AreParts names has_element [] = Unit {0}
+AreParts names has_element (part ∷ parts) =
+    AreConditions names (has_element && is_last parts) part.conditions
+    × AreParts names has_element parts
 
 -- there is a first compound selector, which is joined to none
 abbrev pub BeginsPlain : List Part → Type 0
@@ -196,25 +203,30 @@ is_pseudo_class (function name a) = true
 is_pseudo_class s = false
 
 -- the argument of a pseudo-element of this name, which has one or none
-abbrev pub IsElementArgument : List ℕ → Option (List ℕ) → Type 0
-IsElementArgument name None = is_element name ≡ true
-IsElementArgument name (Some a) = IsArgumentOf element_functions name a
+abbrev pub IsElementArgument : Names → List ℕ → Option (List ℕ) → Type 0
+IsElementArgument names name None = is_element names name ≡ true
+IsElementArgument names name (Some a) = IsArgumentOf (element_functions names) name a
 
 -- the name of a pseudo-element, and its argument
-abbrev pub IsElementName : List ℕ → Option (List ℕ) → Type 0
-IsElementName name a = IsName name × IsElementArgument name a
+abbrev pub IsElementName : Names → List ℕ → Option (List ℕ) → Type 0
+IsElementName names name a = IsName name × IsElementArgument names name a
 
 -- what may follow a pseudo-element
-abbrev pub IsAfterElement : Condition → Type 0
-IsAfterElement (simple (named_element name a)) = IsElementName name a
-IsAfterElement (simple s) = (is_pseudo_class s ≡ true) × IsFurther s
-IsAfterElement c = IsFurtherCondition outside c
+abbrev pub IsAfterElement : Names → Condition → Type 0
+IsAfterElement names (simple (named_element name a)) = IsElementName names name a
+IsAfterElement names (simple s) = (is_pseudo_class s ≡ true) × IsFurther names s
+IsAfterElement names c = IsFurtherCondition (outside names) c
 
-abbrev pub IsPseudoElement : PseudoElement → Type 0
-IsPseudoElement e = IsElementName e.name e.argument × All IsAfterElement e.after
+abbrev pub IsPseudoElement : Names → PseudoElement → Type 0
+IsPseudoElement names e = IsElementName names e.name e.argument × All (IsAfterElement names) e.after
 
--- A selector that some text reads as.
-abbrev pub IsWellFormed : Selector → Type 0
-IsWellFormed s =
-    BeginsPlain s.parts × AreParts (is_some s.pseudo_element) s.parts
-    × ForSome s.pseudo_element IsPseudoElement
+-- A selector as it is written, apart from the default namespace.
+abbrev pub IsWritten : Names → Selector → Type 0
+IsWritten names s =
+    BeginsPlain s.parts × AreParts names (is_some s.pseudo_element) s.parts
+    × ForSome s.pseudo_element (IsPseudoElement names)
+
+-- A selector that some text reads as: what is written, in the default namespace if there is one.
+abbrev pub IsWellFormed : Names → Selector → Type 0
+IsWellFormed names s =
+    (written : Selector) × IsWritten names written × (selector_in names written ≡ s)

@@ -5,9 +5,11 @@ ghost use Rattle.css_selectors.specs.Grammar.{is_sign_byte, two_bytes as two_byt
 ghost use Rattle.css_selectors.specs.Grammar.{value as value_of, flag as flag_of, compared, attribute_from_name, attribute_selector};
 ghost use Rattle.css_selectors.specs.internal.Reads.{reading_of, Reads};
 ghost use Rattle.std.specs.Cow.{cow_str_bytes};
+ghost use Rattle.css_selectors.specs.NameViews.{names_of};
 ghost use Rattle.css_selectors.specs.Views.{comparison_of, local_of, simple_of};
 
 use crate::components::{AttributeTest, Comparison, Local, Simple};
+use crate::names::Names;
 use crate::namespaces::{in_namespace, read_namespace};
 use crate::refusal::{Refusal, Why};
 use crate::texts::split_ascii;
@@ -147,12 +149,13 @@ fn read_from_name<'a>(alloc: Global, text: &'a str) -> Result<(Local<'a>, &'a st
 #[tactic(auto, unfolding(crate::specs::Grammar::attribute_selector))]
 pub(crate) fn read_attribute<'a>(
     alloc: Global,
+    names: &Names<'_>,
     text: &'a str,
 ) -> Result<(Simple<'a>, &'a str), Refusal<'a>>
-    ensures { Reads simple_of result (attribute_selector text.now) }
+    ensures { Reads simple_of result (attribute_selector (names_of names.now) text.now) }
 {
     let (_, rest) = read_gap(text);
-    let (namespace, rest) = read_namespace(alloc, rest)?;
+    let (namespace, rest) = read_namespace(alloc, names, rest)?;
     let (local, rest) = read_from_name(alloc, rest)?;
     Ok((in_namespace(namespace, local), rest))
 }

@@ -124,8 +124,10 @@ pub enum Namespace<'a> {
     Absent,
     /// `*|`: any.
     Any,
-    /// `prefix|`: that of the prefix.
-    Prefix(CowStr<'a>),
+    /// `prefix|`: that of the prefix, which has this number.
+    Prefix(CowStr<'a>, usize),
+    /// The default one, which has this number. It is not written.
+    Default(usize),
 }
 
 /// What is in a namespace: a type selector, or an attribute selector.
@@ -139,12 +141,15 @@ pub enum Local<'a> {
     HasAttribute(CowStr<'a>),
     /// `[name=text]` and the like
     Attribute(AttributeTest<'a>),
+    /// A `*` that is not written: a compound selector without a type selector is in the default
+    /// namespace.
+    Implied,
 }
 
 /// A type or attribute selector with a namespace.
 #[derive(Drop)]
 pub struct Namespaced<'a> {
-    /// What is before the bar.
+    /// The namespace.
     pub namespace: Namespace<'a>,
     /// The selector without it.
     pub local: Local<'a>,
@@ -221,7 +226,8 @@ pub enum Simple<'a> {
     Element(ElementName<'a>),
     /// `&`, with the list that it stands for.
     Nesting(Nesting),
-    /// A type or attribute selector with a namespace. No element satisfies it.
+    /// A type or attribute selector with a namespace. No element satisfies one of an attribute that has
+    /// a prefix.
     Namespaced(Namespaced<'a>),
 }
 

@@ -11,6 +11,7 @@ ghost use Rattle.css_selectors.specs.Grammar.{next_condition as next_condition_o
 ghost use Rattle.css_selectors.specs.Components.Condition.{simple};
 ghost use Rattle.css_selectors.specs.Readings.{step_after, items, found_before};
 ghost use Rattle.css_selectors.specs.internal.Reads.{Reads, Finds};
+ghost use Rattle.css_selectors.specs.NameViews.{names_of, room_seen};
 ghost use Rattle.css_selectors.specs.Views.{list_test_of, progression_of, simple_of, condition_of, part_of, complex_of};
 
 use crate::Combinator;
@@ -21,6 +22,7 @@ use crate::components::{
 };
 use crate::joins::{begins_compound, take_leading, take_sign};
 use crate::languages::read_ranges;
+use crate::names::Names;
 use crate::namespaces::read_type;
 use crate::numbers::read_progression;
 use crate::pseudo_classes::{
@@ -28,7 +30,7 @@ use crate::pseudo_classes::{
     read_argument_of,
 };
 use crate::refusal::{Refusal, Why};
-use crate::room::{OUTSIDE, Room, may_open, within};
+use crate::room::{Room, may_open, outside, within};
 use crate::texts::split_ascii;
 use crate::words::{
     begins_name, past_comments, read_closing, read_gap, read_ident_sequence, read_name,
@@ -42,9 +44,10 @@ use std::borrow::CowStr;
 #[tactic(auto, unfolding(crate::specs::Grammar::next_simple))]
 fn next_simple<'a>(
     alloc: Global,
+    names: &Names<'_>,
     text: &'a str,
 ) -> Result<Option<(Simple<'a>, &'a str)>, Refusal<'a>>
-    ensures { Finds simple_of result (next_simple_of text.now) }
+    ensures { Finds simple_of result (next_simple_of (names_of names.now) text.now) }
 {
     match split_ascii(text) {
         Some((b'.', rest)) => {
@@ -55,7 +58,7 @@ fn next_simple<'a>(
             let (name, rest) = read_ident_sequence(alloc, rest)?;
             Ok(Some((Simple::Id(name), rest)))
         }
-        Some((b'[', rest)) => Ok(Some(read_attribute(alloc, rest)?)),
+        Some((b'[', rest)) => Ok(Some(read_attribute(alloc, names, rest)?)),
         Some((b'&', rest)) => Ok(Some((Simple::Nesting(OUTERMOST), rest))),
         _ => Ok(None),
     }
@@ -110,6 +113,7 @@ fn is_lasting(why: Why) -> bool
         | Why::NoProgression
         | Why::UnknownName
         | Why::UnknownFunction
+        | Why::UnknownPrefix
         | Why::Unsupported
         | Why::Unexpected => false,
     }
@@ -187,13 +191,14 @@ fn begins_pseudo_class(text: &str) -> bool
 #[tactic(auto, unfolding(crate::specs::Grammar::compound))]
 fn read_compound<'a>(
     alloc: Global,
-    room: Room,
+    room: Room<'_>,
     text: &'a str,
 ) -> Result<(Vec<Condition<'a>>, &'a str), Refusal<'a>>
     ensures { Reads (λ v. map condition_of v.items) result
-        (compound_of_text (next_condition_of room) text.now) }
+        (compound_of_text (names_of room.entry.names.now) (next_condition_of (room_seen room.entry))
+        text.now) }
 {
-    let (conditions, rest) = match read_type(alloc, text)? {
+    let (conditions, rest) = match read_type(alloc, room.names, text)? {
         Some((simple, rest)) => read_more(alloc, room, Some(simple), rest)?,
         None => read_more(alloc, room, None, text)?,
     };
@@ -208,10 +213,11 @@ fn read_compound<'a>(
 #[tactic(auto, unfolding(crate::specs::Grammar::next_part_in))]
 fn next_part<'a>(
     alloc: Global,
-    room: Room,
+    room: Room<'_>,
     text: &'a str,
 ) -> Result<Option<(Part<'a>, &'a str)>, Refusal<'a>>
-    ensures { Finds part_of result (next_part_of (next_condition_of room) text.now) }
+    ensures { Finds part_of result
+        (next_part_of (names_of room.entry.names.now) (next_condition_of (room_seen room.entry)) text.now) }
 {
     let (spaced, rest) = read_gap(text);
     if let Some((combinator, rest)) = take_sign(rest) {
@@ -238,13 +244,14 @@ fn next_part<'a>(
 #[cycle(lists)]
 fn read_parts<'a>(
     alloc: Global,
-    room: Room,
+    room: Room<'_>,
     first: Part<'a>,
     text: &'a str,
 ) -> Result<(Vec<Part<'a>>, &'a str), Refusal<'a>>
     ensures { Reads (λ v. map part_of v.items) result
         (found_before (part_of first.entry ∷ [])
-        (items (next_part_of (next_condition_of room)) text.now)) }
+        (items (next_part_of (names_of room.entry.names.now) (next_condition_of (room_seen room.entry)))
+        text.now)) }
 {
     let mut parts = Vec::new(alloc);
     parts.push(first)?;
@@ -269,11 +276,13 @@ fn read_parts<'a>(
 #[tactic(auto, unfolding(crate::specs::Grammar::complex_by))]
 fn read_joined<'a>(
     alloc: Global,
-    room: Room,
+    room: Room<'_>,
     combinator: Combinator,
     text: &'a str,
 ) -> Result<(Complex<'a>, &'a str), Refusal<'a>>
-    ensures { Reads complex_of result (complex_by combinator (next_condition_of room) text.now) }
+    ensures { Reads complex_of result
+        (complex_by (names_of room.entry.names.now) combinator (next_condition_of (room_seen room.entry))
+        text.now) }
 {
     let (conditions, rest) = read_compound(alloc, room, text)?;
     let first = Part {
@@ -289,11 +298,13 @@ fn read_joined<'a>(
 #[tactic(auto, unfolding(crate::specs::Grammar::complex))]
 fn read_complex<'a>(
     alloc: Global,
-    room: Room,
+    room: Room<'_>,
     kind: ListKind,
     text: &'a str,
 ) -> Result<(Complex<'a>, &'a str), Refusal<'a>>
-    ensures { Reads complex_of result (complex_of_text kind (next_condition_of room) text.now) }
+    ensures { Reads complex_of result
+        (complex_of_text (names_of room.entry.names.now) kind (next_condition_of (room_seen room.entry))
+        text.now) }
 {
     match take_leading(kind, text) {
         Some((combinator, rest)) => {
@@ -309,12 +320,13 @@ fn read_complex<'a>(
 #[tactic(auto, unfolding(crate::specs::Grammar::listed_part))]
 fn read_listed<'a>(
     alloc: Global,
-    room: Room,
+    room: Room<'_>,
     kind: ListKind,
     text: &'a str,
 ) -> Result<(Option<Complex<'a>>, &'a str), Refusal<'a>>
     ensures { Reads (option_map complex_of) result
-        (listed_part kind (next_condition_of room) text.now) }
+        (listed_part (names_of room.entry.names.now) kind (next_condition_of (room_seen room.entry))
+        text.now) }
 {
     let (_, start) = read_gap(text);
     match read_complex(alloc, room, kind, start) {
@@ -329,12 +341,13 @@ fn read_listed<'a>(
 #[tactic(auto, unfolding(crate::specs::Grammar::next_listed))]
 fn next_listed<'a>(
     alloc: Global,
-    room: Room,
+    room: Room<'_>,
     kind: ListKind,
     text: &'a str,
 ) -> Result<Option<(Option<Complex<'a>>, &'a str)>, Refusal<'a>>
     ensures { Finds (option_map complex_of) result
-        (next_listed_of kind (next_condition_of room) text.now) }
+        (next_listed_of (names_of room.entry.names.now) kind (next_condition_of (room_seen room.entry))
+        text.now) }
 {
     match split_ascii(text) {
         Some((b',', rest)) => Ok(Some(read_listed(alloc, room, kind, rest)?)),
@@ -346,13 +359,14 @@ fn next_listed<'a>(
 #[cycle(lists)]
 fn read_selectors<'a>(
     alloc: Global,
-    room: Room,
+    room: Room<'_>,
     kind: ListKind,
     first: Option<Complex<'a>>,
     text: &'a str,
 ) -> Result<(Vec<Complex<'a>>, &'a str), Refusal<'a>>
     ensures { Reads (λ v. map complex_of v.items) result
-        (selectors_after kind (next_condition_of room) (option_map complex_of first.entry) text.now) }
+        (selectors_after (names_of room.entry.names.now) kind (next_condition_of (room_seen room.entry))
+        (option_map complex_of first.entry) text.now) }
 {
     let mut selectors = Vec::new(alloc);
     keep(&mut selectors, first)?;
@@ -377,13 +391,13 @@ fn read_selectors<'a>(
 #[tactic(auto, unfolding(crate::specs::Grammar::complex_list))]
 fn read_list<'a>(
     alloc: Global,
-    room: Room,
+    room: Room<'_>,
     kind: ListKind,
     opened: &'a str,
     text: &'a str,
 ) -> Result<(Vec<Complex<'a>>, &'a str), Refusal<'a>>
     ensures { Reads (λ v. map complex_of v.items) result
-        (list_within room kind opened.now text.now) }
+        (list_within (room_seen room.entry) kind opened.now text.now) }
 {
     if room.depth == 0 {
         return Err(Refusal::new(Why::TooDeep, opened));
@@ -402,13 +416,13 @@ fn read_list<'a>(
 #[cycle(lists)]
 fn read_of<'a>(
     alloc: Global,
-    room: Room,
+    room: Room<'_>,
     opened: &'a str,
     test: ListTest,
     text: &'a str,
 ) -> Result<(Condition<'a>, &'a str), Refusal<'a>>
     ensures { Reads condition_of result
-        (of_list (list_within room) (list_test_of test) opened.now text.now) }
+        (of_list (list_within (room_seen room.entry)) (list_test_of test) opened.now text.now) }
 {
     let (selectors, rest) = read_list(alloc, room, ListKind::Not, opened, text)?;
     Ok((Condition::Tested(test, selectors), rest))
@@ -418,14 +432,15 @@ fn read_of<'a>(
 #[cycle(lists)]
 fn read_after_progression<'a>(
     alloc: Global,
-    room: Room,
+    room: Room<'_>,
     opened: &'a str,
     numbering: Numbering,
     progression: Progression,
     text: &'a str,
 ) -> Result<(Condition<'a>, &'a str), Refusal<'a>>
     ensures { Reads condition_of result
-        (after_progression (list_within room) opened.now numbering (progression_of progression)
+        (after_progression (list_within (room_seen room.entry)) opened.now numbering
+        (progression_of progression)
         (list_test_for numbering (progression_of progression)) text.now) }
 {
     match list_test(numbering, progression) {
@@ -450,18 +465,19 @@ fn read_after_progression<'a>(
 #[cycle(lists)]
 fn read_functional<'a>(
     alloc: Global,
-    room: Room,
+    room: Room<'_>,
     opened: &'a str,
     name: CowStr<'a>,
     function: Option<Function>,
     text: &'a str,
 ) -> Result<(Condition<'a>, &'a str), Refusal<'a>>
     ensures { Reads condition_of result
-        (functional (list_within room) opened.now (cow_str_bytes name.entry) function text.now) }
+        (functional (names_of room.entry.names.now) (list_within (room_seen room.entry)) opened.now
+        (cow_str_bytes name.entry) function text.now) }
 {
     match function {
         None => {
-            let (argument, rest) = read_argument_of(opened, name.as_str(), text)?;
+            let (argument, rest) = read_argument_of(room.names, opened, name.as_str(), text)?;
             let call = FunctionCall { name, argument };
             Ok((Condition::Simple(Simple::Function(call)), rest))
         }
@@ -483,14 +499,15 @@ fn read_functional<'a>(
 #[cycle(lists)]
 fn read_argument<'a>(
     alloc: Global,
-    room: Room,
+    room: Room<'_>,
     opened: &'a str,
     name: CowStr<'a>,
     text: &'a str,
 ) -> Result<(Condition<'a>, &'a str), Refusal<'a>>
     ensures { Reads condition_of result
         (let n : List ℕ = cow_str_bytes name.entry in
-        with_argument (list_within room) opened.now n (list_kind_of n) (function_of n) text.now) }
+        with_argument (names_of room.entry.names.now) (list_within (room_seen room.entry)) opened.now n
+        (list_kind_of n) (function_of n) text.now) }
 {
     match list_kind(name.as_str()) {
         Some(kind) => {
@@ -509,12 +526,13 @@ fn read_argument<'a>(
 #[cycle(lists)]
 fn read_pseudo_condition<'a>(
     alloc: Global,
-    room: Room,
+    room: Room<'_>,
     opened: &'a str,
     text: &'a str,
 ) -> Result<Option<(Condition<'a>, &'a str)>, Refusal<'a>>
     ensures { Finds condition_of result
-        (step_after (name_of text.now) (pseudo_condition (list_within room) opened.now)) }
+        (step_after (name_of text.now)
+        (pseudo_condition (names_of room.entry.names.now) (list_within (room_seen room.entry)) opened.now)) }
 {
     let (name, rest) = read_name(alloc, text)?;
     if let Some((b'(', after)) = split_ascii(rest) {
@@ -523,7 +541,7 @@ fn read_pseudo_condition<'a>(
     if is_old_element(name.as_str()) {
         return Ok(None);
     }
-    let (simple, rest) = plain_pseudo(opened, name, rest)?;
+    let (simple, rest) = plain_pseudo(room.names, opened, name, rest)?;
     Ok(Some((Condition::Simple(simple), rest)))
 }
 
@@ -532,16 +550,16 @@ fn read_pseudo_condition<'a>(
 #[cycle(lists)]
 pub(crate) fn next_condition<'a>(
     alloc: Global,
-    room: Room,
+    room: Room<'_>,
     text: &'a str,
 ) -> Result<Option<(Condition<'a>, &'a str)>, Refusal<'a>>
-    ensures { Finds condition_of result (next_condition_of room text.now) }
+    ensures { Finds condition_of result (next_condition_of (room_seen room.entry) text.now) }
 {
     let text = past_comments(text);
     if begins_pseudo_class(text) {
         return read_pseudo_condition(alloc, room, text, past_comments(past_ascii(text)));
     }
-    match next_simple(alloc, text)? {
+    match next_simple(alloc, room.names, text)? {
         Some((simple, rest)) => Ok(Some((Condition::Simple(simple), rest))),
         None => Ok(None),
     }
@@ -551,13 +569,13 @@ pub(crate) fn next_condition<'a>(
 #[cycle(lists)]
 fn read_more<'a>(
     alloc: Global,
-    room: Room,
+    room: Room<'_>,
     first: Option<Simple<'a>>,
     text: &'a str,
 ) -> Result<(Vec<Condition<'a>>, &'a str), Refusal<'a>>
     ensures { Reads (λ v. map condition_of v.items) result
         (found_before (map (λ s. simple (simple_of s)) (option_to_list first.entry))
-        (items (next_condition_of room) text.now)) }
+        (items (next_condition_of (room_seen room.entry)) text.now)) }
 {
     let mut conditions = Vec::with_capacity(alloc, 2)?;
     if let Some(simple) = first {
@@ -583,13 +601,16 @@ fn read_more<'a>(
 #[tactic(auto, unfolding(crate::specs::Grammar::conditions))]
 pub(crate) fn read_conditions<'a>(
     alloc: Global,
+    names: &Names<'_>,
     text: &'a str,
 ) -> Result<(Vec<Condition<'a>>, &'a str), Refusal<'a>>
-    ensures { Reads (λ v. map condition_of v.items) result (conditions_of text.now) }
+    ensures { Reads (λ v. map condition_of v.items) result
+        (conditions_of (names_of names.now) text.now) }
 {
-    let (conditions, rest) = match read_type(alloc, text)? {
-        Some((simple, rest)) => read_more(alloc, OUTSIDE, Some(simple), rest)?,
-        None => read_more(alloc, OUTSIDE, None, text)?,
+    let room = outside(names);
+    let (conditions, rest) = match read_type(alloc, names, text)? {
+        Some((simple, rest)) => read_more(alloc, room, Some(simple), rest)?,
+        None => read_more(alloc, room, None, text)?,
     };
     if conditions.is_empty() && !readers::starts(text, b':') {
         return Err(Refusal::new(Why::NoSelector, text));

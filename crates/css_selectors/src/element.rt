@@ -44,6 +44,11 @@ pub trait Element: Drop {
     fn is_named(&self, name: &str) -> bool
         ensures { result ≡ document.is_named (node self.now) name.now };
 
+    /// Whether the element is in the namespace of this number, which is that of a declaration. Of 0 a
+    /// selector asks whether the element is in no namespace.
+    fn is_in_namespace(&self, number: usize) -> bool
+        ensures { result ≡ document.is_in_namespace (node self.now) number };
+
     /// Returns the value of the attribute with this name, if there is one.
     fn attribute(&self, name: &str) -> Option<&str>
         ensures { option_map (λ value. value.now) result

@@ -1,14 +1,14 @@
 //! The keys of a selector: conditions of which each element that it matches satisfies one.
 ghost use Rattle.std.specs.Prelude.{◌≡◌, ◌++◌, ◌∷◌, [], OnOk, MatchOption, List, map};
-ghost use Rattle.css_selectors.specs.Keys.{simple_key, lone_key, compound_key, parts_key, selector_keys};
+ghost use Rattle.css_selectors.specs.Keys.{local_key, simple_key, lone_key, compound_key, parts_key, selector_keys};
 ghost use Rattle.css_selectors.specs.Keys.{condition_keys, least_rank, best_keys, keys_of};
 ghost use Rattle.css_selectors.specs.Keys.{rank as rank_of};
 ghost use Rattle.css_selectors.specs.Keys.Key.{by_nothing};
 ghost use Rattle.css_selectors.specs.Components.{conditions_from, parts_from, selectors_from};
 ghost use Rattle.css_selectors.specs.KeyViews.{key_of, keys_of_best};
-ghost use Rattle.css_selectors.specs.Views.{simple_of, complex_of, condition_of};
+ghost use Rattle.css_selectors.specs.Views.{local_of, simple_of, complex_of, condition_of};
 
-use crate::{Complex, Condition, Selector, Simple};
+use crate::{Complex, Condition, Local, Selector, Simple};
 use std::alloc::AllocError;
 
 /// A condition that an element satisfies or not. Each element that a selector matches satisfies one
@@ -42,6 +42,18 @@ impl<'s> Key<'s> {
     }
 }
 
+/// Returns the key that what is in a namespace requires.
+fn key_of_local<'s>(local: &'s Local<'_>) -> Key<'s>
+    ensures { key_of result ≡ local_key (local_of local.now) }
+{
+    match local {
+        Local::TypeName(name) => Key::Name(name.as_str()),
+        Local::HasAttribute(name) => Key::Attribute(name.as_str()),
+        Local::Attribute(test) => Key::Attribute(test.name.as_str()),
+        Local::Universal | Local::Implied => Key::Any,
+    }
+}
+
 /// Returns the key that a simple selector requires.
 fn key_of_simple<'s>(simple: &'s Simple<'_>) -> Key<'s>
     ensures { key_of result ≡ simple_key (simple_of simple.now) }
@@ -58,8 +70,8 @@ fn key_of_simple<'s>(simple: &'s Simple<'_>) -> Key<'s>
         | Simple::State(_)
         | Simple::Function(_)
         | Simple::Element(_)
-        | Simple::Nesting(_)
-        | Simple::Namespaced(_) => Key::Any,
+        | Simple::Nesting(_) => Key::Any,
+        Simple::Namespaced(namespaced) => key_of_local(&namespaced.local),
     }
 }
 

@@ -1,10 +1,13 @@
 //! The names of pseudo-classes and pseudo-elements.
 ghost use Rattle.std.specs.Prelude.{◌≡◌, map};
 ghost use Rattle.std.specs.Str.{str_eq_ignore_ascii_case};
-ghost use Rattle.css_selectors.specs.KnownNames.{is_one_of as is_one_of_names, states, functions, elements, element_functions};
+ghost use Rattle.css_selectors.specs.KnownNames.{is_one_of as is_one_of_names, known_states, known_elements, known_element_functions};
+ghost use Rattle.css_selectors.specs.KnownNames.{states, functions, elements, element_functions};
 ghost use Rattle.css_selectors.specs.KnownNames.{is_element as is_element_name};
+ghost use Rattle.css_selectors.specs.NameViews.{names_of};
 
 use crate::attributes::begins;
+use crate::names::Names;
 
 /// The pseudo-classes without an argument with up to 4 bytes.
 const STATES_UP_TO_4: [&str; 5] = ["end", "host", "link", "open", "past"];
@@ -155,9 +158,17 @@ fn is_one_of(names: &[&str], name: &str) -> bool
     false
 }
 
-/// Whether a pseudo-class without an argument that is neither structural nor `:scope` has this name.
-pub(crate) fn is_state(name: &str) -> bool
-    ensures { result ≡ is_one_of_names states name.now }
+/// Whether a pseudo-class without an argument that is neither structural nor `:scope` has this name, be
+/// it a declared one.
+pub(crate) fn is_state(names: &Names<'_>, name: &str) -> bool
+    ensures { result ≡ is_one_of_names (states (names_of names.now)) name.now }
+{
+    is_known_state(name) || is_one_of(names.states, name)
+}
+
+/// Whether this is one of the known names of such pseudo-classes.
+fn is_known_state(name: &str) -> bool
+    ensures { result ≡ is_one_of_names known_states name.now }
 {
     match name.len() {
         0..=4 => is_one_of(&STATES_UP_TO_4, name),
@@ -171,23 +182,31 @@ pub(crate) fn is_state(name: &str) -> bool
     }
 }
 
-/// Whether a functional pseudo-class without a meaning here has this name.
-pub(crate) fn is_function(name: &str) -> bool
-    ensures { result ≡ is_one_of_names functions name.now }
+/// Whether a functional pseudo-class without a meaning here has this name, be it a declared one.
+#[tactic(auto, using(crate::proofs::KnownLemmas::or_declared))]
+pub(crate) fn is_function(names: &Names<'_>, name: &str) -> bool
+    ensures { result ≡ is_one_of_names (functions (names_of names.now)) name.now }
 {
-    is_one_of(&FUNCTIONS, name)
+    is_one_of(&FUNCTIONS, name) || is_one_of(names.functions, name)
 }
 
-/// Whether a pseudo-element without an argument has this name.
-pub(crate) fn is_element(name: &str) -> bool
-    ensures { result ≡ is_element_name name.now }
+/// Whether a pseudo-element without an argument has this name, be it a declared one.
+pub(crate) fn is_element(names: &Names<'_>, name: &str) -> bool
+    ensures { result ≡ is_element_name (names_of names.now) name.now }
 {
-    is_plain_element(name) || begins(true, b"-webkit-", name.as_bytes())
+    is_plain_element(names, name) || begins(true, b"-webkit-", name.as_bytes())
 }
 
-/// Whether this is one of the names of pseudo-elements without an argument.
-fn is_plain_element(name: &str) -> bool
-    ensures { result ≡ is_one_of_names elements name.now }
+/// Whether this is one of the known or declared names of pseudo-elements without an argument.
+fn is_plain_element(names: &Names<'_>, name: &str) -> bool
+    ensures { result ≡ is_one_of_names (elements (names_of names.now)) name.now }
+{
+    is_known_element(name) || is_one_of(names.elements, name)
+}
+
+/// Whether this is one of the known names of pseudo-elements without an argument.
+fn is_known_element(name: &str) -> bool
+    ensures { result ≡ is_one_of_names known_elements name.now }
 {
     match name.len() {
         0..=6 => is_one_of(&ELEMENTS_UP_TO_6, name),
@@ -198,9 +217,17 @@ fn is_plain_element(name: &str) -> bool
     }
 }
 
-/// Whether a pseudo-element with an argument has this name.
-pub(crate) fn is_element_function(name: &str) -> bool
-    ensures { result ≡ is_one_of_names element_functions name.now }
+/// Whether a pseudo-element with an argument has this name, be it a declared one.
+#[tactic(auto, using(crate::proofs::KnownLemmas::or_declared))]
+pub(crate) fn is_element_function(names: &Names<'_>, name: &str) -> bool
+    ensures { result ≡ is_one_of_names (element_functions (names_of names.now)) name.now }
+{
+    is_known_element_function(name) || is_one_of(names.element_functions, name)
+}
+
+/// Whether this is one of the known names of pseudo-elements with an argument.
+fn is_known_element_function(name: &str) -> bool
+    ensures { result ≡ is_one_of_names known_element_functions name.now }
 {
     match name.len() {
         0..=9 => is_one_of(&ELEMENT_FUNCTIONS_UP_TO_9, name),

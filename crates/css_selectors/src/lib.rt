@@ -10,12 +10,19 @@
 //! (Selectors 3, section 7). A selector can also be made of its components. It prints as CSSOM serializes
 //! it, a pseudo-element with two colons, and one that was read reads back from that text.
 //!
-//! A pseudo-class or pseudo-element whose name is in none of the lists of `specs/KnownNames` is refused.
-//! Every pseudo-element without an argument that begins with `-webkit-` is read.
+//! A pseudo-class or pseudo-element whose name is in none of the lists of `specs/KnownNames` is refused,
+//! unless the caller declares it: `read_list_in` takes its `Names`. Every pseudo-element without an
+//! argument that begins with `-webkit-` is read.
+//!
+//! `Names` also declares namespaces, which are numbers: prefixes, and the default one. A prefix that is not
+//! declared is refused. Where a default namespace is declared, a type selector without a prefix is in it,
+//! and so is a compound selector without a type selector, but for the subjects of the selectors of `:is()`,
+//! `:where()`, `:not()` and `:has()` (`specs/Defaults`). An element answers which namespace it is in. An
+//! attribute selector with a prefix is read and unsupported.
 //!
 //! A pseudo-element may have an argument, and pseudo-classes and further pseudo-elements after it. Its
 //! argument, and that of a pseudo-class that has no meaning here, is kept as it is written. A selector
-//! with one of these, with `:host` or a namespace, is unsupported: `parse` refuses it as such, and
+//! with one of these, or with `:host`, is unsupported: `parse` refuses it as such, and
 //! `read_list` reads it.
 //!
 //! `&` stands for a list of selectors by its number, of which the element is asked. `parse` reads it as
@@ -41,6 +48,7 @@ mod attribute_selectors;
 mod attributes;
 mod components;
 mod compounds;
+mod defaults;
 mod directions;
 mod element;
 mod escaping;
@@ -53,6 +61,7 @@ mod marked_list;
 mod matching;
 mod matching_laws;
 mod meeting;
+mod names;
 mod namespaces;
 mod nested;
 mod nesting;
@@ -91,6 +100,7 @@ pub use escaping::{escape, quote};
 pub use key::Key;
 pub use marked_list::MarkedList;
 pub use meeting::{matches_any, meets};
+pub use names::{ANY_PREFIX, NO_NAMES, Names, Prefix, UNKNOWN_NAMESPACE, number_of};
 pub use numbering::Numbering;
 pub use refusal::{Refusal, Why};
 pub use selector::{Listed, Selector};

@@ -2,17 +2,21 @@
 ghost use Rattle.std.specs.Prelude.{◌≡◌, ◌+◌, ◌*◌, ◌≤◌, ◌<◌, ◌↔◌, map, length, IsTrue, Option, option_map};
 ghost use Rattle.std.specs.List.{list_any};
 ghost use Rattle.std.specs.Cow.{cow_str_bytes};
-ghost use Rattle.css_selectors.specs.Meanings.{satisfies, is_placed as is_placed_at, holds as holds_on};
+ghost use Rattle.css_selectors.specs.Meanings.{satisfies, is_placed as is_placed_at, holds as holds_on, is_in as is_in_of, holds_in as holds_in_of};
 ghost use Rattle.css_selectors.specs.Components.{conditions_from, parts_from, selectors_from};
 ghost use Rattle.css_selectors.specs.Costs.{condition_cost, compound_cost, dearest_part, list_cost, selector_cost, most_tests as most};
 ghost use Rattle.css_selectors.specs.Meanings.{IsMet, AreMet, MeetsPart, MatchesAny, IsPlaced};
 ghost use Rattle.css_selectors.specs.declared.components.Simple.TheVariants.{Function};
 ghost use Rattle.css_selectors.specs.TriedElements.{element_of};
-ghost use Rattle.css_selectors.specs.Views.{comparison_of, progression_of, structure_of, simple_of, condition_of, part_of, complex_of};
+ghost use Rattle.css_selectors.specs.Views.{comparison_of, local_of, namespace_of, progression_of, structure_of, simple_of, condition_of, part_of, complex_of};
 
 use crate::attributes::is_satisfied;
 use crate::directions::direction_state;
-use crate::{Comparison, Complex, Condition, Element, FunctionCall, Part, Simple, Structure};
+use crate::namespaces::is_absent;
+use crate::{
+    Comparison, Complex, Condition, Element, FunctionCall, Local, Namespace, Namespaced, Part,
+    Simple, Structure,
+};
 use css_matching::{Candidate, Combinator, Parts, Tests, matches};
 use std::borrow::CowStr;
 
@@ -73,6 +77,43 @@ fn is_directed<E: Element>(call: &FunctionCall<'_>, element: &E) -> bool
     }
 }
 
+/// Whether the element is in the namespace.
+fn is_in<E: Element>(namespace: &Namespace<'_>, element: &E) -> bool
+    ensures { result ≡ is_in_of E.document (E.node element.now) (namespace_of namespace.now) }
+{
+    match namespace {
+        Namespace::Absent => element.is_in_namespace(0),
+        Namespace::Any => true,
+        Namespace::Prefix(_, number) | Namespace::Default(number) => {
+            element.is_in_namespace(*number)
+        }
+    }
+}
+
+/// Whether the element satisfies what is in a namespace.
+fn holds_in<E: Element>(namespaced: &Namespaced<'_>, element: &E) -> bool
+    ensures { result ≡ holds_in_of E.document (E.node element.now)
+        (namespace_of namespaced.now.namespace) (local_of namespaced.now.local) }
+{
+    let namespace = &namespaced.namespace;
+    match &namespaced.local {
+        Local::Universal | Local::Implied => is_in(namespace, element),
+        Local::TypeName(name) => is_in(namespace, element) && element.is_named(name.as_str()),
+        Local::HasAttribute(name) => {
+            is_absent(namespace) && element.attribute(name.as_str()).is_some()
+        }
+        Local::Attribute(test) => {
+            is_absent(namespace)
+                && has_value(
+                    test.comparison,
+                    test.ignores_case,
+                    test.text.as_str(),
+                    element.attribute(test.name.as_str()),
+                )
+        }
+    }
+}
+
 /// Whether the element satisfies the simple selector.
 fn holds<E: Element>(simple: &Simple<'_>, element: &E) -> bool
     ensures { result ≡ holds_on E.document (E.node element.now) (simple_of simple.now) }
@@ -105,7 +146,8 @@ fn holds<E: Element>(simple: &Simple<'_>, element: &E) -> bool
         Simple::Language(ranges) => is_in_any(ranges.as_slice(), element),
         Simple::State(name) => element.is_in_state(name.as_str()),
         Simple::Function(call) => is_directed(call, element),
-        Simple::Element(_) | Simple::Namespaced(_) => false,
+        Simple::Element(_) => false,
+        Simple::Namespaced(namespaced) => holds_in(namespaced, element),
         Simple::Nesting(list) => element.is_in_list(list.number),
     }
 }

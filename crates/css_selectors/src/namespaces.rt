@@ -5,16 +5,29 @@ ghost use Rattle.css_selectors.specs.Grammar.{is_bar, past_any_name as past_any_
 ghost use Rattle.css_selectors.specs.Grammar.{namespace as namespace_here, in_namespace as in_namespace_of};
 ghost use Rattle.css_selectors.specs.Grammar.{any_or_name, type_after, type_selector};
 ghost use Rattle.css_selectors.specs.internal.Reads.{Reads, Finds};
+ghost use Rattle.css_selectors.specs.Components.{is_absent as is_absent_of};
+ghost use Rattle.css_selectors.specs.NameViews.{names_of};
 ghost use Rattle.css_selectors.specs.Views.{namespace_of, local_of, simple_of};
 
 use crate::components::{Local, Namespace, Namespaced, Simple};
-use crate::refusal::Refusal;
+use crate::names::{Names, number_of};
+use crate::refusal::{Refusal, Why};
 use crate::texts::split_ascii;
 use crate::words::{begins_name, past_comments, read_name};
 use css_syntax::decode;
 use css_syntax::texts::{front, past_word};
 use css_text::readers;
 use std::alloc::{AllocError, Global};
+
+/// Whether the namespace is none.
+pub(crate) fn is_absent(namespace: &Namespace<'_>) -> bool
+    ensures { result ≡ is_absent_of (namespace_of namespace.now) }
+{
+    match namespace {
+        Namespace::Absent => true,
+        Namespace::Any | Namespace::Prefix(_, _) | Namespace::Default(_) => false,
+    }
+}
 
 /// Returns the rest after a bar, if one is next that is none of `|=`.
 fn take_bar(text: &str) -> Option<&str>
@@ -47,34 +60,46 @@ fn at_bar(text: &str) -> &str
     past_comments(past_any_name(text))
 }
 
-/// Returns the namespace that is before a bar.
+/// Returns the namespace that is before a bar, unless it is a prefix that is not declared.
 #[tactic(auto, using(css_syntax::proofs::PartTexts::word_ends), unfolding(crate::specs::Grammar::prefix))]
-fn prefix<'a>(alloc: Global, text: &'a str) -> Result<Namespace<'a>, AllocError>
-    ensures { IfOk result (λ namespace. namespace_of namespace ≡ prefix_of text.now) }
+fn prefix<'a>(
+    alloc: Global,
+    names: &Names<'_>,
+    text: &'a str,
+) -> Result<Option<Namespace<'a>>, AllocError>
+    ensures { IfOk result (λ namespace. option_map namespace_of namespace
+        ≡ prefix_of (names_of names.now) text.now) }
 {
     match split_ascii(text) {
-        Some((b'*', _)) => Ok(Namespace::Any),
+        Some((b'*', _)) => Ok(Some(Namespace::Any)),
         _ if begins_name(text) => {
             let name = decode(alloc, front(text, past_word(text)))?;
-            Ok(Namespace::Prefix(name))
+            match number_of(names, name.as_str()) {
+                Some(number) => Ok(Some(Namespace::Prefix(name, number))),
+                None => Ok(None),
+            }
         }
-        _ => Ok(Namespace::Absent),
+        _ => Ok(Some(Namespace::Absent)),
     }
 }
 
-/// Reads a namespace and its bar, if they are next.
+/// Reads a namespace and its bar, if they are next. A prefix that is not declared is refused.
 #[tactic(auto, unfolding(crate::specs::Grammar::namespace))]
 pub(crate) fn read_namespace<'a>(
     alloc: Global,
+    names: &Names<'_>,
     text: &'a str,
 ) -> Result<(Option<Namespace<'a>>, &'a str), Refusal<'a>>
-    ensures { Reads (λ n. option_map namespace_of n) result (namespace_here text.now) }
+    ensures { Reads (λ n. option_map namespace_of n) result
+        (namespace_here (names_of names.now) text.now) }
 {
     let Some(rest) = take_bar(at_bar(text)) else {
         return Ok((None, text));
     };
-    let namespace = prefix(alloc, text)?;
-    Ok((Some(namespace), past_comments(rest)))
+    match prefix(alloc, names, text)? {
+        Some(namespace) => Ok((Some(namespace), past_comments(rest))),
+        None => Err(Refusal::new(Why::UnknownPrefix, text)),
+    }
 }
 
 /// Returns the type or attribute selector with the namespace before its name.
@@ -84,7 +109,7 @@ pub(crate) fn in_namespace<'a>(namespace: Option<Namespace<'a>>, local: Local<'a
 {
     let Some(namespace) = namespace else {
         return match local {
-            Local::Universal => Simple::Universal,
+            Local::Universal | Local::Implied => Simple::Universal,
             Local::TypeName(name) => Simple::TypeName(name),
             Local::HasAttribute(name) => Simple::HasAttribute(name),
             Local::Attribute(test) => Simple::Attribute(test),
@@ -125,10 +150,11 @@ fn read_type_after<'a>(
 #[tactic(auto, unfolding(crate::specs::Grammar::type_selector))]
 pub(crate) fn read_type<'a>(
     alloc: Global,
+    names: &Names<'_>,
     text: &'a str,
 ) -> Result<Option<(Simple<'a>, &'a str)>, Refusal<'a>>
-    ensures { Finds simple_of result (type_selector text.now) }
+    ensures { Finds simple_of result (type_selector (names_of names.now) text.now) }
 {
-    let (namespace, rest) = read_namespace(alloc, text)?;
+    let (namespace, rest) = read_namespace(alloc, names, text)?;
     read_type_after(alloc, namespace, rest)
 }

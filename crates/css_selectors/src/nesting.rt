@@ -1,17 +1,20 @@
 //! `&` in selectors: whether there is one, and which list it denotes.
-ghost use Rattle.std.specs.Prelude.{◌≡◌, ◌||◌, IfOk, false, map, option_map};
+ghost use Rattle.std.specs.Prelude.{◌≡◌, ◌∷◌, [], ◌||◌, IfOk, false, map, option_map};
 ghost use Rattle.css_selectors.specs.Components.{conditions_from, parts_from, selectors_from};
 ghost use Rattle.css_selectors.specs.Nested.{has_ampersand as has_ampersand_of, is_nesting as is_nesting_of};
 ghost use Rattle.css_selectors.specs.Nested.{nests as nests_of, compound_nests as compound_nests_of, parts_nest as parts_nest_of};
 ghost use Rattle.css_selectors.specs.Nested.{list_nests as list_nests_of, element_nests as element_nests_of};
-ghost use Rattle.css_selectors.specs.Nested.{simple_under as simple_under_of, has_nesting as has_nesting_of, nested_selector};
+ghost use Rattle.css_selectors.specs.Nested.{simple_under as simple_under_of, has_nesting as has_nesting_of, nesting_in as nesting_in_of, nested_selector};
+ghost use Rattle.css_selectors.specs.NameViews.{names_of};
 ghost use Rattle.css_selectors.specs.Simples.{condition_with, part_with, pseudo_element_with};
 ghost use Rattle.css_selectors.specs.Views.{simple_of, complex_of, condition_of, part_of, pseudo_element_of, element_name_of};
 ghost use Rattle.css_selectors.specs.Components.Simple.{named_element};
 
 use crate::Selector;
 use crate::components::{Complex, Condition, ElementName, Nesting, Part, PseudoElement, Simple};
-use crate::reading::nesting_part;
+use crate::defaults::implied_in;
+use crate::names::Names;
+use css_matching::Combinator;
 use std::alloc::{AllocError, Global};
 
 /// Whether there is an `&` in an argument that is kept as it is written.
@@ -237,13 +240,30 @@ fn element_under<'a>(
     Ok(Some(PseudoElement { element, after }))
 }
 
+/// Returns `&` as a compound selector at the start, where a default namespace may be declared.
+fn nesting_in<'a>(alloc: Global, names: &Names<'_>, list: Nesting) -> Result<Part<'a>, AllocError>
+    ensures { IfOk result (λ part. part_of part ∷ [] ≡ nesting_in_of (names_of names.now) list) }
+{
+    let mut conditions = Vec::new(alloc);
+    if let Some(number) = names.default_namespace {
+        conditions.push(implied_in(number))?;
+    }
+    conditions.push(Condition::Simple(Simple::Nesting(list)))?;
+    Ok(Part {
+        combinator: Combinator::Descendant,
+        conditions,
+    })
+}
+
 /// Returns the selector of a nested rule that this relative selector is under a rule with this list.
 pub(crate) fn nested<'a>(
     alloc: Global,
+    names: &Names<'_>,
     list: Nesting,
     selector: Selector<'a>,
 ) -> Result<Selector<'a>, AllocError>
-    ensures { IfOk result (λ under. under ≡ nested_selector list selector.entry) }
+    ensures { IfOk result (λ under. under
+        ≡ nested_selector (names_of names.now) list selector.entry) }
 {
     let is_joined = !has_nesting(&selector);
     let Selector {
@@ -252,7 +272,7 @@ pub(crate) fn nested<'a>(
     } = selector;
     let mut parts = parts_under(alloc, list, parts)?;
     if is_joined {
-        parts.insert(0, nesting_part(alloc, list)?)?;
+        parts.insert(0, nesting_in(alloc, names, list)?)?;
     }
     let pseudo_element = element_under(alloc, list, pseudo_element)?;
     Ok(Selector::new(parts, pseudo_element))

@@ -306,7 +306,8 @@ fn write_namespace<W: fmt::Write>(f: &mut fmt::Formatter<W>, namespace: &Namespa
     match namespace {
         Namespace::Absent => f.write_str("|"),
         Namespace::Any => f.write_str("*|"),
-        Namespace::Prefix(prefix) => write_prefix(f, prefix.as_str()),
+        Namespace::Prefix(prefix, _) => write_prefix(f, prefix.as_str()),
+        Namespace::Default(_) => f.write_str(""),
     }
 }
 
@@ -387,6 +388,7 @@ fn write_namespaced<W: fmt::Write>(
     let namespace = &namespaced.namespace;
     match &namespaced.local {
         Local::Universal => write_any_in(f, namespace),
+        Local::Implied => write_namespace(f, namespace),
         Local::TypeName(name) => write_qualified(f, namespace, name.as_str()),
         Local::HasAttribute(name) => write_has_in(f, namespace, name.as_str()),
         Local::Attribute(test) => write_attribute_in(f, namespace, test),

@@ -5,6 +5,7 @@ ghost use Rattle.css_selectors.specs.declared.components.Nesting.{Nesting as Nes
 ghost use Rattle.css_selectors.specs.declared.reading.Start.TheVariants.{Relative};
 ghost use Rattle.css_selectors.specs.Components.{Placed, Selector};
 ghost use Rattle.css_selectors.specs.Grammar.{placed_list_by, selector};
+ghost use Rattle.css_selectors.specs.Names.{Names};
 ghost use Rattle.css_selectors.specs.Nested.{absolute, nested_selector};
 ghost use Rattle.css_selectors.specs.Printing.{selector_text};
 ghost use Rattle.css_selectors.specs.Readings.{got};
@@ -14,14 +15,16 @@ ghost use Rattle.css_selectors.specs.WellFormed.{IsWellFormed};
 /// well-formed selectors are those that some text reads as. So does one of a nested rule, but that `&` is
 /// then what it is outside of nested rules.
 pub fn printing_law()
-    ensures read_again { (text rest : List ℕ) (s : Selector)
-        → selector text ≡ got s rest
-        → selector (selector_text s) ≡ got s [] }
-    ensures well_formed { (text rest : List ℕ) (s : Selector) → selector text ≡ got s rest
-        → IsWellFormed s }
-    ensures all_well_formed { (s : Selector) → IsWellFormed s
-        → selector (selector_text s) ≡ got s [] }
-    ensures nested { (text rest : List ℕ) (all : List Placed) → placed_list_by Relative text ≡ got all rest
+    ensures read_again { (names : Names) (text rest : List ℕ) (s : Selector)
+        → selector names text ≡ got s rest
+        → selector names (selector_text s) ≡ got s [] }
+    ensures well_formed { (names : Names) (text rest : List ℕ) (s : Selector)
+        → selector names text ≡ got s rest → IsWellFormed names s }
+    ensures all_well_formed { (names : Names) (s : Selector) → IsWellFormed names s
+        → selector names (selector_text s) ≡ got s [] }
+    ensures nested { (names : Names) (text rest : List ℕ) (all : List Placed)
+        → placed_list_by names Relative text ≡ got all rest
         → (list : NestingOf) (p : Placed) → Contains all p
-        → selector (selector_text (nested_selector list p.selector)) ≡ got (absolute p.selector) [] }
+        → selector names (selector_text (nested_selector names list p.selector))
+        ≡ got (absolute names p.selector) [] }
 {}

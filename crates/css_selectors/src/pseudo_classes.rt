@@ -4,6 +4,7 @@ ghost use Rattle.css_selectors.specs.Grammar.{plain_structure, numbering as numb
 ghost use Rattle.css_selectors.specs.Grammar.{list_kind as list_kind_of, list_test as list_test_for};
 ghost use Rattle.css_selectors.specs.Grammar.{is_old_element as is_old_element_of, argument_of};
 ghost use Rattle.css_selectors.specs.KnownNames.{functions};
+ghost use Rattle.css_selectors.specs.NameViews.{names_of};
 ghost use Rattle.css_selectors.specs.internal.Reads.{Reads};
 ghost use Rattle.std.specs.Cow.{cow_str_bytes};
 ghost use Rattle.css_selectors.specs.Grammar.{function_named as function_named_of, plain_pseudo as plain_pseudo_of};
@@ -15,6 +16,7 @@ use crate::components::{
 };
 use crate::known_names::{is_function, is_state};
 use crate::languages::read_ranges;
+use crate::names::Names;
 use crate::numbers::read_progression;
 use crate::refusal::{Refusal, Why};
 use crate::words::{read_closing, read_gap};
@@ -117,13 +119,15 @@ pub(crate) fn is_old_element(name: &str) -> bool
 /// Reads the argument of a functional pseudo-class without a meaning here, which is kept as it is
 /// written. `opened` is the text from its colon on.
 pub(crate) fn read_argument_of<'a>(
+    names: &Names<'_>,
     opened: &'a str,
     name: &str,
     text: &'a str,
 ) -> Result<(CowStr<'a>, &'a str), Refusal<'a>>
-    ensures { Reads cow_str_bytes result (argument_of functions opened.now name.now text.now) }
+    ensures { Reads cow_str_bytes result
+        (argument_of (functions (names_of names.now)) opened.now name.now text.now) }
 {
-    if !is_function(name) {
+    if !is_function(names, name) {
         return Err(Refusal::new(Why::UnknownFunction, opened));
     }
     let (argument, rest) = read_kept(text)?;
@@ -132,17 +136,18 @@ pub(crate) fn read_argument_of<'a>(
 
 /// Returns the pseudo-class without an argument of this name. `opened` is the text from its colon on.
 pub(crate) fn plain_pseudo<'a>(
+    names: &Names<'_>,
     opened: &'a str,
     name: CowStr<'a>,
     rest: &'a str,
 ) -> Result<(Simple<'a>, &'a str), Refusal<'a>>
     ensures { Reads simple_of result
         (let n : List ℕ = cow_str_bytes name.entry in
-        plain_pseudo_of opened.now n (plain_structure n) rest.now) }
+        plain_pseudo_of (names_of names.now) opened.now n (plain_structure n) rest.now) }
 {
     match structure_named(name.as_str()) {
         Some(structure) => Ok((Simple::Structure(structure), rest)),
-        None if is_state(name.as_str()) => Ok((Simple::State(name), rest)),
+        None if is_state(names, name.as_str()) => Ok((Simple::State(name), rest)),
         None => Err(Refusal::new(Why::UnknownName, opened)),
     }
 }

@@ -2,6 +2,7 @@
 ghost use Rattle.std.specs.Prelude.{◌≡◌, map, option_map};
 ghost use Rattle.std.specs.Cow.{cow_str_bytes};
 ghost use Rattle.css_selectors.specs.Grammar.{past_colon as past_colon_of, element_argument, element_name, after_element, pseudo_element as pseudo_element_of_text};
+ghost use Rattle.css_selectors.specs.NameViews.{names_of};
 ghost use Rattle.css_selectors.specs.Readings.{items};
 ghost use Rattle.css_selectors.specs.internal.Reads.{Reads, Finds};
 ghost use Rattle.css_selectors.specs.Views.{condition_of, element_name_of, pseudo_element_of};
@@ -10,8 +11,9 @@ use crate::arguments::read_kept;
 use crate::components::{Condition, ElementName, PseudoElement, Simple};
 use crate::compounds::next_condition;
 use crate::known_names::{is_element, is_element_function};
+use crate::names::Names;
 use crate::refusal::{Refusal, Why};
-use crate::room::OUTSIDE;
+use crate::room::outside;
 use crate::texts::split_ascii;
 use crate::words::{past_comments, read_name};
 use std::alloc::Global;
@@ -31,20 +33,21 @@ fn past_colon(text: &str) -> &str
 /// first colon on.
 #[tactic(auto, unfolding(crate::specs::Grammar::element_argument))]
 fn read_element_argument<'a>(
+    names: &Names<'_>,
     opened: &'a str,
     name: &str,
     text: &'a str,
 ) -> Result<(Option<CowStr<'a>>, &'a str), Refusal<'a>>
     ensures { Reads (λ a. option_map cow_str_bytes a) result
-        (element_argument opened.now name.now text.now) }
+        (element_argument (names_of names.now) opened.now name.now text.now) }
 {
     let Some((b'(', rest)) = split_ascii(text) else {
-        if !is_element(name) {
+        if !is_element(names, name) {
             return Err(Refusal::new(Why::UnknownName, opened));
         }
         return Ok((None, text));
     };
-    if !is_element_function(name) {
+    if !is_element_function(names, name) {
         return Err(Refusal::new(Why::UnknownFunction, opened));
     }
     let (argument, rest) = read_kept(rest)?;
@@ -56,13 +59,14 @@ fn read_element_argument<'a>(
 #[tactic(auto, unfolding(crate::specs::Grammar::element_name))]
 fn read_element_name<'a>(
     alloc: Global,
+    names: &Names<'_>,
     opened: &'a str,
     text: &'a str,
 ) -> Result<(ElementName<'a>, &'a str), Refusal<'a>>
-    ensures { Reads element_name_of result (element_name opened.now text.now) }
+    ensures { Reads element_name_of result (element_name (names_of names.now) opened.now text.now) }
 {
     let (name, rest) = read_name(alloc, past_colon(past_comments(text)))?;
-    let (argument, rest) = read_element_argument(opened, name.as_str(), rest)?;
+    let (argument, rest) = read_element_argument(names, opened, name.as_str(), rest)?;
     Ok((ElementName { name, argument }, rest))
 }
 
@@ -70,33 +74,36 @@ fn read_element_name<'a>(
 #[tactic(auto, unfolding(crate::specs::Grammar::after_element))]
 fn next_after_element<'a>(
     alloc: Global,
+    names: &Names<'_>,
     text: &'a str,
 ) -> Result<Option<(Condition<'a>, &'a str)>, Refusal<'a>>
-    ensures { Finds condition_of result (after_element text.now) }
+    ensures { Finds condition_of result (after_element (names_of names.now) text.now) }
 {
     let text = past_comments(text);
     let Some((b':', rest)) = split_ascii(text) else {
         return Ok(None);
     };
-    if let Some((condition, rest)) = next_condition(alloc, OUTSIDE, text)? {
+    if let Some((condition, rest)) = next_condition(alloc, outside(names), text)? {
         return Ok(Some((condition, rest)));
     }
-    let (element, rest) = read_element_name(alloc, text, rest)?;
+    let (element, rest) = read_element_name(alloc, names, text, rest)?;
     Ok(Some((Condition::Simple(Simple::Element(element)), rest)))
 }
 
 /// Reads what follows a pseudo-element.
 fn read_after_element<'a>(
     alloc: Global,
+    names: &Names<'_>,
     text: &'a str,
 ) -> Result<(Vec<Condition<'a>>, &'a str), Refusal<'a>>
-    ensures { Reads (λ v. map condition_of v.items) result (items after_element text.now) }
+    ensures { Reads (λ v. map condition_of v.items) result
+        (items (after_element (names_of names.now)) text.now) }
 {
     let mut conditions = Vec::new(alloc);
     let mut rest = text;
     let mut left = text.len();
     'conditions: while left > 0 {
-        match next_after_element(alloc, rest)? {
+        match next_after_element(alloc, names, rest)? {
             Some((condition, after)) => {
                 conditions.push(condition)?;
                 rest = after;
@@ -112,14 +119,16 @@ fn read_after_element<'a>(
 #[tactic(auto, unfolding(crate::specs::Grammar::pseudo_element))]
 pub(crate) fn read_pseudo_element<'a>(
     alloc: Global,
+    names: &Names<'_>,
     text: &'a str,
 ) -> Result<(Option<PseudoElement<'a>>, &'a str), Refusal<'a>>
-    ensures { Reads (λ e. option_map pseudo_element_of e) result (pseudo_element_of_text text.now) }
+    ensures { Reads (λ e. option_map pseudo_element_of e) result
+        (pseudo_element_of_text (names_of names.now) text.now) }
 {
     let Some((b':', rest)) = split_ascii(text) else {
         return Ok((None, text));
     };
-    let (element, rest) = read_element_name(alloc, text, rest)?;
-    let (after, rest) = read_after_element(alloc, rest)?;
+    let (element, rest) = read_element_name(alloc, names, text, rest)?;
+    let (after, rest) = read_after_element(alloc, names, rest)?;
     Ok((Some(PseudoElement { element, after }), rest))
 }

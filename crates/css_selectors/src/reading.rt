@@ -1,6 +1,7 @@
 //! Reads selectors.
 ghost use Rattle.std.specs.Prelude.{◌≡◌, ◌<◌, ◌∷◌, [], IfErr, IfOk, length, map, option_map};
 ghost use Rattle.css_selectors.specs.Grammar.{next_part as next_part_of, parts as parts_of};
+ghost use Rattle.css_selectors.specs.NameViews.{names_of};
 ghost use Rattle.css_selectors.specs.Readings.{items, found_before};
 ghost use Rattle.css_selectors.specs.internal.Reads.{Reads, Finds};
 ghost use Rattle.css_selectors.specs.Views.{part_of};
@@ -13,7 +14,9 @@ ghost use Rattle.css_selectors.specs.declared.refusal.Why.TheVariants.{Memory};
 
 use crate::components::{Condition, Nesting, OUTERMOST, Part, Simple};
 use crate::compounds::read_conditions;
+use crate::defaults::in_default;
 use crate::joins::{begins_compound, take_sign};
+use crate::names::{NO_NAMES, Names};
 use crate::pseudo_elements::read_pseudo_element;
 use crate::read::Read;
 use crate::refusal::{Refusal, Why};
@@ -33,13 +36,17 @@ pub(crate) enum Start {
 
 /// Reads a combinator and the compound selector after it, if there is one.
 #[tactic(auto, unfolding(crate::specs::Grammar::next_part))]
-fn next_part<'a>(alloc: Global, text: &'a str) -> Result<Option<(Part<'a>, &'a str)>, Refusal<'a>>
-    ensures { Finds part_of result (next_part_of text.now) }
+fn next_part<'a>(
+    alloc: Global,
+    names: &Names<'_>,
+    text: &'a str,
+) -> Result<Option<(Part<'a>, &'a str)>, Refusal<'a>>
+    ensures { Finds part_of result (next_part_of (names_of names.now) text.now) }
 {
     let (spaced, rest) = read_gap(text);
     if let Some((combinator, rest)) = take_sign(rest) {
         let (_, rest) = read_gap(rest);
-        let (conditions, rest) = read_conditions(alloc, rest)?;
+        let (conditions, rest) = read_conditions(alloc, names, rest)?;
         let part = Part {
             combinator,
             conditions,
@@ -49,7 +56,7 @@ fn next_part<'a>(alloc: Global, text: &'a str) -> Result<Option<(Part<'a>, &'a s
     if !(spaced && begins_compound(rest)) {
         return Ok(None);
     }
-    let (conditions, rest) = read_conditions(alloc, rest)?;
+    let (conditions, rest) = read_conditions(alloc, names, rest)?;
     let part = Part {
         combinator: Combinator::Descendant,
         conditions,
@@ -60,11 +67,13 @@ fn next_part<'a>(alloc: Global, text: &'a str) -> Result<Option<(Part<'a>, &'a s
 /// Reads the compound selectors after the first.
 fn read_more<'a>(
     alloc: Global,
+    names: &Names<'_>,
     first: Part<'a>,
     text: &'a str,
 ) -> Result<(Vec<Part<'a>>, &'a str), Refusal<'a>>
     ensures reads { Reads (λ v. map part_of v.items) result
-        (found_before (part_of first.entry ∷ []) (items next_part_of text.now)) }
+        (found_before (part_of first.entry ∷ [])
+        (items (next_part_of (names_of names.now)) text.now)) }
     ensures some { IfOk result (λ it. 0 < length it.0.items) }
 {
     let mut parts = Vec::with_capacity(alloc, 2)?;
@@ -72,7 +81,7 @@ fn read_more<'a>(
     let mut rest = text;
     let mut left = text.len();
     'parts: while left > 0 {
-        match next_part(alloc, rest)? {
+        match next_part(alloc, names, rest)? {
             Some((part, after)) => {
                 parts.push(part)?;
                 rest = after;
@@ -86,17 +95,22 @@ fn read_more<'a>(
 
 /// Reads the compound selectors of a selector.
 #[tactic(auto, unfolding(crate::specs::Grammar::parts))]
-fn read_parts<'a>(alloc: Global, text: &'a str) -> Result<(Vec<Part<'a>>, &'a str), Refusal<'a>>
-    ensures reads { Reads (λ v. map part_of v.items) result (parts_of text.now) }
+fn read_parts<'a>(
+    alloc: Global,
+    names: &Names<'_>,
+    text: &'a str,
+) -> Result<(Vec<Part<'a>>, &'a str), Refusal<'a>>
+    ensures reads { Reads (λ v. map part_of v.items) result
+        (parts_of (names_of names.now) text.now) }
     ensures some { IfOk result (λ it. 0 < length it.0.items) }
 {
     let (_, rest) = read_gap(text);
-    let (conditions, rest) = read_conditions(alloc, rest)?;
+    let (conditions, rest) = read_conditions(alloc, names, rest)?;
     let first = Part {
         combinator: Combinator::Descendant,
         conditions,
     };
-    read_more(alloc, first, rest)
+    read_more(alloc, names, first, rest)
 }
 
 /// Returns `&` as the first compound selector, which stands for this list.
@@ -115,16 +129,18 @@ pub(crate) fn nesting_part<'a>(alloc: Global, list: Nesting) -> Result<Part<'a>,
 #[tactic(auto, unfolding(crate::specs::Grammar::relative_parts))]
 fn read_relative_parts<'a>(
     alloc: Global,
+    names: &Names<'_>,
     text: &'a str,
 ) -> Result<(Vec<Part<'a>>, &'a str), Refusal<'a>>
-    ensures reads { Reads (λ v. map part_of v.items) result (relative_parts text.now) }
+    ensures reads { Reads (λ v. map part_of v.items) result
+        (relative_parts (names_of names.now) text.now) }
     ensures some { IfOk result (λ it. 0 < length it.0.items) }
 {
     match take_sign(text) {
-        None => read_parts(alloc, text),
+        None => read_parts(alloc, names, text),
         Some(_) => {
             let first = nesting_part(alloc, OUTERMOST)?;
-            read_more(alloc, first, text)
+            read_more(alloc, names, first, text)
         }
     }
 }
@@ -132,15 +148,17 @@ fn read_relative_parts<'a>(
 /// Reads the compound selectors of a selector that may begin so.
 fn read_first_parts<'a>(
     alloc: Global,
+    names: &Names<'_>,
     start: Start,
     text: &'a str,
 ) -> Result<(Vec<Part<'a>>, &'a str), Refusal<'a>>
-    ensures reads { Reads (λ v. map part_of v.items) result (start_parts start text.now) }
+    ensures reads { Reads (λ v. map part_of v.items) result
+        (start_parts (names_of names.now) start text.now) }
     ensures some { IfOk result (λ it. 0 < length it.0.items) }
 {
     match start {
-        Start::Plain => read_parts(alloc, text),
-        Start::Relative => read_relative_parts(alloc, text),
+        Start::Plain => read_parts(alloc, names, text),
+        Start::Relative => read_relative_parts(alloc, names, text),
     }
 }
 
@@ -148,15 +166,17 @@ fn read_first_parts<'a>(
 #[tactic(auto, unfolding(crate::specs::Grammar::placed_by))]
 fn read_placed<'a>(
     alloc: Global,
+    names: &Names<'_>,
     start: Start,
     text: &'a str,
 ) -> Result<(Read<'a>, &'a str), Refusal<'a>>
-    ensures { Reads read_of result (placed_by start text.now) }
+    ensures { Reads read_of result (placed_by (names_of names.now) start text.now) }
 {
     let (_, from) = read_gap(text);
-    let (parts, end) = read_first_parts(alloc, start, from)?;
+    let (written, end) = read_first_parts(alloc, names, start, from)?;
+    let parts = in_default(alloc, names.default_namespace, written)?;
     let at = past_comments(end);
-    let (pseudo_element, after) = read_pseudo_element(alloc, at)?;
+    let (pseudo_element, after) = read_pseudo_element(alloc, names, at)?;
     let (_, rest) = read_gap(after);
     let (element, to) = if pseudo_element.is_some() {
         (at, after)
@@ -189,33 +209,36 @@ fn listed_of<'a>(read: Read<'a>) -> Listed<'a>
 #[tactic(auto, unfolding(crate::specs::Grammar::next_placed))]
 fn next_placed<'a>(
     alloc: Global,
+    names: &Names<'_>,
     start: Start,
     text: &'a str,
 ) -> Result<Option<(Read<'a>, &'a str)>, Refusal<'a>>
-    ensures { Finds read_of result (next_placed_of start text.now) }
+    ensures { Finds read_of result (next_placed_of (names_of names.now) start text.now) }
 {
     let Some((b',', rest)) = split_ascii(text) else {
         return Ok(None);
     };
-    Ok(Some(read_placed(alloc, start, rest)?))
+    Ok(Some(read_placed(alloc, names, start, rest)?))
 }
 
 /// Reads the selectors after the first.
 fn read_others<'a>(
     alloc: Global,
+    names: &Names<'_>,
     start: Start,
     first: Read<'a>,
     text: &'a str,
 ) -> Result<(Vec<Listed<'a>>, &'a str), Refusal<'a>>
     ensures { Reads (λ v. map placed_of v.items) result
-        (found_before (read_of first.entry ∷ []) (items (next_placed_of start) text.now)) }
+        (found_before (read_of first.entry ∷ [])
+        (items (next_placed_of (names_of names.now) start) text.now)) }
 {
     let mut selectors = Vec::new(alloc);
     selectors.push(listed_of(first))?;
     let mut rest = text;
     let mut left = text.len();
     'selectors: while left > 0 {
-        match next_placed(alloc, start, rest)? {
+        match next_placed(alloc, names, start, rest)? {
             Some((read, after)) => {
                 selectors.push(listed_of(read))?;
                 rest = after;
@@ -231,13 +254,14 @@ fn read_others<'a>(
 #[tactic(auto, unfolding(crate::specs::Grammar::placed_list_by))]
 pub(crate) fn read_listed<'a>(
     alloc: Global,
+    names: &Names<'_>,
     start: Start,
     text: &'a str,
 ) -> Result<Vec<Listed<'a>>, Refusal<'a>>
-    ensures { ParsesPlaced result (placed_list_by start text.now) }
+    ensures { ParsesPlaced result (placed_list_by (names_of names.now) start text.now) }
 {
-    let (first, rest) = read_placed(alloc, start, text)?;
-    match read_others(alloc, start, first, rest) {
+    let (first, rest) = read_placed(alloc, names, start, text)?;
+    match read_others(alloc, names, start, first, rest) {
         Ok((selectors, rest)) if rest.is_empty() => Ok(selectors),
         Ok((_, rest)) => Err(Refusal::new(Why::Unexpected, rest)),
         Err(refusal) => Err(refusal),
@@ -288,15 +312,17 @@ pub(crate) fn all_supported<'a>(
 
 impl<'a> Selector<'a> {
     ghost use Rattle.css_selectors.specs.Grammar.{placed_list};
+    ghost use Rattle.css_selectors.specs.Names.{no_names};
+    ghost use Rattle.css_selectors.specs.NameViews.{names_of};
     ghost use Rattle.css_selectors.specs.Supported.{supported_selector, supported_list};
     ghost use Rattle.css_selectors.specs.ReadSelectors.{Parses, ParsesList, ParsesPlaced};
 
     /// Reads a text that is a selector. One that is unsupported is refused.
     #[tactic(auto, unfolding(crate::specs::Grammar::placed_selector))]
     pub fn parse(alloc: Global, text: &'a str) -> Result<Selector<'a>, Refusal<'a>>
-        ensures { Parses result (supported_selector text.now) }
+        ensures { Parses result (supported_selector no_names text.now) }
     {
-        let (read, rest) = read_placed(alloc, Start::Plain, text)?;
+        let (read, rest) = read_placed(alloc, &NO_NAMES, Start::Plain, text)?;
         if !rest.is_empty() {
             return Err(Refusal::new(Why::Unexpected, rest));
         }
@@ -312,17 +338,39 @@ impl<'a> Selector<'a> {
     /// list of which one selector is refused is refused. Unsupported ones are not: what has no meaning
     /// in them is satisfied by no element, and so `:not(:has(a))` by each.
     pub fn read_list(alloc: Global, text: &'a str) -> Result<Vec<Listed<'a>>, Refusal<'a>>
-        ensures { ParsesPlaced result (placed_list text.now) }
+        ensures { ParsesPlaced result (placed_list no_names text.now) }
     {
-        read_listed(alloc, Start::Plain, text)
+        Selector::read_list_in(alloc, text, &NO_NAMES)
+    }
+
+    /// Reads a text that is a list of selectors as `read_list` does, where these names are declared.
+    pub fn read_list_in(
+        alloc: Global,
+        text: &'a str,
+        names: &Names<'_>,
+    ) -> Result<Vec<Listed<'a>>, Refusal<'a>>
+        ensures { ParsesPlaced result (placed_list (names_of names.now) text.now) }
+    {
+        read_listed(alloc, names, Start::Plain, text)
     }
 
     /// Reads a text that is a list of selectors with commas between them. A list of which one selector
     /// is refused or unsupported is refused.
     pub fn parse_list(alloc: Global, text: &'a str) -> Result<Vec<Selector<'a>>, Refusal<'a>>
-        ensures { ParsesList result (supported_list text.now) }
+        ensures { ParsesList result (supported_list no_names text.now) }
     {
-        match Selector::read_list(alloc, text) {
+        Selector::parse_list_in(alloc, text, &NO_NAMES)
+    }
+
+    /// Reads a text that is a list of selectors as `parse_list` does, where these names are declared.
+    pub fn parse_list_in(
+        alloc: Global,
+        text: &'a str,
+        names: &Names<'_>,
+    ) -> Result<Vec<Selector<'a>>, Refusal<'a>>
+        ensures { ParsesList result (supported_list (names_of names.now) text.now) }
+    {
+        match Selector::read_list_in(alloc, text, names) {
             Ok(list) => all_supported(alloc, list),
             Err(refusal) => Err(refusal),
         }

@@ -26,6 +26,8 @@ pub enum Why {
     UnknownName,
     /// There is no functional pseudo-class or pseudo-element of this name.
     UnknownFunction,
+    /// This prefix of a namespace is not declared.
+    UnknownPrefix,
     /// This is a selector, but it has no meaning here.
     Unsupported,
     /// More lists would be open at once than may be: this pseudo-class has one too many.

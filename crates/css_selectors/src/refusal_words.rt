@@ -87,6 +87,7 @@ impl Why {
             Why::NoProgression => "is no An+B",
             Why::UnknownName => "is unknown",
             Why::UnknownFunction => "is no function",
+            Why::UnknownPrefix => "is no declared prefix",
             Why::Unsupported => "is unsupported",
             Why::TooDeep => "is nested too deep",
             Why::Unexpected => "is not expected here",

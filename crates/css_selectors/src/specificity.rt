@@ -73,7 +73,7 @@ fn of_local(local: &Local<'_>) -> Specificity
     ensures { counts_of result ≡ counts_of_local (local_of local.now) }
 {
     match local {
-        Local::Universal => NOTHING,
+        Local::Universal | Local::Implied => NOTHING,
         Local::TypeName(_) => Specificity {
             names: 1,
             ..NOTHING

@@ -5,14 +5,15 @@ use Rattle.std.specs.Option.{option_map, option_to_list}
 use Rattle.css_selectors.specs.Components.Condition.{simple}
 use Rattle.css_selectors.specs.Grammar.{next_condition, next_part_in, next_listed, selectors_after, keep}
 use Rattle.css_selectors.specs.Readings.{items, items_up_to, found_before}
+use Rattle.css_selectors.specs.NameViews.{names_of, room_seen}
 use Rattle.css_selectors.specs.Views.{complex_of, part_of, condition_of, simple_of}
 use Rattle.css_selectors.proofs.compounds.+lists.Given as goal
 
 abbrev pub invariant-read_more-conditions : goal.invariant-read_more-conditions
 invariant-read_more-conditions l = record {
   text : shadow (Utf8 l.rest);
-  found : found_before (map condition_of l.conditions.items) (items_up_to l.left (next_condition l.room) l.rest)
-      ≡ found_before (map (λ s. simple (simple_of s)) (option_to_list l.fn.first)) (items (next_condition l.fn.room) l.fn.text);
+  found : found_before (map condition_of l.conditions.items) (items_up_to l.left (next_condition (room_seen l.room)) l.rest)
+      ≡ found_before (map (λ s. simple (simple_of s)) (option_to_list l.fn.first)) (items (next_condition (room_seen l.fn.room)) l.fn.text);
 }
 
 abbrev pub decreases-read_more-conditions : goal.decreases-read_more-conditions
@@ -22,9 +23,9 @@ abbrev pub invariant-read_parts-parts : goal.invariant-read_parts-parts
 invariant-read_parts-parts l = record {
   text : shadow (Utf8 l.rest);
   found : found_before (map part_of l.parts.items)
-      (items_up_to l.left (next_part_in (next_condition l.room)) l.rest)
+      (items_up_to l.left (next_part_in (names_of l.room.names.now) (next_condition (room_seen l.room))) l.rest)
       ≡ found_before (part_of l.fn.first ∷ [])
-      (items (next_part_in (next_condition l.fn.room)) l.fn.text);
+      (items (next_part_in (names_of l.fn.room.names.now) (next_condition (room_seen l.fn.room))) l.fn.text);
 }
 
 abbrev pub decreases-read_parts-parts : goal.decreases-read_parts-parts
@@ -34,8 +35,8 @@ abbrev pub invariant-read_selectors-selectors : goal.invariant-read_selectors-se
 invariant-read_selectors-selectors l = record {
   text : shadow (Utf8 l.rest);
   found : found_before (map complex_of l.selectors.items)
-      (keep (items_up_to l.left (next_listed l.kind (next_condition l.room)) l.rest))
-      ≡ selectors_after l.fn.kind (next_condition l.fn.room) (option_map complex_of l.fn.first) l.fn.text;
+      (keep (items_up_to l.left (next_listed (names_of l.room.names.now) l.kind (next_condition (room_seen l.room))) l.rest))
+      ≡ selectors_after (names_of l.fn.room.names.now) l.fn.kind (next_condition (room_seen l.fn.room)) (option_map complex_of l.fn.first) l.fn.text;
 }
 
 abbrev pub decreases-read_selectors-selectors : goal.decreases-read_selectors-selectors

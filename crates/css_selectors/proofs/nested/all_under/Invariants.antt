@@ -1,6 +1,7 @@
 use Rattle.std.proofs.Common.{◌≡◌, ◌++◌, map}
 use Rattle.std.specs.Vec.Iter.{into_iter_items}
 use Rattle.css_selectors.specs.Nested.{nested}
+use Rattle.css_selectors.specs.NameViews.{names_of}
 use Rattle.css_selectors.specs.ReadViews.{placed_of}
 use Rattle.css_selectors.proofs.nested.all_under.Given as goal
 
@@ -8,5 +9,5 @@ use Rattle.css_selectors.proofs.nested.all_under.Given as goal
 abbrev pub invariant-selectors : goal.invariant-selectors
 invariant-selectors l =
     map placed_of l.under.items
-    ++ map (nested l.list) (map placed_of (into_iter_items l.listed-iterator))
-    ≡ map (nested l.list) (map placed_of l.fn.all.items)
+    ++ map (nested (names_of l.names) l.list) (map placed_of (into_iter_items l.listed-iterator))
+    ≡ map (nested (names_of l.names) l.list) (map placed_of l.fn.all.items)

@@ -7,15 +7,15 @@ use Rattle.css_selectors.proofs.SelectorsAgain.{selector-again}
 use Rattle.css_selectors.proofs.printing_laws.printing_law.Goals as goal
 
 pub returns-clause-read_again : goal.returns-clause-read_again
-returns-clause-read_again c text rest s h = selector-again s (selector-well text s rest h)
+returns-clause-read_again c names text rest s h = selector-again names s (selector-well names text s rest h)
 
 pub returns-clause-well_formed : goal.returns-clause-well_formed
-returns-clause-well_formed c text rest s h = selector-well text s rest h
+returns-clause-well_formed c names text rest s h = selector-well names text s rest h
 
 pub returns-clause-all_well_formed : goal.returns-clause-all_well_formed
-returns-clause-all_well_formed c s w = selector-again s w
+returns-clause-all_well_formed c names s w = selector-again names s w
 
 pub returns-clause-nested : goal.returns-clause-nested
-returns-clause-nested c text rest all h list p contains =
-    read_again list p.selector
-    (All-contains (λ q. IsWellFormed q.selector) all p (list_well Relative text all rest h) contains)
+returns-clause-nested c names text rest all h list p contains =
+    read_again names list p.selector
+    (All-contains (λ q. IsWellFormed names q.selector) all p (list_well names Relative text all rest h) contains)

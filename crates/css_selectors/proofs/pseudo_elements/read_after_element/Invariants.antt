@@ -4,14 +4,15 @@ use denote.Shadow.{shadow}
 use Rattle.css_selectors.specs.Grammar.{after_element}
 use Rattle.css_selectors.specs.Readings.{items, items_up_to, found_before}
 use Rattle.css_selectors.specs.Views.{condition_of}
+use Rattle.css_selectors.specs.NameViews.{names_of}
 use Rattle.css_selectors.proofs.pseudo_elements.read_after_element.Given as goal
 
 abbrev pub invariant-conditions : goal.invariant-conditions
 invariant-conditions l = record {
   text : shadow (Utf8 l.rest);
   found : found_before (map condition_of l.conditions.items)
-      (items_up_to l.left after_element l.rest)
-      ≡ items after_element l.fn.text;
+      (items_up_to l.left (after_element (names_of l.names)) l.rest)
+      ≡ items (after_element (names_of l.names)) l.fn.text;
 }
 
 abbrev pub decreases-conditions : goal.decreases-conditions

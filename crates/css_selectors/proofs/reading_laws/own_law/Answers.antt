@@ -2,4 +2,4 @@ use Rattle.css_selectors.proofs.OwnLemmas.{own}
 use Rattle.css_selectors.proofs.reading_laws.own_law.Goals as goal
 
 pub returns : goal.returns
-returns c start text rest p h = own start text p rest h
+returns c names start text rest p h = own names start text p rest h

@@ -3,5 +3,5 @@ use Rattle.css_selectors.proofs.ReadEnds.{IsIn, all_in}
 use Rattle.css_selectors.proofs.reading_laws.places_law.Goals as goal
 
 pub returns : goal.returns
-returns c start text rest all h p within =
-    All-contains (IsIn text) all p (all_in start text rest all h) within
+returns c names start text rest all h p within =
+    All-contains (IsIn text) all p (all_in names start text rest all h) within
