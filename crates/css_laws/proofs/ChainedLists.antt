@@ -17,6 +17,7 @@ use Rattle.css_selectors.specs.Components.{Placed, PseudoElement, Selector}
 use Rattle.css_selectors.specs.Nested.{absolute, nested, nested_readings}
 use Rattle.css_selectors.specs.Originating.{originating}
 use Rattle.css_selectors.specs.Readings.{Reading, got, refused}
+use Rattle.css_selectors.specs.Names.{any_prefix}
 use Rattle.css_selectors.specs.Supported.{is_last_condition, is_supported_selector}
 use Rattle.css_tree.specs.Asked.{SelectorAsksBelow, AskEarlier}
 use Rattle.css_sheet.specs.RuleSelectors.{SelectorRead, is_listed, listed_under, if_supported, element_read, read_with, selector_read, list_under, listed_or, all_read, selectors_under}
@@ -119,20 +120,20 @@ module _ (m : ℕ) where
   AskAll all = All (λ p. SelectorAsksBelow (suc m) p.selector) all
 
   nested-asks : (list : Nesting) → list.number < suc m → (all : List Placed)
-      → AskAll (map (nested list) all)
+      → AskAll (map (nested any_prefix list) all)
   nested-asks list below all =
-      All-map (λ p. SelectorAsksBelow (suc m) p.selector) (nested list) all
-      (every _ (λ p. selector-under list (suc m) below (absolute p.selector)) all)
+      All-map (λ p. SelectorAsksBelow (suc m) p.selector) (nested any_prefix list) all
+      (every _ (λ p. selector-under list (suc m) below (absolute any_prefix p.selector)) all)
 
   under-asks : (under : Option Nesting) → NestingBelow (suc m) under → (text rest : List ℕ)
       (all : List Placed) → list_under under text ≡ got all rest → AskAll all
   under-asks None below text rest all e =
-      list-asks (suc m) (omega arith) text rest all e
+      list-asks any_prefix (suc m) (omega arith) text rest all e
   under-asks (Some list) below text rest all e = by _ e
     where
-      by : (r : Reading (List Placed)) → nested_readings list r ≡ got all rest → AskAll all
+      by : (r : Reading (List Placed)) → nested_readings any_prefix list r ≡ got all rest → AskAll all
       by (got found t) f =
-          let is : map (nested list) found ≡ all = cc in
+          let is : map (nested any_prefix list) found ≡ all = cc in
           subst AskAll is (nested-asks list below found)
       by (refused why t) f = absurd (cc)
 

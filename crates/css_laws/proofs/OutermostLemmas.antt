@@ -9,11 +9,17 @@ use Rattle.css_matching.specs.declared.Combinator.{Combinator}
 use Rattle.css_matching.specs.declared.Combinator.TheVariants.{Descendant}
 use Rattle.css_selectors.specs.declared.refusal.Why.{Why}
 use Rattle.css_selectors.specs.declared.refusal.Why.TheVariants.{Unexpected}
-use Rattle.css_selectors.specs.Components.{ListTest, Progression, Structure, Namespace, Local, Simple, Condition, Part, Placed, conditions_from, parts_from, selectors_from}
+use Rattle.css_selectors.specs.Components.{ListTest, Progression, Structure, Namespace, Local, Simple, Condition, Conditions, Parts, Selectors, Part, Placed, conditions_from, parts_from, selectors_from}
 use Rattle.css_selectors.specs.Components.ListTest.{nth_child, nth_last_child}
-use Rattle.css_selectors.specs.Components.Local.{any_type, a_type, some_attribute, an_attribute}
-use Rattle.css_selectors.specs.Components.Simple.{id, class}
-use Rattle.css_selectors.specs.Components.Condition.{simple}
+use Rattle.css_selectors.specs.Components.Local.{any_type, a_type, some_attribute, an_attribute, implied}
+use Rattle.css_selectors.specs.Components.Simple.{universal, type_name, id, class, has_attribute, attribute, structure, language, state, function, named_element, nesting, namespaced}
+use Rattle.css_selectors.specs.Components.Condition.{simple, negation, any_of, where_any, tested as tested_condition}
+use Rattle.css_selectors.specs.Components.Conditions.{end_of_compound, with_condition}
+use Rattle.css_selectors.specs.Components.Parts.{end_of_selector, with_part}
+use Rattle.css_selectors.specs.Components.Selectors.{end_of_list, with_selector}
+use Rattle.css_selectors.specs.Defaults.{type_in, is_exempting, begins_typed, with_implied, is_end, condition_in, compound_in, complex_in, selectors_in, in_default}
+use Rattle.css_selectors.specs.Names.{Names}
+use Rattle.css_selectors.proofs.DefaultLemmas.{complex_in-from}
 use Rattle.css_selectors.specs.KnownNames.{is_one_of, states, functions}
 use Rattle.css_selectors.specs.Readings.{Reading, got, refused, Reader, follow, Step, item, none, stop, step_after, as_item, with_first, go_on, items_up_to, items}
 use Rattle.css_selectors.specs.Grammar.{gap, name, ident_sequence, namespace, in_namespace, attribute_from_name, attribute_selector, any_or_name, type_after, type_selector, ampersand, next_simple, plain_structure, plain_pseudo, is_old_element, named_pseudo, list_kind, function_named, argument_of, language_ranges, progression, closing, is_word, begins_name, of_list, after_word, functional, begins_pseudo_class, simple_item, with_argument, pseudo_condition, condition_here, condition_by, too_deep, next_condition, deepest, condition_at, outside, Finder, ListReader, CompoundReader, some_of, after_type, compound, first_sign, joined_by, signed_part, by_sign, part_after, begins_compound, next_part_in, complex_by, is_relative, leading_sign, after_leading, complex, ends_part, is_lasting, no_selector, part_end, judged, listed_part, next_listed, kept, keep, selectors_after, is_forgiving, complex_list, may_open, list_by, after_type_name, conditions, next_part, parts, placed, placed_by, next_placed, placed_list_by, placed_list, past_comments, pseudo_element, at_end}
@@ -99,7 +105,7 @@ some-gets P t (refused why u) h = tt
 
 -- ---- simple selectors
 
-module _ (n : ℕ) (some : 0 < n) where
+module _ (names : Names) (n : ℕ) (some : 0 < n) where
   abbrev S : Simple → Type 0
   S s = SimpleAsksBelow n s
 
@@ -120,26 +126,27 @@ module _ (n : ℕ) (some : 0 < n) where
   local-asks None (a_type x) = tt
   local-asks None (some_attribute x) = tt
   local-asks None (an_attribute x c v i) = tt
+  local-asks None implied = tt
 
-  attribute-gets : (t : List ℕ) → Gets S (attribute_selector t)
+  attribute-gets : (t : List ℕ) → Gets S (attribute_selector names t)
   unfolding attribute_selector
   attribute-gets t =
-      then-gets S (gap t) _ (λ x u. then-gets S (namespace u) _ (λ m v.
+      then-gets S (gap t) _ (λ x u. then-gets S (namespace names u) _ (λ m v.
       then-gets S (attribute_from_name v) _ (λ l w. local-asks m l)))
 
-  simple-finds : (t : List ℕ) → Finds S (next_simple t)
+  simple-finds : (t : List ℕ) → Finds S (next_simple names t)
   unfolding next_simple
   simple-finds [] = tt
   simple-finds (b ∷ t) =
       if-finds S (b == full_stop) _ _ (made-finds S class (name (past_comments t)) (λ x. tt))
       (if-finds S (b == number_sign) _ _ (made-finds S id (ident_sequence t) (λ x. tt))
       (if-finds S (b == open_bracket) _ _
-      (item-finds S S (λ s. s) (attribute_selector t) (attribute-gets t) (λ s h. h))
+      (item-finds S S (λ s. s) (attribute_selector names t) (attribute-gets t) (λ s h. h))
       (if-finds S (b == ampersand) _ _ some tt)))
 
-  type-finds : (t : List ℕ) → Finds S (type_selector t)
+  type-finds : (t : List ℕ) → Finds S (type_selector names t)
   unfolding type_selector
-  type-finds t = step-finds S (namespace t) type_after after
+  type-finds t = step-finds S (namespace names t) type_after after
     where
       after : (m : Option Namespace) (u : List ℕ) → Finds S (type_after m u)
       after None u =
@@ -149,14 +156,14 @@ module _ (n : ℕ) (some : 0 < n) where
           made-finds S (in_namespace (Some m)) (any_or_name u) (local-asks (Some m))
 
   plain-gets : (opened x : List ℕ) (o : Option Structure) (t : List ℕ)
-      → Gets S (plain_pseudo opened x o t)
+      → Gets S (plain_pseudo names opened x o t)
   plain-gets opened x (Some s) t = tt
-  plain-gets opened x None t = if-gets S (is_one_of states x) _ _ tt tt
+  plain-gets opened x None t = if-gets S (is_one_of (states names) x) _ _ tt tt
 
-  named-finds : (opened x t : List ℕ) → Finds S (named_pseudo opened x t)
+  named-finds : (opened x t : List ℕ) → Finds S (named_pseudo names opened x t)
   named-finds opened x t =
       if-finds S (is_old_element x) _ _ tt
-      (item-finds S S (λ s. s) (plain_pseudo opened x (plain_structure x) t)
+      (item-finds S S (λ s. s) (plain_pseudo names opened x (plain_structure x) t)
       (plain-gets opened x (plain_structure x) t) (λ s h. h))
 
   -- ---- conditions
@@ -192,7 +199,7 @@ module _ (n : ℕ) (some : 0 < n) where
         if-gets C (is_word (codes "of") word) _ _ (of-gets test opened u) tt)) h
 
     functional-gets : (opened x t : List ℕ)
-        → Gets C (functional list opened x (function_named x) t)
+        → Gets C (functional names list opened x (function_named x) t)
     functional-gets opened x t =
         by (is_word (codes "lang") x) (is_word (codes "nth-child") x)
         (is_word (codes "nth-last-child") x) (is_word (codes "nth-of-type") x)
@@ -201,7 +208,7 @@ module _ (n : ℕ) (some : 0 < n) where
         by : (a b c d f : Bool) → is_word (codes "lang") x ≡ a → is_word (codes "nth-child") x ≡ b
             → is_word (codes "nth-last-child") x ≡ c → is_word (codes "nth-of-type") x ≡ d
             → is_word (codes "nth-last-of-type") x ≡ f
-            → Gets C (functional list opened x (function_named x) t)
+            → Gets C (functional names list opened x (function_named x) t)
         by true b c d f e g h i j =
             rw e (then-gets C (language_ranges t) _ (λ a u. tt))
         by false true c d f e g h i j =
@@ -219,17 +226,17 @@ module _ (n : ℕ) (some : 0 < n) where
             rw (e, g, h, i, j) (then-gets C (gap t) _ (λ x u. then-gets C (progression u) _ (λ p v.
             then-gets C (gap v) _ (λ y w. then-gets C (closing close_parenthesis w) _ (λ z o. tt)))))
         by false false false false false e g h i j =
-            rw (e, g, h, i, j) (then-gets C (argument_of functions opened x t) _ (λ a u. tt))
+            rw (e, g, h, i, j) (then-gets C (argument_of (functions names) opened x t) _ (λ a u. tt))
 
     argument-gets : (opened x t : List ℕ)
-        → Gets C (with_argument list opened x (list_kind x) (function_named x) t)
+        → Gets C (with_argument names list opened x (list_kind x) (function_named x) t)
     argument-gets opened x t =
         by (is_word (codes "not") x) (is_word (codes "is") x) (is_word (codes "where") x)
         (is_word (codes "has") x) refl refl refl refl
       where
         by : (a b c d : Bool) → is_word (codes "not") x ≡ a → is_word (codes "is") x ≡ b
             → is_word (codes "where") x ≡ c → is_word (codes "has") x ≡ d
-            → Gets C (with_argument list opened x (list_kind x) (function_named x) t)
+            → Gets C (with_argument names list opened x (list_kind x) (function_named x) t)
         by true b c d e f g h =
             rw e (follow-gets (Every L) C (list _ opened t) _ (good _ opened t)
             (λ ss u k. complexes-ask ss k))
@@ -245,20 +252,20 @@ module _ (n : ℕ) (some : 0 < n) where
         by false false false false e f g h =
             rw (e, f, g, h) (functional-gets opened x t)
 
-    pseudo-finds : (opened x t : List ℕ) → Finds C (pseudo_condition list opened x t)
+    pseudo-finds : (opened x t : List ℕ) → Finds C (pseudo_condition names list opened x t)
     pseudo-finds opened x t =
         if-finds C (starts open_parenthesis t) _ _
         (item-finds C C (λ c. c) _ (argument-gets opened x (past_one t)) (λ c h. h))
-        (simple_item-finds (named_pseudo opened x t) (named-finds opened x t))
+        (simple_item-finds (named_pseudo names opened x t) (named-finds opened x t))
 
-    here-finds : (t : List ℕ) → Finds C (condition_here list t)
+    here-finds : (t : List ℕ) → Finds C (condition_here names list t)
     here-finds t =
         if-finds C (begins_pseudo_class t) _ _
-        (step-finds C (name (past_comments (past_one t))) (pseudo_condition list t)
+        (step-finds C (name (past_comments (past_one t))) (pseudo_condition names list t)
         (λ x u. pseudo-finds t x u))
-        (simple_item-finds (next_simple t) (simple-finds t))
+        (simple_item-finds (next_simple names t) (simple-finds t))
 
-    condition-finds : FinderGood (condition_by list)
+    condition-finds : FinderGood (condition_by names list)
     condition-finds t = here-finds (past_comments t)
 
   -- ---- compound selectors
@@ -289,9 +296,9 @@ module _ (n : ℕ) (some : 0 < n) where
             (λ cs h. conditions-ask cs h)) tt
 
   module _ (next : Finder) (good : FinderGood next) where
-    compound-gets : OneGood (compound next)
+    compound-gets : OneGood (compound names next)
     unfolding compound
-    compound-gets t = by (type_selector t) (type-finds t)
+    compound-gets t = by (type_selector names t) (type-finds t)
       where
         by : (s : Step Simple) → Finds S s → Gets (Every C) (after_type next t s)
         by (item s u) h =
@@ -299,27 +306,27 @@ module _ (n : ℕ) (some : 0 < n) where
         by none h = some-gets C t (items next t) (items-get C next good (length t) t)
         by (stop why u) h = tt
 
-    further-finds : (t : List ℕ) → Finds P (next_part_in next t)
+    further-finds : (t : List ℕ) → Finds P (next_part_in names next t)
     unfolding next_part_in
-    further-finds t = part-finds (compound next) compound-gets t (gap t)
+    further-finds t = part-finds (compound names next) compound-gets t (gap t)
 
-    complex_by-gets : (c : Combinator) (t : List ℕ) → Gets L (complex_by c next t)
+    complex_by-gets : (c : Combinator) (t : List ℕ) → Gets L (complex_by names c next t)
     unfolding complex_by
     complex_by-gets c t =
-        follow-gets (Every C) L (compound next t) _ (compound-gets t) (λ first u h.
-        all (with_first (joined_by c first) (items (next_part_in next) u))
-        (first-gets P (joined_by c first) (items (next_part_in next) u)
-        (conditions-ask first h) (items-get P (next_part_in next) further-finds (length u) u)))
+        follow-gets (Every C) L (compound names next t) _ (compound-gets t) (λ first u h.
+        all (with_first (joined_by c first) (items (next_part_in names next) u))
+        (first-gets P (joined_by c first) (items (next_part_in names next) u)
+        (conditions-ask first h) (items-get P (next_part_in names next) further-finds (length u) u)))
       where
         all : (r : Reading (List Part)) → Gets (Every P) r → Gets L r
         all (got ps v) h = parts-ask ps h
         all (refused why v) h = tt
 
-    complex-gets : (kind : _) (t : List ℕ) → Gets L (complex kind next t)
+    complex-gets : (kind : _) (t : List ℕ) → Gets L (complex names kind next t)
     unfolding complex
     complex-gets kind t = by (leading_sign kind t)
       where
-        by : (o : Option Combinator) → Gets L (after_leading next t o)
+        by : (o : Option Combinator) → Gets L (after_leading names next t o)
         by None = complex_by-gets Descendant t
         by (Some c) = then-gets L (gap (past_one t)) _ (λ x u. complex_by-gets c u)
 
@@ -341,16 +348,16 @@ module _ (n : ℕ) (some : 0 < n) where
         by (refused why v) = tt
     judged-gets forgiving t (refused why u) h = none-gets forgiving t why u
 
-    listed-gets : (kind : _) (t : List ℕ) → Gets O (listed_part kind next t)
+    listed-gets : (kind : _) (t : List ℕ) → Gets O (listed_part names kind next t)
     unfolding listed_part
     listed-gets kind t =
         judged-gets (is_forgiving kind) t _ (then-gets L (gap t) _ (λ x u. complex-gets kind u))
 
-    listed-finds : (kind : _) (t : List ℕ) → Finds O (next_listed kind next t)
+    listed-finds : (kind : _) (t : List ℕ) → Finds O (next_listed names kind next t)
     unfolding next_listed
     listed-finds kind t =
         if-finds O (starts comma t) _ _
-        (item-finds O O (λ s. s) (listed_part kind next (past_one t))
+        (item-finds O O (λ s. s) (listed_part names kind next (past_one t))
         (listed-gets kind (past_one t)) (λ s h. h)) tt
 
     kept-ask : (all : List (Option (List Part))) → Every O all → Every L (kept all)
@@ -363,91 +370,150 @@ module _ (n : ℕ) (some : 0 < n) where
     keep-gets (got all u) h = kept-ask all h
     keep-gets (refused why u) h = tt
 
-    list-gets : (kind : _) (t : List ℕ) → Gets (Every L) (complex_list kind next t)
+    list-gets : (kind : _) (t : List ℕ) → Gets (Every L) (complex_list names kind next t)
     unfolding complex_list
     list-gets kind t =
-        follow-gets O (Every L) (listed_part kind next t) _ (listed-gets kind t)
+        follow-gets O (Every L) (listed_part names kind next t) _ (listed-gets kind t)
         (λ first u h.
-        follow-gets (Every L) (Every L) (selectors_after kind next first u) _
-        (keep-gets (with_first first (items (next_listed kind next) u))
-        (first-gets O first (items (next_listed kind next) u) h
-        (items-get O (next_listed kind next) (listed-finds kind) (length u) u)))
+        follow-gets (Every L) (Every L) (selectors_after names kind next first u) _
+        (keep-gets (with_first first (items (next_listed names kind next) u))
+        (first-gets O first (items (next_listed names kind next) u) h
+        (items-get O (next_listed names kind next) (listed-finds kind) (length u) u)))
         (λ ss v k. then-gets (Every L) (closing close_parenthesis v) _ (λ x w. k)))
 
   list_by-good : (in_has : Bool) (next : Bool → Finder) → ((b : Bool) → FinderGood (next b))
-      → ListGood (list_by in_has next)
+      → ListGood (list_by names in_has next)
   list_by-good in_has next good kind opened t =
       if-gets (Every L) (may_open kind in_has) _ _
       (list-gets (next (is_relative kind || in_has)) (good (is_relative kind || in_has)) kind t) tt
 
-  at-finds : (m : ℕ) (in_has : Bool) → FinderGood (condition_at m in_has)
+  at-finds : (m : ℕ) (in_has : Bool) → FinderGood (condition_at names m in_has)
   unfolding condition_at
   at-finds zero in_has t = condition-finds too_deep (λ kind opened u. tt) t
   at-finds (suc m) in_has t =
-      condition-finds (list_by in_has (condition_at m))
-      (list_by-good in_has (condition_at m) (at-finds m)) t
+      condition-finds (list_by names in_has (condition_at names m))
+      (list_by-good in_has (condition_at names m) (at-finds m)) t
 
-  outside-finds : FinderGood (next_condition outside)
+  outside-finds : FinderGood (next_condition (outside names))
   outside-finds t = at-finds deepest false t
 
   -- ---- selectors
 
-  conditions-get : OneGood conditions
+  conditions-get : OneGood (conditions names)
   unfolding conditions
-  conditions-get t = by (type_selector t) (type-finds t)
+  conditions-get t = by (type_selector names t) (type-finds t)
     where
-      rest : (u : List ℕ) → Gets (Every C) (items (next_condition outside) u)
-      rest u = items-get C (next_condition outside) outside-finds (length u) u
+      rest : (u : List ℕ) → Gets (Every C) (items (next_condition (outside names)) u)
+      rest u = items-get C (next_condition (outside names)) outside-finds (length u) u
 
-      by : (s : Step Simple) → Finds S s → Gets (Every C) (after_type_name t s)
-      by (item s u) h = first-gets C (simple s) (items (next_condition outside) u) h (rest u)
+      by : (s : Step Simple) → Finds S s → Gets (Every C) (after_type_name names t s)
+      by (item s u) h = first-gets C (simple s) (items (next_condition (outside names)) u) h (rest u)
       by none h =
           if-gets (Every C) (starts colon t) _ _ (rest t)
-          (some-gets C t (items (next_condition outside) t) (rest t))
+          (some-gets C t (items (next_condition (outside names)) t) (rest t))
       by (stop why u) h = tt
 
-  next_part-finds : (t : List ℕ) → Finds P (next_part t)
+  next_part-finds : (t : List ℕ) → Finds P (next_part names t)
   unfolding next_part
-  next_part-finds t = part-finds conditions conditions-get t (gap t)
+  next_part-finds t = part-finds (conditions names) conditions-get t (gap t)
 
-  parts-get : (t : List ℕ) → Gets L (parts t)
+  parts-get : (t : List ℕ) → Gets L (parts names t)
   unfolding parts
   parts-get t =
       then-gets L (gap t) _ (λ x u.
-      follow-gets (Every C) L (conditions u) _ (conditions-get u) (λ first v h.
-      all (with_first (joined_by Descendant first) (items next_part v))
-      (first-gets P (joined_by Descendant first) (items next_part v) (conditions-ask first h)
-      (items-get P next_part next_part-finds (length v) v))))
+      follow-gets (Every C) L (conditions names u) _ (conditions-get u) (λ first v h.
+      all (with_first (joined_by Descendant first) (items (next_part names) v))
+      (first-gets P (joined_by Descendant first) (items (next_part names) v) (conditions-ask first h)
+      (items-get P (next_part names) next_part-finds (length v) v))))
     where
       all : (r : Reading (List Part)) → Gets (Every P) r → Gets L r
       all (got ps v) h = parts-ask ps h
       all (refused why v) h = tt
 
+  -- ---- the default namespace
+
+  type-asks : (number : ℕ) (s : Simple) → S s → S (type_in number s)
+  type-asks number universal h = tt
+  type-asks number (type_name x) h = tt
+  type-asks number (id x) h = h
+  type-asks number (class x) h = h
+  type-asks number (has_attribute x) h = h
+  type-asks number (attribute x c v i) h = h
+  type-asks number (structure x) h = h
+  type-asks number (language x) h = h
+  type-asks number (state x) h = h
+  type-asks number (function x a) h = h
+  type-asks number (named_element x a) h = h
+  type-asks number (nesting list) h = h
+  type-asks number (namespaced m l) h = h
+
+  implied-asks : (number : ℕ) (b : Bool) (c : Conditions) → CompoundAsksBelow n c
+      → CompoundAsksBelow n (with_implied number b c)
+  implied-asks number true c h = (tt, h)
+  implied-asks number false c h = h
+
+  mutual
+    condition_in-asks : (number : ℕ) (exempting : Bool) (c : Condition) → C c
+        → C (condition_in number exempting c)
+    condition_in-asks number exempting (simple s) h = type-asks number s h
+    condition_in-asks number exempting (negation ss) h = selectors_in-ask number true ss h
+    condition_in-asks number exempting (any_of ss) h = selectors_in-ask number true ss h
+    condition_in-asks number exempting (where_any ss) h = selectors_in-ask number true ss h
+    condition_in-asks number exempting (tested_condition test ss) h =
+        selectors_in-ask number (exempting || is_exempting test) ss h
+
+    compound_in-asks : (number : ℕ) (exempting : Bool) (c : Conditions) → CompoundAsksBelow n c
+        → CompoundAsksBelow n (compound_in number exempting c)
+    compound_in-asks number exempting end_of_compound h = tt
+    compound_in-asks number exempting (with_condition c cs) h =
+        (condition_in-asks number exempting c h.0, compound_in-asks number exempting cs h.1)
+
+    complex_in-asks : (number : ℕ) (exempting : Bool) (ps : Parts) → PartsAskBelow n ps
+        → PartsAskBelow n (complex_in number exempting ps)
+    complex_in-asks number exempting end_of_selector h = tt
+    complex_in-asks number exempting (with_part k c ps) h = (
+      implied-asks number (not (begins_typed c || exempting && is_end ps))
+          (compound_in number exempting c) (compound_in-asks number exempting c h.0),
+      complex_in-asks number exempting ps h.1,
+    )
+
+    selectors_in-ask : (number : ℕ) (exempting : Bool) (ss : Selectors) → ListAsksBelow n ss
+        → ListAsksBelow n (selectors_in number exempting ss)
+    selectors_in-ask number exempting end_of_list h = tt
+    selectors_in-ask number exempting (with_selector s ss) h =
+        (complex_in-asks number exempting s h.0, selectors_in-ask number exempting ss h.1)
+
+  default-asks : (o : Option ℕ) (ps : List Part) → L ps → L (in_default o ps)
+  default-asks None ps h = h
+  default-asks (Some number) ps h =
+      subst (PartsAskBelow n) (complex_in-from number false ps)
+      (complex_in-asks number false (parts_from ps) h)
+
   abbrev A : Placed → Type 0
   A p = SelectorAsksBelow n p.selector
 
-  placed-gets : (t : List ℕ) → Gets A (placed t)
+  placed-gets : (t : List ℕ) → Gets A (placed names t)
   unfolding placed_by
   placed-gets t =
       then-gets A (gap t) _ (λ x u.
-      follow-gets L A (parts u) _ (parts-get u) (λ all v h.
-      then-gets A (pseudo_element (past_comments v)) _ (λ e w.
-      then-gets A (gap w) _ (λ y z. h))))
+      follow-gets L A (parts names u) _ (parts-get u) (λ all v h.
+      then-gets A (pseudo_element names (past_comments v)) _ (λ e w.
+      then-gets A (gap w) _ (λ y z. default-asks names.default_namespace all h))))
 
-  module _ (start : _) (good : (t : List ℕ) → Gets A (placed_by start t)) where
-    placed-finds : (t : List ℕ) → Finds A (next_placed start t)
+  module _ (start : _) (good : (t : List ℕ) → Gets A (placed_by names start t)) where
+    placed-finds : (t : List ℕ) → Finds A (next_placed names start t)
     unfolding next_placed
     placed-finds t =
         if-finds A (starts comma t) _ _
-        (item-finds A A (λ p. p) (placed_by start (past_one t)) (good (past_one t)) (λ p h. h)) tt
+        (item-finds A A (λ p. p) (placed_by names start (past_one t)) (good (past_one t)) (λ p h. h)) tt
 
-    list-placed : (t : List ℕ) → Gets (Every A) (placed_list_by start t)
+    list-placed : (t : List ℕ) → Gets (Every A) (placed_list_by names start t)
     unfolding placed_list_by
     list-placed t =
-        follow-gets A (Every A) (placed_by start t) _ (good t) (λ first u h.
-        follow-gets (Every A) (Every A) (with_first first (items (next_placed start) u)) _
-        (first-gets A first (items (next_placed start) u) h
-        (items-get A (next_placed start) placed-finds (length u) u))
+        follow-gets A (Every A) (placed_by names start t) _ (good t) (λ first u h.
+        follow-gets (Every A) (Every A) (with_first first (items (next_placed names start) u)) _
+        (first-gets A first (items (next_placed names start) u) h
+        (items-get A (next_placed names start) placed-finds (length u) u))
         (λ all v k. at-end all k v))
       where
         at-end : (all : List Placed) → Every A all → (v : List ℕ)
@@ -456,7 +522,7 @@ module _ (n : ℕ) (some : 0 < n) where
         at-end all k (b ∷ v) = tt
 
   -- a list that was read
-  pub list-asks : (text rest : List ℕ) (all : List Placed) → placed_list text ≡ got all rest
+  pub list-asks : (text rest : List ℕ) (all : List Placed) → placed_list names text ≡ got all rest
       → All A all
   list-asks text rest all e =
       every-all A all (subst (Gets (Every A)) e (list-placed _ placed-gets text))

@@ -117,7 +117,7 @@ same_language (x ∷ tag) some none wild (Some (b ∷ language)) =
     (sym (slice_split_none (λ b. b == hyphen) (x ∷ tag) (none_all (x ∷ tag) none)))
     ∙ sym (or-false (is_in_range (x ∷ tag) (b ∷ language)))
 
-or_nothing : (a b : Bool) → a ≡ (a || (b && false))
+or_nothing : (a b : Bool) → a ≡ a || (b && false || false)
 or_nothing true b = refl
 or_nothing false true = refl
 or_nothing false false = refl

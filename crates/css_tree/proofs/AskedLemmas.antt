@@ -81,14 +81,14 @@ module _ (page : Page) (m n : List (List Bool)) (limit : ℕ)
 
   asked_same : (number i : ℕ) → number < suc limit
       → is_in_list (with_marks page m) i number ≡ is_in_list (with_marks page n) i number
-  asked_same zero i lt = scope_same i page.scope
+  asked_same zero i lt = scope_same i page.given.scope
   asked_same (suc list) i lt = same list i (omega arith)
 
   structure_same : (s : Structure) (i : ℕ)
       → is_placed page_document (spot (with_marks page m) i) s
       ≡ is_placed page_document (spot (with_marks page n) i) s
   structure_same root i = none_same (with_marks page m) (with_marks page n) (parent_index page.rows i)
-  structure_same scope i = scope_same i page.scope
+  structure_same scope i = scope_same i page.given.scope
   structure_same empty i = refl
   structure_same first_child i = refl
   structure_same last_child i = refl

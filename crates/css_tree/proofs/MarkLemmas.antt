@@ -60,21 +60,19 @@ pushed lists list page answers are each = record {
 
 -- the next list has a number, and all else is as it was
 pub marked_more : (lists : List ListText) (list : ListText) (old new : Page)
-    (answers : List Bool) → AreMarked lists old → new.rows ≡ old.rows → new.texts ≡ old.texts
-    → new.scope ≡ old.scope → new.is_html ≡ old.is_html → new.marks ≡ old.marks ++ answers ∷ []
+    (answers : List Bool) → AreMarked lists old → new.rows ≡ old.rows → new.given ≡ old.given
+    → new.is_html ≡ old.is_html → new.marks ≡ old.marks ++ answers ∷ []
     → ((i : ℕ) → i < length old.rows → IsTrue (get_or answers i false) ↔ IsMarkedBy list old i)
     → AreMarked (lists ++ list ∷ []) new
-marked_more lists list old new answers are rows texts scope html marks each =
+marked_more lists list old new answers are rows given html marks each =
     subst (AreMarked (lists ++ list ∷ [])) (sym same) (pushed lists list old answers are each)
   where
     same : new ≡ with_marks old (old.marks ++ answers ∷ [])
     same =
-        ap (λ r. record { rows = r; texts = new.texts; scope = new.scope; marks = new.marks; is_html = new.is_html })
+        ap (λ r. record { rows = r; given = new.given; marks = new.marks; is_html = new.is_html })
         rows
-        ∙ ap (λ t. record { rows = old.rows; texts = t; scope = new.scope; marks = new.marks; is_html = new.is_html })
-        texts
-        ∙ ap (λ s. record { rows = old.rows; texts = old.texts; scope = s; marks = new.marks; is_html = new.is_html })
-        scope
-        ∙ ap (λ h. record { rows = old.rows; texts = old.texts; scope = old.scope; marks = new.marks; is_html = h })
+        ∙ ap (λ g. record { rows = old.rows; given = g; marks = new.marks; is_html = new.is_html })
+        given
+        ∙ ap (λ h. record { rows = old.rows; given = old.given; marks = new.marks; is_html = h })
         html
         ∙ ap (with_marks old) marks

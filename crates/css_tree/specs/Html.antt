@@ -4,7 +4,8 @@
 use Rattle.std.specs.Prelude.{ℕ, Bool, ◌||◌, List, [], ◌∷◌, map, bytes_eq, codes}
 use Rattle.std.specs.Char.{to_ascii_lowercase}
 use Rattle.std.specs.List.{list_any}
-use Rattle.css_selectors.specs.Components.{Simple, Condition, Conditions, Parts, Selectors, Part, PseudoElement, Selector}
+use Rattle.css_selectors.specs.Components.Local.{any_type, a_type, some_attribute, an_attribute, implied}
+use Rattle.css_selectors.specs.Components.{Local, Simple, Condition, Conditions, Parts, Selectors, Part, PseudoElement, Selector}
 use Rattle.std.specs.Option.{option_map}
 use Rattle.css_selectors.specs.Components.Simple.{universal, type_name, id, class, has_attribute, attribute, structure, language, state, function, named_element, nesting, namespaced}
 use Rattle.css_selectors.specs.Components.Condition.{simple, negation, any_of, where_any, tested as tested_condition}
@@ -51,6 +52,15 @@ abbrev pub word_in : HtmlMode → List ℕ → List ℕ
 word_in NoQuirks word = word
 word_in Quirks word = lower_case word
 
+-- what is in a namespace
+abbrev pub local_in : HtmlMode → Local → Local
+local_in mode any_type = any_type
+local_in mode (a_type name) = a_type (lower_case name)
+local_in mode (some_attribute name) = some_attribute (lower_case name)
+local_in mode (an_attribute name comparison text ignores) =
+    an_attribute (lower_case name) comparison text (ignores || is_caseless mode (lower_case name))
+local_in mode implied = implied
+
 abbrev pub simple_in : HtmlMode → Simple → Simple
 simple_in mode universal = universal
 simple_in mode (type_name name) = type_name (lower_case name)
@@ -65,7 +75,7 @@ simple_in mode (state name) = state name
 simple_in mode (function name argument) = function name argument
 simple_in mode (named_element name argument) = named_element name argument
 simple_in mode (nesting list) = nesting list
-simple_in mode (namespaced namespace local) = namespaced namespace local
+simple_in mode (namespaced namespace local) = namespaced namespace (local_in mode local)
 
 abbrev mutual
   pub condition_in : HtmlMode → Condition → Condition

@@ -13,6 +13,7 @@ pub mod Laws
 pub mod Marks
 pub mod Messages
 pub mod NextSiblings
+pub mod PageViews
 pub mod Pages
 pub mod Reports
 pub mod SiblingCounts

@@ -46,8 +46,7 @@ abbrev pub with_marks : Page → List (List Bool) → Page
 with_marks page marks =
     record {
       rows = page.rows;
-      texts = page.texts;
-      scope = page.scope;
+      given = page.given;
       marks = marks;
       is_html = page.is_html;
     }

@@ -10,9 +10,10 @@ ghost use Rattle.std.specs.Cow.{cow_str_bytes};
 ghost use Rattle.css_selectors.specs.MarkedLists.{list_of};
 ghost use Rattle.css_selectors.specs.Views.{namespace_of, local_of, simple_of, complex_of, condition_of, part_of, element_name_of, pseudo_element_of};
 ghost use Rattle.css_selectors.specs.declared.components.Simple.TheVariants.{Attribute, Function, Namespaced as NamespacedIs};
+ghost use Rattle.css_selectors.specs.declared.components.Local.TheVariants.{Attribute as AnAttribute};
 ghost use Rattle.css_tree.specs.Html.{caseless_attributes, quirks_attributes, is_among};
 ghost use Rattle.css_tree.specs.Html.{is_caseless};
-ghost use Rattle.css_tree.specs.Html.{lower_case, word_in, simple_in};
+ghost use Rattle.css_tree.specs.Html.{lower_case, word_in, local_in, simple_in};
 ghost use Rattle.css_tree.specs.Html.{condition_in, part_in, pseudo_element_in, html_selector, list_in};
 
 use css_selectors::{
@@ -142,8 +143,10 @@ fn test_in<'s>(
     mode: HtmlMode,
     test: &'s AttributeTest<'_>,
 ) -> Result<AttributeTest<'s>, AllocError>
-    ensures { IfOk result (λ read. simple_of (Attribute read)
+    ensures simple { IfOk result (λ read. simple_of (Attribute read)
         ≡ simple_in mode (simple_of (Attribute test.now))) }
+    ensures local { IfOk result (λ read. local_of (AnAttribute read)
+        ≡ local_in mode (local_of (AnAttribute test.now))) }
 {
     let name = lower_case(alloc, test.name.as_str())?;
     let ignores_case = test.ignores_case || is_caseless(mode, name.as_str());
@@ -203,42 +206,43 @@ fn same_namespace<'s>(namespace: &'s Namespace<'_>) -> Namespace<'s>
     match namespace {
         Namespace::Absent => Namespace::Absent,
         Namespace::Any => Namespace::Any,
-        Namespace::Prefix(prefix) => Namespace::Prefix(CowStr::Borrowed(prefix.as_str())),
+        Namespace::Prefix(prefix, number) => {
+            Namespace::Prefix(CowStr::Borrowed(prefix.as_str()), *number)
+        }
+        Namespace::Default(number) => Namespace::Default(*number),
     }
 }
 
-/// Returns the same condition on an attribute, which is not copied.
-fn same_test<'s>(test: &'s AttributeTest<'_>) -> AttributeTest<'s>
-    ensures { simple_of (Attribute result) ≡ simple_of (Attribute test.now) }
-{
-    AttributeTest {
-        name: CowStr::Borrowed(test.name.as_str()),
-        comparison: test.comparison,
-        text: CowStr::Borrowed(test.text.as_str()),
-        ignores_case: test.ignores_case,
-    }
-}
-
-/// Returns the same type or attribute selector, which is not copied.
-fn same_local<'s>(local: &'s Local<'_>) -> Local<'s>
-    ensures { local_of result ≡ local_of local.now }
+/// Returns what is in a namespace as a document reads it.
+fn local_in<'s>(
+    alloc: Global,
+    mode: HtmlMode,
+    local: &'s Local<'_>,
+) -> Result<Local<'s>, AllocError>
+    ensures { IfOk result (λ read. local_of read ≡ local_in mode (local_of local.now)) }
 {
     match local {
-        Local::Universal => Local::Universal,
-        Local::TypeName(name) => Local::TypeName(CowStr::Borrowed(name.as_str())),
-        Local::HasAttribute(name) => Local::HasAttribute(CowStr::Borrowed(name.as_str())),
-        Local::Attribute(test) => Local::Attribute(same_test(test)),
+        Local::Universal => Ok(Local::Universal),
+        Local::TypeName(name) => Ok(Local::TypeName(lower_case(alloc, name.as_str())?)),
+        Local::HasAttribute(name) => Ok(Local::HasAttribute(lower_case(alloc, name.as_str())?)),
+        Local::Attribute(test) => Ok(Local::Attribute(test_in(alloc, mode, test)?)),
+        Local::Implied => Ok(Local::Implied),
     }
 }
 
-/// Returns the same type or attribute selector with a namespace, which is not copied.
-fn same_namespaced<'s>(namespaced: &'s Namespaced<'_>) -> Namespaced<'s>
-    ensures { simple_of (NamespacedIs result) ≡ simple_of (NamespacedIs namespaced.now) }
+/// Returns a type or attribute selector with a namespace as a document reads it.
+fn namespaced_in<'s>(
+    alloc: Global,
+    mode: HtmlMode,
+    namespaced: &'s Namespaced<'_>,
+) -> Result<Namespaced<'s>, AllocError>
+    ensures { IfOk result (λ read. simple_of (NamespacedIs read)
+        ≡ simple_in mode (simple_of (NamespacedIs namespaced.now))) }
 {
-    Namespaced {
+    Ok(Namespaced {
         namespace: same_namespace(&namespaced.namespace),
-        local: same_local(&namespaced.local),
-    }
+        local: local_in(alloc, mode, &namespaced.local)?,
+    })
 }
 
 /// Returns a simple selector as a document reads it.
@@ -262,7 +266,9 @@ fn simple_in<'s>(
         Simple::Function(call) => Ok(Simple::Function(same_call(call))),
         Simple::Element(element) => Ok(Simple::Element(same_element(element))),
         Simple::Nesting(list) => Ok(Simple::Nesting(*list)),
-        Simple::Namespaced(namespaced) => Ok(Simple::Namespaced(same_namespaced(namespaced))),
+        Simple::Namespaced(namespaced) => {
+            Ok(Simple::Namespaced(namespaced_in(alloc, mode, namespaced)?))
+        }
     }
 }
 
@@ -396,7 +402,7 @@ pub fn html_selector<'s>(
 }
 
 /// Returns selectors as an HTML document in this mode reads them.
-fn html_selectors<'s>(
+pub fn html_selectors<'s>(
     alloc: Global,
     mode: HtmlMode,
     selectors: &'s [Selector<'_>],

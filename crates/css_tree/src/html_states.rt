@@ -487,8 +487,7 @@ impl<'p, 't> NumberedTree<'p, 't> {
     /// Fails only if an allocation fails; then the tree is unchanged.
     pub fn set_html(&mut self, alloc: Global) -> Result<(), AllocError>
         ensures rows { self.new.rows ≡ self.old.rows }
-        ensures texts { self.new.texts ≡ self.old.texts }
-        ensures scope { self.new.scope ≡ self.old.scope }
+        ensures given { self.new.given ≡ self.old.given }
         ensures marks { self.new.marks ≡ self.old.marks }
         ensures html { OnOk result (self.new.is_html ≡ true) }
         ensures err { OnErr result (self.new.is_html ≡ self.old.is_html) }

@@ -2,8 +2,9 @@
 //!
 //! `NumberedTree` counts the siblings of each element once. Its elements have the trait `Element`
 //! of `css_selectors`, and `Element` and `Keyed` of `simplecss`, too. Names and values of attributes
-//! compare byte by byte, and the states are those of `simplecss_tree::States`, `any-link`, and on a tree of
-//! an HTML document those that attributes decide (`NumberedTree::set_html`).
+//! compare byte by byte, and the states are those of `simplecss_tree::States`, `any-link`, those that a caller
+//! names (`NumberedTree::set_states`), and on a tree of an HTML document those that attributes decide
+//! (`NumberedTree::set_html`).
 //! `languages` says which languages `:lang()` matches.
 #![tactic(auto)]
 
@@ -26,5 +27,5 @@ mod tree_walk;
 
 pub use marking::MarkingError;
 pub use node::NumberedNode;
-pub use numbered_tree::{NumberedTree, NumberingError};
+pub use numbered_tree::{NamedState, NumberedTree, NumberingError};
 pub use tree_walk::TreeWalk;

@@ -80,8 +80,7 @@ impl<'p, 't> NumberedTree<'p, 't> {
     /// Gives a list with these answers the next number.
     fn push_answers(&mut self, answers: Vec<bool>) -> Result<(), AllocError>
         ensures rows { self.new.rows ≡ self.old.rows }
-        ensures texts { self.new.texts ≡ self.old.texts }
-        ensures scope { self.new.scope ≡ self.old.scope }
+        ensures given { self.new.given ≡ self.old.given }
         ensures html { self.new.is_html ≡ self.old.is_html }
         ensures marks { OnOk result (self.new.marks ≡ self.old.marks ++ answers.items ∷ []) }
     {
@@ -93,8 +92,7 @@ impl<'p, 't> NumberedTree<'p, 't> {
     fn mark_each(&mut self, alloc: Global, lists: &[MarkedList<'_>]) -> Result<(), AllocError>
         requires { self.old.marks ≡ [] }
         ensures rows { self.new.rows ≡ self.old.rows }
-        ensures texts { self.new.texts ≡ self.old.texts }
-        ensures scope { self.new.scope ≡ self.old.scope }
+        ensures given { self.new.given ≡ self.old.given }
         ensures html { self.new.is_html ≡ self.old.is_html }
         ensures marks { OnOk result (AreMarked (map list_of lists.now) self.new) }
     {
@@ -120,8 +118,7 @@ impl<'p, 't> NumberedTree<'p, 't> {
         most: usize,
     ) -> Result<(), MarkingError>
         ensures rows { self.new.rows ≡ self.old.rows }
-        ensures texts { self.new.texts ≡ self.old.texts }
-        ensures scope { self.new.scope ≡ self.old.scope }
+        ensures given { self.new.given ≡ self.old.given }
         ensures html { self.new.is_html ≡ self.old.is_html }
         ensures marks { OnOk result (AreMarked (map list_of lists.now) self.new) }
         ensures too_many { (result ≡ Err TooManyAnswers)

@@ -92,12 +92,16 @@ impl<'n, 'p, 't> Element for NumberedNode<'n, 'p, 't> {
         self.tree.plain(self.index).name() == name
     }
 
+    fn is_in_namespace(&self, number: usize) -> bool {
+        self.tree.is_in_namespace(self.index, number)
+    }
+
     fn attribute(&self, name: &str) -> Option<&str> {
         self.tree.attribute(self.index, name)
     }
 
     fn is_in_state(&self, name: &str) -> bool {
-        is_in(&self.tree.plain(self.index), name) || self.tree.is_in_html_state(self.index, name)
+        is_in(&self.tree.plain(self.index), name) || self.tree.is_in_further_state(self.index, name)
     }
 
     fn is_in_language(&self, range: &str) -> bool {

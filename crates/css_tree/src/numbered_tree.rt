@@ -1,12 +1,15 @@
 //! Trees whose siblings are counted.
 ghost use Rattle.std.specs.Prelude.{◌≡◌, ◌<◌, ◌≤◌, ◌^◌, ℕ, length, slice_index_or};
-ghost use Rattle.std.specs.Prelude.{codes, IfOk, IfErr, IfSome, MatchOption, slice_set, true, false, None, []};
+ghost use Rattle.std.specs.Prelude.{◌&&◌, ◌||◌, map, false, codes, IfOk, IfErr, IfSome, MatchOption, true, None, []};
 ghost use Rattle.std.specs.Option.{option_map};
 ghost use Rattle.css_matching.specs.ListTrees.{spot};
 ghost use Rattle.simplecss_tree.specs.TreeNodes.{attribute_at};
 ghost use Rattle.css_tree.specs.Counts.{count_below, last_below};
 ghost use Rattle.css_tree.specs.Pages.{parent_index, family, is_sibling, is_alike, count_after};
-ghost use Rattle.css_tree.specs.Pages.{has_content, is_scope, is_marked, is_in_page_state, language_of};
+ghost use Rattle.css_tree.specs.Pages.{has_content, is_scope, is_marked, is_in_page_state, is_among, is_in_named, is_of_tree as is_of_tree_name, language_of};
+ghost use Rattle.css_tree.specs.Pages.{with_text, with_scope, with_states, with_namespaces, is_in_namespace};
+ghost use Rattle.css_tree.specs.PageViews.{state_of};
+ghost use Rattle.std.specs.Str.{str_eq_ignore_ascii_case};
 ghost use Rattle.css_tree.specs.Keys.{AreFamilies, AreLanguages};
 ghost use Rattle.css_tree.specs.declared.numbered_tree.NumberingError.TheVariants.{TooManyElements};
 ghost use Rattle.css_tree.specs.declared.numbered_tree.NumberingError.TheVariants.{Memory};
@@ -66,6 +69,50 @@ impl<T: Drop> From<AllocFailed<T>> for NumberingError {
     }
 }
 
+/// A state that has a name, and which elements are in it.
+#[derive(Drop)]
+pub struct NamedState<'p> {
+    /// The name, as `target` or `dir(ltr)`. Its case does not matter.
+    pub name: &'p str,
+    /// Whether each element is in the state; those after the last one are not.
+    pub elements: Vec<bool>,
+}
+
+impl<'p> NamedState<'p> {
+    /// Whether this is the state of a name, and an element is in it.
+    fn has(&self, index: usize, name: &str) -> bool
+        ensures { result ≡ (str_eq_ignore_ascii_case name.now (state_of self.now).name
+            && slice_index_or (state_of self.now).elements index false) }
+    {
+        name.eq_ignore_ascii_case(self.name) && self.elements.get(index).copied().unwrap_or(false)
+    }
+}
+
+/// Whether every tree has the state of this name.
+fn is_of_tree(name: &str) -> bool
+    ensures { result ≡ is_of_tree_name name.now }
+{
+    name.eq_ignore_ascii_case("link")
+        || name.eq_ignore_ascii_case("visited")
+        || name.eq_ignore_ascii_case("hover")
+        || name.eq_ignore_ascii_case("active")
+        || name.eq_ignore_ascii_case("focus")
+}
+
+/// Whether an element is in a state of this name.
+fn has_state(states: &[NamedState<'_>], index: usize, name: &str) -> bool
+    ensures { result ≡ is_among (map state_of states.now) index name.now }
+{
+    let mut rest = states;
+    'states: while let [state, more @ ..] = rest {
+        if state.has(index, name) {
+            return true;
+        }
+        rest = more;
+    }
+    false
+}
+
 /// A tree whose siblings are counted, and which of its elements have a text.
 ///
 /// It borrows the tree: to change the tree, drop it and count again.
@@ -85,6 +132,10 @@ pub struct NumberedTree<'p, 't> {
     texts: Vec<bool>,
     /// The index of the scoping root, if one was named.
     scope: Option<usize>,
+    /// The states that were named.
+    states: Vec<NamedState<'p>>,
+    /// The number of the namespace of each element; those after the last one are in none.
+    namespaces: Vec<usize>,
     /// For each list of selectors that has a number, from 1 on: whether it matches each element.
     pub(crate) marks: Vec<Vec<bool>>,
     /// The states of each element that its attributes decide, if the tree is that of an HTML document.
@@ -95,6 +146,7 @@ impl<'p, 't> Model for NumberedTree<'p, 't> {
     ghost use Rattle.std.specs.Prelude.{◌≡◌, ◌<◌, ◌^◌, IfSome, is_some, length, map};
     ghost use Rattle.css_tree.specs.HtmlViews.{AreStates};
     ghost use Rattle.css_tree.specs.Pages.{Page};
+    ghost use Rattle.css_tree.specs.PageViews.{state_of};
     ghost use Rattle.css_tree.specs.Attributes.{AreFound};
     ghost use Rattle.css_tree.specs.Keys.{AreFamilies, AreKinds, AreLanguages};
 
@@ -102,8 +154,12 @@ impl<'p, 't> Model for NumberedTree<'p, 't> {
 
     ghost view = { λ t. record {
       rows = t.tree.now;
-      texts = t.texts.items;
-      scope = t.scope;
+      given = record {
+        texts = t.texts.items;
+        scope = t.scope;
+        states = map state_of t.states.items;
+        namespaces = t.namespaces.items;
+      };
       marks = map (λ answers. answers.items) t.marks.items;
       is_html = is_some t.html;
     } };
@@ -199,12 +255,15 @@ pub(crate) fn no_marks(alloc: Global, count: usize) -> Result<Vec<bool>, AllocEr
 
 impl<'p, 't> NumberedTree<'p, 't> {
     /// Counts the siblings of each element of a tree. No element has a text yet, none is named as the
-    /// scoping root, no list of selectors has a number, and the tree is not that of an HTML document.
+    /// scoping root, none is in a namespace, no list of selectors has a number, and the tree is not that of
+    /// an HTML document.
     pub fn new(alloc: Global, tree: &'p Tree<'t>) -> Result<NumberedTree<'p, 't>, NumberingError>
         ensures rows { IfOk result (λ page. page.rows ≡ tree.now) }
-        ensures texts { IfOk result (λ page. (i : ℕ) → slice_index_or page.texts i false ≡ false) }
-        ensures all { IfOk result (λ page. length page.texts ≡ length tree.now) }
-        ensures scope { IfOk result (λ page. page.scope ≡ None) }
+        ensures texts { IfOk result (λ page. (i : ℕ) → slice_index_or page.given.texts i false ≡ false) }
+        ensures all { IfOk result (λ page. length page.given.texts ≡ length tree.now) }
+        ensures scope { IfOk result (λ page. page.given.scope ≡ None) }
+        ensures states { IfOk result (λ page. page.given.states ≡ []) }
+        ensures namespaces { IfOk result (λ page. page.given.namespaces ≡ []) }
         ensures marks { IfOk result (λ page. page.marks ≡ []) }
         ensures html { IfOk result (λ page. page.is_html ≡ false) }
         ensures err { IfErr result (λ error. error ≡ TooManyElements → 2 ^ 32 ≤ length tree.now) }
@@ -222,6 +281,8 @@ impl<'p, 't> NumberedTree<'p, 't> {
             attributes: many_attributes(alloc, tree)?,
             texts: no_marks(alloc, tree.len())?,
             scope: None,
+            states: Vec::new(alloc),
+            namespaces: Vec::new(alloc),
             marks: Vec::new(alloc),
             html: None,
         })
@@ -239,8 +300,7 @@ impl<'p, 't> NumberedTree<'p, 't> {
     pub fn set_text(&mut self, index: usize)
         requires { index < length self.old.rows }
         ensures rows { self.new.rows ≡ self.old.rows }
-        ensures texts { self.new.texts ≡ slice_set self.old.texts index true }
-        ensures scope { self.new.scope ≡ self.old.scope }
+        ensures given { self.new.given ≡ with_text self.old.given index }
         ensures marks { self.new.marks ≡ self.old.marks }
         ensures html { self.new.is_html ≡ self.old.is_html }
     {
@@ -251,12 +311,34 @@ impl<'p, 't> NumberedTree<'p, 't> {
     /// root.
     pub fn set_scope(&mut self, scope: Option<usize>)
         ensures rows { self.new.rows ≡ self.old.rows }
-        ensures texts { self.new.texts ≡ self.old.texts }
-        ensures scope { self.new.scope ≡ scope }
+        ensures given { self.new.given ≡ with_scope self.old.given scope }
         ensures marks { self.new.marks ≡ self.old.marks }
         ensures html { self.new.is_html ≡ self.old.is_html }
     {
         self.scope = scope;
+    }
+
+    /// Names states: an element is then in each of them that says so, beside those that it is in by the
+    /// tree or by its attributes. Names of states that every tree has are ignored, such as `hover`. They replace
+    /// states that were named before.
+    pub fn set_states(&mut self, states: Vec<NamedState<'p>>)
+        ensures rows { self.new.rows ≡ self.old.rows }
+        ensures given { self.new.given ≡ with_states self.old.given (map state_of states.entry.items) }
+        ensures marks { self.new.marks ≡ self.old.marks }
+        ensures html { self.new.is_html ≡ self.old.is_html }
+    {
+        self.states = states;
+    }
+
+    /// Says which namespaces the elements are in, each by its number. The number of no namespace is 0, and
+    /// elements after the last of these are in none, as all are before this call.
+    pub fn set_namespaces(&mut self, namespaces: Vec<usize>)
+        ensures rows { self.new.rows ≡ self.old.rows }
+        ensures given { self.new.given ≡ with_namespaces self.old.given namespaces.items }
+        ensures marks { self.new.marks ≡ self.old.marks }
+        ensures html { self.new.is_html ≡ self.old.is_html }
+    {
+        self.namespaces = namespaces;
     }
 
     /// Returns the element at an index, if there is one.
@@ -360,10 +442,17 @@ impl<'p, 't> NumberedTree<'p, 't> {
         self.texts[index] || self.families.count(index + 1) > 0
     }
 
+    /// Whether the element is in the namespace of this number.
+    pub(crate) fn is_in_namespace(&self, index: usize, number: usize) -> bool
+        ensures { result ≡ is_in_namespace self.now index number }
+    {
+        self.namespaces.get(index).copied().unwrap_or(0) == number
+    }
+
     /// Whether the element is the scoping root.
     pub(crate) fn is_scope(&self, index: usize) -> bool
         requires { index < length self.now.rows }
-        ensures { result ≡ is_scope self.now index self.now.scope }
+        ensures { result ≡ is_scope self.now index self.now.given.scope }
     {
         match self.scope {
             Some(scope) => index == scope,
@@ -372,7 +461,7 @@ impl<'p, 't> NumberedTree<'p, 't> {
     }
 
     /// Whether an element of an HTML document is in the state of a name, as attributes decide it.
-    pub(crate) fn is_in_html_state(&self, index: usize, name: &str) -> bool
+    fn is_in_html_state(&self, index: usize, name: &str) -> bool
         requires { index < length self.now.rows }
         ensures { result ≡ is_in_page_state self.now index name.now }
     {
@@ -380,6 +469,16 @@ impl<'p, 't> NumberedTree<'p, 't> {
             Some(states) => states[index].is_in_named(self.texts[index], name),
             None => false,
         }
+    }
+
+    /// Whether an element is in the state of a name, as attributes decide it or as it was named.
+    pub(crate) fn is_in_further_state(&self, index: usize, name: &str) -> bool
+        requires { index < length self.now.rows }
+        ensures { result ≡ (is_in_page_state self.now index name.now
+            || is_in_named self.now.given.states index name.now) }
+    {
+        self.is_in_html_state(index, name)
+            || !is_of_tree(name) && has_state(&self.states, index, name)
     }
 
     /// Whether a list of selectors matches an element, by the index of the list among those that have a

@@ -39,6 +39,7 @@ items = record {
   earlier_of_type = λ n. n.1;
   later_of_type = λ n. length n.0 - (n.1 + 1);
   is_named = λ n name. bytes_eq name (codes "li");
+  is_in_namespace = λ n number. number == 0;
   attribute = λ n name. if bytes_eq name (codes "class") then class_of n else None;
   is_in_state = λ n name. false;
   is_in_language = λ n range. false;

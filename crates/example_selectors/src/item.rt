@@ -91,6 +91,10 @@ impl<'t> Element for Item<'t> {
         name == "li"
     }
 
+    fn is_in_namespace(&self, number: usize) -> bool {
+        number == 0
+    }
+
     fn attribute(&self, name: &str) -> Option<&str> {
         if name == "class" {
             Some(self.entries[self.index].class)

@@ -68,6 +68,10 @@ impl<'a, 'n, 'p, 't> Element for Counted<'a, 'n, 'p, 't> {
         self.node.is_named(name)
     }
 
+    fn is_in_namespace(&self, number: usize) -> bool {
+        self.node.is_in_namespace(number)
+    }
+
     fn attribute(&self, name: &str) -> Option<&str> {
         self.node.attribute(name)
     }

@@ -18,9 +18,9 @@ returns-in-Some c =
     let text = read_within c.self.inside.texts.items i c.index-in-Some.result.now false
     (rw c.self.invariant.4 (subst (λ p. i < length p.rows) (sym c.self.view_is) c.requires))
     c.index-in-Some.ensures
-    ∙ ap (λ p. get_or p.texts i false) c.self.view_is in
+    ∙ ap (λ p. get_or p.given.texts i false) c.self.view_is in
     c.is_in_named.ensures
     ∙ in_known page.rows c.index-in-Some.result.now c.in-Some.states.items c.index.result.now i name
     states c.requires c.index.ensures
     ∙ ap (λ b. is_in_state_named page.rows b i name) text
-    ∙ ap (λ b. b && is_in_state_named page.rows (get_or page.texts i false) i name) (sym is_html)
+    ∙ ap (λ b. b && is_in_state_named page.rows (get_or page.given.texts i false) i name) (sym is_html)

@@ -16,11 +16,10 @@ loop-list-preserved c =
     ∙ ap (λ list. map list_of (take i lists) ++ list_of list ∷ []) (sym c.list-item.is) in
     record {
       rows = pushed.rows ∙ old.rows;
-      texts = pushed.texts ∙ old.texts;
-      scope = pushed.scope ∙ old.scope;
+      given = pushed.given ∙ old.given;
       html = pushed.html ∙ old.html;
       marks = subst (λ ls. AreMarked ls c.push_answers.new.self) (sym more)
           (marked_more (map list_of (take i lists)) (list_of c.list-item.result) c.loop-list.self
-          c.push_answers.new.self c.in_ok-answers.answers.items old.marks pushed.rows pushed.texts
-          pushed.scope pushed.html c.in_ok-push_answers.ensures.marks c.in_ok-answers.ensures.each);
+          c.push_answers.new.self c.in_ok-answers.answers.items old.marks pushed.rows pushed.given
+          pushed.html c.in_ok-push_answers.ensures.marks c.in_ok-answers.ensures.each);
     }

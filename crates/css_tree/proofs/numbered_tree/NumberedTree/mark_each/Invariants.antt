@@ -7,8 +7,7 @@ use Rattle.css_tree.proofs.numbered_tree.NumberedTree.mark_each.Given as goal
 abbrev pub invariant-loop-list : goal.invariant-loop-list
 invariant-loop-list l = record {
   rows : l.self.rows ≡ l.fn.self.rows;
-  texts : l.self.texts ≡ l.fn.self.texts;
-  scope : l.self.scope ≡ l.fn.self.scope;
+  given : l.self.given ≡ l.fn.self.given;
   html : l.self.is_html ≡ l.fn.self.is_html;
   marks : AreMarked (map list_of (take l.list-index l.lists)) l.self;
 }
