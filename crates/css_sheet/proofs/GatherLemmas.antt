@@ -710,7 +710,7 @@ abbrev pub sheets_left : (List ℕ → List ℕ → Bool) → (number : ℕ) →
 sheets_left holds number rest =
     all_parts_from (with_layers holds) number (map sheet_of rest)
 
--- so many were read, with the first of those that were left
+-- `number` sheets were read, and the first of those that were left
 pub counted-next : (number n : ℕ) (rest : List Sheet) → 1 ≤ length rest
     → number + length rest ≡ n → number + 1 + length (take (length rest - 1) (drop 1 rest)) ≡ n
 counted-next number n [] l e = absurd (omega (arith, l))

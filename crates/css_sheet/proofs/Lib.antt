@@ -11,7 +11,6 @@ mod OpenLemmas
 mod ParentLemmas
 mod LevelLemmas
 mod PartNesting
-mod EdgeLemmas
 mod ContentLemmas
 mod PrintLemmas
 mod SaidLemmas

@@ -1,8 +1,8 @@
--- The parts of a sheet, and the ends of rules that are open at its end.
--- Serves `said::{push_ends, read_parts}`.
-use Rattle.std.proofs.Common.{◌≡◌, ℕ, zero, suc, ◌-◌, ◌<◌, List, [], ◌∷◌, ◌++◌, map, arith, refl, sym, ap, ◌∙◌, append_assoc}
-use Rattle.css_sheet.specs.SheetParts.{SheetPart, ends, PlacedPart}
-use Rattle.css_sheet.specs.Said.{ends_of, ended, depth_after}
+-- The ends of rules that are open at the end of a sheet.
+-- Serves `said::push_ends`.
+use Rattle.std.proofs.Common.{◌≡◌, ℕ, zero, suc, ◌-◌, ◌<◌, List, [], ◌∷◌, ◌++◌, arith, refl, sym, ap, ◌∙◌, append_assoc}
+use Rattle.css_sheet.specs.SheetParts.{SheetPart, ends}
+use Rattle.css_sheet.specs.Said.{ends_of}
 
 -- the first of them, and the others
 pub ends_more : (n : ℕ) → 0 < n → ends_of n ≡ ends ∷ ends_of (n - 1)
@@ -15,16 +15,3 @@ pub ends-left : (so_far : List SheetPart) (left : ℕ) (all : List SheetPart) �
 ends-left so_far left all h e =
     append_assoc so_far (ends ∷ []) (ends_of (left - 1))
     ∙ ap (λ (ps : List SheetPart). so_far ++ ps) (sym (ends_more left h)) ∙ e
-
--- one more part of those that are to come
-pub ended-more : (so_far : List SheetPart) (depth : ℕ) (come rest : List PlacedPart) (one : PlacedPart)
-    (all : List SheetPart)
-    → so_far ++ ended depth (map (λ (placed : PlacedPart). placed.part) come) ≡ all → come ≡ one ∷ rest
-    → (so_far ++ one.part ∷ [])
-    ++ ended (depth_after depth one.part) (map (λ (placed : PlacedPart). placed.part) rest)
-    ≡ all
-ended-more so_far depth come rest one all h e =
-    append_assoc so_far (one.part ∷ [])
-    (ended (depth_after depth one.part) (map (λ (placed : PlacedPart). placed.part) rest))
-    ∙ ap (λ (ps : List PlacedPart).
-    so_far ++ ended depth (map (λ (placed : PlacedPart). placed.part) ps)) (sym e) ∙ h

@@ -14,7 +14,6 @@ pub mod SheetMessages
 pub mod Sheets
 pub mod SheetLayers
 pub mod SheetOrder
-pub mod BlockEdges
 pub mod SheetContents
 pub mod ContentViews
 pub mod Pieces

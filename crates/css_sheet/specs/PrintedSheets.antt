@@ -108,8 +108,8 @@ most_levels = 16
 abbrev pub blanks : ℕ → List ℕ
 blanks depth = take (2 * min depth most_levels) (codes "                                ")
 
--- a new line, in so many rules
-abbrev pub line_start : ℕ → List ℕ
+-- a new line, in `depth` rules
+abbrev pub line_start : (depth : ℕ) → List ℕ
 line_start depth = codes "\n" ++ blanks depth
 
 -- A piece begins a line where it is the end of a rule, or where a brace or a semicolon is before it.
@@ -134,8 +134,8 @@ space layouts.Lines depth last next = line_space depth last next
 
 -- ---- all of it
 
--- how many rules are open after a piece, where so many are before it
-abbrev pub depth_past : ℕ → PieceText → ℕ
+-- how many rules are open after a piece, where `depth` are open before it
+abbrev pub depth_past : (depth : ℕ) → PieceText → ℕ
 depth_past depth (word text) = depth
 depth_past depth (verbatim text) = depth
 depth_past depth (at_rule name) = depth
@@ -150,7 +150,7 @@ end_text layouts.Short last = if is_semicolon last then codes ";" else []
 end_text layouts.Lines last =
     if is_semicolon last then codes ";\n" else (if ends_line last then codes "\n" else [])
 
--- these pieces, where so many rules are open and this piece was before them
+-- these pieces, where `depth` rules are open and this piece was before them
 abbrev pub text_from : Layout → (depth : ℕ) → (last : PieceText) → List PieceText → List ℕ
 text_from layout depth last [] = end_text layout last
 text_from layout depth last (next ∷ pieces) =

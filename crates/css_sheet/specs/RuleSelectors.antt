@@ -11,6 +11,7 @@ use Rattle.css_syntax.specs.Tokens.{past_gap}
 use Rattle.css_selectors.specs.declared.components.Nesting.{Nesting}
 use Rattle.css_selectors.specs.Components.{Placed, PseudoElement, Selector}
 use Rattle.css_selectors.specs.Grammar.{placed_list}
+use Rattle.css_selectors.specs.Names.{any_prefix, no_names}
 use Rattle.css_selectors.specs.Nested.{nested_list}
 use Rattle.css_selectors.specs.Originating.{originating}
 use Rattle.css_selectors.specs.Readings.{Reading, got, refused, Reader}
@@ -71,10 +72,11 @@ selector_read p = read_with p p.selector.pseudo_element
 
 -- ---- lists
 
--- the list that a text is, for a rule that is in no other, or for one in a rule for whose list `&` stands
+-- The list that a text is, for a rule that is in no other, or for one in a rule for whose list `&` stands. What
+-- namespaces a sheet declares is not read.
 abbrev pub list_under : Option Nesting → Reader (List Placed)
-list_under None = placed_list
-list_under (Some list) = nested_list list
+list_under None = placed_list any_prefix
+list_under (Some list) = nested_list any_prefix list
 
 -- a list with one that is no selector is invalid as a whole
 abbrev pub listed_or : Reading (List Placed) → Result (List Placed) Fault
@@ -109,4 +111,4 @@ if_read (refused reason rest) = None
 
 -- the selector that the text is by the grammar of modern selectors, if it is one that is supported
 abbrev pub selector_of : List ℕ → Option Selector
-selector_of text = if_read (supported_selector text)
+selector_of text = if_read (supported_selector no_names text)

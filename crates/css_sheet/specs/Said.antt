@@ -11,8 +11,8 @@ use Rattle.css_sheet.specs.declared.words.Way.TheVariants as ways
 use Rattle.css_sheet.specs.Pieces.{PieceText, word, verbatim, at_rule, colon, semicolon, opens, closes}
 use Rattle.css_sheet.specs.Words.{sets_custom, words}
 use Rattle.css_sheet.specs.SheetItems.{is_layer}
-use Rattle.css_sheet.specs.SheetParts.{RuleKind, style_rule, group_rule, SheetPart, states, begins, ends, stands, PlacedPart, sheet_parts}
-use Rattle.css_sheet.specs.Sheets.{authored}
+use Rattle.css_sheet.specs.SheetContents.{ContentText, contents_of}
+use Rattle.css_sheet.specs.SheetParts.{RuleKind, style_rule, group_rule, SheetPart, states, begins, ends, stands}
 
 -- ---- declarations and at-rules
 
@@ -89,14 +89,14 @@ abbrev pub ends_of : ℕ → List SheetPart
 ends_of zero = []
 ends_of (suc n) = ends ∷ ends_of n
 
--- how many rules are open after a part, where so many are before it
-abbrev pub depth_after : ℕ → SheetPart → ℕ
+-- how many rules are open after a part, where `depth` are open before it
+abbrev pub depth_after : (depth : ℕ) → SheetPart → ℕ
 depth_after depth (states text) = depth
 depth_after depth (begins kind) = depth + 1
 depth_after depth ends = depth - 1
 depth_after depth (stands item) = depth
 
--- the parts, where so many rules are open before them, and the ends of the rules that are open after them
+-- the parts, where `depth` rules are open before them, and the ends of the rules that are open after them
 abbrev pub ended : (depth : ℕ) → List SheetPart → List SheetPart
 ended depth [] = ends_of depth
 ended depth (part ∷ parts) = part ∷ ended (depth_after depth part) parts
@@ -104,8 +104,7 @@ ended depth (part ∷ parts) = part ∷ ended (depth_after depth part) parts
 -- the parts of a sheet, with the ends of all of its rules
 abbrev pub whole_parts : List ℕ → List SheetPart
 whole_parts text =
-    ended 0 (map (λ (placed : PlacedPart). placed.part)
-    (sheet_parts (λ keyword prelude. true) 0 (authored text)))
+    ended 0 (map (λ (found : ContentText). found.part) (contents_of text))
 
 -- The item says nothing outside of style rules: it is skipped, as what has no block, or it is an `@charset`
 -- that is not in front.
@@ -172,12 +171,12 @@ is_front_part (stands item) = is_front_item item
 abbrev pub front_count : List SheetPart → ℕ
 front_count parts = count_by is_front_part parts
 
--- how many are still to come after a part, where so many were before it
-abbrev pub front_after : ℕ → SheetPart → ℕ
+-- how many are still to come after a part, of `fronts` before it
+abbrev pub front_after : (fronts : ℕ) → SheetPart → ℕ
 front_after fronts part = if is_front_part part then fronts - 1 else fronts
 
--- These parts and then those, without the rules in which nothing is said and that end after so many of
--- these at-rules.
+-- These parts and then those, without the rules in which nothing is said and that end after `fronts` of these
+-- at-rules.
 abbrev pub with_parts : (fronts : ℕ) → List SheetPart → List SheetPart → List SheetPart
 with_parts fronts parts [] = parts
 with_parts fronts parts (part ∷ more) =

@@ -6,7 +6,6 @@
 //! sheet, and what it returns says the same.
 #![tactic(auto)]
 
-mod block_edges;
 mod gathering;
 mod groups;
 mod import_rules;
@@ -28,7 +27,6 @@ mod sheet_rules;
 mod state;
 mod words;
 
-pub use block_edges::{BlockEdge, read_block_edges};
 pub use import_rules::{Import, ImportLayer, ImportUrl};
 pub use imports::read_imports;
 pub use parts::{Part, RuleKind};

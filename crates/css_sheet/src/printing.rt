@@ -148,7 +148,7 @@ fn space_after(layout: Layout, last: &Piece<'_>, next: &Piece<'_>) -> &'static [
     }
 }
 
-/// Begins a line, in so many rules.
+/// Begins a line, in `depth` rules.
 fn push_line(out: &mut Vec<u8>, depth: usize) -> Result<(), AllocError>
     ensures { OnOk result (out.new.items ≡ out.old.items ++ line_start depth) }
 {
@@ -163,7 +163,7 @@ fn ends_line(piece: &Piece<'_>) -> bool
     matches!(piece, Piece::Semicolon | Piece::Opens | Piece::Closes)
 }
 
-/// Appends what is between two pieces, where so many rules are open.
+/// Appends what is between two pieces, where `depth` rules are open.
 fn push_line_space(
     out: &mut Vec<u8>,
     depth: usize,
@@ -184,7 +184,7 @@ fn push_line_space(
     }
 }
 
-/// Appends what is between two pieces in a layout, where so many rules are open.
+/// Appends what is between two pieces in a layout, where `depth` rules are open.
 fn push_space(
     out: &mut Vec<u8>,
     layout: Layout,
@@ -201,7 +201,7 @@ fn push_space(
     }
 }
 
-/// Appends a piece and what is before it, where so many rules are open.
+/// Appends a piece and what is before it, where `depth` rules are open.
 fn push_piece(
     out: &mut Vec<u8>,
     layout: Layout,
@@ -218,7 +218,7 @@ fn push_piece(
     push_text(out, next)
 }
 
-/// Returns how many rules are open after a piece, where so many are before it.
+/// Returns how many rules are open after a piece, where `depth` are open before it.
 fn depth_past(depth: usize, piece: &Piece<'_>) -> usize
     requires { depth + 1 < 2 ^ 64 }
     ensures { result ≡ depth_past_piece depth (piece_of piece.now) }

@@ -16,11 +16,10 @@ ghost use Rattle.css_sheet.specs.Said.{front_count, front_after as front_after_p
 ghost use Rattle.css_sheet.specs.ContentViews.{kind_of, part_of};
 
 use crate::open_layers::is_layer;
-use crate::parts::{Part, RuleKind, SheetParts};
+use crate::parts::{Part, RuleKind};
 use crate::pieces::Piece;
-use crate::sheet_rules::Sheet;
+use crate::sheet_contents::read_contents;
 use crate::words::{Way, push_words, sets_custom};
-use css_cascade::Origin;
 use css_syntax::texts::spells;
 use css_syntax::tokens::take_letter;
 use css_syntax::{AtRule, Block, Declaration, Declarations, Item};
@@ -255,7 +254,7 @@ fn append_part<'a>(parts: &mut Vec<Part<'a>>, part: Part<'a>) -> Result<(), Allo
     Ok(())
 }
 
-/// Returns how many rules are open after a part, where so many are before it.
+/// Returns how many rules are open after a part, where `depth` are open before it.
 fn depth_after(depth: usize, part: &Part<'_>) -> usize
     requires { depth + 1 < 2 ^ 64 }
     ensures depth { result ≡ depth_after_part depth (part_of part.now) }
@@ -269,7 +268,7 @@ fn depth_after(depth: usize, part: &Part<'_>) -> usize
     }
 }
 
-/// Appends the ends of so many rules.
+/// Appends the ends of `depth` rules.
 fn push_ends(parts: &mut Vec<Part<'_>>, depth: usize) -> Result<(), AllocError>
     ensures { OnOk result (map part_of parts.new.items
         ≡ map part_of parts.old.items ++ ends_of depth) }
@@ -286,21 +285,14 @@ fn push_ends(parts: &mut Vec<Part<'_>>, depth: usize) -> Result<(), AllocError>
 fn read_parts<'a>(alloc: Global, text: &'a str) -> Result<Vec<Part<'a>>, AllocError>
     ensures { IfOk result (λ parts. map part_of parts.items ≡ whole_parts text.now) }
 {
+    let found = read_contents(alloc, text)?;
     let mut parts = Vec::new(alloc);
     let mut depth = 0usize;
-    let sheet = Sheet {
-        text,
-        origin: Origin::Author,
-        around: &[],
-    };
-    let mut reader = SheetParts::new(alloc, &sheet, 0);
-    'parts: while let Some(part) = reader.next(
-        &|_: &str, _: &str| -> bool
-            ensures { result ≡ true }
-        { true },
-    )? {
-        append_part(&mut parts, part)?;
-        depth = depth_after(depth, &part);
+    let mut rest = found.as_slice();
+    'parts: while let [placed, more @ ..] = rest {
+        append_part(&mut parts, placed.part)?;
+        depth = depth_after(depth, &placed.part);
+        rest = more;
     }
     push_ends(&mut parts, depth)?;
     Ok(parts)
@@ -417,7 +409,7 @@ fn count_front(parts: &[Part<'_>]) -> usize
     count
 }
 
-/// Returns how many of them are still to come after a part.
+/// Returns how many of these are still to come after a part, of `fronts` before it.
 fn front_after(fronts: usize, part: &Part<'_>) -> usize
     ensures { result ≡ front_after_part fronts (part_of part.now) }
 {
@@ -428,7 +420,7 @@ fn front_after(fronts: usize, part: &Part<'_>) -> usize
     }
 }
 
-/// Returns the parts without the rules in which nothing is said and that end after so many of these at-rules.
+/// Returns the parts without the rules in which nothing is said and that end after `fronts` of these at-rules.
 fn without_empty<'a>(
     alloc: Global,
     parts: &[Part<'a>],

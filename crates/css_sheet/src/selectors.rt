@@ -8,7 +8,7 @@ ghost use Rattle.css_sheet.specs.RuleSelectors.{if_supported as if_supported_of,
 ghost use Rattle.css_sheet.specs.RuleSelectors.{list_under, listed_under, selectors_under};
 ghost use Rattle.css_sheet.specs.RuleViews.{rule_selector_of, listed_result, placed_result};
 
-use css_selectors::{Listed, Nesting, Refusal, Selector, Why};
+use css_selectors::{ANY_PREFIX, Listed, Nesting, Refusal, Selector, Why};
 use css_syntax::quality::{fault_of, is_good};
 use css_syntax::texts::{past_byte, past_gap};
 use css_syntax::{Fault, Prelude};
@@ -111,8 +111,8 @@ fn read_list<'a>(
     ensures { ParsesPlaced result (list_under under text.now) }
 {
     match under {
-        None => Selector::read_list(alloc, text),
-        Some(list) => Selector::read_nested_list(alloc, list, text),
+        None => Selector::read_list_in(alloc, text, &ANY_PREFIX),
+        Some(list) => Selector::read_nested_list_in(alloc, list, text, &ANY_PREFIX),
     }
 }
 
