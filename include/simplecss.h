@@ -84,7 +84,9 @@ extern "C" {
 typedef struct simplecss_element {
     size_t depth;      /* how many ancestors the element has */
     size_t attributes; /* how many attributes it has */
-    size_t states;     /* the sum of its states, such as SIMPLECSS_LINK | SIMPLECSS_HOVER */
+    size_t states;     /* the sum of its states, such as SIMPLECSS_LINK | SIMPLECSS_HOVER, with those that the tree
+                        * names: SIMPLECSS_NAMED << n is the one with the name `n` */
+    size_t namespace_number; /* the number of its namespace, 0 if it is in none */
 } simplecss_element;
 
 /* The states of elements, each of which a pseudo-class tests. Other numbers mean nothing. */
@@ -100,7 +102,14 @@ typedef struct simplecss_element {
  * matches the root. */
 #define SIMPLECSS_SCOPE 64u
 
-/* A tree: its elements in document order, the bytes of all its strings, and where each ends. */
+/* The first of the states that a tree names, as `target` or `dir(ltr)`: modern `:target` matches the elements in it.
+ * The second is twice this number, and so on, while a size_t has bits for them without its last one: 56 of 64 bits. */
+#define SIMPLECSS_NAMED 128u
+
+/* A tree: its elements in document order, the bytes of all its strings, and where each ends. After the strings of
+ * all elements come names of states, which compare without case, and then prefixes. simplecss_select reads selectors
+ * with these: modern `svg|a` matches an element `a` in the namespace with the number of the prefix `svg`, whose case
+ * matters; a prefix that is not here refuses the list. The empty prefix is of the default namespace. */
 typedef struct simplecss_tree {
     const simplecss_element *elements;
     size_t elements_count;
@@ -108,6 +117,9 @@ typedef struct simplecss_tree {
     size_t strings_len;
     const size_t *string_ends;
     size_t string_ends_count;
+    size_t states_count; /* how many names of states are after the strings of the elements */
+    const size_t *prefixes; /* the numbers of the namespaces of prefixes, which are the last strings */
+    size_t prefixes_count;
 } simplecss_tree;
 
 /* The grammars of selectors. Modern ones are Level 3, and of Level 4 `:is()`, `:where()`, `:not()` with a list,
@@ -252,25 +264,16 @@ uint32_t simplecss_declarations(const uint8_t *text, size_t text_len,
 uint32_t simplecss_imports(const uint8_t *text, size_t text_len,
                            uint8_t *out, size_t out_size, size_t *len);
 
-/* Writes where the blocks of the style rules and of the group rules of a style sheet begin and end, in order, also of
- * rules in style rules (CSS Nesting 1): of each edge a line of numbers, its texts one after another, and a newline:
- *   kind offset  keyword_len prelude_len
- * `kind` is 1 where the block of a style rule begins, 2 where that of a group rule does, and 0 where the innermost block
- * ends. `offset` is after the brace. The texts are the keyword of a group rule, in lower case, and what is before the
- * block of a style rule, or the prelude of a group rule; of an end they are empty. A block that is open at the end of the
- * sheet has no other edge. Of `@media print{a{}}` it is "2 13 5 5", "mediaprint", "1 15 0 1", "a", "0 16 0 0", "",
- * "0 17 0 0" and "". */
-uint32_t simplecss_blocks(const uint8_t *text, size_t text_len,
-                          uint8_t *out, size_t out_size, size_t *len);
-
 /* Writes what is in the blocks of the style rules of a style sheet, in place and in order, also of rules in style rules
- * (CSS Nesting 1): the ten numbers of each item, as simplecss_read writes them, and ten where a block begins or ends:
+ * (CSS Nesting 1): the ten numbers of each item, as simplecss_read writes them, and ten where the block of a style rule
+ * or of a group rule begins or ends, also outside of style rules:
  *   SIMPLECSS_RULE       start len 0  prelude prelude_len  contents 0  0 0
  *   SIMPLECSS_GROUP      start len 0  name name_len  prelude prelude_len  contents 0
  *   SIMPLECSS_BLOCK_END  start 1 0  0 0 0 0 0 0
  * The rule begins at `start`, and its contents, after the brace, at `contents`, `len` bytes later. A nested rule, or a
  * group rule in a style rule, is no item here: it begins, its contents follow, and it ends. The end of the innermost
- * block is its brace. A block that is open at the end of the sheet has no end. What is in no style rule is not written.
+ * block is its brace. A block that is open at the end of the sheet has no end. Items that are in no style rule are not
+ * written.
  * Of "a{b:c}" the numbers are 3 0 2 0 0 1 2 0 0 0, 0 2 3 1 2 1 4 1 0 0, and 13 5 1 0 0 0 0 0 0 0. Time and memory grow as
  * the text. `out_size` and `*len` count numbers. */
 uint32_t simplecss_contents(const uint8_t *text, size_t text_len,

@@ -6,41 +6,40 @@
 //! 6 nothing was written, and `len` is the length that the call needs. At any other status nothing was
 //! written, and `len` is 0. `fault` is set at 2 only.
 
-ghost use Rattle.simplecss_c.specs.Answers.{IsAnswered, IsAnsweredOfTree, IsHandedOver};
-ghost use Rattle.simplecss_c.specs.BlockLines.{IsBlocksCall};
-ghost use Rattle.simplecss_c.specs.Calls.{IsSelectorCall, IsSheetCall, IsPrinted, IsMatchCall};
-ghost use Rattle.simplecss_c.specs.Calls.{AreRuleTexts, IsSkippedCall, IsStyleCall, IsStylesCall};
-ghost use Rattle.simplecss_c.specs.Calls.{IsCloseCall, passed_of};
-ghost use Rattle.simplecss_c.specs.ContentNumbers.{IsContentsCall};
-ghost use Rattle.simplecss_c.specs.Conditions.{IsMediaCall, IsSupportsCall};
-ghost use Rattle.simplecss_c.specs.ImportLines.{IsImportsCall};
-ghost use Rattle.simplecss_c.specs.ItemNumbers.{IsDeclarationsCall};
-ghost use Rattle.simplecss_c.specs.NumberLines.{IsTokensCall, IsNamesCall};
-ghost use Rattle.simplecss_c.specs.PrintedSheets.{IsPrintCall};
-ghost use Rattle.simplecss_c.specs.SheetNumbers.{IsReadCall};
-ghost use Rattle.simplecss_c.specs.WinnerNumbers.{IsRulesCall, IsNumbersCall, sheets_of};
-ghost use Rattle.simplecss_c.specs.declared.contents.ElementContent.TheVariants.{Winners, Named, Matches};
-ghost use Rattle.simplecss_c.specs.RuleTexts.{IsRuleTextsCall};
-ghost use Rattle.simplecss_c.specs.Spellings.{IsDecodeCall, IsEscapeCall, IsQuoteCall};
-ghost use Rattle.simplecss_c.specs.Values.{IsInheritedCall, IsLonghandsCall, IsResolveCall};
-ghost use Rattle.simplecss_c.specs.Values.{IsShorthandsCall, IsValidCall};
-ghost use Rattle.simplecss_c.specs.Grammars.{grammar_of};
-ghost use Rattle.simplecss_c.specs.GrammarCalls.{IsListCall, IsPrintedCall, IsRefusalCall};
-ghost use Rattle.simplecss_c.specs.GrammarCalls.{IsMatchSelectorsCall, IsSelectCall};
+ghost use Rattle.simplecss_calls.specs.Answers.{IsAnswered, IsAnsweredOfTree, IsHandedOver};
+ghost use Rattle.simplecss_calls.specs.Calls.{IsSelectorCall, IsSheetCall, IsPrinted, IsMatchCall};
+ghost use Rattle.simplecss_calls.specs.Calls.{AreRuleTexts, IsSkippedCall, IsStyleCall, IsStylesCall};
+ghost use Rattle.simplecss_calls.specs.Calls.{IsCloseCall, passed_of};
+ghost use Rattle.simplecss_calls.specs.ContentNumbers.{IsContentsCall};
+ghost use Rattle.simplecss_calls.specs.Conditions.{IsMediaCall, IsSupportsCall};
+ghost use Rattle.simplecss_calls.specs.ImportLines.{IsImportsCall};
+ghost use Rattle.simplecss_calls.specs.ItemNumbers.{IsDeclarationsCall};
+ghost use Rattle.simplecss_calls.specs.NumberLines.{IsTokensCall, IsNamesCall};
+ghost use Rattle.simplecss_calls.specs.PrintedSheets.{IsPrintCall};
+ghost use Rattle.simplecss_calls.specs.SheetNumbers.{IsReadCall};
+ghost use Rattle.simplecss_calls.specs.WinnerNumbers.{IsRulesCall, IsNumbersCall, sheets_of};
+ghost use Rattle.simplecss_calls.specs.declared.contents.ElementContent.TheVariants.{Winners, Named, Matches};
+ghost use Rattle.simplecss_calls.specs.RuleTexts.{IsRuleTextsCall};
+ghost use Rattle.simplecss_calls.specs.Spellings.{IsDecodeCall, IsEscapeCall, IsQuoteCall};
+ghost use Rattle.simplecss_calls.specs.Values.{IsInheritedCall, IsLonghandsCall, IsResolveCall};
+ghost use Rattle.simplecss_calls.specs.Values.{IsShorthandsCall, IsValidCall};
+ghost use Rattle.simplecss_calls.specs.Grammars.{grammar_of};
+ghost use Rattle.simplecss_calls.specs.GrammarCalls.{IsListCall, IsPrintedCall, IsRefusalCall};
+ghost use Rattle.simplecss_calls.specs.GrammarCalls.{IsMatchSelectorsCall, IsSelectCall};
 
-use crate::answer::{
+use css_values::{INHERITED, SHORTHANDS};
+use simplecss_calls::answer::{
     TreeFault, copy_whole, hand_over, hand_over_numbers, hand_over_numbers_of_tree,
     hand_over_of_tree, hand_over_truth,
 };
-use crate::conditions::DeviceNumbers;
-use crate::contents::{AskedNames, ElementContent, OwnTexts};
-use crate::elements::PassedTree;
-use crate::winners::Sheets;
-use crate::{
-    blocks, calls, conditions, element_numbers, imports, port, printing, rule_texts,
-    sheet_contents, spellings, tokens, values, winners,
+use simplecss_calls::conditions::DeviceNumbers;
+use simplecss_calls::contents::{AskedNames, ElementContent, OwnTexts};
+use simplecss_calls::elements::PassedTree;
+use simplecss_calls::winners::Sheets;
+use simplecss_calls::{
+    calls, conditions, element_numbers, imports, port, printing, rule_texts, sheet_contents,
+    spellings, tokens, values, winners,
 };
-use css_values::{INHERITED, SHORTHANDS};
 use std::alloc::Global;
 
 /// The version of the library. The changelog begins with it.
@@ -181,20 +180,6 @@ pub extern "C" fn simplecss_imports(
     ensures { IsAnswered (IsImportsCall text.now) result out.old out.new len.new }
 {
     hand_over(imports::imports(alloc, text), out, len)
-}
-
-/// Writes where the blocks of the style rules and of the group rules of a style sheet begin and end: of each edge
-/// a line of four numbers, and its keyword and its prelude, one after the other, with a newline.
-#[unsafe(no_mangle)]
-pub extern "C" fn simplecss_blocks(
-    alloc: Global,
-    text: &[u8],
-    out: &mut [u8],
-    len: &mut usize,
-) -> u32
-    ensures { IsAnswered (IsBlocksCall text.now) result out.old out.new len.new }
-{
-    hand_over(blocks::blocks(alloc, text), out, len)
 }
 
 /// Writes ten numbers of each item in a style rule, of each style rule and group rule where its block begins, and

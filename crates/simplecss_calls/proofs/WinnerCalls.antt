@@ -1,0 +1,207 @@
+-- What the calls for the cascade answer, and why they fail.
+-- Serves `winners::{read_rules, rules}`, `element_numbers::modern_numbers` and `rule_texts::rule_texts`.
+use Rattle.std.proofs.Common.{Bor, ◌≡◌, ℕ, ◌<◌, ◌≤◌, List, Option, Some, None, inl, inr, refl, sym, ap, ◌∙◌, length, map, string_bytes, subst}
+use Rattle.std.specs.Prelude.{Result, Ok, Err, MatchResult, Vec, ◌⊎◌}
+use Rattle.std.specs.Result.{IsErrAnd}
+use Rattle.std.specs.Str.{IsUtf8}
+use Rattle.css_cascade.specs.Layers.{most_layers}
+use Rattle.css_selectors.specs.MarkedLists.{ListText}
+use Rattle.css_sheet.specs.SheetOrder.{SheetRuleText}
+use Rattle.css_sheet.specs.GroupViews.{group_rule_of}
+use Rattle.css_sheet.specs.SheetRuleViews.{sheet_of}
+use Rattle.css_sheet.specs.Sheets.{GroupRuleText, SheetText}
+use Rattle.css_sheet.specs.declared.sheet_error.SheetError.{SheetError}
+use Rattle.css_sheet.specs.declared.sheet_rules.GroupRule.{GroupRule}
+use Rattle.css_sheet.specs.declared.sheet_rules.Sheet.{Sheet}
+use Rattle.css_sheet.specs.declared.sheet_error.SheetError.TheVariants as sheet
+use Rattle.css_tree.specs.Pages.{Page}
+use Rattle.simplecss_tree.specs.Rows.{Row}
+use Rattle.simplecss_calls.specs.declared.answer.CallError.{CallError}
+use Rattle.simplecss_calls.specs.declared.answer.CallError.TheVariants.{Refused, Tree, Memory, TooManyDeclarations, NotUtf8, AnswerTooLong, TooManyLayers}
+use Rattle.simplecss_calls.specs.declared.contents.ElementContent.{ElementContent}
+use Rattle.simplecss_calls.specs.declared.elements.ElementFault.{ElementFault}
+use Rattle.simplecss_calls.specs.declared.modern.document_kind.DocumentKind.{DocumentKind}
+use Rattle.simplecss_calls.specs.Calls.{FailsFor, FailsLonger, FailsWithin, HasBadEnds, HasTexts, IsBrokenUtf8, Passed, passed_tree, passed_states}
+use Rattle.simplecss_calls.specs.MarkedPages.{AreOnMarked}
+use Rattle.simplecss_calls.specs.ModernLines.{page_with}
+use Rattle.std.specs.declared.string.String.{String}
+use Rattle.simplecss_calls.specs.Outcomes.{numbers_outcome, outcome_of}
+use Rattle.simplecss_calls.specs.RuleTexts.{rule_texts, AreLongerTexts, IsRuleTextsCall}
+use Rattle.simplecss_calls.specs.Readings.{selector_as}
+use Rattle.simplecss_calls.specs.WinnerNumbers.{ContentText, PassedSheets, AreSheets, FailsBeside, group_rule_at, sheets_with, AreAskedOnTree, AreBeyond, AreRules, AreNumbers, HasBadContent, IsBrokenContent, IsContent, IsModernNumbersCall, held_declarations, held_layers, unread}
+use Rattle.simplecss_calls.proofs.Limits.{fails_within, within_wider, longer_wider}
+
+-- a failure that is handed on
+pub numbers-failed : {Z : Type 0} (Is : Result (List ℕ) CallError → Type 0)
+    (r : Result (Vec ℕ Z) CallError) (error : CallError)
+    → IsErrAnd r (λ reported. reported ≡ error) → Is (Err error) → Is (numbers_outcome r)
+numbers-failed Is (Ok numbers) error is due = absurd is
+numbers-failed Is (Err reported) error is due = subst (λ e. Is (Err e)) (sym is) due
+
+-- the sheets that are made of texts and of group rules that were read, each of which was borrowed
+pub are-sheets : (passed : PassedSheets) (texts lent_texts groups lent_groups : List (Bor (List ℕ)))
+    (rules lent_rules : List GroupRule) (sheets : List Sheet)
+    → HasTexts passed.texts passed.ends (map (λ t. t.now) texts)
+    → HasTexts passed.groups passed.group_ends (map (λ t. t.now) groups)
+    → lent_texts ≡ texts → lent_groups ≡ groups → lent_rules ≡ rules
+    → map group_rule_of rules ≡ map (group_rule_at (map (λ t. t.now) lent_groups)) passed.around
+    → map sheet_of sheets
+    ≡ sheets_with passed.origins passed.depths (map group_rule_of lent_rules) (map (λ t. t.now) lent_texts)
+    → AreSheets passed (map sheet_of sheets) (map (λ t. t.now) groups)
+are-sheets passed texts lent_texts groups lent_groups rules lent_rules sheets has held st sg sr e f = (
+  map (λ t. t.now) texts,
+  record { sheets = has; held = held },
+  f ∙ ap (λ (rs : List GroupRule). sheets_with passed.origins passed.depths (map group_rule_of rs)
+      (map (λ t. t.now) lent_texts)) sr
+      ∙ ap (λ (ts : List (Bor (List ℕ))). sheets_with passed.origins passed.depths (map group_rule_of rules)
+      (map (λ t. t.now) ts)) st
+      ∙ ap (λ (rs : List GroupRuleText). sheets_with passed.origins passed.depths rs (map (λ t. t.now) texts))
+      (e ∙ ap (λ (gs : List (Bor (List ℕ))). map (group_rule_at (map (λ g. g.now) gs)) passed.around) sg),
+)
+
+none-more : {A B C : Type 0} → A ⊎ (B ⊎ ⊥) → A ⊎ (B ⊎ C)
+none-more (inl first) = inl first
+none-more (inr (inl second)) = inr (inl second)
+none-more (inr (inr is)) = absurd is
+
+module _ (sheets : PassedSheets) (limit : ℕ) (R : Type 0) (F : ElementFault → Type 0) (B L : Type 0)
+  where
+    -- a failure that is not about layers
+    beside : (error : CallError)
+        → FailsWithin (HasBadEnds sheets.texts sheets.ends
+        ⊎ (HasBadEnds sheets.groups sheets.group_ends ⊎ R))
+        F (IsBrokenUtf8 sheets.texts sheets.ends
+        ⊎ (IsBrokenUtf8 sheets.groups sheets.group_ends ⊎ B)) (AreBeyond sheets limit) L error
+        → FailsBeside sheets limit R F B L error
+    beside Refused h = h
+    beside (Tree fault) h = h
+    beside Memory h = h
+    beside TooManyDeclarations h = h
+    beside NotUtf8 h = h
+    beside AnswerTooLong h = h
+    beside TooManyLayers h = absurd h
+
+    -- the texts of sheets are none
+    pub texts-beside : (error : CallError)
+        → FailsFor (HasBadEnds sheets.texts sheets.ends) (λ fault. ⊥)
+        (IsBrokenUtf8 sheets.texts sheets.ends) error
+        → FailsBeside sheets limit R F B L error
+    texts-beside error h =
+        beside error
+        (within_wider (λ bad. inl bad) (λ fault is. absurd is) (λ broken. inl broken)
+        (λ is. absurd is) (λ is. absurd is) error
+        (fails_within (HasBadEnds sheets.texts sheets.ends) (λ fault. ⊥)
+        (IsBrokenUtf8 sheets.texts sheets.ends) ⊥ ⊥ error h))
+
+    -- those of group rules are none
+    pub groups-beside : (error : CallError)
+        → FailsFor (HasBadEnds sheets.groups sheets.group_ends) (λ fault. ⊥)
+        (IsBrokenUtf8 sheets.groups sheets.group_ends) error
+        → FailsBeside sheets limit R F B L error
+    groups-beside error h =
+        beside error
+        (within_wider (λ bad. inr (inl bad)) (λ fault is. absurd is) (λ broken. inr (inl broken))
+        (λ is. absurd is) (λ is. absurd is) error
+        (fails_within (HasBadEnds sheets.groups sheets.group_ends) (λ fault. ⊥)
+        (IsBrokenUtf8 sheets.groups sheets.group_ends) ⊥ ⊥ error h))
+
+    -- other texts are none
+    pub content-beside : (B' : Type 0) → (B' → B) → (error : CallError) → FailsFor R (λ fault. ⊥) B' error
+        → FailsBeside sheets limit R F B L error
+    content-beside B' more error h =
+        beside error
+        (within_wider (λ bad. inr (inr bad)) (λ fault is. absurd is) (λ broken. inr (inr (more broken)))
+        (λ is. absurd is) (λ is. absurd is) error (fails_within R (λ fault. ⊥) B' ⊥ ⊥ error h))
+
+    -- the tree is none
+    pub tree-beside : (B' : Type 0) → (B' → B) → (error : CallError) → FailsFor ⊥ F B' error
+        → FailsBeside sheets limit R F B L error
+    tree-beside B' more error h =
+        beside error
+        (within_wider (λ is. absurd is) (λ fault is. is) (λ broken. inr (inr (more broken)))
+        (λ is. absurd is) (λ is. absurd is) error (fails_within ⊥ F B' ⊥ ⊥ error h))
+
+    -- the answer is too long
+    pub longer-beside : (error : CallError) → FailsLonger L error
+        → FailsBeside sheets limit R F B L error
+    longer-beside error h = beside error (longer_wider _ _ _ _ (λ longer. longer) error h)
+
+    -- the sheets are not read
+    pub sheets-beside : (error : CallError) → FailsBeside sheets limit ⊥ (λ fault. ⊥) ⊥ ⊥ error
+        → FailsBeside sheets limit R F B L error
+    sheets-beside Refused h = none-more h
+    sheets-beside (Tree fault) h = absurd h
+    sheets-beside Memory h = h
+    sheets-beside TooManyDeclarations h = h
+    sheets-beside NotUtf8 h = none-more h
+    sheets-beside AnswerTooLong h = absurd h
+    sheets-beside TooManyLayers h = h
+
+-- an allocation failed
+pub memory-beside : {V : Type 0} (P : V → Type 0) (sheets : PassedSheets) (limit : ℕ)
+    (r : Result V CallError) → IsErrAnd r (λ failure. failure ≡ Memory)
+    → MatchResult r P (FailsBeside sheets limit ⊥ (λ fault. ⊥) ⊥ ⊥)
+memory-beside P sheets limit (Ok x) is = absurd is
+memory-beside P sheets limit (Err failure) is =
+    subst (FailsBeside sheets limit ⊥ (λ fault. ⊥) ⊥ ⊥) (sym is) tt
+
+-- there are too many declarations or layers, or an allocation failed
+pub rules-beside : {V : Type 0} (P : V → Type 0) (passed : PassedSheets) (limit : ℕ)
+    (sheets : List SheetText) (groups : List (List ℕ)) → AreSheets passed sheets groups
+    → (r : Result V CallError) (error : SheetError) → IsErrAnd r (λ failure. failure ≡ unread error)
+    → (error ≡ sheet.TooManyDeclarations → limit < held_declarations sheets groups)
+    → (error ≡ sheet.TooManyLayers → most_layers < held_layers sheets groups)
+    → MatchResult r P (FailsBeside passed limit ⊥ (λ fault. ⊥) ⊥ ⊥)
+rules-beside P passed limit sheets groups are (Ok x) error is over many = absurd is
+rules-beside P passed limit sheets groups are (Err failure) sheet.TooManyDeclarations is over many =
+    subst (FailsBeside passed limit ⊥ (λ fault. ⊥) ⊥ ⊥) (sym is) (sheets, groups, are, over refl)
+rules-beside P passed limit sheets groups are (Err failure) sheet.TooManyLayers is over many =
+    subst (FailsBeside passed limit ⊥ (λ fault. ⊥) ⊥ ⊥) (sym is) (sheets, groups, are, many refl)
+rules-beside P passed limit sheets groups are (Err failure) sheet.Memory is over many =
+    subst (FailsBeside passed limit ⊥ (λ fault. ⊥) ⊥ ⊥) (sym is) tt
+
+-- the numbers that are due for a tree
+module _ (asked : ElementContent) (content : ContentText) (asks : IsContent asked content)
+    (most limit : ℕ) (sheets : PassedSheets) (kind : DocumentKind)
+    (passed : Passed) (rules : List SheetRuleText) (lists : List ListText) (rows : List Row) where
+  abbrev are_on : Page → Option (List ℕ) → Type 0
+  are_on page =
+      AreOnMarked most kind lists page (AreNumbers content most (selector_as kind) rules)
+
+  pub numbers-due : {Z : Type 0} (page : Page) → AreRules sheets limit rules lists
+      → IsUtf8 passed.strings → passed_tree passed ≡ Ok rows
+      → page ≡ page_with kind (passed_states passed) passed.elements rows → (r : Result (Vec ℕ Z) CallError)
+      → MatchResult r (λ out. are_on page (Some out.items)) (FailsLonger (are_on page None))
+      → IsModernNumbersCall asked most limit sheets kind passed (numbers_outcome r)
+  numbers-due page are utf8 tree same (Ok out) due = (
+    content,
+    asks,
+    (rules, lists, rows, are, utf8, tree, subst (λ p. are_on p (Some out.items)) same due),
+  )
+  numbers-due page are utf8 tree same (Err error) due =
+      longer-beside sheets limit (HasBadContent asked) (λ fault. passed_tree passed ≡ Err fault)
+      (IsBrokenContent asked ⊎ (¬ (IsUtf8 passed.strings)))
+      (AreAskedOnTree asked most limit sheets kind passed None) error
+      (longer_wider _ _ _ _ (λ longer. (
+        content,
+        asks,
+        (rules, lists, rows, are, utf8, tree, subst (λ p. are_on p None) same longer),
+      )) error due)
+
+-- the texts that are due for the rules of sheets
+pub texts-due : {Z : Type 0} (most limit : ℕ) (sheets : PassedSheets) (rules same : List SheetRuleText)
+    (lists : List ListText) → AreRules sheets limit rules lists → same ≡ rules
+    → (r : Result (String Z) CallError)
+    → MatchResult r (λ lines. (string_bytes lines ≡ rule_texts same)
+    × (length (string_bytes lines) ≤ most)) (FailsLonger (most < length (rule_texts same)))
+    → IsRuleTextsCall most limit sheets (outcome_of r)
+texts-due most limit sheets rules same lists are is (Ok text) due =
+    (rules, lists, are, due.0 ∙ ap rule_texts is, due.1)
+texts-due most limit sheets rules same lists are is (Err error) due =
+    longer-beside sheets limit ⊥ (λ fault. ⊥) ⊥ (AreLongerTexts most limit sheets) error
+    (longer_wider _ _ _ _ (λ longer. (
+      rules,
+      lists,
+      are,
+      subst (λ rs. most < length (rule_texts rs)) is longer,
+    )) error due)

@@ -1,0 +1,14 @@
+use Rattle.std.proofs.Common.{◌≡◌, ◌++◌, length, map, option_map}
+use Rattle.std.specs.List.{flat_map}
+use Rattle.css_styles.specs.StyleViews.{winner_of}
+use Rattle.simplecss_calls.specs.WinnerNumbers.{option_numbers}
+use Rattle.simplecss_calls.proofs.winners.push_options.Given as goal
+
+-- the numbers of the properties so far, and of those that are left
+abbrev pub invariant-winners : goal.invariant-winners
+invariant-winners l =
+    l.out.items ++ flat_map (option_numbers l.rules) (map (option_map winner_of) l.left)
+    ≡ l.fn.out.items ++ flat_map (option_numbers l.rules) (map (option_map winner_of) l.winners)
+
+abbrev pub decreases-winners : goal.decreases-winners
+decreases-winners l = length l.left

@@ -1,0 +1,25 @@
+use Rattle.std.proofs.Common.{MatchResult, Some, None, sym, subst}
+use Rattle.simplecss_calls.specs.declared.modern.document_kind.DocumentKind.{DocumentKind}
+use Rattle.simplecss_calls.specs.Calls.{FailsLonger}
+use Rattle.simplecss_calls.specs.Readings.{selector_as}
+use Rattle.simplecss_calls.specs.WinnerNumbers.{AreWon}
+use Rattle.simplecss_calls.specs.internal.Contents.{asked_by, own_by}
+use Rattle.simplecss_calls.proofs.winners.wanted_numbers.Goals as goal
+
+pub returns-in-AsWritten : goal.returns-in-AsWritten
+returns-in-AsWritten c =
+    let rules = c.args.rules.now.rules in
+    let page = c.args.page.now in
+    subst (λ (kind : DocumentKind). MatchResult c.numbers_as_written.result
+    (λ out. AreWon (asked_by c.args.wanted) (own_by c.args.wanted) c.args.most (selector_as kind) rules page (Some out.items))
+    (FailsLonger (AreWon (asked_by c.args.wanted) (own_by c.args.wanted) c.args.most (selector_as kind) rules page None)))
+    (sym c.in-AsWritten.is) c.numbers_as_written.ensures
+
+pub returns-in-Html : goal.returns-in-Html
+returns-in-Html c =
+    let rules = c.args.rules.now.rules in
+    let page = c.args.page.now in
+    subst (λ (kind : DocumentKind). MatchResult c.numbers_in_html.result
+    (λ out. AreWon (asked_by c.args.wanted) (own_by c.args.wanted) c.args.most (selector_as kind) rules page (Some out.items))
+    (FailsLonger (AreWon (asked_by c.args.wanted) (own_by c.args.wanted) c.args.most (selector_as kind) rules page None)))
+    (sym c.in-Html.is) c.numbers_in_html.ensures

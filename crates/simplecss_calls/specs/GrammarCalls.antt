@@ -1,0 +1,44 @@
+-- What each call must write that reads selectors by a grammar, and when it fails. Without a grammar it
+-- is refused.
+use Rattle.std.specs.Prelude.{◌≡◌, ℕ, List, Option, None, Some, Result, Err}
+use Rattle.simplecss_calls.specs.declared.answer.CallError.{CallError}
+use Rattle.simplecss_calls.specs.declared.answer.CallError.TheVariants.{Refused}
+use Rattle.simplecss_calls.specs.declared.grammar.Grammar.{Grammar}
+use Rattle.simplecss_calls.specs.declared.grammar.Grammar.TheVariants.{Modern, Port}
+use Rattle.simplecss_calls.specs.Calls.{Passed, IsPortListCall, IsPortPrintedCall, IsPortRefusalCall, IsPortMatchSelectorsCall, IsPortSelectCall}
+use Rattle.simplecss_calls.specs.ModernCalls.{IsModernListCall, IsModernPrintedCall, IsModernRefusalCall, IsModernMatchCall, IsModernSelectCall}
+
+-- the numbers of each selector of the list, or why there are none
+abbrev pub IsListCall : Option Grammar → List ℕ → Result (List ℕ) CallError → Type 0
+IsListCall None text outcome = outcome ≡ Err Refused
+IsListCall (Some (Modern reading)) text outcome = IsModernListCall text outcome
+IsListCall (Some Port) text outcome = IsPortListCall text outcome
+
+-- the printed texts of the selectors of the list, or why there are none
+abbrev pub IsPrintedCall : Option Grammar → List ℕ → Result (List ℕ) CallError → Type 0
+IsPrintedCall None text outcome = outcome ≡ Err Refused
+IsPrintedCall (Some (Modern reading)) text outcome = IsModernPrintedCall text outcome
+IsPrintedCall (Some Port) text outcome = IsPortPrintedCall text outcome
+
+-- where the text is no list of selectors, and why, or nothing where it is one
+abbrev pub IsRefusalCall : Option Grammar → List ℕ → Result (List ℕ) CallError → Type 0
+IsRefusalCall None text outcome = outcome ≡ Err Refused
+IsRefusalCall (Some (Modern reading)) text outcome = IsModernRefusalCall text outcome
+IsRefusalCall (Some Port) text outcome = IsPortRefusalCall text outcome
+
+-- which of the selectors of texts match each element, in at most this number of bytes
+abbrev pub IsMatchSelectorsCall : Option Grammar → (most : ℕ) → List ℕ → List ℕ → Passed
+    → Result (List ℕ) CallError → Type 0
+IsMatchSelectorsCall None most buffer ends passed outcome = outcome ≡ Err Refused
+IsMatchSelectorsCall (Some (Modern reading)) most buffer ends passed outcome =
+    IsModernMatchCall most buffer ends reading passed outcome
+IsMatchSelectorsCall (Some Port) most buffer ends passed outcome =
+    IsPortMatchSelectorsCall most buffer ends passed outcome
+
+-- which elements one of the selectors of a list matches, in at most this number of bytes
+abbrev pub IsSelectCall : Option Grammar → (most : ℕ) → List ℕ → Passed
+    → Result (List ℕ) CallError → Type 0
+IsSelectCall None most text passed outcome = outcome ≡ Err Refused
+IsSelectCall (Some (Modern reading)) most text passed outcome =
+    IsModernSelectCall most text reading passed outcome
+IsSelectCall (Some Port) most text passed outcome = IsPortSelectCall most text passed outcome

@@ -1,0 +1,97 @@
+-- What each call for modern selectors must write, and when it fails.
+use Rattle.std.specs.Prelude.{◌≡◌, ◌⊎◌, ℕ, List, map, length, Option, None, Some, Result, Ok, Err}
+use Rattle.std.specs.Option.{option_map}
+use Rattle.std.specs.Str.{IsUtf8}
+use Rattle.css_sheet.specs.RuleSelectors.{selector_of}
+use Rattle.css_selectors.specs.Names.{no_names}
+use Rattle.css_selectors.specs.Components.{Placed, Selector}
+use Rattle.css_selectors.specs.Numberings.{NumberingText, no_lists, numbered_selectors}
+use Rattle.css_selectors.specs.Supported.{supported_list}
+use Rattle.css_tree.specs.Pages.{Page}
+use Rattle.simplecss_tree.specs.Rows.{Row}
+use Rattle.simplecss_calls.specs.declared.answer.CallError.{CallError}
+use Rattle.simplecss_calls.specs.declared.modern.document_kind.DocumentKind.{DocumentKind}
+use Rattle.simplecss_calls.specs.declared.pages.LineContent.{LineContent}
+use Rattle.simplecss_calls.specs.declared.pages.LineContent.TheVariants.{Numbers, Selected}
+use Rattle.simplecss_calls.specs.Calls.{FailsFor, FailsWithin, HasTexts, HasBadEnds, IsBrokenUtf8, HasRefusedText, AreSelectorsIn, Passed, passed_tree, passed_states, passed_declared}
+use Rattle.simplecss_calls.specs.MarkedPages.{AreOnMarked}
+use Rattle.simplecss_calls.specs.ModernLines.{IsRefusal, page_with, AreModernLines}
+use Rattle.simplecss_calls.specs.Readings.{listed_in, selector_as, selectors_of}
+use Rattle.simplecss_calls.specs.SelectorNumbers.{listed_numbers, printed_texts}
+
+-- what is written of the selectors of the list, or why it is none
+abbrev pub IsOfList : (List Placed → List ℕ) → List ℕ → Result (List ℕ) CallError → Type 0
+IsOfList written text (Ok answer) =
+    IsUtf8 text × (option_map written (listed_in text) ≡ Some answer)
+IsOfList written text (Err error) =
+    FailsFor (listed_in text ≡ None) (λ fault. ⊥) (¬ (IsUtf8 text)) error
+
+-- the numbers of each selector of the list
+abbrev pub IsModernListCall : List ℕ → Result (List ℕ) CallError → Type 0
+IsModernListCall text = IsOfList (listed_numbers (length text)) text
+
+-- the printed texts of the selectors of the list
+abbrev pub IsModernPrintedCall : List ℕ → Result (List ℕ) CallError → Type 0
+IsModernPrintedCall text = IsOfList printed_texts text
+
+-- where the text is no list of selectors, and why, or nothing where it is one
+abbrev pub IsModernRefusalCall : List ℕ → Result (List ℕ) CallError → Type 0
+IsModernRefusalCall text (Ok bytes) = IsUtf8 text × IsRefusal text (supported_list no_names text) bytes
+IsModernRefusalCall text (Err error) = FailsFor ⊥ (λ fault. ⊥) (¬ (IsUtf8 text)) error
+
+-- which elements of a page these selectors match, as a document reads them; or none within a limit
+abbrev pub AreLinesOn : (most : ℕ) → LineContent → DocumentKind → List Selector → Page
+    → Option (List ℕ) → Type 0
+AreLinesOn most content kind selectors page =
+    AreModernLines most content (map (selector_as kind) selectors) page
+
+-- Which elements of a page these selectors match: with numbers in them, where the lists of these numbers are
+-- answered on it.
+abbrev pub AreNumberedLines : (most : ℕ) → LineContent → DocumentKind
+    → List Selector × NumberingText → Page → Option (List ℕ) → Type 0
+AreNumberedLines most content kind numbered before answer =
+    AreOnMarked most kind numbered.1.lists before (AreLinesOn most content kind numbered.0) answer
+
+-- which elements of a tree the selectors match, as a document reads them, or none within a limit
+abbrev pub AreReadLines : (most : ℕ) → LineContent → DocumentKind → List Selector → Passed
+    → Option (List ℕ) → Type 0
+AreReadLines most content kind selectors passed answer =
+    (rows : List Row) × IsUtf8 passed.strings × (passed_tree passed ≡ Ok rows)
+    × AreNumberedLines most content kind (numbered_selectors no_lists selectors)
+    (page_with kind (passed_states passed) passed.elements rows) answer
+
+-- which of the selectors of texts match each element, or none within a limit
+abbrev pub AreModernMatched : (most : ℕ) → List ℕ → List ℕ → DocumentKind → Passed
+    → Option (List ℕ) → Type 0
+AreModernMatched most buffer ends kind passed answer =
+    (texts : List (List ℕ)) × (selectors : List Selector) × HasTexts buffer ends texts
+    × AreSelectorsIn selector_of texts selectors
+    × AreReadLines most Numbers kind selectors passed answer
+
+-- which of the selectors of texts match each element, in at most this number of bytes
+abbrev pub IsModernMatchCall : (most : ℕ) → List ℕ → List ℕ → DocumentKind → Passed
+    → Result (List ℕ) CallError → Type 0
+IsModernMatchCall most buffer ends kind passed (Ok bytes) =
+    AreModernMatched most buffer ends kind passed (Some bytes)
+IsModernMatchCall most buffer ends kind passed (Err error) =
+    FailsWithin (HasBadEnds buffer ends ⊎ HasRefusedText selector_of buffer ends)
+    (λ fault. passed_tree passed ≡ Err fault)
+    (IsBrokenUtf8 buffer ends ⊎ ¬ (IsUtf8 passed.strings)) ⊥
+    (AreModernMatched most buffer ends kind passed None) error
+
+-- which elements one of the selectors of a list matches, or none within a limit
+abbrev pub AreModernSelected : (most : ℕ) → List ℕ → DocumentKind → Passed → Option (List ℕ)
+    → Type 0
+AreModernSelected most text kind passed answer =
+    (selectors : List Selector) × IsUtf8 text × (selectors_of (passed_declared passed) text ≡ Some selectors)
+    × AreReadLines most Selected kind selectors passed answer
+
+-- which elements one of the selectors of a list matches, in at most this number of bytes
+abbrev pub IsModernSelectCall : (most : ℕ) → List ℕ → DocumentKind → Passed
+    → Result (List ℕ) CallError → Type 0
+IsModernSelectCall most text kind passed (Ok bytes) =
+    AreModernSelected most text kind passed (Some bytes)
+IsModernSelectCall most text kind passed (Err error) =
+    FailsWithin (selectors_of (passed_declared passed) text ≡ None)
+    (λ fault. passed_tree passed ≡ Err fault) (¬ (IsUtf8 text) ⊎ ¬ (IsUtf8 passed.strings)) ⊥
+    (AreModernSelected most text kind passed None) error

@@ -1,0 +1,110 @@
+//! What each call answers that the grammars share, and the others that read modern CSS.
+
+ghost use Rattle.std.specs.Prelude.{◌≡◌};
+ghost use Rattle.simplecss_calls.specs.Outcomes.{numbers_outcome, outcome_of};
+ghost use Rattle.simplecss_calls.specs.Calls.{IsCloseCall, passed_of};
+ghost use Rattle.simplecss_calls.specs.ItemNumbers.{IsDeclarationsCall};
+ghost use Rattle.simplecss_calls.specs.SheetNumbers.{IsReadCall};
+ghost use Rattle.simplecss_calls.specs.Grammars.{grammar_of};
+ghost use Rattle.simplecss_calls.specs.GrammarCalls.{IsListCall, IsPrintedCall, IsRefusalCall};
+ghost use Rattle.simplecss_calls.specs.GrammarCalls.{IsMatchSelectorsCall, IsSelectCall};
+
+use crate::answer::CallError;
+use crate::elements::PassedTree;
+use crate::grammar::Grammar;
+use crate::items::item_numbers;
+use crate::sheets::sheet_numbers;
+use crate::texts::text_of;
+use crate::{modern, port};
+use css_syntax::closed_value;
+use std::alloc::Global;
+
+/// The numbers of the selectors of a list.
+pub fn list(alloc: Global, text: &[u8], grammar: usize) -> Result<Vec<usize>, CallError>
+    ensures { IsListCall (grammar_of grammar) text.now (numbers_outcome result) }
+{
+    match Grammar::from_number(grammar)? {
+        Grammar::Modern(_) => modern::list(alloc, text),
+        Grammar::Port => port::list(alloc, text),
+    }
+}
+
+/// The printed texts of the selectors of a list, one after another.
+pub fn printed(alloc: Global, text: &[u8], grammar: usize) -> Result<String, CallError>
+    ensures { IsPrintedCall (grammar_of grammar) text.now (outcome_of result) }
+{
+    match Grammar::from_number(grammar)? {
+        Grammar::Modern(_) => modern::printed(alloc, text),
+        Grammar::Port => port::printed(alloc, text),
+    }
+}
+
+/// Where a text is no list of selectors, and why, or nothing where it is one.
+pub fn refusal(alloc: Global, text: &[u8], grammar: usize) -> Result<String, CallError>
+    ensures { IsRefusalCall (grammar_of grammar) text.now (outcome_of result) }
+{
+    match Grammar::from_number(grammar)? {
+        Grammar::Modern(_) => modern::refusal(alloc, text),
+        Grammar::Port => port::refusal(alloc, text),
+    }
+}
+
+/// The numbers of the selectors that match each element of a tree.
+pub fn match_selectors(
+    alloc: Global,
+    buffer: &[u8],
+    ends: &[usize],
+    grammar: usize,
+    tree: PassedTree<'_>,
+    most: usize,
+) -> Result<String, CallError>
+    ensures { IsMatchSelectorsCall (grammar_of grammar) most buffer.now ends.now
+        (passed_of tree.entry) (outcome_of result) }
+{
+    match Grammar::from_number(grammar)? {
+        Grammar::Modern(kind) => { modern::match_selectors(alloc, buffer, ends, kind, tree, most) }
+        Grammar::Port => port::match_selectors(alloc, buffer, ends, tree, most),
+    }
+}
+
+/// The numbers of the elements of a tree that one of the selectors of a list matches.
+pub fn select(
+    alloc: Global,
+    text: &[u8],
+    grammar: usize,
+    tree: PassedTree<'_>,
+    most: usize,
+) -> Result<String, CallError>
+    ensures { IsSelectCall (grammar_of grammar) most text.now (passed_of tree.entry)
+        (outcome_of result) }
+{
+    match Grammar::from_number(grammar)? {
+        Grammar::Modern(kind) => modern::select(alloc, text, kind, tree, most),
+        Grammar::Port => port::select(alloc, text, tree, most),
+    }
+}
+
+/// The numbers of the statements of a style sheet by the modern grammar.
+pub fn read(alloc: Global, text: &[u8], most: usize) -> Result<Vec<usize>, CallError>
+    ensures { IsReadCall most text.now (numbers_outcome result) }
+{
+    sheet_numbers(alloc, text_of(text)?, most)
+}
+
+/// The numbers of the items of a style attribute by the modern grammar.
+pub fn declarations(alloc: Global, text: &[u8]) -> Result<Vec<usize>, CallError>
+    ensures { IsDeclarationsCall text.now (numbers_outcome result) }
+{
+    let text = text_of(text)?;
+    Ok(item_numbers(alloc, text, text.len(), false)?)
+}
+
+/// The value with what closes it.
+pub fn close(alloc: Global, value: &[u8]) -> Result<String, CallError>
+    ensures { IsCloseCall value.now (outcome_of result) }
+{
+    let Some(closed) = closed_value(alloc, text_of(value)?)? else {
+        return Err(CallError::Refused);
+    };
+    Ok(closed)
+}

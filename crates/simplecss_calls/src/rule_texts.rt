@@ -1,0 +1,40 @@
+//! The texts of the selectors of the rules of sheets.
+
+ghost use Rattle.std.specs.Prelude.{◌≡◌, ◌≤◌, ◌<◌, MatchResult, length, map, string_bytes};
+ghost use Rattle.css_sheet.specs.SheetRuleViews.{sheet_rule_of};
+ghost use Rattle.simplecss_calls.specs.Calls.{FailsLonger};
+ghost use Rattle.simplecss_calls.specs.Outcomes.{outcome_of};
+ghost use Rattle.simplecss_calls.specs.WinnerNumbers.{sheets_of};
+ghost use Rattle.simplecss_calls.specs.RuleTexts.{rule_texts as rule_texts_of, IsRuleTextsCall};
+
+use crate::answer::{CallError, check_length};
+use crate::winners::{Sheets, read_rules};
+use css_sheet::SheetRule;
+use std::alloc::Global;
+
+/// Returns the texts of the selectors of rules, one after another, in at most this number of bytes.
+fn texts(alloc: Global, rules: &[SheetRule<'_>], most: usize) -> Result<String, CallError>
+    ensures { let whole = rule_texts_of (map sheet_rule_of rules.now) in
+        MatchResult result (λ texts. (string_bytes texts ≡ whole) × (length (string_bytes texts) ≤ most))
+        (FailsLonger (most < length whole)) }
+{
+    let mut out = String::new(alloc);
+    for rule in rules {
+        out.push_str(rule.text)?;
+        check_length(&out, most)?;
+    }
+    Ok(out)
+}
+
+/// The texts of the selectors of the rules of sheets, in the order of the cascade.
+pub fn rule_texts(
+    alloc: Global,
+    sheets: Sheets<'_>,
+    limit: usize,
+    most: usize,
+) -> Result<String, CallError>
+    ensures { IsRuleTextsCall most limit (sheets_of sheets.entry) (outcome_of result) }
+{
+    let rules = read_rules(alloc, sheets, limit)?;
+    texts(alloc, rules.as_slice(), most)
+}
