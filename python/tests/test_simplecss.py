@@ -575,8 +575,14 @@ class Nested(unittest.TestCase):
         )
         last = simplecss.StyleSheet(text).rules[-1]
         self.assertEqual((last.pseudo_element, last.conditions), ("before", (("media", "x"),)))
-        escaped = simplecss.StyleSheet("a { @\\6d edia (width) { b: c } }").rules[-1]
-        self.assertEqual(escaped.conditions, (("media", "(width)"),))
+        for text in (
+            "a { @\\6d edia (width) { b: c } }",
+            "@\\6d EDIA (width) { a { b: c } }",
+        ):
+            escaped = simplecss.StyleSheet(text)
+            self.assertEqual(escaped.rules[-1].conditions, (("media", "(width)"),))
+            tree = simplecss.Tree.from_xml("<a/>")
+            self.assertEqual([len(each) for each in escaped.styles(tree)], [1])
 
     def test_deep(self):
         """Rules in 90 others take no longer than their text, and are rules."""
@@ -783,6 +789,29 @@ class Trees(unittest.TestCase):
         sheet = simplecss.StyleSheet("a:link { b: c } a:active { b: d }")
         self.assertEqual(sheet.style(tree, "b")[tree.select_one("a")].value, "c")
 
+    def test_named_states(self):
+        states = {"#i": ["target", "hover"], "b": "dir(rtl)", "p, b": "focus-within"}
+        tree = simplecss.Tree.from_html("<p id=i><b>1</b><i>2</i>", states)
+        for selectors, expected in (
+            (":target", ["p"]),
+            (":TARGET:hover", ["p"]),
+            (":dir(rtl)", ["b"]),
+            (":focus-within", ["p", "b"]),
+            (":focus-visible, :hover > i", ["i"]),
+            (":not(:target) > b, p:has(:dir(rtl))", ["p"]),
+        ):
+            with self.subTest(selectors):
+                self.assertEqual([each.name for each in tree.select(selectors)], expected)
+        sheet = simplecss.StyleSheet("p { c: d } :target { c: e } :focus-visible { c: f }")
+        self.assertEqual(sheet.style(tree, "c")[tree.select_one("p")].value, "e")
+        own = simplecss.Tree.from_html("<p id=i><b>1</b>", {"b": ["--open", "hover"]})
+        self.assertEqual([each.name for each in own.select(":--OPEN:hover")], ["b"])
+        with self.assertRaises(simplecss.SelectorError):
+            tree.select(":--open")
+        for name in ("a b", "", "b, i", "nth-child(2)", "dir(x)", "hoover", "\\68over"):
+            with self.subTest(name), self.assertRaisesRegex(ValueError, "unknown state"):
+                simplecss.Tree.from_html("<p>", {"p": name})
+
     def test_what_is_empty(self):
         for text, expected in (
             ("<p></p>", True),
@@ -885,6 +914,219 @@ class OtherTrees(unittest.TestCase):
         ):
             with self.assertRaisesRegex(TypeError, "not str"):
                 call("<p>")
+
+
+class Namespaces(unittest.TestCase):
+    """Prefixes of selectors, in trees of each kind."""
+
+    HTML = "http://www.w3.org/1999/xhtml"
+    SVG = "http://www.w3.org/2000/svg"
+    MATH = "http://www.w3.org/1998/Math/MathML"
+    DECLARED = {"h": HTML, "svg": SVG, "m": MATH, "none": "", "x": "urn:x"}
+    PAGE = "<!DOCTYPE html><p><a>1</a><svg><a>2</a></svg><math><mi>3</mi></math>"
+    DRAWING = (
+        "<r xmlns:s='http://www.w3.org/2000/svg'><s:a href='1'/><a/>"
+        "<b xmlns='urn:x'><a id='c'/></b></r>"
+    )
+    # Selectors, and the numbers of the elements that they match in the drawing.
+    IN_DRAWING = (
+        ("svg|a", [1]),
+        ("|a", [2]),
+        ("none|a", [2]),
+        ("x|*", [3, 4]),
+        ("*|a", [1, 2, 4]),
+        ("a", [1, 2, 4]),
+        ("h|*", []),
+        ("svg|a[|href]", [1]),
+        ("|r > x|b > x|a#c", [4]),
+        ("*|r > *:not(svg|*, x|*)", [2]),
+        ("x|b:has(> x|a)", [3]),
+        ("*|*:nth-child(1 of x|*)", [3, 4]),
+    )
+
+    def check_drawing(self, tree):
+        for selectors, found in self.IN_DRAWING:
+            with self.subTest(selectors=selectors):
+                self.assertEqual(self.found(tree, selectors, self.DECLARED), found)
+        for space, found in (
+            ("urn:x", [4]),
+            ("", [2]),
+            (self.SVG, [1]),
+            (self.HTML, []),
+        ):
+            with self.subTest(default=space):
+                self.assertEqual(self.found(tree, "a", {"": space}), found)
+
+    def test_elements(self):
+        tree = simplecss.Tree.from_xml(self.DRAWING)
+        inner = tree[3]
+        self.assertTrue(inner.matches("x|b", namespaces=self.DECLARED))
+        self.assertFalse(inner.matches("svg|b", namespaces=self.DECLARED))
+        self.assertEqual(tree[4].closest("x|*", namespaces=self.DECLARED), tree[4])
+        self.assertEqual(tree[4].closest("|r", namespaces=self.DECLARED), tree[0])
+        self.assertEqual(inner.select(":scope > x|a", namespaces=self.DECLARED), [tree[4]])
+        self.assertEqual(inner.select("svg|a", namespaces=self.DECLARED), [])
+        with self.assertRaises(ValueError):
+            inner.matches("b", grammar="simplecss", namespaces={})
+
+    def found(self, tree, selectors, namespaces):
+        """Returns the numbers of the elements that selectors match."""
+        return [element.index for element in tree.select(selectors, namespaces=namespaces)]
+
+    def check_page(self, tree):
+        """Checks the page: the texts of what selectors match."""
+        for selectors, texts in (
+            ("svg|a", ["2"]),
+            ("h|a", ["1"]),
+            ("h|p > svg|*", ["2"]),
+            ("m|*", ["3", "3"]),
+            ("|*", []),
+            ("*|a", ["1", "2"]),
+            ("SvG|a, x|a", None),
+        ):
+            with self.subTest(selectors=selectors):
+                if texts is None:
+                    with self.assertRaises(simplecss.SelectorError):
+                        tree.select(selectors, namespaces=self.DECLARED)
+                else:
+                    found = tree.select(selectors, namespaces=self.DECLARED)
+                    self.assertEqual([each.text for each in found], texts)
+
+    def test_html(self):
+        tree = simplecss.Tree.from_html(self.PAGE)
+        self.check_page(tree)
+        self.assertEqual(
+            [each.text for each in tree.iselect("A", namespaces={"": self.SVG})], ["2"]
+        )
+        # Without a type selector too, but not the subject of a list in parentheses.
+        names = [each.name for each in tree.select(":last-child", namespaces={"": self.MATH})]
+        self.assertEqual(names, ["math", "mi"])
+        names = [each.name for each in tree.select("*|*:is(:root)", namespaces={"": self.MATH})]
+        self.assertEqual(names, ["html"])
+
+    def test_xml(self):
+        self.check_drawing(simplecss.Tree.from_xml(self.DRAWING))
+
+    def test_etree(self):
+        self.check_drawing(
+            simplecss.Tree.from_etree(xml.etree.ElementTree.fromstring(self.DRAWING))
+        )
+
+    def test_lxml(self):
+        try:
+            import lxml.etree
+            import lxml.html
+        except ImportError:
+            self.skipTest("there is no lxml")
+        self.check_drawing(simplecss.Tree.from_lxml(lxml.etree.fromstring(self.DRAWING)))
+        # Its HTML has no namespaces.
+        tree = simplecss.Tree.from_lxml(lxml.html.document_fromstring(self.PAGE))
+        self.assertEqual(len(tree.select("|a", namespaces={})), 2)
+        self.assertEqual(tree.select("svg|*, h|*", namespaces=self.DECLARED), [])
+
+    def test_soup(self):
+        try:
+            import bs4
+        except ImportError:
+            self.skipTest("there is no BeautifulSoup")
+        for features, text, check in (
+            ("html5lib", self.PAGE, self.check_page),
+            ("lxml-xml", self.DRAWING, self.check_drawing),
+        ):
+            try:
+                soup = bs4.BeautifulSoup(text, features)
+            except bs4.FeatureNotFound:
+                continue
+            with self.subTest(features=features):
+                check(simplecss.Tree.from_soup(soup))
+        tree = simplecss.Tree.from_soup(bs4.BeautifulSoup(self.PAGE, "html.parser"))
+        self.assertEqual(len(tree.select("|a", namespaces={})), 2)
+
+    def test_items(self):
+        """The elements of a program's own are in no namespace."""
+        tree = simplecss.Tree([simplecss.Item("a"), simplecss.Item("b", parent=0)])
+        self.assertEqual(self.found(tree, "|a > none|b", self.DECLARED), [1])
+        self.assertEqual(self.found(tree, "svg|a", self.DECLARED), [])
+        self.assertEqual(self.found(tree, "a", {"": self.SVG}), [])
+        self.assertEqual(self.found(tree, "a", {"": ""}), [0])
+        self.assertEqual(simplecss.Tree().select("svg|a", namespaces=self.DECLARED), [])
+
+    def test_errors(self):
+        tree = simplecss.Tree.from_html(self.PAGE)
+        for selectors in (
+            "y|a",
+            "SVG|a",
+            "a, y|b",
+            "[svg|href]",
+            "[*|href]",
+            ":not(y|a)",
+            "%",
+        ):
+            for namespaces in ({"svg": self.SVG}, {"svg": self.SVG, "": self.HTML}):
+                with self.subTest(selectors=selectors, namespaces=namespaces):
+                    with self.assertRaises(simplecss.SelectorError):
+                        tree.select(selectors, namespaces=namespaces)
+        for selectors in ("svg|a", "%"):
+            with self.assertRaises(simplecss.SelectorError):
+                tree.select(selectors, namespaces={})
+        for namespaces in (
+            [],
+            "x",
+            1,
+            {1: "x"},
+            {"a": None},
+            {"a": b"x"},
+            {"a": []},
+            {None: "x"},
+        ):
+            with self.subTest(namespaces=namespaces):
+                with self.assertRaises(TypeError):
+                    tree.select("a", namespaces=namespaces)
+        for namespaces in ({"\ud800": "x"}, {"a": "\ud800"}):
+            with self.assertRaises(UnicodeEncodeError):
+                tree.select("a", namespaces=namespaces)
+        for namespaces in ({}, self.DECLARED):
+            with self.assertRaises(ValueError):
+                tree.select("a", grammar="simplecss", namespaces=namespaces)
+        with self.assertRaisesRegex(TypeError, "not int"):
+            tree.select(1, namespaces={})
+
+    def test_states(self):
+        """States are set by selectors without namespaces, and then match with them."""
+        tree = simplecss.Tree.from_html(self.PAGE, states={"svg a": ["hover", "target"]})
+        for selectors in ("svg|a:hover", "*|a:target", "svg|*:hover:not(h|*)"):
+            with self.subTest(selectors=selectors):
+                found = tree.select(selectors, namespaces=self.DECLARED)
+                self.assertEqual([each.text for each in found], ["2"])
+        self.assertEqual(tree.select("h|a:hover", namespaces=self.DECLARED), [])
+
+    def test_scope(self):
+        """`:scope` is the root here too, in the default namespace alone."""
+        tree = simplecss.Tree.from_xml(self.DRAWING)
+        for namespaces, found in (({}, [0]), ({"": ""}, [0]), ({"": "urn:x"}, [])):
+            for selectors in (":scope", "&"):
+                with self.subTest(selectors=selectors, namespaces=namespaces):
+                    self.assertEqual(self.found(tree, selectors, namespaces), found)
+        self.assertEqual(self.found(tree, ":scope > svg|a", self.DECLARED), [1])
+        self.assertEqual([each.index for each in tree[3].select(":scope > a")], [4])
+
+    def test_other_calls_stay(self):
+        """A call without namespaces has the same answer before and after one that has them."""
+        tree = simplecss.Tree.from_html(self.PAGE)
+        before = tree.select("a, mi")
+        self.assertEqual(len(before), 3)
+        for space, texts in (
+            (self.SVG, ["2"]),
+            (self.HTML, ["1"]),
+            (self.MATH, ["3"]),
+            ("", []),
+        ):
+            found = tree.select("a, mi", namespaces={"": space})
+            self.assertEqual([each.text for each in found], texts)
+            self.assertEqual(tree.select("a, mi"), before)
+            self.assertEqual(tree.select("a, mi", namespaces={}), before)
+            with self.assertRaises(simplecss.SelectorError):
+                tree.select("svg|a")
 
 
 class Elements(unittest.TestCase):

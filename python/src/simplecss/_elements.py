@@ -7,6 +7,8 @@ from __future__ import annotations
 
 import array
 import bisect
+import ctypes
+import functools
 import itertools
 import re
 from typing import (
@@ -30,7 +32,9 @@ from ._selectors import (
     NUMBERS,
     PORT,
     Reading,
+    SelectorError,
     grammar_of,
+    listed,
     matched,
     selector_error,
 )
@@ -38,8 +42,13 @@ from ._words import BLANKS, lower, words_of
 from ._xml import XmlDocument
 from .html import HTML, RAW, SVG, Builder, Made, Node, Text, decode, with_line_feeds
 
-# The states of an element that selectors test, as numbers of the library.
+# The states of an element that the library numbers.
 STATES = {"link": 1, "visited": 2, "hover": 4, "active": 8, "focus": 16}
+# Two more that `:dir(ltr)` and `:dir(rtl)` test, and the number of the first state that a tree names.
+_DIRECTIONS = frozenset(("dir(ltr)", "dir(rtl)"))
+_FIRST_NAMED = 128
+# How many states a tree may name, since a number of the library has no bits for more.
+_MOST_NAMED = 8 * ctypes.sizeof(ctypes.c_size_t) - 8
 NO_STATES: FrozenSet[str] = frozenset()
 LINK = frozenset(("link",))
 SVG_SPACE = "http://www.w3.org/2000/svg"
@@ -56,6 +65,14 @@ _CDATA = "<![CDATA["
 
 # Selectors, and the states of the elements that each matches.
 States = Mapping[str, Iterable[str]]
+# Prefixes of selectors and the namespaces of each. That of the empty prefix is the default one.
+Namespaces = Mapping[str, str]
+# The namespaces of a document in HTML, in the order of their numbers.
+_SPACES_OF_HTML = (
+    "http://www.w3.org/1999/xhtml",
+    SVG_SPACE,
+    "http://www.w3.org/1998/Math/MathML",
+)
 
 
 class TreeError(ValueError):
@@ -102,9 +119,25 @@ class _Texts:
 def states_of(names: Iterable[str]) -> FrozenSet[str]:
     """Returns names of states as a set. Another name raises `ValueError`."""
     states = frozenset(names)
-    if not states <= STATES.keys():
-        raise ValueError(f"unknown state: {sorted(states - STATES.keys())[0]!r}")
+    for name in sorted(states - STATES.keys() - _DIRECTIONS):
+        if not _is_pseudo_class(name):
+            raise ValueError(f"unknown state: {name!r}")
     return states
+
+
+@functools.lru_cache(maxsize=256)
+def _is_pseudo_class(name: str) -> bool:
+    """Whether a name has letters and hyphens alone, and the library reads `:name` or two hyphens
+    begin it: such a name is the caller's own."""
+    if not name.isascii() or not name.replace("-", "").isalpha():
+        return False
+    if name.startswith("--"):
+        return True
+    try:
+        listed(f":{name}")
+    except SelectorError:
+        return False
+    return True
 
 
 class _Computed:
@@ -113,6 +146,7 @@ class _Computed:
     def __init__(self) -> None:
         self.arrays: Dict[str, library.TreeArrays] = {}
         self.answers: Dict[Tuple[str, str], List[int]] = {}
+        self.spaced: Dict[Tuple[Tuple[str, str], ...], library.TreeArrays] = {}
         self.sets: Dict[Tuple[str, str], FrozenSet[int]] = {}
         self.lines: Optional[List[int]] = None
         self.ends: Optional[List[int]] = None
@@ -129,6 +163,8 @@ class Elements:
         self.parents: List[int] = []
         self.depths: List[int] = []
         self.states: Dict[int, FrozenSet[str]] = {}
+        # The namespace of each element, but in a document that was read as HTML here.
+        self.spaces: List[str] = []
         # The elements of SVG, and of MathML in HTML.
         self.drawn: Set[int] = set()
         self.formulas: Set[int] = set()
@@ -244,6 +280,7 @@ class Elements:
                 self.states[index] = LINK
             if tag.space == SVG_SPACE or not tag.space and document.tags[0].name == "svg":
                 self.drawn.add(index)
+            self.spaces.append(tag.space)
         for begun, owner, value in document.texts:
             self.texts.add(begun, owner, value)
 
@@ -360,6 +397,31 @@ class Elements:
             found = answers[grammar, selectors] = self._find(selectors, grammar)
         return found
 
+    def found_in(
+        self, selectors: str, namespaces: Namespaces, scope: Optional[int] = None
+    ) -> List[int]:
+        """Returns what `found` returns by the modern grammar, where these prefixes are declared, and
+        `:scope` matches the element at an index if there is one."""
+        library.expect_text(selectors)
+        arrays = self._spaced(namespaces)
+        if scope is not None and _may_name_scope(selectors):
+            arrays = arrays.with_scope(scope)
+        return self._find_in(arrays, selectors, MODERN)
+
+    def _spaced(self, namespaces: Namespaces) -> library.TreeArrays:
+        """Returns the arrays of the tree for modern selectors, where these prefixes are declared."""
+        if not isinstance(namespaces, Mapping):
+            raise TypeError("namespaces are a mapping of prefixes to namespaces")
+        for word in itertools.chain.from_iterable(namespaces.items()):
+            library.encode(word)
+        key = tuple(sorted(namespaces.items()))
+        spaced = self._computed.spaced
+        if key not in spaced:
+            if len(spaced) >= _MOST_ANSWERS:
+                spaced.clear()
+            spaced[key] = self._arrays_for(MODERN, key)
+        return spaced[key]
+
     def found_from(self, index: int, selectors: str, grammar: str) -> List[int]:
         """Returns what `found` returns where `:scope` matches the element at an index."""
         scoped = self._scoped(index, selectors, grammar)
@@ -392,7 +454,7 @@ class Elements:
         most = library.NO_LIMIT
         answer = library.call(name, *words, room=1024 + 8 * len(self), with_fault=True, most=most)
         if answer.status == library.REFUSED:
-            raise selector_error(selectors, grammar)
+            raise selector_error(selectors, grammar, arrays)
         return [int(number) - 1 for number in library.output_of(name, answer).split()]
 
     def classes_and_ids(self) -> Set[str]:
@@ -443,24 +505,51 @@ class Elements:
         """Returns the arrays of the tree, as calls of the library for a grammar take them."""
         arrays = self._computed.arrays
         if grammar not in arrays:
-            try:
-                arrays[grammar] = self._make_arrays(grammar)
-            except UnicodeEncodeError as error:
-                raise TreeError(f"a text is not Unicode: {error.reason}", None, None) from None
+            arrays[grammar] = self._arrays_for(grammar, ())
         return arrays[grammar]
 
-    def _make_arrays(self, grammar: str) -> library.TreeArrays:
+    def _arrays_for(
+        self, grammar: str, namespaces: Sequence[Tuple[str, str]]
+    ) -> library.TreeArrays:
+        """Returns the arrays of the tree, where prefixes of these namespaces are declared."""
+        try:
+            return self._make_arrays(grammar, namespaces)
+        except UnicodeEncodeError as error:
+            raise TreeError(f"a text is not Unicode: {error.reason}", None, None) from None
+
+    def _make_arrays(
+        self, grammar: str, namespaces: Sequence[Tuple[str, str]]
+    ) -> library.TreeArrays:
         pairs = self._compared_attributes(grammar == PORT)
         compared = [pairs[id(attributes)] for attributes in self.attributes]
         counts = [len(each) // 2 for each in compared]
-        shaped = zip(self.depths, counts, self._numbered_states())
+        numbers = {"": 0}
+        spaces = self._numbered_spaces(numbers)
+        shaped = zip(self.depths, counts, self._numbered_states(), spaces)
         shapes = array.array(library.SIZE, itertools.chain.from_iterable(shaped))
         names = {name: self.reading.compared_name(name) for name in set(self.names)}
         strings: List[str] = []
         for name, each in zip(self.names, compared):
             strings.append(names[name])
             strings += each
-        return library.TreeArrays(shapes, strings)
+        # One that no element is in has a number of none.
+        prefixes = [(name, numbers.get(space, len(numbers))) for name, space in namespaces]
+        return library.TreeArrays(shapes, strings, self._named_states(), prefixes)
+
+    def _numbered_spaces(self, numbers: Dict[str, int]) -> Iterable[int]:
+        """Returns the number of the namespace of each element, and adds it to the numbers."""
+        if self.spaces:
+            return [numbers.setdefault(space, len(numbers)) for space in self.spaces]
+        if self.reading == Reading.AS_WRITTEN:
+            return itertools.repeat(0)
+        for space in _SPACES_OF_HTML:
+            numbers[space] = len(numbers)
+        found = [1] * len(self)
+        for index in self.drawn:
+            found[index] = 2
+        for index in self.formulas:
+            found[index] = 3
+        return found
 
     def _compared_attributes(self, is_port: bool) -> Dict[int, List[str]]:
         """Returns the keys and values of attributes as they are compared, by their identity: equal
@@ -481,15 +570,24 @@ class Elements:
             found[key] = list(itertools.chain.from_iterable(attributes.items()))
         return found
 
+    def _named_states(self) -> List[str]:
+        """Returns the names of states that elements are in and the library does not number."""
+        named = sorted(NO_STATES.union(*self.states.values()) - STATES.keys())
+        if len(named) > _MOST_NAMED:
+            raise ValueError(f"more than {_MOST_NAMED} states: {named[_MOST_NAMED]!r}")
+        return named
+
     def _numbered_states(self) -> List[int]:
         """Returns the states of each element, as the library numbers them."""
+        of_states = {name: _FIRST_NAMED << at for at, name in enumerate(self._named_states())}
+        of_states.update(STATES)
         numbers = [0] * len(self)
         for owner in set(self.texts.owners):
             # That of a text without an element is -1.
             if owner >= 0:
                 numbers[owner] = _HAS_TEXT
         for index, states in self.states.items():
-            numbers[index] += sum(map(STATES.__getitem__, states))
+            numbers[index] += sum(map(of_states.__getitem__, states))
         return numbers
 
 

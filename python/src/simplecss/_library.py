@@ -115,6 +115,7 @@ class _Element(ctypes.Structure):
         ("depth", ctypes.c_size_t),
         ("attributes", ctypes.c_size_t),
         ("states", ctypes.c_size_t),
+        ("namespace_number", ctypes.c_size_t),
     ]
 
 
@@ -126,6 +127,9 @@ class _Tree(ctypes.Structure):
         ("strings_len", ctypes.c_size_t),
         ("string_ends", _SIZES),
         ("string_ends_count", ctypes.c_size_t),
+        ("states_count", ctypes.c_size_t),
+        ("prefixes", _SIZES),
+        ("prefixes_count", ctypes.c_size_t),
     ]
 
 
@@ -239,14 +243,22 @@ class AskedArrays:
 class TreeArrays:
     """The arrays of a tree, which a call takes as a structure."""
 
-    def __init__(self, shapes: Sequence[int], strings: Sequence[str]) -> None:
-        """Takes the depth, the number of attributes and the states of each element, and the strings
-        of all.
+    def __init__(
+        self,
+        shapes: Sequence[int],
+        strings: Sequence[str],
+        states: Sequence[str] = (),
+        prefixes: Sequence[Tuple[str, int]] = (),
+    ) -> None:
+        """Takes the depth, the number of attributes, the states and the number of the namespace of
+        each element, the strings of all, names of states, and prefixes with the numbers of
+        namespaces.
 
         The strings of an element are its name, and a key and a value for each attribute. A lone
         surrogate raises `UnicodeEncodeError`.
         """
-        self.count = len(shapes) // 3
+        strings = [*strings, *states, *(name for name, _ in prefixes)]
+        self.count = len(shapes) // 4
         self._whole: Optional[TreeArrays] = None
         self._elements = (_Element * self.count).from_buffer_copy(_sizes(shapes))
         joined = "".join(strings).encode("utf-8")
@@ -254,6 +266,7 @@ class TreeArrays:
         ends = ends_of(
             map(len, strings) if is_ascii else (len(each.encode("utf-8")) for each in strings)
         )
+        numbers = _sizes(number for _, number in prefixes)
         self.structure = _Tree(
             ctypes.cast(self._elements, ctypes.POINTER(_Element)),
             self.count,
@@ -261,6 +274,9 @@ class TreeArrays:
             len(joined),
             pointer_to(ends),
             len(ends),
+            len(states),
+            pointer_to(numbers),
+            len(numbers),
         )
 
     def with_scope(self, index: int) -> "TreeArrays":

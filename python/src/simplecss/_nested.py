@@ -4,12 +4,12 @@ from __future__ import annotations
 
 from typing import Iterable, Iterator, List, NamedTuple, Optional, Sequence, Tuple
 
-from . import _library as library
-from ._lines import Lines
 from ._reading import (
     NESTED,
+    BegunRule,
     BlockItem,
     Condition,
+    Contents,
     Items,
     ReadAtRule,
     ReadDeclaration,
@@ -24,8 +24,6 @@ from ._reading import (
 DEEPEST = 64
 # Why it skips what may be rules.
 _SKIPPED = frozenset((NESTED, "too deep"))
-# The kinds of edges: a block ends, and that of a style rule begins.
-_END, _STYLE = 0, 1
 
 
 class Block(NamedTuple):
@@ -49,26 +47,6 @@ def has_rules(items: Iterable[BlockItem]) -> bool:
     )
 
 
-class _Edge(NamedTuple):
-    """Where the block of a rule begins or ends: the offset after the brace; and the keyword and the
-    prelude of a group rule, or what is before the block of a style rule."""
-
-    kind: int
-    offset: int
-    keyword: str
-    prelude: str
-
-
-def _edges_of(source: Source) -> Iterator[_Edge]:
-    """Yields where the blocks of the rules of a sheet begin and end."""
-    name, room = "simplecss_blocks", 1024 + 2 * len(source.data)
-    lines = Lines(library.output_of(name, library.call(name, source.data, room=room)))
-    while lines.are_left():
-        kind, offset, keyword, prelude = lines.numbers()
-        yield _Edge(kind, offset, lines.text(keyword), lines.text(prelude))
-        lines.end_line()
-
-
 class _Open(NamedTuple):
     """A rule that is open: its block; what is before that of the style rule that it is or is in; and in
     how many rules it is. In one without a block nothing is looked into."""
@@ -85,56 +63,43 @@ class _Reader:
         self._source = source
         self._rules = rules
         self._next = 0
-        self._edges = list(_edges_of(source))
-        self._ends = self._ends_of()
-
-    def _ends_of(self) -> List[int]:
-        """Returns where the contents of the block end that begins at each edge."""
-        ends = [len(self._source.data)] * len(self._edges)
-        begun: List[int] = []
-        for at, edge in enumerate(self._edges):
-            if edge.kind == _END:
-                ends[begun.pop()] = edge.offset - 1
-            else:
-                begun.append(at)
-        return ends
 
     def blocks(self) -> Iterator[Block]:
         """Yields the blocks of the rules, and of those in them."""
         inside: List[Optional[_Open]] = []
-        for edge, end in zip(self._edges, self._ends):
-            if edge.kind == _END:
+        for rule in Contents(self._source).rules():
+            if rule is None:
                 inside.pop()
                 continue
             outer = inside[-1] if inside else None
-            inside.append(self._opened(edge, end, outer))
+            inside.append(self._opened(rule, outer))
             if inside[-1] is not None and inside[-1].block is not None:
                 yield inside[-1].block
 
-    def _opened(self, edge: _Edge, end: int, outer: Optional[_Open]) -> Optional[_Open]:
+    def _opened(self, rule: BegunRule, outer: Optional[_Open]) -> Optional[_Open]:
         """Returns the rule that begins there, or `None` for a group rule that is in no style rule."""
         if outer is None:
-            return self._outermost(edge) if edge.kind == _STYLE else None
+            return self._outermost(rule) if rule.condition is None else None
         depth = outer.depth + 1
         if outer.block is None or depth > DEEPEST:
             return _Open(None, "", depth)
         parents, conditions = outer.block.parents, outer.block.conditions
-        if edge.kind == _STYLE:
-            block = Block((edge.offset, end), (*parents, outer.head), conditions)
-            return _Open(block, edge.prelude, depth)
-        conditions = (*conditions, Condition(edge.keyword, edge.prelude))
-        return _Open(Block((edge.offset, end), parents, conditions), outer.head, depth)
+        if rule.condition is None:
+            block = Block(rule.inner, (*parents, outer.head), conditions)
+            return _Open(block, self._source.at(rule.head), depth)
+        conditions = (*conditions, rule.condition)
+        return _Open(Block(rule.inner, parents, conditions), outer.head, depth)
 
-    def _outermost(self, edge: _Edge) -> _Open:
+    def _outermost(self, begun: BegunRule) -> _Open:
         """Returns a style rule that is in no other, with its block if it is one of the rules."""
-        rules = self._rules
-        while self._next < len(rules) and rules[self._next].span[1] < edge.offset:
+        rules, at = self._rules, begun.inner[0]
+        while self._next < len(rules) and rules[self._next].span[1] < at:
             self._next += 1
-        if self._next == len(rules) or rules[self._next].span[0] > edge.offset:
+        if self._next == len(rules) or rules[self._next].span[0] > at:
             return _Open(None, "", 0)
         rule = rules[self._next]
         block = Block((rule.head[1], rule.span[1]), (), conditions_of(rule.levels))
-        return _Open(block, edge.prelude, 0)
+        return _Open(block, self._source.at(begun.head), 0)
 
 
 def blocks_of(source: Source, statements: Iterable[Statement]) -> List[Block]:

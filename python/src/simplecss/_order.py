@@ -191,7 +191,7 @@ class Winners:
         strings: List[str] = []
         for rules in sets:
             strings += ("e", "class", " ".join(f"r{number}" for number in rules))
-        tree = library.TreeArrays([0, 1, 0] * len(sets), strings)
+        tree = library.TreeArrays([0, 1, 0, 0] * len(sets), strings)
         words = (self._sheets, 0, library.NO_LIMIT, tree, library.OwnArrays([]))
         room = 1024 + 64 * len(sets)
         name, most = "simplecss_winners", library.NO_LIMIT

@@ -25,6 +25,7 @@ from typing import (
 from . import _library as library
 from ._declaration import Declaration
 from ._found_names import names_in
+from ._properties import denoted
 from ._selectors import Specificity
 from ._tokens import originating, tokens
 from ._words import lower
@@ -436,12 +437,13 @@ class _Reader(DeclarationReader):
 
     def _level(self, row: Sequence[int]) -> Level:
         start, length, name, name_length, prelude, prelude_length = row
-        at = self.source.at
-        condition = Condition(
-            lower(at((name, name + name_length))),
-            at((prelude, prelude + prelude_length)),
-        )
-        return Level(condition, (start, start + length), (start, prelude + prelude_length))
+        end = prelude + prelude_length
+        condition = self.condition((name, name + name_length), (prelude, end))
+        return Level(condition, (start, start + length), (start, end))
+
+    def condition(self, name: Span, prelude: Span) -> Condition:
+        """Makes the group rule whose name, which may have escapes, and prelude are at these places."""
+        return Condition(lower(denoted(self.source.at(name))), self.source.at(prelude))
 
     def _rule(
         self,
@@ -529,14 +531,23 @@ class InnerRule(NamedTuple):
     inside: "Iterator[Union[BlockItem, InnerRule]]"
 
 
+class BegunRule(NamedTuple):
+    """A rule whose block begins: its group rule, if it is one; where what is before its block is; and
+    where the contents of that are."""
+
+    condition: Optional[Condition]
+    head: Span
+    inner: Span
+
+
 class Contents:
     """What the blocks of the style rules of a sheet have, in place, and those of the rules in them."""
 
     def __init__(self, source: Source, place: Optional[Span] = None) -> None:
         """Reads all of the sheet, or what is between two offsets."""
         self._reader = _Reader(source)
-        self._start, end = place or (0, len(source.data))
-        data = source.data[self._start : end]
+        self._start, self._end = place or (0, len(source.data))
+        data = source.data[self._start : self._end]
         self._numbers = library.numbers_of("simplecss_contents", data, room=1024 + 2 * len(data))
         self._kinds = self._numbers[::_OF_ITEM]
         # They do not fall.
@@ -571,6 +582,18 @@ class Contents:
         inside = Contents(source, (brace, end)).of_rule(brace)
         return InnerRule(condition, item.span, (start, brace), inside)
 
+    def rules(self) -> Iterator[Optional[BegunRule]]:
+        """Yields each rule where its block begins, also one in no style rule, and `None` where the
+        innermost block ends."""
+        for row, kind in enumerate(self._kinds):
+            if kind == _END:
+                yield None
+            elif kind in _BEGUN:
+                condition, head, begin = self._head(row)
+                last = self._ends.get(row)
+                end = self._end if last is None else self._row(last)[1]
+                yield BegunRule(condition, head, (begin, end))
+
     def _inside(self, row: int) -> Iterator[Union[BlockItem, InnerRule]]:
         """Yields what is in the block of the rule of a row."""
         end = self._ends[row]
@@ -592,14 +615,18 @@ class Contents:
 
     def _rule(self, row: int) -> InnerRule:
         """Makes the rule of a row."""
-        kind, start, _, _, name, name_length, prelude, prelude_length = self._row(row)[:8]
-        span, inside = (start, self._row(self._ends[row])[1] + 1), self._inside(row)
+        condition, head, _ = self._head(row)
+        span = head[0], self._row(self._ends[row])[1] + 1
+        return InnerRule(condition, span, head, self._inside(row))
+
+    def _head(self, row: int) -> Tuple[Optional[Condition], Span, int]:
+        """Returns of the rule of a row its group rule, if it is one, where what is before its block is,
+        and where the contents of that begin."""
+        kind, start, _, _, name, name_length, at, length, contents, _ = self._row(row)
         if kind == _RULE:
-            return InnerRule(None, span, (name, name + name_length), inside)
-        at = self._reader.source.at
-        end = prelude + prelude_length
-        condition = Condition(lower(at((name, name + name_length))), at((prelude, end)))
-        return InnerRule(condition, span, (start, end), inside)
+            return None, (start, name + name_length), at
+        condition = self._reader.condition((name, name + name_length), (at, at + length))
+        return condition, (start, at + length), contents
 
 
 def before_element(text: str, at: int) -> str:

@@ -251,8 +251,12 @@ class Numbers(Dict[bytes, List[int]]):
         return found
 
 
-def selector_error(text: str, grammar: str) -> SelectorError:
-    """Returns the error of a list of selectors that was refused."""
+def selector_error(
+    text: str, grammar: str, tree: Optional[library.TreeArrays] = None
+) -> SelectorError:
+    """Returns the error of a list of selectors that was refused, where a tree declares names."""
+    if tree is not None and tree.structure.prefixes_count:
+        return SelectorError("no selectors, or a prefix that is not declared", 1, 1)
     number = NUMBERS[grammar]
     answer = library.call("simplecss_refusal", library.encode(text), number, room=4096)
     if not answer.output:

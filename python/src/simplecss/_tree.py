@@ -5,6 +5,7 @@ from __future__ import annotations
 import bisect
 import itertools
 from typing import (
+    AbstractSet,
     Any,
     Dict,
     FrozenSet,
@@ -25,11 +26,12 @@ from ._elements import (
     NO_STATES,
     SVG_SPACE,
     Elements,
+    Namespaces,
     States,
     TreeError,
     states_of,
 )
-from ._selectors import MODERN, Reading
+from ._selectors import MODERN, PORT, Reading, grammar_of
 from ._words import words_of
 from ._xml import XmlError, read_xml
 from .html import Builder, TooDeep, decode_page
@@ -135,14 +137,26 @@ class Element:
         nodes = self.tree._elements.nodes
         return None if nodes is None else nodes[self.index]
 
-    def matches(self, selectors: str, *, grammar: str = MODERN) -> bool:
+    def matches(
+        self,
+        selectors: str,
+        *,
+        grammar: str = MODERN,
+        namespaces: Optional[Namespaces] = None,
+    ) -> bool:
         """Whether one of the selectors matches the element, which is also what `:scope` matches."""
-        return self.index in self.tree._elements.found_set_from(self.index, selectors, grammar)
+        return self.index in self._found_set(selectors, grammar, namespaces)
 
-    def closest(self, selectors: str, *, grammar: str = MODERN) -> Optional["Element"]:
+    def closest(
+        self,
+        selectors: str,
+        *,
+        grammar: str = MODERN,
+        namespaces: Optional[Namespaces] = None,
+    ) -> Optional["Element"]:
         """Returns the closest of the element and its ancestors that matches, or `None`. `:scope`
         matches the element itself."""
-        found = self.tree._elements.found_set_from(self.index, selectors, grammar)
+        found = self._found_set(selectors, grammar, namespaces)
         index = self.index
         while index >= 0:
             if index in found:
@@ -150,13 +164,33 @@ class Element:
             index = self.tree._elements.parents[index]
         return None
 
-    def select(self, selectors: str, *, grammar: str = MODERN) -> List["Element"]:
+    def select(
+        self,
+        selectors: str,
+        *,
+        grammar: str = MODERN,
+        namespaces: Optional[Namespaces] = None,
+    ) -> List["Element"]:
         """Returns the elements within the element that match, in order. `:scope` matches the element
         itself: `element.select(":scope > p")` returns its children."""
-        found = self.tree._elements.found_from(self.index, selectors, grammar)
+        elements = self.tree._elements
+        if namespaces is None:
+            found = elements.found_from(self.index, selectors, grammar)
+        else:
+            _expect_modern(grammar)
+            found = elements.found_in(selectors, namespaces, self.index)
         first = bisect.bisect_right(found, self.index)
-        last = bisect.bisect_left(found, self.tree._elements.end_of(self.index))
+        last = bisect.bisect_left(found, elements.end_of(self.index))
         return [Element(self.tree, index) for index in found[first:last]]
+
+    def _found_set(
+        self, selectors: str, grammar: str, namespaces: Optional[Namespaces]
+    ) -> AbstractSet[int]:
+        elements = self.tree._elements
+        if namespaces is None:
+            return elements.found_set_from(self.index, selectors, grammar)
+        _expect_modern(grammar)
+        return set(elements.found_in(selectors, namespaces, self.index))
 
     def __eq__(self, other: object) -> bool:
         return isinstance(other, Element) and self.tree is other.tree and self.index == other.index
@@ -350,22 +384,54 @@ class Tree:
 
     # ---- selectors
 
-    def select(self, selectors: str, *, grammar: str = MODERN) -> List[Element]:
+    def select(
+        self,
+        selectors: str,
+        *,
+        grammar: str = MODERN,
+        namespaces: Optional[Namespaces] = None,
+    ) -> List[Element]:
         """Returns the elements that one of the selectors matches, in order.
 
         The selectors are separated by commas. A text that is not such a list raises `SelectorError`.
-        `grammar` is that of `Selector`.
+        `grammar` is that of `Selector`. `namespaces` maps prefixes of modern selectors to
+        namespaces, such as `{"svg": "http://www.w3.org/2000/svg"}`; the empty prefix is that of names
+        without one.
         """
-        found = self._elements.found(selectors, grammar)
+        found = self._found(selectors, grammar, namespaces)
         return list(map(Element, itertools.repeat(self), found))
 
-    def iselect(self, selectors: str, *, grammar: str = MODERN) -> Iterator[Element]:
+    def iselect(
+        self,
+        selectors: str,
+        *,
+        grammar: str = MODERN,
+        namespaces: Optional[Namespaces] = None,
+    ) -> Iterator[Element]:
         """Yields the elements that one of the selectors matches, in order."""
-        return (Element(self, index) for index in self._elements.found(selectors, grammar))
+        return (Element(self, index) for index in self._found(selectors, grammar, namespaces))
 
-    def select_one(self, selectors: str, *, grammar: str = MODERN) -> Optional[Element]:
+    def select_one(
+        self,
+        selectors: str,
+        *,
+        grammar: str = MODERN,
+        namespaces: Optional[Namespaces] = None,
+    ) -> Optional[Element]:
         """Returns the first element that one of the selectors matches, or `None`."""
-        return next(self.iselect(selectors, grammar=grammar), None)
+        return next(self.iselect(selectors, grammar=grammar, namespaces=namespaces), None)
+
+    def _found(self, selectors: str, grammar: str, namespaces: Optional[Namespaces]) -> List[int]:
+        if namespaces is None:
+            return self._elements.found(selectors, grammar)
+        _expect_modern(grammar)
+        return self._elements.found_in(selectors, namespaces)
+
+
+def _expect_modern(grammar: str) -> None:
+    """Raises `ValueError` for the grammar of the Rust crate."""
+    if grammar_of(grammar) == PORT:
+        raise ValueError("the grammar of the Rust crate has no namespaces")
 
 
 def elements_of(tree: Tree) -> Elements:
@@ -382,6 +448,7 @@ def _take_element(elements: Elements, node: Any, parent: int) -> int:
     elements.places.append((row, None if row is None else 1))
     if name in ("a", "area") and "href" in attributes and space[1:] in _LINK_SPACES:
         elements.states[index] = LINK
+    elements.spaces.append(space[1:])
     if space[1:] == SVG_SPACE:
         elements.drawn.add(index)
     if elements.nodes is not None:
@@ -400,7 +467,8 @@ def _take_tag(elements: Elements, node: Any, parent: int) -> int:
     elements.places.append((row, None if column is None else column + 1))
     if node.name in ("a", "area") and "href" in attributes:
         elements.states[index] = LINK
-    if getattr(node, "namespace", None) == SVG_SPACE:
+    elements.spaces.append(getattr(node, "namespace", None) or "")
+    if elements.spaces[-1] == SVG_SPACE:
         elements.drawn.add(index)
     if elements.nodes is not None:
         elements.nodes.append(node)
