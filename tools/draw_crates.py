@@ -35,6 +35,7 @@ MAKES = {
     "cssq_tree": "the tree of a text",
     "cssq": "winners, output",
     "cssq_cli": "files, arguments",
+    "simplecss_calls": "the calls, with slices",
     "simplecss_c": "the C library",
 }
 # The color of each way, and the edges that its texts take, from below to above.
@@ -49,15 +50,16 @@ WAYS = {
     "inline in Python": (
         "#d9690a",
         (
-            "css_text css_syntax css_selectors css_index css_sheet simplecss_c;"
-            " css_index css_tree simplecss_c"
+            "css_text css_syntax css_selectors css_index css_sheet simplecss_calls simplecss_c;"
+            " css_index css_tree simplecss_calls"
         ),
     ),
     "styles in Python": (
         "#2a8a3e",
         (
-            "css_text css_syntax css_selectors css_index css_sheet css_styles simplecss_c;"
-            " css_index css_tree simplecss_c; css_syntax css_conditions simplecss_c"
+            "css_text css_syntax css_selectors css_index css_sheet css_styles simplecss_calls"
+            " simplecss_c; css_index css_tree simplecss_calls;"
+            " css_syntax css_conditions simplecss_calls"
         ),
     ),
 }

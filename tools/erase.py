@@ -226,21 +226,22 @@ def erased(path: Path) -> str:
 
 
 def with_twins(text: str) -> str:
-    """Adds to each structure of slices that C passes one with pointers and lengths, as Rattle lays
-    it out."""
+    """Adds to each structure of slices and numbers that C passes one with pointers and lengths, as
+    Rattle lays it out."""
     head = re.compile(r"#\[repr\(C\)\]\n(?:#\[derive[^\n]*\n)?pub struct (\w+)<'\w+> \{([^}]*)\}\n")
 
     def twin(found: "re.Match[str]") -> str:
-        fields = re.findall(r"pub (\w+): &'\w+ \[(\w+)\],", found[2])
-        parts = (f"    {name}: *const {item},\n    {name}_len: usize,\n" for name, item in fields)
-        read = (
-            f"            {name}: unsafe {{ crate::read(self.{name}, self.{name}_len) }},\n"
-            for name, _ in fields
-        )
+        parts, read = "", ""
+        for name, of, item in re.findall(r"pub (\w+): (&'\w+ \[(\w+)\]|usize),", found[2]):
+            is_slice = of != "usize"
+            parts += f"    {name}: *const {item},\n    {name}_len: usize,\n" if is_slice else ""
+            parts += "" if is_slice else f"    {name}: usize,\n"
+            value = f"unsafe {{ crate::read(self.{name}, self.{name}_len) }}"
+            read += f"            {name}: {value if is_slice else f'self.{name}'},\n"
         return (
-            f"{found[0]}\n#[repr(C)]\npub struct {found[1]}InC {{\n{''.join(parts)}}}\n"
+            f"{found[0]}\n#[repr(C)]\npub struct {found[1]}InC {{\n{parts}}}\n"
             f"\nimpl {found[1]}InC {{\n    pub unsafe fn read<'a>(&self) -> {found[1]}<'a> {{\n"
-            f"        {found[1]} {{\n{''.join(read)}        }}\n    }}\n}}\n"
+            f"        {found[1]} {{\n{read}        }}\n    }}\n}}\n"
         )
 
     return head.sub(twin, text)

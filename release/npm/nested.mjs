@@ -1,27 +1,33 @@
 // The rules in style rules, as the library finds them.
-import { Lines, call } from './library.mjs';
-import { conditionsOf } from './reading.mjs';
+import { call } from './library.mjs';
+import { conditionAt, conditionsOf } from './reading.mjs';
 
 // In how many rules one may be that is looked into.
 const DEEPEST = 64;
 // How the library names a rule in a style rule.
 const NESTED = 'nested rule';
-// The kinds of edges: a block ends, and that of a style rule begins.
-const ENDS = 0, BEGINS_STYLE = 1;
+// How many numbers the library writes of each item in a style rule and where a block begins or ends; and how it numbers that of
+// a style rule which begins, that of a group rule, and one that ends.
+const OF_CONTENT = 10, BEGINS_STYLE = 3, BEGINS_GROUP = 12, ENDS = 13, EDGES = new Set([BEGINS_STYLE, BEGINS_GROUP, ENDS]);
 
 /** Whether an item of a block is a rule. */
 const isRule = ({ kind, rule, reason }) => kind === 'at-rule' ? rule.block !== null : reason === NESTED;
 
+/** Returns where a block begins or ends by its row of numbers: the offset after the brace, and before it of one that ends. */
+function edgeOf(source, [kind, start, , , name, nameLength, at, length, contents]) {
+  if (kind === ENDS) return { kind, offset: start };
+  if (kind === BEGINS_STYLE) return { kind, offset: at, prelude: source.at([start, name + nameLength]) };
+  return { kind, offset: contents, condition: conditionAt(source, [name, name + nameLength], [at, at + length]) };
+}
+
 /**
- * Yields where the blocks of the rules of a sheet begin and end: the offset after the brace; and the keyword and the prelude of a
- * group rule, or what is before the block of a style rule.
+ * Yields where the blocks of the rules of a sheet begin and end, with what is before the block of a style rule, or the group
+ * rule.
  */
-function* edgesOf({ data }) {
-  const lines = new Lines(call('blocks', [data], { room: 1024 + 2 * data.length, isBytes: true }));
-  while (lines.areLeft) {
-    const [kind, offset, name, prelude] = lines.numbers();
-    yield { kind, offset, name: lines.text(name), prelude: lines.text(prelude) };
-    lines.endLine();
+function* edgesOf(source) {
+  const numbers = call('contents', [source.data], { room: 1024 + 2 * source.data.length, isNumbers: true });
+  for (let at = 0; at < numbers.length; at += OF_CONTENT) {
+    if (EDGES.has(numbers[at])) yield edgeOf(source, numbers.slice(at, at + OF_CONTENT));
   }
 }
 
@@ -29,19 +35,19 @@ function* edgesOf({ data }) {
 function withEnds(edges, size) {
   const begun = [], found = edges.map(edge => ({ ...edge, end: size }));
   for (const edge of found) {
-    if (edge.kind === ENDS) begun.pop().end = edge.offset - 1;
+    if (edge.kind === ENDS) begun.pop().end = edge.offset;
     else begun.push(edge);
   }
   return found;
 }
 
 /** Returns the rule that begins in another one: its block, what is before that of its style rule, and in how many rules it is. */
-function openIn({ block, head, depth }, { kind, offset, end, name, prelude }) {
+function openIn({ block, head, depth }, { kind, offset, end, prelude, condition }) {
   if (block === null || depth === DEEPEST) return { block: null, head, depth };
   const { parents, conditions } = block, span = [offset, end];
   return kind === BEGINS_STYLE
     ? { block: { span, parents: [...parents, head], conditions }, head: prelude, depth: depth + 1 }
-    : { block: { span, parents, conditions: [...conditions, { name, prelude }] }, head, depth: depth + 1 };
+    : { block: { span, parents, conditions: [...conditions, condition] }, head, depth: depth + 1 };
 }
 
 /** Yields the blocks of these rules, which are in order, and of those in them. */

@@ -108,6 +108,12 @@ export function headOf({ name, prelude }) {
   return prelude ? `@${name} ${prelude}` : `@${name}`;
 }
 
+/** Returns the group rule whose name, which may have escapes, and prelude are at these places. */
+export function conditionAt(source, nameSpan, preludeSpan) {
+  const name = source.at(nameSpan);
+  return { name: lower(name.includes('\\') ? call('decode', [encode(name), 0n]) : name), prelude: source.at(preludeSpan) };
+}
+
 /** Makes statements and items of what the library writes of a text. */
 class Reader {
   #levels = new Map();
@@ -176,11 +182,8 @@ class Reader {
 
   #level([start, length, name, nameLength, prelude, preludeLength]) {
     const end = prelude + preludeLength;
-    return {
-      condition: { name: lower(this.source.at([name, name + nameLength])), prelude: this.source.at([prelude, end]) },
-      span: [start, start + length],
-      head: [start, end],
-    };
+    const condition = conditionAt(this.source, [name, name + nameLength], [prelude, end]);
+    return { condition, span: [start, start + length], head: [start, end] };
   }
 
   #rule([, start, length, isClosed, prelude, preludeLength], selectors, numbers, levels) {

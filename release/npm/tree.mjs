@@ -5,9 +5,11 @@ import { lower } from './reading.mjs';
 // The grammars: that of browsers, and that of the Rust crate.
 export const MODERN = 'modern';
 export const PORT = 'simplecss';
-// The states of an element that selectors test, as numbers of the library, and that of one with a text of its own.
+// The states of an element that the library numbers, and that of one with a text of its own.
 const STATES = { link: 1, visited: 2, hover: 4, active: 8, focus: 16 };
 const HAS_TEXT = 32, SCOPE = 64;
+// Two more that `:dir(ltr)` and `:dir(rtl)` test, the number of the first state that a tree names, and how many it may name.
+const DIRECTIONS = ['dir(ltr)', 'dir(rtl)'], FIRST_NAMED = 128, MOST_NAMED = 24;
 // How names and values of modern selectors are compared, as the library numbers it among its grammars, and the grammars
 // where no document is read.
 const AS_WRITTEN = 0n, HTML = 1n, QUIRKS = 2n;
@@ -42,10 +44,19 @@ export function grammarOf({ grammar = MODERN } = {}) {
   return grammar;
 }
 
+/** Returns the prefixes of selectors with their namespaces, if some are declared. */
+function namespacesOf({ namespaces, grammar } = {}) {
+  if (namespaces == null) return null;
+  if (typeof namespaces !== 'object') throw new TypeError('namespaces are texts by their prefixes');
+  if (grammar === PORT) throw new TypeError('the grammar of the Rust crate has no namespaces');
+  return [...textsOf(namespaces)];
+}
+
 /** Returns what a call for a list of selectors writes. A list that is refused is an error. */
 export function selected(name, text, grammar, words, options) {
   const written = call(name, words, options);
   if (written !== null) return written;
+  if (options.hasPrefixes) throw new SelectorError('no selectors, or a prefix that is not declared', 1, 1);
   const [row, column, ...reason] = (call('refusal', [encode(text), NUMBERS[grammar]]) || '1 1 refused').split(' ');
   throw new SelectorError(reason.join(' '), Number(row), Number(column));
 }
@@ -75,12 +86,12 @@ export class Element {
 
   /** Whether one of the selectors matches it, which is also what `:scope` matches. */
   matches(selectors, options) {
-    return this.#elements.foundSet(selectors, grammarOf(options), this.index).has(this.index);
+    return this.#elements.foundSet(selectors, options, this.index).has(this.index);
   }
 
   /** Returns it or its nearest ancestor that one of the selectors matches. `:scope` matches the element itself. */
   closest(selectors, options) {
-    const found = this.#elements.foundSet(selectors, grammarOf(options), this.index);
+    const found = this.#elements.foundSet(selectors, options, this.index);
     let index = this.index;
     while (index >= 0 && !found.has(index)) index = this.#elements.parents[index];
     return this.tree.elements[index] ?? null;
@@ -91,7 +102,7 @@ export class Element {
    * `select(':scope > p')` returns its children.
    */
   select(selectors, options) {
-    const end = this.#elements.endOf(this.index), found = this.#elements.foundSet(selectors, grammarOf(options), this.index);
+    const end = this.#elements.endOf(this.index), found = this.#elements.foundSet(selectors, options, this.index);
     return [...found].filter(index => index > this.index && index < end).map(index => this.tree.elements[index]);
   }
 }
@@ -104,21 +115,26 @@ class Elements {
   parents = [];
   depths = [];
   states = [];
+  // The namespace of each, and nothing of an element in none.
+  spaces = [];
   places = [];
   nodes = [];
   reading = AS_WRITTEN;
   #texts = [];
   #arrays = new Map();
+  // The arrays for the prefixes that were declared last.
+  #spacedArrays;
   #answers = new Map();
   #ends;
   #children;
 
-  add({ name, attributes, parent, states, place, node, hasText }) {
+  add({ name, attributes, parent, states, space, place, node, hasText }) {
     this.names.push(name);
     this.attributes.push(attributes);
     this.parents.push(parent);
     this.depths.push(parent < 0 ? 0 : this.depths[parent] + 1);
     this.states.push(states);
+    this.spaces.push(space ?? '');
     this.places.push(place);
     if (node) this.nodes.push(node);
     this.#texts.push(hasText);
@@ -146,15 +162,19 @@ class Elements {
   }
 
   /** Returns the indices of the elements that one of the selectors matches, in order. */
-  found(selectors, grammar) {
-    return [...this.foundSet(selectors, grammar)];
+  found(selectors, options) {
+    return [...this.foundSet(selectors, options)];
   }
 
   /** Returns the same as a set. If a `scope` is given, `:scope` matches the element at this index. */
-  foundSet(selectors, grammar, scope) {
-    const bytes = encode(selectors), [number, tree] = this.words(grammar);
-    if (scope !== undefined && grammar === MODERN && mayNameScope(selectors)) {
-      return this.#find(selectors, grammar, [bytes, number, withScope(tree, scope)]);
+  foundSet(selectors, options, scope) {
+    const grammar = grammarOf(options), namespaces = namespacesOf(options);
+    const bytes = encode(selectors), [number, known] = this.words(grammar);
+    const tree = namespaces ? this.#spaced(namespaces) : known;
+    const isScoped = scope !== undefined && grammar === MODERN && mayNameScope(selectors);
+    if (isScoped || namespaces) {
+      const words = [bytes, number, isScoped ? withScope(tree, scope) : tree];
+      return this.#find(selectors, grammar, words, namespaces?.length > 0);
     }
     const key = `${grammar} ${selectors}`;
     if (!this.#answers.has(key)) {
@@ -164,8 +184,8 @@ class Elements {
     return this.#answers.get(key);
   }
 
-  #find(selectors, grammar, words) {
-    const options = { room: 1024 + 8 * this.names.length, hasTree: true };
+  #find(selectors, grammar, words, hasPrefixes = false) {
+    const options = { room: 1024 + 8 * this.names.length, hasTree: true, hasPrefixes };
     const numbers = selected('select', selectors, grammar, [...words, NO_LIMIT], options).split('\n').slice(0, -1);
     return new Set(numbers.map(number => number - 1));
   }
@@ -207,17 +227,36 @@ class Elements {
     return this.#arrays.get(grammar);
   }
 
-  #makeArrays(grammar) {
-    const shapes = [], strings = [];
+  /** Returns the same of the modern grammar, where prefixes of these namespaces are declared. */
+  #spaced(namespaces) {
+    const key = JSON.stringify(namespaces);
+    if (this.#spacedArrays?.key !== key) this.#spacedArrays = { key, tree: this.#makeArrays(MODERN, namespaces) };
+    return this.#spacedArrays.tree;
+  }
+
+  #makeArrays(grammar, namespaces = []) {
+    const spaces = new Map([...new Set(['', ...this.spaces])].map((space, number) => [space, number]));
+    const shapes = [], strings = [], named = this.#namedStates(), numbers = { ...STATES };
+    named.forEach((state, at) => { numbers[state] = FIRST_NAMED * 2 ** at; });
     this.names.forEach((name, index) => {
       const attributes = [...this.#compared(this.attributes[index], grammar)];
-      const states = this.states[index].reduce((sum, state) => sum + STATES[state], this.#texts[index] ? HAS_TEXT : 0);
-      shapes.push(this.depths[index], attributes.length, states);
+      const states = this.states[index].reduce((sum, state) => sum + numbers[state], this.#texts[index] ? HAS_TEXT : 0);
+      shapes.push(this.depths[index], attributes.length, states, spaces.get(this.spaces[index]));
       strings.push(this.reading === AS_WRITTEN ? name : lower(name));
       for (const [key, value] of attributes) strings.push(key, value);
     });
     const elements = Object.assign(sizes(shapes), { count: this.names.length });
-    return { arrays: [elements, ...joined(strings)] };
+    // One that no element is in has a number of none.
+    const prefixes = sizes(namespaces.map(([, space]) => spaces.get(space) ?? spaces.size));
+    const all = [...strings, ...named, ...namespaces.map(([prefix]) => prefix)];
+    return { arrays: [elements, ...joined(all), BigInt(named.length), prefixes] };
+  }
+
+  /** Returns the names of states that elements are in and the library does not number. */
+  #namedStates() {
+    const named = [...new Set(this.states.flat())].filter(name => !Object.hasOwn(STATES, name));
+    if (named.length > MOST_NAMED) throw new RangeError(`more than ${MOST_NAMED} states: ${named[MOST_NAMED]}`);
+    return named;
   }
 
   /** Returns attributes as they are compared. Of two that have one name then, the first. */
@@ -240,10 +279,10 @@ function mayNameScope(selectors) {
 }
 
 /** Returns the arrays of the same tree in which `:scope` matches the element at an index. */
-function withScope({ arrays: [elements, ...strings] }, index) {
+function withScope({ arrays: [elements, ...others] }, index) {
   const scoped = Object.assign(elements.slice(), { count: elements.count });
-  scoped[3 * index + 2] += SCOPE;
-  return { arrays: [scoped, ...strings] };
+  scoped[4 * index + 2] += SCOPE;
+  return { arrays: [scoped, ...others] };
 }
 
 /** Elements in the order of the document, which selectors are matched against. */
@@ -266,7 +305,7 @@ export class Tree {
       last.push(index);
       if (typeof name !== 'string' || name === '') throw new TreeError('its name is empty', index);
       this.#elements.add({
-        name, attributes: attributesOf(attributes), parent: parent ?? -1, states: statesOf(states), place: { row, column },
+        name, attributes: textsOf(attributes), parent: parent ?? -1, states: statesOf(states), place: { row, column },
         hasText: text !== '',
       });
     }
@@ -319,7 +358,8 @@ export class Tree {
         const name = nameOf(node), attributes = new Map(attributesOf(node));
         const states = isLink(name, node.namespaceURI, attributes) ? ['link'] : [];
         index = elements.add({
-          name, attributes, parent, states, place: placeOf(node), node, hasText: children.some(isText),
+          name, attributes, parent, states, space: node.namespaceURI, place: placeOf(node), node,
+          hasText: children.some(isText),
         });
       }
       for (const child of children.reverse()) if (isElement(child)) waiting.push([child, index]);
@@ -345,7 +385,7 @@ export class Tree {
 
   /** Returns the elements that one of the selectors matches, in order. */
   select(selectors, options) {
-    return this.#elements.found(selectors, grammarOf(options)).map(index => this.elements[index]);
+    return this.#elements.found(selectors, options).map(index => this.elements[index]);
   }
 
   /** Returns the first element that one of the selectors matches, or null. */
@@ -359,9 +399,9 @@ export class Tree {
   }
 }
 
-/** Returns attributes by their names. */
-function attributesOf(attributes) {
-  const found = new Map(typeof attributes[Symbol.iterator] === 'function' ? attributes : Object.entries(attributes));
+/** Returns texts by their names: attributes, or namespaces. */
+function textsOf(texts) {
+  const found = new Map(typeof texts[Symbol.iterator] === 'function' ? texts : Object.entries(texts));
   for (const [key, value] of found) {
     expectText(key);
     expectText(value);
@@ -371,8 +411,16 @@ function attributesOf(attributes) {
 
 function statesOf(names) {
   const found = [...new Set(names)];
-  for (const name of found) if (!Object.hasOwn(STATES, name)) throw new TypeError(`unknown state: ${name}`);
+  for (const name of found) if (!isState(name)) throw new TypeError(`unknown state: ${name}`);
   return found;
+}
+
+/** Whether a state has a number, is a direction, or has letters and hyphens alone and is the caller's own, which two hyphens
+ * begin, or the library reads it after a colon. */
+function isState(name) {
+  if (Object.hasOwn(STATES, name) || DIRECTIONS.includes(name)) return true;
+  const isName = [...lower(name)].every(each => each === '-' || each >= 'a' && each <= 'z');
+  return isName && name.startsWith('--') || isName && call('list', [encode(`:${name}`), NUMBERS[MODERN]], { isNumbers: true }) !== null;
 }
 
 /** Returns attributes by local name. One without a namespace comes before one that has one. */

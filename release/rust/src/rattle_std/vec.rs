@@ -83,6 +83,14 @@ impl<T> Vec<T> {
     }
 
     #[inline]
+    pub fn split_off(&mut self, at: usize) -> Result<Vec<T>, AllocError> {
+        let mut after = vec::Vec::new();
+        after.try_reserve_exact(self.0.len() - at).map_err(|_| AllocError)?;
+        after.extend(self.0.drain(at..));
+        Ok(Vec(after))
+    }
+
+    #[inline]
     pub fn truncate(&mut self, n: usize) {
         self.0.truncate(n);
     }
