@@ -16,7 +16,7 @@ ROOM = 1 << 27
 class TreeElement(ctypes.Structure):
     """An element of a tree."""
 
-    _fields_ = [("depth", SIZE), ("attributes", SIZE), ("states", SIZE)]
+    _fields_ = [("depth", SIZE), ("attributes", SIZE), ("states", SIZE), ("namespace", SIZE)]
 
 
 class TreeFault(ctypes.Structure):
@@ -43,6 +43,9 @@ class TreeArrays(ctypes.Structure):
         ("strings_len", SIZE),
         ("string_ends", ctypes.POINTER(SIZE)),
         ("string_ends_count", SIZE),
+        ("states_count", SIZE),
+        ("prefixes", ctypes.POINTER(SIZE)),
+        ("prefixes_count", SIZE),
     ]
 
 

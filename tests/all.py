@@ -6,6 +6,9 @@ refused, what the documents show, the scripts `cssq` and `build`, the C library 
 package over it, and what people without the toolchain install. Only the crate of the C library is
 proved twice: `rt ci` keeps nothing of a static library.
 
+As many subjects run side by side as there are processors, four at most. What one prints is shown
+whole when it ends, under a line with its name and how long it took.
+
 The last line is 'N passed, M failed', of all together, and the lines before it name what was left
 out, since a tool is missing. Where `CI` is set and it is root, it first installs the packages of
 Debian that the tests want.
@@ -15,6 +18,7 @@ from __future__ import annotations
 import os
 import re
 import shutil
+import signal
 import subprocess
 import sys
 import tempfile
@@ -22,8 +26,10 @@ import time
 from typing import Any, Dict, List, Sequence
 
 TOP = os.path.dirname(os.path.dirname(os.path.abspath(__file__)))
-# Each subject of this folder, and the crates of the programs that it runs.
+# Each subject of this folder, and the crates of the programs that it runs. The longest comes first.
 SUBJECTS = (
+    ("checkout", ("tests_driver",)),
+    ("library", ()),
     ("refused", ("tests_refusals",)),
     ("program", ("cssq_cli",)),
     ("docs", ("cssq_cli",)),
@@ -31,25 +37,30 @@ SUBJECTS = (
     ("skipped", ("example_linter", "cssq_cli")),
     ("syntax", ("tests_driver",)),
     ("modern_selectors", ("tests_driver",)),
+    ("namespaces", ()),
     ("nested_rules", ("tests_driver",)),
     ("imports", ("tests_driver",)),
     ("cascade", ()),
     ("script", ()),
-    ("library", ()),
     ("library_calls", ()),
     ("hostile", ()),
     ("states", ()),
     ("html_states", ()),
     ("sheets", ()),
+    ("printed", ()),
     ("conditions", ()),
     ("tokens", ()),
     ("values", ()),
     ("judges", ()),
     ("grammars", ()),
     ("trees", ()),
-    ("checkout", ("tests_driver",)),
     ("release", ("tests_driver",)),
 )
+# What runs alone, at the end: it proves with all processors, and builds in `out/`.
+ALONE = ("release",)
+# How many seconds a subject has. One that takes longer is ended, and fails; it has some more to
+# show where it is.
+LIMIT, PARTING = 40 * 60, 10
 CRATES = sorted({crate for _, crates in SUBJECTS for crate in crates})
 # What tests want of Debian and work without, but for what they then leave out.
 # fmt: off
@@ -62,6 +73,13 @@ PACKAGES = (
 )
 # fmt: on
 LEFT_OUT = b"left out: "
+STREAMS: Dict[str, Any] = {"stdin": subprocess.DEVNULL, "stderr": subprocess.STDOUT}
+
+
+def show(output: bytes) -> None:
+    """Prints what a command has printed."""
+    sys.stdout.buffer.write(output)
+    sys.stdout.buffer.flush()
 
 
 class Totals:
@@ -76,29 +94,25 @@ class Totals:
         self.failed += 1
         print(f"tests/all.py: {line}", flush=True)
 
-    def run(self, words: Sequence[str], what: str, **environment: str) -> None:
-        """Runs a command at the top, shows what it prints, and adds the counts of its last line."""
-        last = b""
-        streams: Dict[str, Any] = {
-            "stdin": subprocess.DEVNULL,
-            "stdout": subprocess.PIPE,
-            "stderr": subprocess.STDOUT,
-        }
-        with subprocess.Popen(
-            words, cwd=TOP, env={**os.environ, **environment}, **streams
-        ) as child:
+    def run(self, words: Sequence[str], what: str) -> None:
+        """Runs a command at the top, shows what it prints line by line, and adds the counts of its
+        last line."""
+        with subprocess.Popen(words, cwd=TOP, **STREAMS, stdout=subprocess.PIPE) as child:
+            output = []
             for line in child.stdout or ():
-                sys.stdout.buffer.write(line)
-                sys.stdout.buffer.flush()
-                last = line.strip() or last
-                if line.startswith(LEFT_OUT):
-                    self.left_out.append(line.strip())
-        counts = re.fullmatch(rb"(\d+) passed, (\d+) failed", last)
+                show(line)
+                output.append(line)
+        self.add(what, b"".join(output), child.returncode)
+
+    def add(self, what: str, output: bytes, status: int) -> None:
+        """Adds the counts of the last line that a command has printed, and what it left out."""
+        lines = [line.strip() for line in output.splitlines() if line.strip()]
+        self.left_out += [line for line in lines if line.startswith(LEFT_OUT)]
+        counts = re.fullmatch(rb"(\d+) passed, (\d+) failed", lines[-1] if lines else b"")
         if counts:
             self.passed += int(counts[1])
             self.failed += int(counts[2])
-        if not counts or child.returncode and not int(counts[2]):
-            status = child.returncode
+        if not counts or status and not int(counts[2]):
             self.fail(
                 f"{what} ended with status {status}, and its last line is no count of what failed"
             )
@@ -116,8 +130,74 @@ def program_of(crate: str) -> str:
     return os.path.join(TOP, "crates", crate, "out", crate)
 
 
+class Running:
+    """A subject that runs, in a group of processes of its own."""
+
+    def __init__(self, name: str, programs: str) -> None:
+        self.name = name
+        self.began = time.monotonic()
+        self.output = tempfile.TemporaryFile()
+        self.child = subprocess.Popen(
+            [sys.executable, "-u", "-m", "tests", name],
+            cwd=TOP,
+            env={**os.environ, "PROGRAMS": programs},
+            stdout=self.output,
+            start_new_session=True,
+            **STREAMS,
+        )
+
+    def seconds(self) -> float:
+        """How long it has run."""
+        return time.monotonic() - self.began
+
+    def end(self) -> None:
+        """Ends all that it started, and itself if it still runs: it then shows where it is."""
+        if self.child.poll() is None:
+            self.child.terminate()
+            try:
+                self.child.wait(PARTING)
+            except subprocess.TimeoutExpired:
+                pass
+        try:
+            os.killpg(self.child.pid, signal.SIGKILL)
+        except ProcessLookupError:
+            pass
+        self.child.wait()
+
+    def add_to(self, totals: Totals) -> bool:
+        """Shows and adds what it printed, if it has ended or had its time. Returns whether it is."""
+        status, seconds = self.child.poll(), self.seconds()
+        if status is None and seconds < LIMIT:
+            return False
+        self.end()
+        self.output.seek(0)
+        output, what = self.output.read(), f"tests/{self.name}.py"
+        show(f"{what}: {seconds:.0f} s\n".encode() + output)
+        if status is None:
+            totals.fail(f"{what} was ended, since it took more than {LIMIT} s")
+        else:
+            totals.add(what, output, status)
+        return True
+
+
+def run_beside(names: Sequence[str], number: int, programs: str, totals: Totals) -> None:
+    """Runs subjects, so many of them at a time."""
+    left = list(names)
+    running: List[Running] = []
+    try:
+        while left or running:
+            while left and len(running) < number:
+                running.append(Running(left.pop(0), programs))
+            time.sleep(0.1)
+            running = [each for each in running if not each.add_to(totals)]
+    finally:
+        for each in running:
+            each.end()
+
+
 def run_subjects(totals: Totals) -> None:
     """Runs the subjects over the programs that `rt ci` has built, and no others."""
+    names = []
     with tempfile.TemporaryDirectory() as folder:
         for crate in CRATES:
             if os.path.exists(program_of(crate)):
@@ -127,9 +207,10 @@ def run_subjects(totals: Totals) -> None:
             if missing:
                 totals.fail(f"rt ci built no program of {missing[0]}: tests/{name}.py was not run")
             else:
-                totals.run(
-                    [sys.executable, "-m", "tests", name], f"tests/{name}.py", PROGRAMS=folder
-                )
+                names.append(name)
+        processors = min(4, len(os.sched_getaffinity(0)))
+        run_beside([name for name in names if name not in ALONE], processors, folder, totals)
+        run_beside([name for name in names if name in ALONE], 1, folder, totals)
 
 
 def install() -> List[bytes]:
@@ -172,5 +253,12 @@ def main() -> int:
     return totals.end()
 
 
+def stop(number: int, _: object) -> None:
+    """Ends all that runs, after a signal."""
+    sys.exit(128 + number)
+
+
 if __name__ == "__main__":
+    for each in (signal.SIGINT, signal.SIGTERM, signal.SIGHUP):
+        signal.signal(each, stop)
     sys.exit(main())

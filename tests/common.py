@@ -12,6 +12,7 @@ the folder with real style sheets.
 """
 from __future__ import annotations
 
+import faulthandler
 import functools
 import glob
 import html
@@ -19,6 +20,7 @@ import json
 import os
 import re
 import shutil
+import signal
 import subprocess
 import sys
 import tempfile
@@ -101,7 +103,9 @@ class Counts(unittest.TextTestResult):
 
 
 def run_subjects(names: Sequence[str]) -> int:
-    """Runs subjects, prints what was left out and the counts, and returns the exit status."""
+    """Runs subjects, prints what was left out and the counts, and returns the exit status. After a
+    request to end it shows where it is, and ends."""
+    faulthandler.register(signal.SIGTERM, chain=True)
     suite = unittest.defaultTestLoader.loadTestsFromNames([f"tests.{name}" for name in names])
     runner = unittest.TextTestRunner(sys.stdout, verbosity=0, resultclass=Counts)
     result = runner.run(suite)

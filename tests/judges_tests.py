@@ -3,6 +3,8 @@ expect."""
 from __future__ import annotations
 
 import ast
+import contextlib
+import fcntl
 import functools
 import glob
 import json
@@ -21,6 +23,7 @@ from typing import (
     NamedTuple,
     Optional,
     Sequence,
+    Set,
     Tuple,
 )
 
@@ -64,6 +67,17 @@ Signed-By: /usr/share/keyrings/debian-archive-keyring.gpg
 SECONDS = 300
 # The folders of what is fetched.
 SOURCES, PACKAGES = "sources", "packages"
+# The folders into which no lists could be fetched.
+WITHOUT_LISTS: Set[str] = set()
+
+
+@contextlib.contextmanager
+def alone_in(top: str) -> Iterator[None]:
+    """Waits until no other process fetches into a folder, or deletes lists in it."""
+    os.makedirs(top, exist_ok=True)
+    with open(os.path.join(top, "lock"), "w", encoding="ascii") as lock:
+        fcntl.flock(lock, fcntl.LOCK_EX)
+        yield
 
 
 def apt_get(words: Sequence[str], lists: str, folder: str) -> bool:
@@ -89,22 +103,24 @@ def apt_get(words: Sequence[str], lists: str, folder: str) -> bool:
     return bool(made.returncode == 0)
 
 
-@functools.lru_cache(maxsize=None)
 def has_lists(lists: str) -> bool:
-    """Whether the archive's lists are in a folder, into which they are fetched once."""
-    if not os.path.isdir(lists):
+    """Whether the archive's lists are in a folder, into which they are fetched. What has failed once
+    is not tried again."""
+    if not os.path.isdir(lists) and lists not in WITHOUT_LISTS:
         for name in ("lists/partial", "cache/archives/partial"):
             os.makedirs(os.path.join(lists, name))
         with open(os.path.join(lists, "archive.sources"), "w", encoding="ascii") as file:
             file.write(ARCHIVE)
         if not apt_get(["update"], lists, lists):
+            WITHOUT_LISTS.add(lists)
             shutil.rmtree(lists)
     return os.path.isdir(lists)
 
 
 def forget_lists(top: str) -> None:
     """Deletes the archive's lists, which are large, and wanted no more if all was fetched."""
-    shutil.rmtree(os.path.join(top, "apt"), ignore_errors=True)
+    with alone_in(top):
+        shutil.rmtree(os.path.join(top, "apt"), ignore_errors=True)
 
 
 def unpack(folder: str) -> bool:
@@ -138,10 +154,11 @@ def fetch(project: Project, top: str) -> Optional[str]:
     missing = [each for each in programs if not shutil.which(each)]
     if missing:
         return f"there is no {missing[0]}"
-    for kind, names in ((SOURCES, project.sources), (PACKAGES, project.packages)):
-        for name in names:
-            if not fetched(name, kind, top):
-                return f"{name} could not be fetched"
+    with alone_in(top):
+        for kind, names in ((SOURCES, project.sources), (PACKAGES, project.packages)):
+            for name in names:
+                if not fetched(name, kind, top):
+                    return f"{name} could not be fetched"
     return None
 
 

@@ -43,6 +43,9 @@ class TreeArrays(ctypes.Structure):
         ("strings_len", SIZE),
         ("string_ends", ctypes.POINTER(SIZE)),
         ("string_ends_count", SIZE),
+        ("states_count", SIZE),
+        ("prefixes", ctypes.POINTER(SIZE)),
+        ("prefixes_count", SIZE),
     ]
 
 
@@ -110,32 +113,50 @@ def buffer_of(texts: Sequence[bytes]) -> Buffer:
     return b"".join(texts), sizes(list(itertools.accumulate(map(len, texts))))
 
 
-def tree_of(*elements: Any) -> Tree:
-    """The arrays of a tree: each element is a depth or a depth and states, a name, and keys and
-    values."""
+def tree_of(
+    *elements: Any, states: Sequence[bytes] = (), prefixes: Sequence[Tuple[bytes, int]] = ()
+) -> Tree:
+    """The arrays of a tree: each element is a depth, or a depth, states and the number of a
+    namespace, a name, and keys and values. The tree names states and prefixes."""
     shapes: List[int] = []
+    spaces = []
     for place, _, *fields in elements:
-        depth, states = place if isinstance(place, tuple) else (place, 0)
-        shapes += [depth, len(fields) // 2, states]
-    strings, ends = buffer_of([string for _, *strings in elements for string in strings])
-    return Elements(shapes), strings, ends
+        depth, own, space = (*place, 0, 0)[:3] if isinstance(place, tuple) else (place, 0, 0)
+        shapes += [depth, len(fields) // 2, own]
+        spaces.append(space)
+    texts = [string for _, *strings in elements for string in strings]
+    strings, ends = buffer_of([*texts, *states, *(name for name, _ in prefixes)])
+    numbers = [number for _, number in prefixes]
+    return Elements(shapes, len(states), spaces, numbers), strings, ends
 
 
 class Elements:
-    """The depth, the number of attributes and the states of each element."""
+    """The depth, the number of attributes, the states and the namespace of each element, how many
+    states the tree names, and the numbers of the namespaces of its prefixes."""
 
-    def __init__(self, shapes: Sequence[int]) -> None:
-        self.array = sizes(shapes)
+    def __init__(
+        self,
+        shapes: Sequence[int],
+        states: int = 0,
+        spaces: Sequence[int] = (),
+        prefixes: Sequence[int] = (),
+    ) -> None:
+        rows = zip(*[iter(shapes)] * 3, itertools.chain(spaces, itertools.repeat(0)))
+        self.array = sizes(list(itertools.chain.from_iterable(rows)))
+        self.states = states
+        self.prefixes = sizes(list(prefixes))
 
     def __len__(self) -> int:
-        return len(self.array) // 3
+        return len(self.array) // 4
 
 
 def arrays_of(tree: Tree) -> TreeArrays:
     """The structure of a tree."""
     elements, strings, ends = tree
     first, last = (ctypes.cast(each, ctypes.POINTER(SIZE)) for each in (elements.array, ends))
-    return TreeArrays(first, len(elements), strings, len(strings), last, len(ends))
+    lengths = len(elements), len(strings), len(ends)
+    more = elements.states, *counted(elements.prefixes)
+    return TreeArrays(first, lengths[0], strings, lengths[1], last, lengths[2], *more)
 
 
 def counted(numbers: Sizes) -> Tuple[Any, int]:
@@ -233,6 +254,25 @@ TREE3 = tree_of(
 )
 # Of two elements that are named, `:scope` matches the first.
 SCOPED = tree_of((0, b"ul"), ((1, 64), b"li"), (2, b"a"), ((1, 64 + 32), b"li"), (2, b"a"))
+# States that the tree names: the 55th is of the last bit but one, the 57th of none.
+NAMED = tree_of(
+    ((0, 128), b"a"),
+    ((1, 256 + 4), b"b"),
+    ((1, 2**62), b"c"),
+    ((1, 2**63), b"d"),
+    (1, b"e", b"dir", b"rtl"),
+    states=(b"target", b"dir(rtl)", *(b"x" for _ in range(53)), b"Focus-Within", b"fullscreen"),
+)
+# Elements in namespaces, of which prefixes are declared, one of them twice, and a default one.
+SPACES = (
+    ((0, 0, 1), b"a"),
+    ((1, 0, 2), b"a", b"class", b"c"),
+    ((2, 0, 3), b"b"),
+    ((1, 0, 0), b"a"),
+    ((1, 0, 1), b"b", b"class", b"c"),
+)
+SPACED = tree_of(*SPACES, states=(b"own",), prefixes=((b"n", 3), (b"s", 2), (b"n", 1)))
+DEFAULT = tree_of(*SPACES, prefixes=((b"", 1), (b"s", 2)))
 MODERN, HTML, QUIRKS, PORT = range(4)
 SELECTORS3 = buffer_of(
     (
@@ -379,16 +419,7 @@ IMPORTS = (
     ),
     (b"a{}@import 'b';", b""),
 )
-# Sheets, and where the blocks of their rules begin and end.
-BLOCKS = (
-    (b"@media print{a{}}", b"2 13 5 5\nmediaprint\n1 15 0 1\na\n0 16 0 0\n\n0 17 0 0\n\n"),
-    (
-        "é{b:c;@\\6d edia (d) {e:f}g:foo /**/ {".encode(),
-        "1 3 0 2\né\n2 22 5 3\nmedia(d)\n0 26 0 0\n\n1 38 0 5\ng:foo\n".encode(),
-    ),
-    (b"@font-face{a:b}@import 'c';d{@e{f{}}@media;}", b"1 29 0 1\nd\n0 44 0 0\n\n"),
-    (b"a:b", b""),
-)
+# Sheets, and the numbers of what is in style rules and of where blocks begin and end.
 CONTENTS = (
     (
         "é{ b:c!important;@\\6d edia /**/ (d) {e:f} ;g}".encode(),
@@ -465,7 +496,6 @@ ANSWERS: Sequence[Tuple[str, Tuple[Any, ...], bytes]] = (
         b"2 2 12 at-rule not supported\n@media print\n",
     ),
     *(("simplecss_imports", (text,), answer) for text, answer in IMPORTS),
-    *(("simplecss_blocks", (text,), answer) for text, answer in BLOCKS),
     *(("simplecss_print", (text, layout), printed) for text, layout, printed in PRINTED),
     *(("simplecss_close", (value,), closed) for value, closed in CLOSED),
     ("simplecss_escape", (b"-1\0 a",), b"-\\31 \xef\xbf\xbd\\ a"),
@@ -531,6 +561,25 @@ ANSWERS: Sequence[Tuple[str, Tuple[Any, ...], bytes]] = (
     ("simplecss_select", (b":scope > li", HTML, TREE3), b"2\n3\n4\n5\n"),
     ("simplecss_select", (b"LI, a", HTML, TREE3), b"2\n3\n4\n5\n6\n"),
     ("simplecss_select", (b":any-link, :HOVER", MODERN, STATES), b"1\n2\n3\n5\n"),
+    ("simplecss_select", (b":Target, :hover", MODERN, NAMED), b"1\n2\n"),
+    ("simplecss_select", (b":dir(rtl)", MODERN, NAMED), b"2\n"),
+    ("simplecss_select", (b":dir(rtl)", HTML, NAMED), b"2\n5\n"),
+    ("simplecss_select", (b":focus-within", MODERN, NAMED), b"3\n"),
+    ("simplecss_select", (b":fullscreen", MODERN, NAMED), b""),
+    ("simplecss_select", (b":hover", PORT, NAMED), b"2\n"),
+    ("simplecss_select", (b"n|a, s|*", MODERN, SPACED), b"1\n2\n"),
+    ("simplecss_select", (b"|a", MODERN, SPACED), b"4\n"),
+    ("simplecss_select", (b"*|a", MODERN, SPACED), b"1\n2\n4\n"),
+    ("simplecss_select", (b":not(n|*)", MODERN, SPACED), b"2\n3\n4\n"),
+    ("simplecss_select", (b"a > s|a > b", MODERN, SPACED), b"3\n"),
+    ("simplecss_select", (b"b", MODERN, DEFAULT), b"5\n"),
+    ("simplecss_select", (b".c", MODERN, DEFAULT), b"5\n"),
+    ("simplecss_select", (b":is(.c)", MODERN, DEFAULT), b"5\n"),
+    ("simplecss_select", (b"s|*:is(.c)", MODERN, DEFAULT), b"2\n"),
+    ("simplecss_select", (b"s|*:is(*)", MODERN, DEFAULT), b""),
+    ("simplecss_select", (b"*|*:not(a)", MODERN, DEFAULT), b"2\n3\n4\n5\n"),
+    ("simplecss_select", (b":own", MODERN, SPACED), b""),
+    ("simplecss_select", (b"a", PORT, SPACED), b"1\n2\n4\n"),
     *(
         ("simplecss_media", (text, device), answer)
         for text, *answers in MEDIA
@@ -570,6 +619,10 @@ BAD_PAGES: Sequence[Tuple[Tree, int, int]] = (
     ((Elements([0, 0, 0]), b"ab", sizes([1])), 3, 2),
     ((Elements([0, 0, 0]), b"ab", sizes([1, 2])), 3, 2),
     ((Elements([]), b"", sizes([0])), 3, 1),
+    # More names of states than strings, one too few, and one in bytes that no character has.
+    ((Elements([0, 0, 0], 2), b"a", sizes([1])), 3, 1),
+    ((Elements([0, 0, 0], 1), b"abc", sizes([1, 2, 3])), 3, 2),
+    ((Elements([0, 0, 0], 1), "aé".encode(), sizes([1, 2])), 3, 1),
     (tree_of((0, b"a"), (1, b"b", b"k", b"1", b"k", b"2")), 4, 2),
     (tree_of((0, b"a", *[b"k%d" % (n // 2 % 40) for n in range(82)])), 4, 1),
 )
@@ -588,7 +641,7 @@ FAILURES += [
     (f"simplecss_{name}", (BROKEN,), NOT_UTF8)
     for name in (
         *("port_skipped", "read", "declarations", "imports", "close", "tokens", "escape", "quote"),
-        *("blocks", "contents", "valid_value", "longhands", "shorthands", "inherited"),
+        *("contents", "valid_value", "longhands", "shorthands", "inherited"),
     )
 ]
 FAILURES += [("simplecss_decode", (BROKEN, each), NOT_UTF8) for each in (0, 1)]
@@ -596,6 +649,9 @@ FAILURES += [("simplecss_decode", (BROKEN, each), NOT_UTF8) for each in (0, 1)]
 FAILURES += [(f"simplecss_{name}", (BROKEN, 4), REFUSED) for name in ("list", "printed", "refusal")]
 FAILURES += [("simplecss_print", (b"a{}", 2), REFUSED), ("simplecss_print", (BROKEN, 0), NOT_UTF8)]
 FAILURES += [("simplecss_close", (value,), REFUSED) for value in UNCLOSED]
+FAILURES += [
+    ("simplecss_select", (text, MODERN, SPACED), REFUSED) for text in (b"m|a", b"[n|a]", b"N|a")
+]
 FAILURES += [
     ("simplecss_media", (BROKEN, SCREEN), NOT_UTF8),
     ("simplecss_media", (b"all", Device(1, 1, 1, 3, 0, 0, 0, 0)), REFUSED),
@@ -947,7 +1003,7 @@ class Calls(Case):
         found: List[bool] = []
 
         def work() -> None:
-            for _ in range(50):
+            for _ in range(10):
                 found.append(
                     all(
                         call(self.library, name, arguments, 4096)[1][: len(expected)] == expected
@@ -960,7 +1016,7 @@ class Calls(Case):
             thread.start()
         for thread in threads:
             thread.join()
-        self.assertEqual(found, [True] * 400)
+        self.assertEqual(found, [True] * 80)
 
 
 def memory_of(work: Callable[[], object]) -> int:

@@ -8,10 +8,10 @@ texts are equal in each run.
 from __future__ import annotations
 
 import json
+import os
 import random
 import re
 import subprocess
-import time
 from typing import Any, Dict, List, Optional, Sequence, Tuple, Union
 
 from tests.common import DEBIAN, Case, browser_answers, count, has_modules, program
@@ -247,6 +247,11 @@ def answers_of(word: str, tree: Element, texts: Sequence[str]) -> List[str]:
     words = [program("tests_driver"), word]
     made = subprocess.run(words, input=data, stdout=subprocess.PIPE, check=True).stdout.decode()
     return made.split("\0")[:-1]
+
+
+def seconds_of_programs() -> float:
+    """How long the processor has worked for the programs that have ended."""
+    return sum(os.times()[2:4])
 
 
 def replies(word: str, texts: Sequence[str]) -> List[str]:
@@ -635,14 +640,14 @@ class Nested(Case):
     def test_parts_left_out(self) -> None:
         """What is no selector is left out at any depth, and what is too deep is not."""
         tree: Element = ("a", {"class": "c"}, [("b", {}, [])])
-        start = time.monotonic()
+        start = seconds_of_programs()
         inner = "x, " * 10_000 + ".c"
         text = ":is(" * DEEPEST + inner + " %), .c" * (DEEPEST - 1) + ")"
         (reply,) = ours(tree, [text])
         self.assertEqual(reply.split("\1")[0], "0,1,0: 0")
         (reply,) = ours(tree, [":is(" * (DEEPEST + 1) + "a" + ")" * DEEPEST + ", .c)"])
         self.assertTrue(reply.endswith("is nested too deep"), reply)
-        self.assertLess(time.monotonic() - start, 10)
+        self.assertLess(seconds_of_programs() - start, 10)
 
     def test_lists_within_lists(self) -> None:
         """Lists within lists have their meaning: of `:not()` within `:not()` each other one is the
@@ -651,9 +656,9 @@ class Nested(Case):
         depths = (1, 2, 3, DEEPEST - 1, DEEPEST, DEEPEST + 1, 100_000)
         texts = [":not(" * depth + ".c" + ")" * depth for depth in depths]
         texts += [":is(" * depth + ".c, x" + ")" * depth for depth in depths]
-        start = time.monotonic()
+        start = seconds_of_programs()
         replies = ours(tree, texts)
-        self.assertLess(time.monotonic() - start, 10)
+        self.assertLess(seconds_of_programs() - start, 10)
         for text, reply in zip(texts, replies):
             depth, name = text.count("("), text.split("(")[0]
             if depth > DEEPEST:

@@ -265,7 +265,6 @@ class Library:
             ("read", text),
             ("declarations", text),
             ("imports", text),
-            ("blocks", text),
             ("contents", text),
             ("close", text),
             ("print", text, 0),
@@ -1146,6 +1145,14 @@ const page = { nodeName: '#document', mode: 'quirks', childNodes: [list] };
 list.parentNode = page;
 const shown = nodes => nodes.map(node => node.tagName).join(' ');
 console.log(shown(select(page, 'li:empty, .n:link')), shown(select(list, 'ul > li')), matches(link, '[href]'));
+const drawing = made('svg', [], made('a', []));
+for (const each of [drawing, ...drawing.childNodes]) each.namespaceURI = 'http://www.w3.org/2000/svg';
+const svg = Tree.from(made('p', [], made('a', []), drawing)), namespaces = { s: 'http://www.w3.org/2000/svg', n: '' };
+const indices = (text, declared = namespaces) => svg.select(text, { namespaces: declared }).map(each => each.index).join('');
+console.log(indices('s|*'), indices('s|a'), indices('*|a:not(s|*)'), indices('a'), `-${indices('|*, n|*')}-`);
+console.log(indices('a', { '': namespaces.s }), indices('a', new Map([['', 'x']])) === '', svg.select('a').length);
+console.log(svg.elements[2].select(':scope > s|a', { namespaces }).length, svg.elements[3].matches('s|a', { namespaces }));
+console.log(svg.elements[2].select(':scope > a').length, svg.elements[1].matches(':scope'));
 console.log(closest(link, 'ul') === list, closest(link, 'p'), styles(page, 'a { b: c }').get(link)[0].value);
 // Halves of a character in two values, and one alone.
 const halves = new Tree([{ name: 'a', attributes: [['x', 'q\\ud83d'], ['y', '\\ude00é']] }]);
@@ -1158,7 +1165,9 @@ for (const call of [
   () => new Tree([{ name: '' }]), () => new Tree([{ name: 'a' }, { name: 'b' }, { name: 'c', parent: 0 }]),
   () => select(halves, 'a,\\n\\u{1F600}:nth-child(2x)'), () => select({}, 'a'), () => css.lint(3),
   () => css.rules('a{b:c}'.repeat(9), { limit: 8 }), () => styles(halves, '*{b:c;e:f}a{b:d}', { answerLimit: 1 }),
-  () => select(halves, 'a', { grammar: 'today' }),
+  () => select(halves, 'a', { grammar: 'today' }), () => svg.select('x|a', { namespaces }), () => svg.select('[s|a]', { namespaces }),
+  () => svg.select('a', { namespaces: { a: null } }), () => svg.select('a', { namespaces: 3 }),
+  () => svg.select('a', { namespaces, grammar: 'simplecss' }),
 ]) {
   try { call(); } catch (error) { console.log(error.name, error.row ?? error.element, error.message); }
 }
@@ -1175,6 +1184,10 @@ const found = pages.flatMap(text => {
 console.log(JSON.stringify(found));
 """
 TREES_PRINTED = """a li li li true
+23 3 1 13 --
+3 true 2
+1 true
+1 true
 true null c
 1 1
 10000 0
@@ -1186,6 +1199,11 @@ TypeError undefined a text is expected, not number
 LimitError undefined the rules would hold more declarations than the limit
 LimitError undefined more declarations than `limit`, or a longer answer than `answerLimit` allows
 TypeError undefined unknown grammar: today
+SelectorError 1 1:1: no selectors, or a prefix that is not declared
+SelectorError 1 1:1: no selectors, or a prefix that is not declared
+TypeError undefined a text is expected, not null
+TypeError undefined namespaces are texts by their prefixes
+TypeError undefined the grammar of the Rust crate has no namespaces
 """
 
 

@@ -45,7 +45,6 @@ int main(void) {
         put_numbers(simplecss_read(text, end, MOST, NUMBERS));
         put_numbers(simplecss_declarations(text, end, NUMBERS));
         put(simplecss_imports(text, end, OUT));
-        put(simplecss_blocks(text, end, OUT));
         put_numbers(simplecss_contents(text, end, NUMBERS));
         put(simplecss_close(text, end, OUT));
         put(simplecss_print(text, end, SIMPLECSS_SHORT, OUT));

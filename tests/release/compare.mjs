@@ -20,7 +20,7 @@ for (let at = 0; at < input.length; ) {
     call('port_rules', sheet), call('port_match', [...sheet, port], { most, hasTree }),
     call('port_styles', [...sheet, port], { most, hasTree }),
     call('read', [text], { most, isNumbers }), call('declarations', [text], { isNumbers }),
-    call('imports', [text]), call('blocks', [text]), call('contents', [text], { isNumbers }),
+    call('imports', [text]), call('contents', [text], { isNumbers }),
     call('close', [text]), call('print', [text, 0n]), call('print', [text, 1n]),
     call('escape', [text]), call('quote', [text]), call('decode', [text, 1n]),
     call('list', [text, modern[0]], { isNumbers }), call('printed', [text, modern[0]]),

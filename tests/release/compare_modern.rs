@@ -71,19 +71,20 @@ fn rules(sheet: &Sheet) -> String {
     out
 }
 
-fn matched(page: &Document, count: usize, text: &str) -> String {
+fn matched(page: &mut Document, count: usize, text: &str) -> String {
     let list = match Selector::parse_list(text) {
         Ok(list) => list,
         Err(error) => return format!("refused: {error}"),
     };
     let counts = list[0].specificity();
     let mut out = format!("{},{},{}:", counts.ids, counts.classes, counts.names);
+    let printed: Vec<String> = list.iter().map(|it| it.to_string()).collect();
+    let asking = page.mark_selectors(list, usize::MAX).unwrap();
     for number in 0..count {
-        if list.iter().any(|it| it.matches(&page.node(number).unwrap())) {
+        if asking.iter().any(|it| it.matches(&page.node(number).unwrap())) {
             write!(out, " {number}").unwrap();
         }
     }
-    let printed: Vec<String> = list.iter().map(|it| it.to_string()).collect();
     out + "\x01" + &printed.join(", ")
 }
 
@@ -124,9 +125,9 @@ fn winners(page: &Document, count: usize, sheet: &Sheet) -> String {
 fn answers(page: &mut Document, count: usize, text: &str) -> [String; 7] {
     let (mut list, sheet) = (String::new(), Sheet::read(text, holds).unwrap());
     items(&mut list, declarations(text));
+    let matches = matched(page, count, text);
     page.mark(&sheet, usize::MAX).unwrap();
-    let on_page = [matched(page, count, text), found(page, count, &sheet), winners(page, count, &sheet)];
-    let [matches, index, winners] = on_page;
+    let (index, winners) = (found(page, count, &sheet), winners(page, count, &sheet));
     [list, names(text), printed(text), rules(&sheet), matches, index, winners]
 }
 

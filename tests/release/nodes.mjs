@@ -9,6 +9,10 @@ function chain(page, depth) {
   return root;
 }
 
+// The namespaces of elements, and one that no element is in.
+const SPACES = [
+  'http://www.w3.org/1999/xhtml', 'http://www.w3.org/2000/svg', 'http://www.w3.org/1998/Math/MathML', '', 'urn:x'];
+
 /** The value of a property on an element by the browser, where no other sheet has a say. */
 const computed = (element, name) => getComputedStyle(element).getPropertyValue(name);
 
@@ -24,6 +28,11 @@ export function compared(css, { pages, selectors, sheets, depth }) {
   for (const [kind, text] of pages) {
     const page = new DOMParser().parseFromString(text, kind);
     const elements = [...page.querySelectorAll('*')];
+    for (const space of SPACES) {
+      const within = elements.filter(each => (each.namespaceURI ?? '') === space);
+      same(`${text}: in ${space}`, css.select(page, 'x|*', { namespaces: { x: space } }), within);
+      same(`${text}: by default in ${space}`, css.select(page, '*', { namespaces: { '': space } }), within);
+    }
     for (const selector of selectors) {
       const what = `${text}: ${selector}`;
       same(what, css.select(page, selector), [...page.querySelectorAll(selector)]);

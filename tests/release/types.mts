@@ -5,11 +5,13 @@ import { load } from 'simplecss/load';
 const tree = new Tree([{ name: 'ul', states: ['hover'] }, { name: 'li', attributes: { class: 'a' }, parent: 0 }]);
 const found: Element[] = select(tree, 'ul > .a', { grammar: 'modern' });
 const own: Element | null = closest(found[0]!, 'ul');
+const drawn: Element | null = tree.selectOne('svg|a', { namespaces: { svg: 'http://www.w3.org/2000/svg' } });
+const isDrawn: boolean = matches(found[0]!, 'a', { namespaces: new Map([['', 'http://www.w3.org/2000/svg']]) });
 const sheet = new StyleSheet(['a { color: red }', 'b { color: blue }'], { limit: Infinity });
 const winners: Map<Element, Declaration[]> = sheet.styles(tree);
 for (const [element, declarations] of sheet.styles(tree, { media: query => query === 'print' })) {
   const name: string = element.name, value: string | undefined = declarations[0]?.value;
-  console.log(name, value, own, winners);
+  console.log(name, value, own, winners, drawn, isDrawn);
 }
 sheet.match(tree, { media: { width: 375, resolution: 2, pointer: 'coarse' } });
 // A DOM, and what parse5 reads.
@@ -35,5 +37,9 @@ new Tree([{ attributes: {} }]);
 lint(3);
 // @ts-expect-error: a rule cannot be changed
 sheet.rules[0]!.selector = 'b';
-// @ts-expect-error: a state is one of five
-new Tree([{ name: 'a', states: ['checked'] }]);
+// @ts-expect-error: a state is a text
+new Tree([{ name: 'a', states: [5] }]);
+// @ts-expect-error: a namespace is a text
+select(tree, 'svg|a', { namespaces: { svg: null } });
+// @ts-expect-error: a selector is read without namespaces
+new Selector('a', { namespaces: {} });
