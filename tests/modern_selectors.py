@@ -501,6 +501,9 @@ class Judge:
             return True
         if self.name == "soupsieve" and is_open(text):
             return True
+        # soupsieve finds nothing by a prefix that is not declared.
+        if self.name == "soupsieve" and reply.endswith(" is no declared prefix"):
+            return True
         if reply.endswith(" is unsupported"):
             odd_here = (FORGIVING, NESTED, NAMESPACE)
             return any(each.search(plain(text)) for each in odd_here)
