@@ -72,7 +72,7 @@ static size_t add_field(strings *to, text from, size_t at, size_t line, char byt
 static size_t read_tree(text source, simplecss_element *elements, strings *found) {
     size_t count = 0;
     for (size_t at = 0, line; at < source.len; at = line + 1, count++) {
-        simplecss_element element = {0, 0, 0};
+        simplecss_element element = {0, 0, 0, 0};
         line = find(source, at, source.len, '\n');
         for (; source.data[at] != '\t'; at++) element.depth = 10 * element.depth + source.data[at] - '0';
         for (at = add_field(found, source, at + 1, line, '\t'); at < line; element.attributes++) {
@@ -94,7 +94,9 @@ static simplecss_tree tree_of(text source) {
     simplecss_element *elements = room(lines, sizeof *elements);
     strings found = strings_for(source, lines + 2 * count_of(source, '\t'));
     size_t count = read_tree(source, elements, &found);
-    return (simplecss_tree){elements, count, found.all.data, found.all.len, found.ends, found.count};
+    return (simplecss_tree){
+        elements, count, found.all.data, found.all.len, found.ends, found.count, 0, NULL, 0,
+    };
 }
 
 static int winners(text sheet, text tree, size_t *out) {

@@ -17,13 +17,13 @@
 static const char sheet[] = "ul > li { color: red }.new { color: blue !important } @media x { } a:b { c: d }";
 static const size_t sheet_ends[] = {22, sizeof(sheet) - 1};
 static const size_t selector_ends[] = {2, 6};
-static const simplecss_element elements[] = {{0, 0, 0}, {1, 1, 0}, {1, 1, 0}};
+static const simplecss_element elements[] = {{0, 0, 0, 0}, {1, 1, 0, 0}, {1, 1, 0, 0}};
 static const size_t name_ends[] = {5};
 static const size_t pair_ends[] = {3, 11, 14, 54};
 static const simplecss_device device = {1280, 800, 2000, SIMPLECSS_SCREEN, SIMPLECSS_FINE, 1, 0, 0};
 static const char strings[] = "ullicl\tssnewlititlea\nb";
 static const size_t string_ends[] = {2, 4, 9, 12, 14, 19, 22};
-static const simplecss_tree tree = {elements, 3, TEXT(strings), string_ends, 7};
+static const simplecss_tree tree = {elements, 3, TEXT(strings), string_ends, 7, 0, NULL, 0};
 static const size_t group_ends[] = {5, 6};
 static const size_t origins[] = {SIMPLECSS_USER, SIMPLECSS_AUTHOR};
 static const size_t own_ends[] = {3, 6};

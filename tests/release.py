@@ -319,8 +319,8 @@ def page_in_c() -> str:
     """The tree of `PAGE` for compare.c."""
     elements, strings, ends = Library().page
     shapes, stated = list(elements.array), "static const"
-    rows = [f"{{{', '.join(map(str, shapes[at : at + 3]))}}}" for at in range(0, len(shapes), 3)]
-    arrays = f"PAGE, {len(rows)}, STRINGS, {len(strings)}, ENDS, {len(ends)}"
+    rows = [f"{{{', '.join(map(str, shapes[at : at + 4]))}}}" for at in range(0, len(shapes), 4)]
+    arrays = f"PAGE, {len(rows)}, STRINGS, {len(strings)}, ENDS, {len(ends)}, 0, 0, 0"
     return (
         '#include "simplecss.h"\n'
         f"{stated} simplecss_element PAGE[] = {{{', '.join(rows)}}};\n"

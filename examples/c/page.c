@@ -12,7 +12,7 @@
 static const char *const texts[] = {"ul > li:first-child", ".new"};
 
 /* <ul><li class="new"></li><li title="a&#10;b"></li></ul> */
-static const simplecss_element elements[] = {{0, 0, 0}, {1, 1, 0}, {1, 1, 0}};
+static const simplecss_element elements[] = {{0, 0, 0, 0}, {1, 1, 0, 0}, {1, 1, 0, 0}};
 static const char *const strings[] = {"ul", "li", "class", "new", "li", "title", "a\nb"};
 
 /* Puts texts one after another into a buffer, with the end of each. Returns their length. */
@@ -34,7 +34,7 @@ int main(void) {
     size_t name_ends[COUNT(strings)];
     size_t names_len = put(strings, COUNT(strings), names, name_ends);
     simplecss_tree tree = {elements, COUNT(elements), (const uint8_t *)names, names_len,
-                           name_ends, COUNT(strings)};
+                           name_ends, COUNT(strings), 0, NULL, 0};
 
     /* The first call asks for the length, and the second writes. */
     uint8_t *out = (uint8_t *)malloc(1);
