@@ -68,6 +68,11 @@ impl Element for XmlNode<'_, '_> {
         self.local_name() == name
     }
 
+    /// Namespaces have no numbers here: a selector declares none.
+    fn is_in_namespace(&self, number: usize) -> bool {
+        number == 0 && self.node.tag_name().namespace().is_none()
+    }
+
     fn attribute(&self, name: &str) -> Option<&str> {
         self.node.attribute(name)
     }
