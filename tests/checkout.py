@@ -329,7 +329,7 @@ def named_by(messages: bytes, lint: str) -> Set[str]:
 def modern_texts(source: modern_selectors.Source) -> List[str]:
     """Random lists of selectors, sheets and lists of declarations."""
     texts = []
-    for number in range(count(20_000)):
+    for number in range(count(8_000)):
         if number % 3 == 0:
             texts.append(source.changed() if number % 9 == 0 else source.listed())
         elif number % 3 == 1:

@@ -54,7 +54,7 @@ REGISTRY = "/usr/share/cargo/registry"
 # Where Debian's packages have the modules of node.
 NODE_MODULES = "/usr/share/nodejs"
 # How many random texts there are, unless `COUNT` says it.
-TEXTS = 20_000
+TEXTS = 8_000
 NO_LIMIT = 2**64 - 1
 # The length of the buffer that answers are written to.
 ROOM = 1 << 20
