@@ -109,7 +109,8 @@ typedef struct simplecss_element {
 /* A tree: its elements in document order, the bytes of all its strings, and where each ends. After the strings of
  * all elements come names of states, which compare without case, and then prefixes. simplecss_select reads selectors
  * with these: modern `svg|a` matches an element `a` in the namespace with the number of the prefix `svg`, whose case
- * matters; a prefix that is not here refuses the list. The empty prefix is of the default namespace. */
+ * matters; a prefix that is not here refuses the list. The empty prefix is of the default namespace. Reading takes
+ * time that grows as the text times the prefixes, matching as the tests of states times the states. */
 typedef struct simplecss_tree {
     const simplecss_element *elements;
     size_t elements_count;

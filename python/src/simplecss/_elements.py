@@ -58,6 +58,8 @@ _HAS_TEXT = 32
 _ROOM_FOR_ELEMENT = 64
 # How many lists of selectors have their answers kept.
 _MOST_ANSWERS = 32
+# For how many sets of prefixes the arrays of a tree are kept.
+_MOST_SPACED = 4
 _LINK_NAMES = ("a", "area")
 _TO_SPACES = str.maketrans(BLANKS, " " * len(BLANKS))
 # What begins a text in which no references are read.
@@ -417,7 +419,7 @@ class Elements:
         key = tuple(sorted(namespaces.items()))
         spaced = self._computed.spaced
         if key not in spaced:
-            if len(spaced) >= _MOST_ANSWERS:
+            if len(spaced) >= _MOST_SPACED:
                 spaced.clear()
             spaced[key] = self._arrays_for(MODERN, key)
         return spaced[key]

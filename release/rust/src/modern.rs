@@ -41,7 +41,7 @@ use alloc::vec::Vec;
 use core::fmt;
 
 pub use crate::erased::css_index::Keyed;
-pub use crate::erased::css_selectors::{Element, Key, Nesting, Specificity};
+pub use crate::erased::css_selectors::{Element, Key, Names, Nesting, Prefix, Specificity, NO_NAMES};
 pub use crate::erased::css_styles::{Own, Source, Winner};
 pub use crate::erased::css_syntax::{
     AtRule, Block, Declaration, Declarations, Fault, Item, ListPart, Prelude, Quality,
@@ -93,6 +93,30 @@ impl<'a> Selector<'a> {
     /// Parses selectors with commas between them. Fails if one of them is not a selector.
     pub fn parse_list(text: &'a str) -> Result<Vec<Self>, SelectorError> {
         match css_selectors::Selector::parse_list(Global, within(text)) {
+            Ok(selectors) => Ok(selectors.0.into_iter().map(Selector).collect()),
+            Err(refusal) => Err(SelectorError::new(text, refusal)),
+        }
+    }
+
+    /// Parses selectors as `parse_list` does, where these names are declared. Elements are asked for
+    /// namespaces by their numbers: [`Element::is_in_namespace`].
+    ///
+    /// ```
+    /// use simplecss::modern::{Document, Names, Prefix, Selector, NO_NAMES};
+    /// use simplecss::tree::Tree;
+    ///
+    /// let mut tree = Tree::new();
+    /// let [first, second] = [tree.push(None, "a").unwrap(), tree.push(None, "a").unwrap()];
+    /// let mut document = Document::new(&tree);
+    /// document.set_namespaces(vec![0, 1]);
+    /// let names = Names { prefixes: &[Prefix { name: "svg", number: 1 }], ..NO_NAMES };
+    /// let selectors = Selector::parse_list_in("svg|a", &names).unwrap();
+    /// let matches = |index| selectors[0].matches(&document.node(index).unwrap());
+    /// assert_eq!([matches(first), matches(second)], [false, true]);
+    /// assert!(Selector::parse_list("svg|a").is_err());
+    /// ```
+    pub fn parse_list_in(text: &'a str, names: &Names<'_>) -> Result<Vec<Self>, SelectorError> {
+        match css_selectors::Selector::parse_list_in(Global, within(text), names) {
             Ok(selectors) => Ok(selectors.0.into_iter().map(Selector).collect()),
             Err(refusal) => Err(SelectorError::new(text, refusal)),
         }
@@ -396,6 +420,35 @@ impl<'p, 't> Document<'p, 't> {
     /// ```
     pub fn set_scope(&mut self, scope: Option<usize>) {
         self.0.set_scope(scope);
+    }
+
+    /// Says which namespaces the elements are in, each by its number. The number of no namespace is 0, and
+    /// elements after the last of these are in none.
+    pub fn set_namespaces(&mut self, namespaces: Vec<usize>) {
+        self.0.set_namespaces(crate::rattle_std::vec::Vec(namespaces));
+    }
+
+    /// Names states, such as `target` or `dir(ltr)`, each with whether each element is in it. Names of states
+    /// that every tree has are ignored, such as `hover`. They replace states that were named before.
+    ///
+    /// ```
+    /// use simplecss::modern::{Document, Selector};
+    /// use simplecss::tree::Tree;
+    ///
+    /// let mut tree = Tree::new();
+    /// let list = tree.push(None, "ul").unwrap();
+    /// let item = tree.push(Some(list), "li").unwrap();
+    /// let mut document = Document::new(&tree);
+    /// document.set_states(vec![("target", vec![false, true])]);
+    /// let selector = Selector::parse("ul > :target").unwrap();
+    /// assert!(selector.matches(&document.node(item).unwrap()));
+    /// ```
+    pub fn set_states(&mut self, states: Vec<(&'p str, Vec<bool>)>) {
+        let named = states.into_iter().map(|(name, elements)| css_tree::NamedState {
+            name,
+            elements: crate::rattle_std::vec::Vec(elements),
+        });
+        self.0.set_states(crate::rattle_std::vec::Vec(named.collect()));
     }
 
     /// Makes the tree that of an HTML document: `:checked`, `:disabled`, `:enabled`, `:required`, `:optional`,
