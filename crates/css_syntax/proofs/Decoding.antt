@@ -30,9 +30,11 @@ past_one-within (b ∷ text) = omega arith
 encoded-some : (c : ℕ) → 0 < length (encode_utf8 c)
 encoded-some c = let b = len_utf8_bounds c in omega (arith, length-encode c)
 
-escaped-some : (text : List ℕ) → 0 < length (escaped_text text)
-escaped-some [] = encoded-some replacement
-escaped-some (b ∷ text) = by (is_hex_digit b)
+escaped-some : (in_string : Bool) → in_string ≡ false → (text : List ℕ)
+    → 0 < length (escaped_text in_string text)
+escaped-some true e text = absurd (cc)
+escaped-some false e [] = encoded-some replacement
+escaped-some false e (b ∷ text) = by (is_hex_digit b)
   where
     character : ℕ
     character = character_of (hex_number 6 0 (b ∷ text))
@@ -41,13 +43,24 @@ escaped-some (b ∷ text) = by (is_hex_digit b)
     by true = encoded-some character
     by false = omega arith
 
+-- what is appended for a backslash at the end of the text
+pub nothing-pushed : (in_string : Bool) (old : List ℕ) → in_string ≡ true
+    → old ≡ old ++ escaped_text in_string []
+nothing-pushed true old e = sym (append-nil old)
+nothing-pushed false old e = absurd (cc)
+
+pub replacement-pushed : (in_string : Bool) (old new : List ℕ) → in_string ≡ false
+    → new ≡ old ++ encode_utf8 replacement → new ≡ old ++ escaped_text in_string []
+replacement-pushed true old new e h = absurd (cc)
+replacement-pushed false old new e h = h
+
 module _ (in_string : Bool) where
   part-takes : Takes (decoded_part in_string)
   unfolding decoded_part
   part-takes [] = tt
   part-takes (b ∷ text) = by (begins_escape (b ∷ text)) (in_string && b == backslash)
     where
-      by : (t s : Bool) → Shrinks (b ∷ text) (if t then Some (escaped_text text, past_escape text)
+      by : (t s : Bool) → Shrinks (b ∷ text) (if t then Some (escaped_text in_string text, past_escape text)
           else (if s then Some ([], past_escape text) else Some (b ∷ [], text)))
       by true s = omega (arith, past_escape-within text)
       by false true = omega (arith, past_escape-within text)
@@ -67,13 +80,13 @@ module _ (in_string : Bool) where
   -- an escape
   pub decoded-escape : (text : List ℕ) → begins_escape (backslash ∷ text) ≡ true
       → unescaped_in in_string (backslash ∷ text)
-      ≡ escaped_text text ++ unescaped_in in_string (past_escape text)
+      ≡ escaped_text in_string text ++ unescaped_in in_string (past_escape text)
   unfolding decoded_part
   decoded-escape text e =
       let found : decoded_part in_string (backslash ∷ text)
-      ≡ Some (escaped_text text, past_escape text) =
+      ≡ Some (escaped_text in_string text, past_escape text) =
       rw e refl in
-      decoded-some (backslash ∷ text) (past_escape text) (escaped_text text) found
+      decoded-some (backslash ∷ text) (past_escape text) (escaped_text in_string text) found
 
   -- a byte that is no backslash
   pub decoded-plain : (b : ℕ) (text : List ℕ) → (b == backslash) ≡ false
@@ -109,7 +122,9 @@ module _ (in_string : Bool) where
 
       by : (t s : Bool) → begins_escape (b ∷ text) ≡ t → (in_string && b == backslash) ≡ false
           → 0 < length (unescaped_in in_string (b ∷ text))
-      by true s e f = found (escaped_text text) (past_escape text) (rw e refl) (escaped-some text)
+      by true s e f =
+          found (escaped_text in_string text) (past_escape text) (rw e refl)
+          (escaped-some in_string elsewhere text)
       by false s e f = found (b ∷ []) text (rw (e, f) refl) (omega arith)
 
   pub decoded-run : (run rest : List ℕ) → NoBackslash run
@@ -122,12 +137,12 @@ module _ (in_string : Bool) where
 
   -- ---- what follows a backslash
 
-  escape-at_end : unescaped_in in_string (backslash ∷ []) ≡ encode_utf8 replacement
+  escape-at_end : unescaped_in in_string (backslash ∷ []) ≡ escaped_text in_string []
   unfolding past_escape
   escape-at_end =
       decoded-escape [] refl
-      ∙ ap (λ (l : List ℕ). encode_utf8 replacement ++ l) decoded-nil
-      ∙ append-nil (encode_utf8 replacement)
+      ∙ ap (λ (l : List ℕ). escaped_text in_string [] ++ l) decoded-nil
+      ∙ append-nil (escaped_text in_string [])
 
   -- hexadecimal digits
   escape-digits : (b : ℕ) (text : List ℕ) → is_newline b ≡ false → is_hex_digit b ≡ true
@@ -135,7 +150,7 @@ module _ (in_string : Bool) where
       ≡ encode_utf8 (character_of (hex_number 6 0 (b ∷ text)))
       ++ unescaped_in in_string (past_escape (b ∷ text))
   escape-digits b text n h =
-      let here : escaped_text (b ∷ text)
+      let here : escaped_text in_string (b ∷ text)
       ≡ encode_utf8 (character_of (hex_number 6 0 (b ∷ text))) = rw h refl in
       decoded-escape (b ∷ text) (escape-begins b text n)
       ∙ ap (λ (l : List ℕ). l ++ unescaped_in in_string (past_escape (b ∷ text))) here
@@ -145,7 +160,7 @@ module _ (in_string : Bool) where
       → unescaped_in in_string (backslash ∷ b ∷ text) ≡ b ∷ unescaped_in in_string text
   unfolding past_escape
   escape-byte b text n h =
-      let here : escaped_text (b ∷ text) ≡ b ∷ [] = rw h refl in
+      let here : escaped_text in_string (b ∷ text) ≡ b ∷ [] = rw h refl in
       let after : past_escape (b ∷ text) ≡ text = rw (h, n) refl in
       decoded-escape (b ∷ text) (escape-begins b text n)
       ∙ ap (λ (l : List ℕ). l ++ unescaped_in in_string (past_escape (b ∷ text))) here
@@ -159,7 +174,7 @@ module _ (in_string : Bool) where
 
   -- ---- what is appended for an escape, and the rest
 
-  pub pushed-end : (old new after : List ℕ) → after ≡ [] → new ≡ old ++ encode_utf8 replacement
+  pub pushed-end : (old new after : List ℕ) → after ≡ [] → new ≡ old ++ escaped_text in_string []
       → new ++ unescaped_in in_string after ≡ old ++ unescaped_in in_string (backslash ∷ after)
   pushed-end old new after e h =
       ap (λ (l : List ℕ). new ++ unescaped_in in_string l) e

@@ -17,12 +17,13 @@ abbrev pub character_of : ℕ → ℕ
 character_of n =
     if n == 0 || is_within 55296 57343 n || nat_lt 1114111 n then replacement else n
 
--- What an escape denotes, from after its backslash: the character of up to six hexadecimal
--- digits, which one space byte may end; the replacement character at the end of the text; or the
--- byte itself. (The further bytes of a character past ASCII denote themselves.)
-abbrev pub escaped_text : List ℕ → List ℕ
-escaped_text [] = encode_utf8 replacement
-escaped_text (b ∷ text) =
+-- What an escape denotes in a string or elsewhere, from after its backslash: the character of up to six
+-- hexadecimal digits, which one space byte may end; or the byte itself. (The further bytes of a
+-- character past ASCII denote themselves.) At the end of the text it denotes nothing in a string, and
+-- elsewhere the replacement character.
+abbrev pub escaped_text : Bool → List ℕ → List ℕ
+escaped_text in_string [] = if in_string then [] else encode_utf8 replacement
+escaped_text in_string (b ∷ text) =
     if is_hex_digit b then encode_utf8 (character_of (hex_number 6 0 (b ∷ text))) else b ∷ []
 
 -- An escape, or a byte that denotes itself. A backslash before a newline is no escape: in a string
@@ -30,7 +31,7 @@ escaped_text (b ∷ text) =
 unfoldable pub decoded_part : Bool → List ℕ → Option (List ℕ × List ℕ)
 decoded_part in_string [] = None
 decoded_part in_string (b ∷ text) =
-    if begins_escape (b ∷ text) then Some (escaped_text text, past_escape text)
+    if begins_escape (b ∷ text) then Some (escaped_text in_string text, past_escape text)
     else (if in_string && b == backslash then Some ([], past_escape text) else Some (b ∷ [], text))
 
 -- what the text spells by its bytes and escapes, as in a string or as elsewhere

@@ -44,6 +44,9 @@ fn push_escape<'a>(out: &mut String, in_string: bool, after: &'a str) -> Result<
     let bytes = after.as_bytes();
     match split(bytes) {
         None => {
+            if in_string {
+                return Ok(after);
+            }
             out.push('\u{FFFD}')?;
             Ok(after)
         }
@@ -157,7 +160,7 @@ pub fn decode<'a>(alloc: Global, text: &'a str) -> Result<CowStr<'a>, AllocError
 }
 
 /// Returns the text that a string denotes, from what is between its quotes: as [`decode`] does, but a
-/// backslash before a newline denotes nothing, with the newline.
+/// backslash before a newline denotes nothing, with the newline, and nor does one at the end.
 pub fn decode_string<'a>(alloc: Global, text: &'a str) -> Result<CowStr<'a>, AllocError>
     ensures { IfOk result (λ found. cow_str_bytes found ≡ decoded_string text.now) }
 {

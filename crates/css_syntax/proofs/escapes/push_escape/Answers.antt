@@ -3,23 +3,31 @@ use Rattle.std.specs.String.{string_bytes}
 use Rattle.css_syntax.specs.Tokens.{hex_number}
 use Rattle.css_syntax.specs.Escapes.{character_of}
 use Rattle.css_syntax.proofs.Shorter.{past_escape-within}
-use Rattle.css_syntax.proofs.Decoding.{pushed-end, pushed-newline, pushed-joined, pushed-digits, pushed-byte, pushed-wide, past_one-within}
+use Rattle.css_syntax.proofs.Decoding.{nothing-pushed, replacement-pushed, pushed-end, pushed-newline, pushed-joined, pushed-digits, pushed-byte, pushed-wide, past_one-within}
 use Rattle.css_syntax.proofs.escapes.push_escape.Goals as goal
+
+pub returns-then-in_string-clause-pushed : goal.returns-then-in_string-clause-pushed
+returns-then-in_string-clause-pushed c =
+    pushed-end c.args.in_string (string_bytes c.args.out.now) _ c.args.after.now
+    (sym c.as_bytes-bytes.ensures.value ∙ c.in-None.ensures)
+    (nothing-pushed c.args.in_string (string_bytes c.args.out.now) c.if-in_string.true)
 
 pub returns-in_ok-push-in-None-clause-pushed : goal.returns-in_ok-push-in-None-clause-pushed
 returns-in_ok-push-in-None-clause-pushed c =
     pushed-end c.args.in_string (string_bytes c.args.out.now) _ c.args.after.now
-    (sym c.as_bytes-bytes.ensures.value ∙ c.in-None.ensures) c.in_ok-push-in-None.ensures.bytes
+    (sym c.as_bytes-bytes.ensures.value ∙ c.in-None.ensures)
+    (replacement-pushed c.args.in_string (string_bytes c.args.out.now) _ c.if-in_string.false
+    c.in_ok-push-in-None.ensures.bytes)
 
-pub returns-then-in_string-clause-pushed : goal.returns-then-in_string-clause-pushed
-returns-then-in_string-clause-pushed c =
+pub returns-then-in_string-2-clause-pushed : goal.returns-then-in_string-2-clause-pushed
+returns-then-in_string-2-clause-pushed c =
     pushed-joined c.args.in_string (string_bytes c.args.out.now) c.args.after.now
     c.in-Some.field-0-1.now c.past_escaped.result.now c.in-Some.byte
-    c.if-in_string.true (sym c.as_bytes-bytes.ensures.value ∙ c.in-Some.ensures)
+    c.if-in_string-2.true (sym c.as_bytes-bytes.ensures.value ∙ c.in-Some.ensures)
     (sym c.is_newline.ensures ∙ c.if-is_newline.true) c.past_escaped.ensures
 
-pub returns-then-in_string-clause-within : goal.returns-then-in_string-clause-within
-returns-then-in_string-clause-within c =
+pub returns-then-in_string-2-clause-within : goal.returns-then-in_string-2-clause-within
+returns-then-in_string-2-clause-within c =
     omega (
       arith,
       ap length c.past_escaped.ensures,
@@ -29,7 +37,7 @@ returns-then-in_string-clause-within c =
 pub returns-in_ok-push-in-Some-clause-pushed : goal.returns-in_ok-push-in-Some-clause-pushed
 returns-in_ok-push-in-Some-clause-pushed c =
     pushed-newline c.args.in_string (string_bytes c.args.out.now) _ c.args.after.now
-    c.in-Some.field-0-1.now c.in-Some.byte c.if-in_string.false
+    c.in-Some.field-0-1.now c.in-Some.byte c.if-in_string-2.false
     (sym c.as_bytes-bytes.ensures.value ∙ c.in-Some.ensures)
     (sym c.is_newline.ensures ∙ c.if-is_newline.true) c.in_ok-push-in-Some.ensures.bytes
 
