@@ -3,9 +3,11 @@
 use Rattle.std.proofs.Common.{◌≡◌, ℕ, zero, suc, ◌+◌, ◌-◌, ◌≤◌, ◌⊎◌, Bool, true, false, not, ◌||◌, ◌&&◌, List, [], ◌∷◌, length, get_or, map, Option, None, Some, Vec, Global, IsTrue, refl, sym, ap, ◌∙◌, subst, inl, inr, arith, add-one}
 use Rattle.std.specs.Prelude.{is_none, nat_lt, min, if◌then◌else◌}
 use Rattle.std.specs.List.{list_any}
+use Rattle.std.specs.Option.{option_map_or}
 use Rattle.css_selectors.specs.Documents.{Document}
+use Rattle.css_selectors.specs.Components.Namespace.{absent, any_namespace, of_prefix, default}
 use Rattle.css_selectors.specs.Components.Local.{any_type, a_type, some_attribute, an_attribute, implied}
-use Rattle.css_selectors.specs.Components.{Comparison, Namespace, Local, is_absent, Simple, Condition, Conditions, Parts, Selectors, Part, Selector, conditions_from, parts_from, selectors_from}
+use Rattle.css_selectors.specs.Components.{Namespace, Local, is_absent, Simple, Condition, Conditions, Parts, Selectors, Part, Selector, conditions_from, parts_from, selectors_from}
 use Rattle.css_selectors.specs.Components.Simple.{universal, type_name, id, class, has_attribute, attribute, structure, language, state, function, named_element, nesting, namespaced}
 use Rattle.css_selectors.specs.Components.Condition.{simple, negation, any_of, where_any, tested}
 use Rattle.css_selectors.specs.Components.Conditions.{end_of_compound, with_condition}
@@ -16,9 +18,10 @@ use Rattle.css_selectors.specs.declared.components.Condition.{Condition as Condi
 use Rattle.css_selectors.specs.declared.components.Complex.{Complex, out-Complex}
 use Rattle.css_selectors.specs.declared.components.Part.{Part as PartOf}
 use Rattle.css_selectors.specs.Views.{condition_of, part_of, complex_of}
-use Rattle.css_selectors.specs.Meanings.{satisfies, is_in, holds_in, holds, part_count, IsMet, AreMet, MeetsPart, MatchesAny, IsPlaced, Matches}
+use Rattle.css_selectors.specs.AttributeTests.{is_satisfied}
+use Rattle.css_selectors.specs.Meanings.{accepts, has_attribute_in, is_in, holds_in, holds, part_count, IsMet, AreMet, MeetsPart, MatchesAny, IsPlaced, Matches}
 use Rattle.css_selectors.specs.Keys.{Key, has_key, local_key, simple_key, lone_key, rank, better_key, best_key, compound_key, subject_from, parts_key, selector_keys, condition_keys, least_rank, better_keys, best_keys, conditions_at, keys_of}
-use Rattle.css_selectors.specs.Keys.Key.{by_nothing}
+use Rattle.css_selectors.specs.Keys.Key.{by_attribute, by_nothing}
 use Rattle.css_selectors.proofs.ConditionViews.{condition_is, condition_where}
 use Rattle.css_selectors.proofs.PlacementListLemmas.{count_from}
 
@@ -30,25 +33,31 @@ or_second : (a b : Bool) → IsTrue b → IsTrue (a || b)
 or_second true b h = refl
 or_second false b h = h
 
-value_there : (c : Comparison) (ignores : Bool) (text : List ℕ) (r : Option (List ℕ))
-    → IsTrue (satisfies c ignores text r) → IsTrue (not (is_none r))
-value_there c ignores text None h = absurd (cc)
-value_there c ignores text (Some value) h = refl
+value_there : (accept : List ℕ → Bool) (r : Option (List ℕ)) → IsTrue (option_map_or accept r false)
+    → IsTrue (not (is_none r))
+value_there accept None h = absurd (cc)
+value_there accept (Some value) h = refl
 
 both_second : (a b : Bool) → IsTrue (a && b) → IsTrue b
 both_second true b h = h
 both_second false b h = absurd (cc)
 
 module _ {Node : Type 0} (d : Document Node) (n : Node) where
+  attribute_has : (m : Namespace) (name : List ℕ) (accept : List ℕ → Bool)
+      → IsTrue (has_attribute_in d n m name accept)
+      → IsTrue (has_key d n (if is_absent m then by_attribute name else by_nothing))
+  attribute_has absent name accept h = value_there accept (d.attribute n name) h
+  attribute_has any_namespace name accept h = refl
+  attribute_has (of_prefix prefix number) name accept h = refl
+  attribute_has (default number) name accept h = refl
+
   local_has : (m : Namespace) (l : Local) → IsTrue (holds_in d n m l)
-      → IsTrue (has_key d n (local_key l))
+      → IsTrue (has_key d n (local_key m l))
   local_has m any_type h = refl
   local_has m (a_type name) h = both_second (is_in d n m) (d.is_named n name) h
-  local_has m (some_attribute name) h =
-      both_second (is_absent m) (not (is_none (d.attribute n name))) h
+  local_has m (some_attribute name) h = attribute_has m name (accepts (some_attribute name)) h
   local_has m (an_attribute name c text ignores) h =
-      value_there c ignores text (d.attribute n name)
-      (both_second (is_absent m) (satisfies c ignores text (d.attribute n name)) h)
+      attribute_has m name (accepts (an_attribute name c text ignores)) h
   local_has m implied h = refl
 
   simple_has : (s : Simple) → IsTrue (holds d n s) → IsTrue (has_key d n (simple_key s))
@@ -57,7 +66,8 @@ module _ {Node : Type 0} (d : Document Node) (n : Node) where
   simple_has (id text) h = h
   simple_has (class word) h = h
   simple_has (has_attribute name) h = h
-  simple_has (attribute name c text ignores) h = value_there c ignores text (d.attribute n name) h
+  simple_has (attribute name c text ignores) h =
+      value_there (is_satisfied c ignores text) (d.attribute n name) h
   simple_has (structure s) h = refl
   simple_has (language ranges) h = refl
   simple_has (state name) h = refl

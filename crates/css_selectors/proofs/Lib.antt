@@ -3,6 +3,7 @@ mod WordStartLemmas
 pub mod NumberLemmas
 pub mod ConditionViews
 pub mod PartLemmas
+mod SpacedLemmas
 mod BoundLemmas
 pub mod PlacementListLemmas
 pub mod TextLemmas

@@ -93,18 +93,19 @@ own_character n b same some low =
     let own : character_of b ≡ b = rw is refl in
     ap (λ m. encode_utf8 (character_of m)) same ∙ ap encode_utf8 own ∙ encode_ascii b low
 
-one_digit : (g : ℕ) (t : List ℕ) → is_hex_digit g ≡ true
-    → escaped_text (g ∷ space ∷ t) ≡ encode_utf8 (character_of (16 * 0 + hex_digit g))
-one_digit g t h = rw h refl
+one_digit : (in_string : Bool) (g : ℕ) (t : List ℕ) → is_hex_digit g ≡ true
+    → escaped_text in_string (g ∷ space ∷ t) ≡ encode_utf8 (character_of (16 * 0 + hex_digit g))
+one_digit in_string g t h = rw h refl
 
 one_digit-left : (g : ℕ) (t : List ℕ) → is_hex_digit g ≡ true → past_escape (g ∷ space ∷ t) ≡ t
 unfolding past_escape
 one_digit-left g t h = rw h refl
 
-two_digits : (g k : ℕ) (t : List ℕ) → is_hex_digit g ≡ true → is_hex_digit k ≡ true
-    → escaped_text (g ∷ k ∷ space ∷ t)
+two_digits : (in_string : Bool) (g k : ℕ) (t : List ℕ) → is_hex_digit g ≡ true
+    → is_hex_digit k ≡ true
+    → escaped_text in_string (g ∷ k ∷ space ∷ t)
     ≡ encode_utf8 (character_of (16 * (16 * 0 + hex_digit g) + hex_digit k))
-two_digits g k t h i = rw (h, i) refl
+two_digits in_string g k t h i = rw (h, i) refl
 
 two_digits-left : (g k : ℕ) (t : List ℕ) → is_hex_digit g ≡ true → is_hex_digit k ≡ true
     → past_escape (g ∷ k ∷ space ∷ t) ≡ t
@@ -116,7 +117,7 @@ record Escaped (b : ℕ) (text : List ℕ) : Type 0 where
   pub others : List ℕ
   pub is : text ≡ backslash ∷ others
   pub calm : (t : List ℕ) → starts_by is_newline (others ++ t) ≡ false
-  pub denotes : (t : List ℕ) → escaped_text (others ++ t) ≡ b ∷ []
+  pub denotes : (in_string : Bool) (t : List ℕ) → escaped_text in_string (others ++ t) ≡ b ∷ []
   pub leaves : (t : List ℕ) → past_escape (others ++ t) ≡ t
 
 by_one_digit : (b : ℕ) → (b == 0) ≡ false → b < 16 → Escaped b (code_point_text b)
@@ -127,7 +128,7 @@ by_one_digit b some low =
       others = g ∷ space ∷ [];
       is = ap (λ ds. codes "\\" ++ ds ++ codes " ") (hex_one_digit false b low);
       calm = λ t. glyph_calm b low;
-      denotes = λ t. one_digit g t (glyph_hex b low) ∙ own_character _ b is some (omega arith);
+      denotes = λ s t. one_digit s g t (glyph_hex b low) ∙ own_character _ b is some (omega arith);
       leaves = λ t. one_digit-left g t (glyph_hex b low);
     }
 
@@ -143,7 +144,7 @@ by_two_digits b high low some =
       others = g ∷ k ∷ space ∷ [];
       is = ap (λ ds. codes "\\" ++ ds ++ codes " ") (hex_two_digits false b high (omega arith));
       calm = λ t. glyph_calm (b / 16) one;
-      denotes = λ t. two_digits g k t (glyph_hex (b / 16) one) (glyph_hex (b % 16) two)
+      denotes = λ s t. two_digits s g k t (glyph_hex (b / 16) one) (glyph_hex (b % 16) two)
           ∙ own_character _ b is some low;
       leaves = λ t. two_digits-left g k t (glyph_hex (b / 16) one) (glyph_hex (b % 16) two);
     }
@@ -163,7 +164,7 @@ sign_escaped b calm plain = record {
   others = b ∷ [];
   is = refl;
   calm = λ t. calm;
-  denotes = λ t. rw plain refl;
+  denotes = λ s t. rw plain refl;
   leaves = λ t. rw (plain, calm) refl;
 }
 
@@ -258,7 +259,7 @@ module _ (quote : Option ℕ) (place : IsPlace quote) where
         denotes = decoded-escape (is_string quote) (e.others ++ s.own)
             (escape_begins (e.others ++ s.own) (e.calm s.own))
             ∙ ap (λ l. l ++ unescaped_in (is_string quote) (past_escape (e.others ++ s.own)))
-            (e.denotes s.own)
+            (e.denotes (is_string quote) s.own)
             ∙ ap (λ l. b ∷ unescaped_in (is_string quote) l) (e.leaves s.own)
             ∙ ap (λ l. b ∷ l) s.denotes;
       })

@@ -47,9 +47,10 @@ unfolding each past_escape past_comment name_part decoded_part unescaped_in blan
     ident_sequence name offset_or_none with_offset subtracted by_tail n_word progression lib.Utf8.encode
 progressions = (refl, refl, refl, refl, refl, refl, refl, refl, refl)
 
--- the end of the text closes what is open
+-- the end of the text closes what is open; a backslash there denotes nothing in a string
 pub attributes :
     (attribute_selector no_names (codes "a=\"b") ≡ got (attribute (codes "a") equals (codes "b") false) [])
+    × (attribute_selector no_names (codes "a='b\\") ≡ got (attribute (codes "a") equals (codes "b") false) [])
     × (attribute_selector no_names (codes "a=b/**/\\69") ≡ got (attribute (codes "a") equals (codes "b") true) [])
     × (attribute_selector no_names (codes "a/*") ≡ got (has_attribute (codes "a")) [])
     × (attribute_selector no_names (codes "a=") ≡ refused NoValue [])
@@ -57,7 +58,7 @@ pub attributes :
 unfolding each past_escape past_comment name_part string_part decoded_part unescaped_in blank comment gap_before
     gap ident_sequence name string value comparison flag compared namespace at_bar attribute_from_name
     attribute_selector lib.Utf8.encode
-attributes = (refl, refl, refl, refl, refl)
+attributes = (refl, refl, refl, refl, refl, refl)
 
 -- a prefix that is declared twice
 abbrev own : Names
@@ -68,7 +69,6 @@ own = record {
   element_functions = [];
   default_namespace = None;
   prefixes = (codes "n", 1) ∷ (codes "n", 2) ∷ [];
-  other_prefixes = None;
 }
 
 -- a namespace, which comments may be in, and white space may not

@@ -4,7 +4,7 @@ use Rattle.std.specs.Prelude.{ℕ, ◌-◌, Bool, true, List, [], ◌∷◌, len
 use Rattle.std.specs.Option.{option_map_or}
 use Rattle.css_selectors.specs.Documents.{Document}
 use Rattle.css_selectors.specs.Components.Local.{any_type, a_type, some_attribute, an_attribute, implied}
-use Rattle.css_selectors.specs.Components.{Local, Simple, Condition, Conditions, Parts, Selectors, Part, Selector}
+use Rattle.css_selectors.specs.Components.{Namespace, Local, is_absent, Simple, Condition, Conditions, Parts, Selectors, Part, Selector}
 use Rattle.css_selectors.specs.Components.Simple.{universal, type_name, id, class, has_attribute, attribute, structure, language, state, function, named_element, nesting, namespaced}
 use Rattle.css_selectors.specs.Components.Condition.{simple, negation, any_of, where_any, tested}
 use Rattle.css_selectors.specs.Components.Conditions.{end_of_compound, with_condition}
@@ -12,7 +12,7 @@ use Rattle.css_selectors.specs.Components.Parts.{end_of_selector, with_part}
 use Rattle.css_selectors.specs.Components.Selectors.{end_of_list, with_selector}
 use Rattle.css_selectors.specs.Meanings.{holds}
 
--- an id, a class, a type name, the name of an attribute, or no condition
+-- an id, a class, a type name, the name of an attribute in no namespace, or no condition
 pub data Key : Type 0 where
   by_id : List ℕ → Key
   by_class : List ℕ → Key
@@ -28,13 +28,15 @@ has_key document n (by_name name) = holds document n (type_name name)
 has_key document n (by_attribute name) = holds document n (has_attribute name)
 has_key document n by_nothing = true
 
--- the key that what is in a namespace requires
-abbrev pub local_key : Local → Key
-local_key any_type = by_nothing
-local_key (a_type name) = by_name name
-local_key (some_attribute name) = by_attribute name
-local_key (an_attribute name comparison text ignores) = by_attribute name
-local_key implied = by_nothing
+-- the key that what is in a namespace requires: an attribute that may be in one has none
+abbrev pub local_key : Namespace → Local → Key
+local_key namespace any_type = by_nothing
+local_key namespace (a_type name) = by_name name
+local_key namespace (some_attribute name) =
+    if is_absent namespace then by_attribute name else by_nothing
+local_key namespace (an_attribute name comparison text ignores) =
+    if is_absent namespace then by_attribute name else by_nothing
+local_key namespace implied = by_nothing
 
 -- the key that a simple selector requires
 abbrev pub simple_key : Simple → Key
@@ -50,7 +52,7 @@ simple_key (state name) = by_nothing
 simple_key (function name argument) = by_nothing
 simple_key (named_element name argument) = by_nothing
 simple_key (nesting list) = by_nothing
-simple_key (namespaced namespace local) = local_key local
+simple_key (namespaced namespace local) = local_key namespace local
 
 -- how few elements have a key: the greater, the fewer
 abbrev pub rank : Key → ℕ

@@ -9,6 +9,7 @@ pub mod CutLists
 pub mod Directions
 pub mod Defaults
 pub mod Documents
+pub mod ElementViews
 pub mod Grammar
 pub mod KeyViews
 pub mod KnownNames

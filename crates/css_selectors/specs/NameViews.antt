@@ -21,7 +21,6 @@ names_of names = record {
   element_functions = texts_of names.element_functions.now;
   default_namespace = names.default_namespace;
   prefixes = map prefix_of names.prefixes.now;
-  other_prefixes = names.other_prefixes;
 }
 
 abbrev pub room_seen : RoomOf → Room

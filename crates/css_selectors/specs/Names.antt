@@ -4,8 +4,7 @@ use Rattle.std.specs.Str.{bytes_eq}
 
 -- The caller's own names, besides those of `KnownNames`: of pseudo-classes without an argument, of
 -- functional pseudo-classes, and of pseudo-elements without an argument and with one. And the number of
--- the default namespace, prefixes with the numbers of theirs, and the number of that of every other prefix,
--- if one that is not declared is not refused. The number of no namespace is 0.
+-- the default namespace, and prefixes with the numbers of theirs. The number of no namespace is 0.
 pub record Names : Type 0 where
   pub states : List (List ℕ)
   pub functions : List (List ℕ)
@@ -13,7 +12,6 @@ pub record Names : Type 0 where
   pub element_functions : List (List ℕ)
   pub default_namespace : Option ℕ
   pub prefixes : List (List ℕ × ℕ)
-  pub other_prefixes : Option ℕ
 
 -- nothing is declared
 abbrev pub no_names : Names
@@ -24,24 +22,11 @@ no_names = record {
   element_functions = [];
   default_namespace = None;
   prefixes = [];
-  other_prefixes = None;
 }
 
 -- the number of a namespace that is not known
 abbrev pub unknown_namespace : ℕ
 unknown_namespace = 2 ^ 64 - 1
-
--- nothing is declared, and prefixes are of namespaces that are not known
-abbrev pub any_prefix : Names
-any_prefix = record {
-  states = [];
-  functions = [];
-  elements = [];
-  element_functions = [];
-  default_namespace = None;
-  prefixes = [];
-  other_prefixes = Some unknown_namespace;
-}
 
 -- the number of the namespace of a prefix, of which the last declaration counts; one was found so far
 abbrev pub last_number : Option ℕ → List (List ℕ × ℕ) → List ℕ → Option ℕ
@@ -50,4 +35,4 @@ last_number found (p ∷ prefixes) prefix =
     last_number (if bytes_eq p.0 prefix then Some p.1 else found) prefixes prefix
 
 abbrev pub number_of : Names → List ℕ → Option ℕ
-number_of names prefix = last_number names.other_prefixes names.prefixes prefix
+number_of names prefix = last_number None names.prefixes prefix

@@ -1,8 +1,7 @@
 -- Selectors that have a meaning here. A text may be a selector and have none: it is unsupported.
 use Rattle.std.specs.Prelude.{◌&&◌, ◌+◌, ◌-◌, ◌==◌, nat_le, ℕ, Bool, true, false, not, if◌then◌else◌, List, [], ◌∷◌, map, codes, Option, None, Some, is_none, is_some}
 use Rattle.css_selectors.specs.declared.refusal.Why.TheVariants.{Unsupported}
-use Rattle.css_selectors.specs.Components.{Namespace, Local, is_absent, Simple, Condition, Conditions, Parts, Selectors, parts_from, PseudoElement, Selector, Placed}
-use Rattle.css_selectors.specs.Components.Local.{some_attribute, an_attribute}
+use Rattle.css_selectors.specs.Components.{Namespace, Simple, Condition, Conditions, Parts, Selectors, parts_from, PseudoElement, Selector, Placed}
 use Rattle.css_selectors.specs.Components.Namespace.{of_prefix}
 use Rattle.css_selectors.specs.Components.Simple.{state, function, named_element, namespaced}
 use Rattle.css_selectors.specs.Components.Condition.{simple, negation, any_of, where_any, tested}
@@ -21,19 +20,14 @@ abbrev pub is_known_namespace : Namespace → Bool
 is_known_namespace (of_prefix prefix number) = not (number == unknown_namespace)
 is_known_namespace namespace = true
 
--- What is in a namespace that is known has a meaning, but that attributes are only in none.
-abbrev pub is_supported_in : Namespace → Local → Bool
-is_supported_in namespace (some_attribute name) = is_absent namespace
-is_supported_in namespace (an_attribute name comparison text ignores) = is_absent namespace
-is_supported_in namespace local = is_known_namespace namespace
-
--- Of what has an argument that is kept as it is written only `:dir()` with a direction has a meaning. `:host`,
--- which is an element outside of the tree, has none.
+-- What is in a namespace has a meaning if the namespace is known. Of what has an argument that is kept as it
+-- is written only `:dir()` with a direction has a meaning. `:host`, which is an element outside of the tree,
+-- has none.
 abbrev pub is_supported_simple : Simple → Bool
 is_supported_simple (state name) = not (is_word (codes "host") name)
 is_supported_simple (function name argument) = is_some (direction_state name argument)
 is_supported_simple (named_element name argument) = false
-is_supported_simple (namespaced namespace local) = is_supported_in namespace local
+is_supported_simple (namespaced namespace local) = is_known_namespace namespace
 is_supported_simple s = true
 
 -- How many selectors with combinators that stand in lists may be within one another: their tests

@@ -226,8 +226,7 @@ pub enum Simple<'a> {
     Element(ElementName<'a>),
     /// `&`, with the list that it stands for.
     Nesting(Nesting),
-    /// A type or attribute selector with a namespace. No element satisfies one of an attribute that has
-    /// a prefix.
+    /// A type or attribute selector with a namespace. A default namespace does not apply to attributes.
     Namespaced(Namespaced<'a>),
 }
 

@@ -1,14 +1,26 @@
 //! Elements, which selectors are matched against.
 
+/// An attribute that is in a namespace.
+#[derive(Clone, Copy)]
+pub struct NamespacedAttribute<'a> {
+    /// The number of its namespace, which is not 0.
+    pub namespace: usize,
+    /// Its name, without a prefix.
+    pub name: &'a str,
+    /// Its value.
+    pub value: &'a str,
+}
+
 /// An element of a document, with all that modern selectors ask. Each value denotes a node, and its
 /// answers depend only on that node and on the texts of the arguments.
 ///
 /// Elements alone are siblings: texts and comments are not counted. The numbers of siblings are asked
 /// for `:nth-child()` and the like, so a document of many siblings keeps them.
 pub trait Element: Drop {
-    ghost use Rattle.std.specs.Prelude.{◌≡◌, Option, option_map};
+    ghost use Rattle.std.specs.Prelude.{◌≡◌, ◌<◌, ◌^◌, Option, option_map, length, slice_get};
     ghost use Rattle.css_matching.specs.Trees.{Counts, SiblingsShareParent};
     ghost use Rattle.css_selectors.specs.Documents.{Document, shape};
+    ghost use Rattle.css_selectors.specs.ElementViews.{namespaced_attribute_of};
 
     ghost Node: { Type 0 };
 
@@ -49,10 +61,17 @@ pub trait Element: Drop {
     fn is_in_namespace(&self, number: usize) -> bool
         ensures { result ≡ document.is_in_namespace (node self.now) number };
 
-    /// Returns the value of the attribute with this name, if there is one.
+    /// Returns the value of the attribute with this name that is in no namespace, if there is one.
     fn attribute(&self, name: &str) -> Option<&str>
         ensures { option_map (λ value. value.now) result
             ≡ document.attribute (node self.now) name.now };
+
+    /// Returns the attribute at an index among those of the element that are in a namespace, if there is one.
+    /// A selector asks for them one after another, from index 0 on.
+    fn namespaced_attribute(&self, index: usize) -> Option<NamespacedAttribute<'_>>
+        ensures answer { option_map namespaced_attribute_of result
+            ≡ slice_get (document.namespaced_attributes (node self.now)) index }
+        ensures few { length (document.namespaced_attributes (node self.now)) < 2 ^ 64 };
 
     /// Whether the element is in the state of this name, as `hover` or `checked`. The name is as the
     /// selector has it; names of states are the same in any case. A name that the element does not know

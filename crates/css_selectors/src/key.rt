@@ -1,14 +1,15 @@
 //! The keys of a selector: conditions of which each element that it matches satisfies one.
-ghost use Rattle.std.specs.Prelude.{◌≡◌, ◌++◌, ◌∷◌, [], OnOk, MatchOption, List, map};
+ghost use Rattle.std.specs.Prelude.{◌≡◌, ◌++◌, ◌∷◌, [], OnOk, MatchOption, List, map, if◌then◌else◌};
 ghost use Rattle.css_selectors.specs.Keys.{local_key, simple_key, lone_key, compound_key, parts_key, selector_keys};
 ghost use Rattle.css_selectors.specs.Keys.{condition_keys, least_rank, best_keys, keys_of};
 ghost use Rattle.css_selectors.specs.Keys.{rank as rank_of};
-ghost use Rattle.css_selectors.specs.Keys.Key.{by_nothing};
-ghost use Rattle.css_selectors.specs.Components.{conditions_from, parts_from, selectors_from};
+ghost use Rattle.css_selectors.specs.Keys.Key.{by_attribute, by_nothing};
+ghost use Rattle.css_selectors.specs.Components.{is_absent as is_absent_of, conditions_from, parts_from, selectors_from};
 ghost use Rattle.css_selectors.specs.KeyViews.{key_of, keys_of_best};
-ghost use Rattle.css_selectors.specs.Views.{local_of, simple_of, complex_of, condition_of};
+ghost use Rattle.css_selectors.specs.Views.{namespace_of, local_of, simple_of, complex_of, condition_of};
 
-use crate::{Complex, Condition, Local, Selector, Simple};
+use crate::namespaces::is_absent;
+use crate::{Complex, Condition, Local, Namespace, Namespaced, Selector, Simple};
 use std::alloc::AllocError;
 
 /// A condition that an element satisfies or not. Each element that a selector matches satisfies one
@@ -21,7 +22,7 @@ pub enum Key<'s> {
     Class(&'s str),
     /// The element's name is this.
     Name(&'s str),
-    /// There is an attribute of this name.
+    /// There is an attribute of this name in no namespace.
     Attribute(&'s str),
     /// None of these: each element has it.
     Any,
@@ -42,14 +43,28 @@ impl<'s> Key<'s> {
     }
 }
 
-/// Returns the key that what is in a namespace requires.
-fn key_of_local<'s>(local: &'s Local<'_>) -> Key<'s>
-    ensures { key_of result ≡ local_key (local_of local.now) }
+/// Returns the key that an attribute requires: one that may be in a namespace has none.
+fn key_of_attribute<'s>(namespace: &Namespace<'_>, name: &'s str) -> Key<'s>
+    ensures { key_of result
+        ≡ if is_absent_of (namespace_of namespace.now) then by_attribute name.now else by_nothing }
 {
-    match local {
+    if is_absent(namespace) {
+        Key::Attribute(name)
+    } else {
+        Key::Any
+    }
+}
+
+/// Returns the key that what is in a namespace requires.
+fn key_of_namespaced<'s>(namespaced: &'s Namespaced<'_>) -> Key<'s>
+    ensures { key_of result
+        ≡ local_key (namespace_of namespaced.now.namespace) (local_of namespaced.now.local) }
+{
+    let namespace = &namespaced.namespace;
+    match &namespaced.local {
         Local::TypeName(name) => Key::Name(name.as_str()),
-        Local::HasAttribute(name) => Key::Attribute(name.as_str()),
-        Local::Attribute(test) => Key::Attribute(test.name.as_str()),
+        Local::HasAttribute(name) => key_of_attribute(namespace, name.as_str()),
+        Local::Attribute(test) => key_of_attribute(namespace, test.name.as_str()),
         Local::Universal | Local::Implied => Key::Any,
     }
 }
@@ -71,7 +86,7 @@ fn key_of_simple<'s>(simple: &'s Simple<'_>) -> Key<'s>
         | Simple::Function(_)
         | Simple::Element(_)
         | Simple::Nesting(_) => Key::Any,
-        Simple::Namespaced(namespaced) => key_of_local(&namespaced.local),
+        Simple::Namespaced(namespaced) => key_of_namespaced(namespaced),
     }
 }
 

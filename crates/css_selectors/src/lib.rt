@@ -17,8 +17,9 @@
 //! `Names` also declares namespaces, which are numbers: prefixes, and the default one. A prefix that is not
 //! declared is refused. Where a default namespace is declared, a type selector without a prefix is in it,
 //! and so is a compound selector without a type selector, but for the subjects of the selectors of `:is()`,
-//! `:where()`, `:not()` and `:has()` (`specs/Defaults`). An element answers which namespace it is in. An
-//! attribute selector with a prefix is read and unsupported.
+//! `:where()`, `:not()` and `:has()` (`specs/Defaults`). An element answers which namespace it is in, and
+//! which attributes in namespaces it has. `[a]` and `[|a]` are of the attribute in no namespace, whatever the
+//! default namespace is, `[n|a]` of one in the namespace of `n`, and `[*|a]` of any of them.
 //!
 //! A pseudo-element may have an argument, and pseudo-classes and further pseudo-elements after it. Its
 //! argument, and that of a pseudo-class that has no meaning here, is kept as it is written. A selector
@@ -95,12 +96,12 @@ pub use components::{
     Structure,
 };
 pub use css_matching::{Combinator, Tests};
-pub use element::Element;
+pub use element::{Element, NamespacedAttribute};
 pub use escaping::{escape, quote};
 pub use key::Key;
 pub use marked_list::MarkedList;
 pub use meeting::{matches_any, meets};
-pub use names::{ANY_PREFIX, NO_NAMES, Names, Prefix, UNKNOWN_NAMESPACE, number_of};
+pub use names::{NO_NAMES, Names, Prefix, UNKNOWN_NAMESPACE, number_of};
 pub use numbering::Numbering;
 pub use refusal::{Refusal, Why};
 pub use selector::{Listed, Selector};

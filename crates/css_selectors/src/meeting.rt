@@ -1,8 +1,11 @@
 //! Whether an element satisfies conditions.
-ghost use Rattle.std.specs.Prelude.{◌≡◌, ◌+◌, ◌*◌, ◌≤◌, ◌<◌, ◌↔◌, map, length, IsTrue, Option, option_map};
+ghost use Rattle.std.specs.Prelude.{◌≡◌, ◌+◌, ◌*◌, ◌≤◌, ◌<◌, ◌↔◌, ◌==◌, true, map, length, IsTrue, Option, option_map};
+ghost use Rattle.std.specs.Option.{option_map_or};
 ghost use Rattle.std.specs.List.{list_any};
 ghost use Rattle.std.specs.Cow.{cow_str_bytes};
 ghost use Rattle.css_selectors.specs.Meanings.{satisfies, is_placed as is_placed_at, holds as holds_on, is_in as is_in_of, holds_in as holds_in_of};
+ghost use Rattle.css_selectors.specs.Meanings.{accepts as accepts_of, has_plain as has_plain_of, is_spaced as is_spaced_of, has_spaced as has_spaced_of, has_attribute_in as has_attribute_in_of};
+ghost use Rattle.css_selectors.specs.ElementViews.{namespaced_attribute_of};
 ghost use Rattle.css_selectors.specs.Components.{conditions_from, parts_from, selectors_from};
 ghost use Rattle.css_selectors.specs.Costs.{condition_cost, compound_cost, dearest_part, list_cost, selector_cost, most_tests as most};
 ghost use Rattle.css_selectors.specs.Meanings.{IsMet, AreMet, MeetsPart, MatchesAny, IsPlaced};
@@ -12,10 +15,9 @@ ghost use Rattle.css_selectors.specs.Views.{comparison_of, local_of, namespace_o
 
 use crate::attributes::is_satisfied;
 use crate::directions::direction_state;
-use crate::namespaces::is_absent;
 use crate::{
-    Comparison, Complex, Condition, Element, FunctionCall, Local, Namespace, Namespaced, Part,
-    Simple, Structure,
+    Comparison, Complex, Condition, Element, FunctionCall, Local, Namespace, Namespaced,
+    NamespacedAttribute, Part, Simple, Structure,
 };
 use css_matching::{Candidate, Combinator, Parts, Tests, matches};
 use std::borrow::CowStr;
@@ -90,6 +92,97 @@ fn is_in<E: Element>(namespace: &Namespace<'_>, element: &E) -> bool
     }
 }
 
+/// Whether the attribute's value is as the selector requires.
+fn accepts(local: &Local<'_>, value: &str) -> bool
+    ensures { result ≡ accepts_of (local_of local.now) value.now }
+{
+    match local {
+        Local::Attribute(test) => {
+            is_satisfied(
+                test.comparison,
+                test.ignores_case,
+                test.text.as_str(),
+                value,
+            )
+        }
+        Local::Universal | Local::TypeName(_) | Local::HasAttribute(_) | Local::Implied => true,
+    }
+}
+
+/// Whether the element has the attribute of this name that is in no namespace, with a value as the selector
+/// requires.
+fn has_plain<E: Element>(name: &str, local: &Local<'_>, element: &E) -> bool
+    ensures { result ≡ has_plain_of E.document (E.node element.now) name.now
+        (accepts_of (local_of local.now)) }
+{
+    match element.attribute(name) {
+        Some(value) => accepts(local, value),
+        None => false,
+    }
+}
+
+/// Whether the number is the one that is wanted, if one is.
+fn is_wanted(wanted: Option<usize>, number: usize) -> bool
+    ensures { result ≡ option_map_or (λ k. k == number) wanted true }
+{
+    match wanted {
+        Some(wanted) => wanted == number,
+        None => true,
+    }
+}
+
+/// Whether the attribute has this name, is in the namespace of this number, or in any if there is no number,
+/// and has a value as the selector requires.
+fn is_spaced(
+    number: Option<usize>,
+    name: &str,
+    local: &Local<'_>,
+    attribute: NamespacedAttribute<'_>,
+) -> bool
+    ensures { result ≡ is_spaced_of number name.now (accepts_of (local_of local.now))
+        (namespaced_attribute_of attribute.entry) }
+{
+    is_wanted(number, attribute.namespace)
+        && attribute.name == name
+        && accepts(local, attribute.value)
+}
+
+/// Whether one of the element's attributes in namespaces is as [`is_spaced`] requires.
+fn has_spaced<E: Element>(number: Option<usize>, name: &str, local: &Local<'_>, element: &E) -> bool
+    ensures { result ≡ has_spaced_of E.document (E.node element.now) number name.now
+        (accepts_of (local_of local.now)) }
+{
+    let mut index = 0;
+    'attributes: while let Some(attribute) = element.namespaced_attribute(index) {
+        if is_spaced(number, name, local, attribute) {
+            return true;
+        }
+        index += 1;
+    }
+    false
+}
+
+/// Whether the element has an attribute of this name in the namespace, with a value as the selector requires.
+fn has_attribute_in<E: Element>(
+    namespace: &Namespace<'_>,
+    name: &str,
+    local: &Local<'_>,
+    element: &E,
+) -> bool
+    ensures { result ≡ has_attribute_in_of E.document (E.node element.now)
+        (namespace_of namespace.now) name.now (accepts_of (local_of local.now)) }
+{
+    match namespace {
+        Namespace::Absent | Namespace::Default(_) | Namespace::Prefix(_, 0) => {
+            has_plain(name, local, element)
+        }
+        Namespace::Any => {
+            has_plain(name, local, element) || has_spaced(None, name, local, element)
+        }
+        Namespace::Prefix(_, number) => has_spaced(Some(*number), name, local, element),
+    }
+}
+
 /// Whether the element satisfies what is in a namespace.
 fn holds_in<E: Element>(namespaced: &Namespaced<'_>, element: &E) -> bool
     ensures { result ≡ holds_in_of E.document (E.node element.now)
@@ -100,16 +193,10 @@ fn holds_in<E: Element>(namespaced: &Namespaced<'_>, element: &E) -> bool
         Local::Universal | Local::Implied => is_in(namespace, element),
         Local::TypeName(name) => is_in(namespace, element) && element.is_named(name.as_str()),
         Local::HasAttribute(name) => {
-            is_absent(namespace) && element.attribute(name.as_str()).is_some()
+            has_attribute_in(namespace, name.as_str(), &namespaced.local, element)
         }
         Local::Attribute(test) => {
-            is_absent(namespace)
-                && has_value(
-                    test.comparison,
-                    test.ignores_case,
-                    test.text.as_str(),
-                    element.attribute(test.name.as_str()),
-                )
+            has_attribute_in(namespace, test.name.as_str(), &namespaced.local, element)
         }
     }
 }

@@ -8,7 +8,7 @@ ghost use Rattle.css_selectors.specs.Names.{number_of as number_of_prefix};
 pub struct Prefix<'a> {
     /// The prefix. Case matters.
     pub name: &'a str,
-    /// The number of its namespace, which is not 0.
+    /// The number of its namespace, or 0: then it is the prefix of no namespace.
     pub number: usize,
 }
 
@@ -30,8 +30,6 @@ pub struct Names<'a> {
     pub default_namespace: Option<usize>,
     /// The prefixes. Of those with the same name the last counts.
     pub prefixes: &'a [Prefix<'a>],
-    /// The number of the namespace of every other prefix, if one that is not declared is not refused.
-    pub other_prefixes: Option<usize>,
 }
 
 /// Nothing is declared.
@@ -42,28 +40,16 @@ pub const NO_NAMES: Names<'static> = Names {
     element_functions: &[],
     default_namespace: None,
     prefixes: &[],
-    other_prefixes: None,
 };
 
-/// The number of a namespace that is not known: a type selector in it is unsupported.
+/// The number of a namespace that is not known: a type or attribute selector in it is unsupported.
 pub const UNKNOWN_NAMESPACE: usize = usize::MAX;
 
-/// Nothing is declared, and prefixes are of namespaces that are not known.
-pub const ANY_PREFIX: Names<'static> = Names {
-    states: &[],
-    functions: &[],
-    elements: &[],
-    element_functions: &[],
-    default_namespace: None,
-    prefixes: &[],
-    other_prefixes: Some(UNKNOWN_NAMESPACE),
-};
-
-/// Returns the number of the namespace of a prefix, if it is declared or others have one.
+/// Returns the number of the namespace of a prefix, if it is declared.
 pub fn number_of(names: &Names<'_>, prefix: &str) -> Option<usize>
     ensures { result ≡ number_of_prefix (names_of names.now) prefix.now }
 {
-    let mut found = names.other_prefixes;
+    let mut found = None;
     let mut rest = names.prefixes;
     'prefixes: while let [one, more @ ..] = rest {
         if one.name == prefix {

@@ -2,18 +2,15 @@
 ghost use Rattle.std.specs.Prelude.{◌≡◌, ◌&&◌, true, map, option_map};
 ghost use Rattle.css_selectors.specs.Components.{conditions_from, parts_from, selectors_from};
 ghost use Rattle.css_selectors.specs.Supported.{is_known_namespace as is_known_namespace_of};
-ghost use Rattle.css_selectors.specs.Supported.{is_supported_in as is_supported_in_of, is_supported_simple as is_supported_simple_of, is_supported as is_supported_condition};
+ghost use Rattle.css_selectors.specs.Supported.{is_supported_simple as is_supported_simple_of, is_supported as is_supported_condition};
 ghost use Rattle.css_selectors.specs.Supported.{have_meaning as have_meaning_of, parts_supported as parts_supported_of, are_supported as are_supported_of};
 ghost use Rattle.css_selectors.specs.NestedTests.{search_count as search_count_of};
 ghost use Rattle.css_selectors.specs.Supported.{is_plain_element as is_plain_element_of};
-ghost use Rattle.css_selectors.specs.Views.{local_of, namespace_of, simple_of, complex_of, condition_of, part_of, pseudo_element_of};
+ghost use Rattle.css_selectors.specs.Views.{namespace_of, simple_of, complex_of, condition_of, part_of, pseudo_element_of};
 
 use crate::directions::direction_state;
 use crate::names::UNKNOWN_NAMESPACE;
-use crate::namespaces::is_absent;
-use crate::{
-    Complex, Condition, Local, Namespace, Namespaced, Part, PseudoElement, Selector, Simple,
-};
+use crate::{Complex, Condition, Namespace, Part, PseudoElement, Selector, Simple};
 
 /// How many selectors with combinators that stand in lists may be within one another. Their tests
 /// multiply.
@@ -29,19 +26,6 @@ fn is_known_namespace(namespace: &Namespace<'_>) -> bool
     }
 }
 
-/// Whether what is in a namespace has a meaning: an attribute does in none only.
-fn is_supported_in(namespaced: &Namespaced<'_>) -> bool
-    ensures { result ≡ is_supported_in_of (namespace_of namespaced.now.namespace)
-        (local_of namespaced.now.local) }
-{
-    match namespaced.local {
-        Local::Universal | Local::TypeName(_) | Local::Implied => {
-            is_known_namespace(&namespaced.namespace)
-        }
-        Local::HasAttribute(_) | Local::Attribute(_) => is_absent(&namespaced.namespace),
-    }
-}
-
 /// Whether the simple selector has a meaning.
 fn is_supported_simple(simple: &Simple<'_>) -> bool
     ensures { result ≡ is_supported_simple_of (simple_of simple.now) }
@@ -52,7 +36,7 @@ fn is_supported_simple(simple: &Simple<'_>) -> bool
             direction_state(call.name.as_str(), call.argument.as_str()).is_some()
         }
         Simple::Element(_) => false,
-        Simple::Namespaced(namespaced) => is_supported_in(namespaced),
+        Simple::Namespaced(namespaced) => is_known_namespace(&namespaced.namespace),
         Simple::Universal
         | Simple::TypeName(_)
         | Simple::Id(_)
@@ -155,9 +139,9 @@ impl<'a> Selector<'a> {
     ghost use Rattle.css_selectors.specs.Supported.{is_supported_selector};
 
     /// Whether the selector has a meaning here. A pseudo-class or a pseudo-element with an argument that
-    /// is kept as it is written has none, nor has `:host`, what has a namespace, or what follows a
-    /// pseudo-element. Nor has a selector with combinators in a list of another that is in a list: their
-    /// tests multiply. The selectors of `:has()`, and those after `An+B`, are as selectors that stand in
+    /// is kept as it is written has none, nor has `:host`, what is in a namespace that is not known, or what
+    /// follows a pseudo-element. Nor has a selector with combinators in a list of another that is in a list:
+    /// their tests multiply. The selectors of `:has()`, and those after `An+B`, are as selectors that are in
     /// no list.
     pub fn is_supported(&self) -> bool
         ensures { result ≡ is_supported_selector self.now }

@@ -1,6 +1,6 @@
 -- The items of a list: `li` elements that are siblings, each with a class, and a comment or a text in
 -- some.
-use Rattle.std.specs.Prelude.{◌≡◌, ℕ, zero, suc, ◌+◌, ◌-◌, Bool, true, false, ◌==◌, List, length, Option, Some, None, bytes_eq, codes, if◌then◌else◌, refl, MatchOption, IfSome}
+use Rattle.std.specs.Prelude.{◌≡◌, ℕ, zero, suc, ◌+◌, ◌-◌, Bool, true, false, ◌==◌, List, [], length, Option, Some, None, bytes_eq, codes, if◌then◌else◌, refl, MatchOption, IfSome}
 use Rattle.std.proofs.Common.{arith}
 use Rattle.std.specs.List.{slice_get}
 use Rattle.std.specs.Option.{option_map, option_map_or}
@@ -41,6 +41,7 @@ items = record {
   is_named = λ n name. bytes_eq name (codes "li");
   is_in_namespace = λ n number. number == 0;
   attribute = λ n name. if bytes_eq name (codes "class") then class_of n else None;
+  namespaced_attributes = λ n. [];
   is_in_state = λ n name. false;
   is_in_language = λ n range. false;
   has_content = λ n. option_map_or (λ e. is_content e.content) (slice_get n.0 n.1) false;

@@ -1,7 +1,7 @@
 //! The items of a list, as elements.
 ghost use Rattle.std.specs.Prelude.{◌≡◌, ◌<◌, ◌^◌, length};
 
-use css_selectors::Element;
+use css_selectors::{Element, NamespacedAttribute};
 
 /// What is within an item.
 #[derive(Clone, Copy)]
@@ -101,6 +101,10 @@ impl<'t> Element for Item<'t> {
         } else {
             None
         }
+    }
+
+    fn namespaced_attribute(&self, _index: usize) -> Option<NamespacedAttribute<'_>> {
+        None
     }
 
     fn is_in_state(&self, _name: &str) -> bool {

@@ -1,6 +1,6 @@
 //! How often elements are tested while a selector is matched.
 
-use css_selectors::{Element, Selector, Tests};
+use css_selectors::{Element, NamespacedAttribute, Selector, Tests};
 use css_tree::{NumberedNode, NumberedTree};
 use simplecss_tree::Tree;
 use std::alloc::Global;
@@ -74,6 +74,10 @@ impl<'a, 'n, 'p, 't> Element for Counted<'a, 'n, 'p, 't> {
 
     fn attribute(&self, name: &str) -> Option<&str> {
         self.node.attribute(name)
+    }
+
+    fn namespaced_attribute(&self, index: usize) -> Option<NamespacedAttribute<'_>> {
+        self.node.namespaced_attribute(index)
     }
 
     fn is_in_state(&self, name: &str) -> bool {
