@@ -14,8 +14,7 @@ use Rattle.simplecss_tree.specs.TreeNodes.{named_parent}
 use Rattle.css_tree.specs.Counts.{any_below}
 use Rattle.css_tree.specs.HtmlElements.{has_attribute, is_named, is_radio, is_submit}
 use Rattle.css_tree.specs.HtmlStates.{form_of, group_name, is_checked, is_checked_in, is_in_html_state, is_in_state_named, is_submit_of, state_named}
-use Rattle.css_tree.specs.HtmlViews.{AreStates, AreChecked, HaveSubmits, html_states, is_in, is_in_named}
-use Rattle.css_tree.specs.Keys.{kind_cmp}
+use Rattle.css_tree.specs.HtmlViews.{AreStates, AreChecked, HaveSubmits, group_cmp, html_states, is_in, is_in_named}
 use Rattle.css_tree.specs.Pages.{parent_index}
 use Rattle.css_tree.specs.Surroundings.{surroundings}
 use Rattle.css_tree.specs.declared.html_states.HtmlState.{HtmlState}
@@ -161,15 +160,15 @@ groups-same rows groups n none are q =
 pub groups-more : (rows : List Row) (old new : BTreeMap (ℕ × Bor (List ℕ)) ℕ) (n : ℕ)
     (key : ℕ × Bor (List ℕ)) → (is_radio rows n && is_checked rows n) ≡ true
     → key.0 ≡ form_of rows n → key.1.now ≡ group_name rows n
-    → ((q : ℕ × Bor (List ℕ)) → get kind_cmp new q
-    ≡ cond (is_eq (kind_cmp key q)) (Some n) (get kind_cmp old q))
+    → ((q : ℕ × Bor (List ℕ)) → get group_cmp new q
+    ≡ cond (is_eq (group_cmp key q)) (Some n) (get group_cmp old q))
     → AreChecked rows old n → AreChecked rows new (n + 1)
 groups-more rows old new n key is form name updates are q =
-    rw add-one (ap is_some (updates q) ∙ some_or (is_eq (kind_cmp key q)) n (get kind_cmp old q)
-    ∙ ap (λ b. b || is_eq (kind_cmp key q)) (are q)
+    rw add-one (ap is_some (updates q) ∙ some_or (is_eq (group_cmp key q)) n (get group_cmp old q)
+    ∙ ap (λ b. b || is_eq (group_cmp key q)) (are q)
     ∙ ap (λ b. any_below (is_checked_in rows q.0 q.1.now) n || b) same)
   where
-    same : is_eq (kind_cmp key q)
+    same : is_eq (group_cmp key q)
         ≡ ((is_radio rows n && is_checked rows n)
         && (q.0 == form_of rows n && bytes_eq q.1.now (group_name rows n)))
     same =

@@ -1,4 +1,4 @@
--- Kinds of elements: those with one parent and one name.
+-- Kinds of elements: those with one parent and one type.
 -- Serves `kinds` and `Numbering`.
 use Rattle.std.proofs.Common.{◌≡◌, ℕ, suc, ◌+◌, ◌<◌, ◌≤◌, ◌⊎◌, inl, inr, Bool, true, false, ◌&&◌, cond, List, length, Option, None, Some, refl, sym, ap, subst, ◌∙◌, add-one, arith, Bor}
 use Rattle.std.specs.Prelude.{◌==◌, bytes_eq}
@@ -17,85 +17,102 @@ use Rattle.simplecss_tree.specs.Rows.{Row}
 use Rattle.simplecss_tree.specs.TreeNodes.{name_at}
 use Rattle.css_tree.specs.Counts.{count_below, last_below, first_below}
 use Rattle.css_tree.specs.GroupViews.{is_in_group}
-use Rattle.css_tree.specs.Keys.{kind, kind_cmp, has_kind, IsLarge, AreNamed}
-use Rattle.css_tree.specs.Pages.{family, is_sibling, is_alike}
+use Rattle.css_tree.specs.Keys.{KindKey, kind, kind_cmp, has_kind, IsLarge, AreNamed}
+use Rattle.css_tree.specs.Pages.{family, have_one_type, is_sibling, is_alike, namespace_at}
 use Rattle.css_tree.specs.declared.kinds.TheConstants.{COMPARED}
 use Rattle.css_tree.proofs.Counting.{IsLast, last_below-is, first_below-none, first_below-from, first_below-false, first_below-passes, first_below-same}
 
 order : (m n : ℕ) → (m < n) ⊎ ((m ≡ n) ⊎ (n < m))
 order m n = grind arith
 
-module _ (rows : List Row) where
-  -- two elements are alike: they have one family and one name
-  alike : (i j : ℕ)
-      → Decides (is_alike rows i j) ((family rows i ≡ family rows j) × (name_at rows i ≡ name_at rows j))
+module _ (rows : List Row) (namespaces : List ℕ) where
+  one_type : (i j : ℕ) → Decides (have_one_type rows namespaces i j)
+      ((namespace_at namespaces i ≡ namespace_at namespaces j) × (name_at rows i ≡ name_at rows j))
+  one_type i j =
+      Decides-and (namespace_at namespaces i == namespace_at namespaces j)
+      (bytes_eq (name_at rows i) (name_at rows j))
+      (Decides-eqb (namespace_at namespaces i) (namespace_at namespaces j))
+      (bytes_eq-Decides (name_at rows i) (name_at rows j))
+
+  -- two elements are alike: they have one family, one namespace and one name
+  alike : (i j : ℕ) → Decides (is_alike rows namespaces i j) ((family rows i ≡ family rows j)
+      × ((namespace_at namespaces i ≡ namespace_at namespaces j) × (name_at rows i ≡ name_at rows j)))
   alike i j =
-      Decides-and (family rows i == family rows j) (bytes_eq (name_at rows i) (name_at rows j))
-      (Decides-eqb (family rows i) (family rows j)) (bytes_eq-Decides (name_at rows i) (name_at rows j))
+      Decides-and (family rows i == family rows j) (have_one_type rows namespaces i j)
+      (Decides-eqb (family rows i) (family rows j)) (one_type i j)
 
-  alike-self : (i : ℕ) → is_alike rows i i ≡ true
-  alike-self i = (alike i i).1 (refl, refl)
+  alike-self : (i : ℕ) → is_alike rows namespaces i i ≡ true
+  alike-self i = (alike i i).1 (refl, (refl, refl))
 
-  alike-with : (i s : ℕ) → is_alike rows i s ≡ true → (j : ℕ) → is_alike rows i j ≡ is_alike rows s j
+  alike-with : (i s : ℕ) → is_alike rows namespaces i s ≡ true → (j : ℕ)
+      → is_alike rows namespaces i j ≡ is_alike rows namespaces s j
   alike-with i s is j =
       let e = (alike i s).0 is in
-      ap (λ f. f == family rows j && bytes_eq (name_at rows i) (name_at rows j)) e.0
-      ∙ ap (λ n. family rows s == family rows j && bytes_eq n (name_at rows j)) e.1
-
-  -- names that are compared
-  pub names-test : (i s : ℕ) (own other : List ℕ) (r v : Bool) → own ≡ name_at rows i
-      → other ≡ name_at rows s → r ≡ bytes_eq own other → r ≡ v
-      → bytes_eq (name_at rows i) (name_at rows s) ≡ v
-  names-test i s own other r v named others is read =
-      sym (is ∙ ap (λ n. bytes_eq n other) named ∙ ap (bytes_eq (name_at rows i)) others) ∙ read
+      ap (λ f. f == family rows j && have_one_type rows namespaces i j) e.0
+      ∙ ap (λ m. family rows s == family rows j
+      && (m == namespace_at namespaces j && bytes_eq (name_at rows i) (name_at rows j))) e.1.0
+      ∙ ap (λ n. family rows s == family rows j
+      && (namespace_at namespaces s == namespace_at namespaces j && bytes_eq n (name_at rows j))) e.1.1
 
   -- an element that is like an earlier one is of its kind
-  pub kind-alike : (i s : ℕ) → s < i → is_alike rows i s ≡ true → kind rows i ≡ kind rows s
+  kind-alike : (i s : ℕ) → s < i → is_alike rows namespaces i s ≡ true
+      → kind rows namespaces i ≡ kind rows namespaces s
   kind-alike i s lt is =
-      ap (λ r. unwrap_or r i) (first_below-same (is_alike rows i) (is_alike rows s) i (alike-with i s is)
-      ∙ first_below-from (is_alike rows s) s i (alike-self s) lt)
+      ap (λ r. unwrap_or r i)
+      (first_below-same (is_alike rows namespaces i) (is_alike rows namespaces s) i (alike-with i s is)
+      ∙ first_below-from (is_alike rows namespaces s) s i (alike-self s) lt)
 
   -- an element that is like no earlier one
-  pub kind-first : (i : ℕ) → ((j : ℕ) → j < i → is_alike rows i j ≡ false) → kind rows i ≡ i
-  kind-first i none = ap (λ r. unwrap_or r i) (first_below-none (is_alike rows i) i none)
+  kind-first : (i : ℕ) → ((j : ℕ) → j < i → is_alike rows namespaces i j ≡ false)
+      → kind rows namespaces i ≡ i
+  kind-first i none =
+      ap (λ r. unwrap_or r i) (first_below-none (is_alike rows namespaces i) i none)
 
-  kind_is : (i : ℕ) → (kind rows i ≤ i) × (is_alike rows i (kind rows i) ≡ true)
-  kind_is i = of (first_below (is_alike rows i) i) refl
+  kind_is : (i : ℕ) → (kind rows namespaces i ≤ i)
+      × (is_alike rows namespaces i (kind rows namespaces i) ≡ true)
+  kind_is i = of (first_below (is_alike rows namespaces i) i) refl
     where
-      of : (r : Option ℕ) → first_below (is_alike rows i) i ≡ r
-          → (unwrap_or r i ≤ i) × (is_alike rows i (unwrap_or r i) ≡ true)
+      of : (r : Option ℕ) → first_below (is_alike rows namespaces i) i ≡ r
+          → (unwrap_or r i ≤ i) × (is_alike rows namespaces i (unwrap_or r i) ≡ true)
       of None is = (omega arith, alike-self i)
       of (Some p) is =
-          let h = first_below-passes (is_alike rows i) i p is in let l = h.0 in (omega (arith, l), h.1)
+          let h = first_below-passes (is_alike rows namespaces i) i p is in
+          let l = h.0 in (omega (arith, l), h.1)
 
-  pub kind-at_most : (i : ℕ) → kind rows i ≤ i
+  pub kind-at_most : (i : ℕ) → kind rows namespaces i ≤ i
   kind-at_most i = (kind_is i).0
 
-  kinds_alike : (i j : ℕ) → is_alike rows i j ≡ true → kind rows i ≡ kind rows j
+  kinds_alike : (i j : ℕ) → is_alike rows namespaces i j ≡ true
+      → kind rows namespaces i ≡ kind rows namespaces j
   kinds_alike i j is = elim (order i j) [
     | inl less ↦
         (let e = (alike i j).0 is in
-        sym (kind-alike j i less ((alike j i).1 (sym e.0, sym e.1))))
+        sym (kind-alike j i less ((alike j i).1 (sym e.0, (sym e.1.0, sym e.1.1)))))
     | inr more ↦ elim more [
-      | inl same ↦ ap (kind rows) same
+      | inl same ↦ ap (kind rows namespaces) same
       | inr greater ↦ kind-alike i j greater is
     ]
   ]
 
-  alike_kinds : (i j : ℕ) → kind rows i ≡ kind rows j → is_alike rows i j ≡ true
+  alike_kinds : (i j : ℕ) → kind rows namespaces i ≡ kind rows namespaces j
+      → is_alike rows namespaces i j ≡ true
   alike_kinds i j same =
-      let e = (alike i (kind rows i)).0 (kind_is i).1 in
-      let f = (alike j (kind rows j)).0 (kind_is j).1 in
+      let e = (alike i (kind rows namespaces i)).0 (kind_is i).1 in
+      let f = (alike j (kind rows namespaces j)).0 (kind_is j).1 in
       (alike i j).1 (
         e.0 ∙ ap (family rows) same ∙ sym f.0,
-        e.1 ∙ ap (name_at rows) same ∙ sym f.1,
+        (
+          e.1.0 ∙ ap (namespace_at namespaces) same ∙ sym f.1.0,
+          e.1.1 ∙ ap (name_at rows) same ∙ sym f.1.1,
+        ),
       )
 
   -- two elements are of one kind if they are alike
-  pub kind-test : (i j : ℕ) → (kind rows i == kind rows j) ≡ is_alike rows i j
+  pub kind-test : (i j : ℕ)
+      → (kind rows namespaces i == kind rows namespaces j) ≡ is_alike rows namespaces i j
   kind-test i j =
-      same_from_decides (kind rows i == kind rows j) (is_alike rows i j)
-      (Decides-eqb (kind rows i) (kind rows j)) (kinds_alike i j, alike_kinds i j)
+      same_from_decides (kind rows namespaces i == kind rows namespaces j) (is_alike rows namespaces i j)
+      (Decides-eqb (kind rows namespaces i) (kind rows namespaces j)) (kinds_alike i j, alike_kinds i j)
 
   -- ---- earlier siblings, one after another
 
@@ -103,7 +120,7 @@ module _ (rows : List Row) where
   pub record IsCompared (i earlier : ℕ) : Type 0 where
     pub within : earlier ≤ i
     pub sibling : family rows i ≡ family rows earlier
-    pub unlike : (j : ℕ) → earlier ≤ j → j < i → is_alike rows i j ≡ false
+    pub unlike : (j : ℕ) → earlier ≤ j → j < i → is_alike rows namespaces i j ≡ false
 
   pub compared-none : (i : ℕ) → IsCompared i i
   compared-none i = record {
@@ -114,14 +131,15 @@ module _ (rows : List Row) where
 
   module _ (i earlier : ℕ) (so_far : IsCompared i earlier) where
     -- elements of another family
-    unlike-family : (j : ℕ) → is_sibling rows earlier j ≡ false → is_alike rows i j ≡ false
+    unlike-family : (j : ℕ) → is_sibling rows earlier j ≡ false
+        → is_alike rows namespaces i j ≡ false
     unlike-family j none =
-        ap (λ b. b && bytes_eq (name_at rows i) (name_at rows j))
+        ap (λ b. b && have_one_type rows namespaces i j)
         (ap (λ f. f == family rows j) so_far.sibling ∙ none)
 
-    unlike-name : (j : ℕ) → bytes_eq (name_at rows i) (name_at rows j) ≡ false
-        → is_alike rows i j ≡ false
-    unlike-name j none = ap (λ b. is_sibling rows i j && b) none ∙ and_false (is_sibling rows i j)
+    unlike-type : (j : ℕ) → have_one_type rows namespaces i j ≡ false
+        → is_alike rows namespaces i j ≡ false
+    unlike-type j none = ap (λ b. is_sibling rows i j && b) none ∙ and_false (is_sibling rows i j)
       where
         and_false : (b : Bool) → (b && false) ≡ false
         and_false true = refl
@@ -131,7 +149,7 @@ module _ (rows : List Row) where
     before-or-after j n = grind arith
 
     -- no sibling is left
-    pub compared-all : last_below (is_sibling rows earlier) earlier ≡ None → kind rows i ≡ i
+    pub compared-all : last_below (is_sibling rows earlier) earlier ≡ None → kind rows namespaces i ≡ i
     compared-all none =
         let is = subst (IsLast (is_sibling rows earlier) earlier) none
         (last_below-is (is_sibling rows earlier) earlier) in
@@ -153,7 +171,7 @@ module _ (rows : List Row) where
       pub sooner : s < i
       sooner = let a = is_last.0 in let b = so_far.within in omega (arith, a, b)
 
-      pub compared-more : bytes_eq (name_at rows i) (name_at rows s) ≡ false → IsCompared i s
+      pub compared-more : have_one_type rows namespaces i s ≡ false → IsCompared i s
       compared-more other = record {
         within = (let l = sooner in omega (arith, l));
         sibling = same_family;
@@ -161,7 +179,7 @@ module _ (rows : List Row) where
           | inl less ↦ elim (order s j) [
             | inl after ↦ unlike-family j (is_last.2 j after less)
             | inr more ↦ elim more [
-              | inl same ↦ ap (is_alike rows i) (sym same) ∙ unlike-name s other
+              | inl same ↦ ap (is_alike rows namespaces i) (sym same) ∙ unlike-type s other
               | inr before ↦ absurd (omega (arith, low, before))
             ]
           ]
@@ -169,24 +187,23 @@ module _ (rows : List Row) where
         ];
       }
 
-      -- it has the element's name
-      pub compared-same : bytes_eq (name_at rows i) (name_at rows s) ≡ true
-          → (kind rows i ≡ kind rows s) × (is_alike rows i s ≡ true)
+      -- it has the element's type
+      pub compared-same : have_one_type rows namespaces i s ≡ true
+          → kind rows namespaces i ≡ kind rows namespaces s
       compared-same same =
-          let is : is_alike rows i s ≡ true =
-          (alike i s).1 (same_family, (bytes_eq-Decides (name_at rows i) (name_at rows s)).0 same) in
-          (kind-alike i s sooner is, is)
+          kind-alike i s sooner ((alike i s).1 (same_family, (one_type i s).0 same))
 
--- ---- kinds by families and names
+-- ---- kinds by families, namespaces and names
 
 both_equal : (r s : Ordering) → is_eq (ordering_then r s) ≡ is_eq r && is_eq s
 both_equal Less s = refl
 both_equal Equal s = refl
 both_equal Greater s = refl
 
--- keys that are equal have one family and one name
+-- a number and a name that are equal
 pub equal_keys : (a b : ℕ × Bor (List ℕ))
-    → is_eq (kind_cmp a b) ≡ (a.0 == b.0 && bytes_eq a.1.now b.1.now)
+    → is_eq (ordering_then (nat_cmp a.0 b.0) (slice_cmp nat_cmp a.1.now b.1.now))
+    ≡ (a.0 == b.0 && bytes_eq a.1.now b.1.now)
 equal_keys a b =
     both_equal (nat_cmp a.0 b.0) (slice_cmp nat_cmp a.1.now b.1.now)
     ∙ ap (λ x. x && is_eq (slice_cmp nat_cmp a.1.now b.1.now)) (unsigned_tied a.0 b.0)
@@ -199,6 +216,32 @@ flipped a b x y =
     ∙ ap (λ t. b == a && t) (same_from_decides (bytes_eq x y) (bytes_eq y x) (bytes_eq-Decides x y)
     ((λ h. sym ((bytes_eq-Decides y x).0 h)), (λ e. (bytes_eq-Decides y x).1 (sym e))))
 
+-- keys that are equal have one family, one namespace and one name
+equal_kinds : (a b : KindKey) → Decides (is_eq (kind_cmp a b))
+    ((a.0 ≡ b.0) × ((a.1 ≡ b.1) × (a.2.now ≡ b.2.now)))
+equal_kinds a b =
+    subst (λ t. Decides t ((a.0 ≡ b.0) × ((a.1 ≡ b.1) × (a.2.now ≡ b.2.now)))) (sym is)
+    (Decides-and (a.0 == b.0) (a.1 == b.1 && bytes_eq a.2.now b.2.now) (Decides-eqb a.0 b.0)
+    (Decides-and (a.1 == b.1) (bytes_eq a.2.now b.2.now) (Decides-eqb a.1 b.1)
+    (bytes_eq-Decides a.2.now b.2.now)))
+  where
+    each_and : (x y z : Bool) → ((x && y) && z) ≡ (x && (y && z))
+    each_and true y z = refl
+    each_and false y z = refl
+
+    is : is_eq (kind_cmp a b) ≡ (a.0 == b.0 && (a.1 == b.1 && bytes_eq a.2.now b.2.now))
+    is =
+        both_equal (ordering_then (nat_cmp a.0 b.0) (nat_cmp a.1 b.1))
+        (slice_cmp nat_cmp a.2.now b.2.now)
+        ∙ ap (λ x. x && is_eq (slice_cmp nat_cmp a.2.now b.2.now))
+        (both_equal (nat_cmp a.0 b.0) (nat_cmp a.1 b.1))
+        ∙ ap (λ x. (x && is_eq (nat_cmp a.1 b.1)) && is_eq (slice_cmp nat_cmp a.2.now b.2.now))
+        (unsigned_tied a.0 b.0)
+        ∙ ap (λ x. (a.0 == b.0 && x) && is_eq (slice_cmp nat_cmp a.2.now b.2.now))
+        (unsigned_tied a.1 b.1)
+        ∙ ap (λ x. (a.0 == b.0 && a.1 == b.1) && x) (is_eq-slice_cmp a.2.now b.2.now)
+        ∙ each_and (a.0 == b.0) (a.1 == b.1) (bytes_eq a.2.now b.2.now)
+
 -- a family that has more members than are compared
 pub large-family : (families : List ℕ) (number family count : ℕ) → number ≡ family
     → count ≡ count_below (is_in_group families number) (length families) → COMPARED < count
@@ -206,84 +249,104 @@ pub large-family : (families : List ℕ) (number family count : ℕ) → number 
 large-family families number family count of counted more =
     subst (IsLarge families) of (subst (λ n. COMPARED < n) counted more)
 
-module _ (rows : List Row) (families : List ℕ) (n : ℕ) where
+module _ (rows : List Row) (namespaces families : List ℕ) (n : ℕ) where
+  kind_has : (key : KindKey) (j : ℕ) → Decides (has_kind rows namespaces key j)
+      ((key.0 ≡ family rows j)
+      × ((key.1 ≡ namespace_at namespaces j) × (key.2.now ≡ name_at rows j)))
+  kind_has key j =
+      Decides-and (key.0 == family rows j)
+      (key.1 == namespace_at namespaces j && bytes_eq key.2.now (name_at rows j))
+      (Decides-eqb key.0 (family rows j))
+      (Decides-and (key.1 == namespace_at namespaces j) (bytes_eq key.2.now (name_at rows j))
+      (Decides-eqb key.1 (namespace_at namespaces j)) (bytes_eq-Decides key.2.now (name_at rows j)))
+
+  -- the key of an element
+  key-alike : (key : KindKey) → has_kind rows namespaces key n ≡ true → (j : ℕ)
+      → has_kind rows namespaces key j ≡ is_alike rows namespaces n j
+  key-alike key has j =
+      let e = (kind_has key n).0 has in
+      ap (λ f. f == family rows j
+      && (key.1 == namespace_at namespaces j && bytes_eq key.2.now (name_at rows j))) e.0
+      ∙ ap (λ m. family rows n == family rows j
+      && (m == namespace_at namespaces j && bytes_eq key.2.now (name_at rows j))) e.1.0
+      ∙ ap (λ m. family rows n == family rows j
+      && (namespace_at namespaces n == namespace_at namespaces j && bytes_eq m (name_at rows j))) e.1.1
+
   -- an element that is like an earlier one
-  named-again : (s : ℕ) (old : BTreeMap (ℕ × Bor (List ℕ)) ℕ) → s < n → is_alike rows n s ≡ true
-      → AreNamed rows families old n → AreNamed rows families old (n + 1)
+  named-again : (s : ℕ) (old : BTreeMap KindKey ℕ) → s < n → is_alike rows namespaces n s ≡ true
+      → AreNamed rows namespaces families old n → AreNamed rows namespaces families old (n + 1)
   named-again s old lt is are key large =
-      rw add-one (are key large ∙ of (has_kind rows key n) refl)
+      rw add-one (are key large ∙ of (has_kind rows namespaces key n) refl)
     where
-      e : (family rows n ≡ family rows s) × (name_at rows n ≡ name_at rows s)
-      e = (alike rows n s).0 is
+      test : ℕ → Bool
+      test = has_kind rows namespaces key
 
-      there : has_kind rows key n ≡ has_kind rows key s
-      there =
-          ap (λ f. key.0 == f && bytes_eq key.1.now (name_at rows n)) e.0
-          ∙ ap (λ m. key.0 == family rows s && bytes_eq key.1.now m) e.1
-
-      of : (b : Bool) → has_kind rows key n ≡ b
-          → first_below (has_kind rows key) n ≡ first_below (has_kind rows key) (suc n)
-      of false none = sym (first_below-false (has_kind rows key) n none)
+      of : (b : Bool) → test n ≡ b → first_below test n ≡ first_below test (suc n)
+      of false none = sym (first_below-false test n none)
       of true has =
-          first_below-from (has_kind rows key) s n (sym there ∙ has) lt
-          ∙ sym (first_below-from (has_kind rows key) s (suc n) (sym there ∙ has) (omega (arith, lt)))
+          let there : test s ≡ true = key-alike key has s ∙ is in
+          first_below-from test s n there lt
+          ∙ sym (first_below-from test s (suc n) there (omega (arith, lt)))
 
-  -- the key of the element
-  module _ (key : ℕ × Bor (List ℕ)) (of : key.0 ≡ family rows n) (named : key.1.now ≡ name_at rows n) where
-    key-alike : (j : ℕ) → has_kind rows key j ≡ is_alike rows n j
-    key-alike j =
-        ap (λ f. f == family rows j && bytes_eq key.1.now (name_at rows j)) of
-        ∙ ap (λ m. family rows n == family rows j && bytes_eq m (name_at rows j)) named
+  module _ (key : KindKey) (of : key.0 ≡ family rows n) (inside : key.1 ≡ namespace_at namespaces n)
+      (named : key.2.now ≡ name_at rows n) where
+    own : has_kind rows namespaces key n ≡ true
+    own = (kind_has key n).1 (of, (inside, named))
 
-    first_known : (old : BTreeMap (ℕ × Bor (List ℕ)) ℕ) → IsLarge families (family rows n)
-        → AreNamed rows families old n → get kind_cmp old key ≡ first_below (is_alike rows n) n
+    first_known : (old : BTreeMap KindKey ℕ) → IsLarge families (family rows n)
+        → AreNamed rows namespaces families old n
+        → get kind_cmp old key ≡ first_below (is_alike rows namespaces n) n
     first_known old large are =
         are key (subst (IsLarge families) (sym of) large)
-        ∙ first_below-same (has_kind rows key) (is_alike rows n) n key-alike
+        ∙ first_below-same (has_kind rows namespaces key) (is_alike rows namespaces n) n
+        (key-alike key own)
 
     -- a key that the map has
-    pub named-found : (old : BTreeMap (ℕ × Bor (List ℕ)) ℕ) (k : ℕ) → IsLarge families (family rows n)
-        → AreNamed rows families old n → get kind_cmp old key ≡ Some k
-        → (k ≡ kind rows n) × AreNamed rows families old (n + 1)
+    pub named-found : (old : BTreeMap KindKey ℕ) (k : ℕ) → IsLarge families (family rows n)
+        → AreNamed rows namespaces families old n → get kind_cmp old key ≡ Some k
+        → (k ≡ kind rows namespaces n) × AreNamed rows namespaces families old (n + 1)
     named-found old k large are is =
-        let first : first_below (is_alike rows n) n ≡ Some k = sym (first_known old large are) ∙ is in
-        let p = first_below-passes (is_alike rows n) n k first in (
+        let first : first_below (is_alike rows namespaces n) n ≡ Some k =
+        sym (first_known old large are) ∙ is in
+        let p = first_below-passes (is_alike rows namespaces n) n k first in (
           sym (ap (λ r. unwrap_or r n) first),
           named-again k old p.0 p.1 are,
         )
 
     -- a new key
-    pub named-new : (old new : BTreeMap (ℕ × Bor (List ℕ)) ℕ) → IsLarge families (family rows n)
-        → AreNamed rows families old n → get kind_cmp old key ≡ None
-        → ((q : ℕ × Bor (List ℕ)) → get kind_cmp new q
+    pub named-new : (old new : BTreeMap KindKey ℕ) → IsLarge families (family rows n)
+        → AreNamed rows namespaces families old n → get kind_cmp old key ≡ None
+        → ((q : KindKey) → get kind_cmp new q
         ≡ cond (is_eq (kind_cmp key q)) (Some n) (get kind_cmp old q))
-        → (n ≡ kind rows n) × AreNamed rows families new (n + 1)
+        → (n ≡ kind rows namespaces n) × AreNamed rows namespaces families new (n + 1)
     named-new old new large are is updates =
-        let first : first_below (is_alike rows n) n ≡ None = sym (first_known old large are) ∙ is in (
+        let first : first_below (is_alike rows namespaces n) n ≡ None =
+        sym (first_known old large are) ∙ is in (
           sym (ap (λ r. unwrap_or r n) first),
           λ q more. rw add-one (updates q ∙ ap (λ b. cond b (Some n) (get kind_cmp old q)) (equal q)
-              ∙ step q more first (has_kind rows q n) refl),
+              ∙ step q more first (has_kind rows namespaces q n) refl),
         )
       where
-        equal : (q : ℕ × Bor (List ℕ)) → is_eq (kind_cmp key q) ≡ has_kind rows q n
+        equal : (q : KindKey) → is_eq (kind_cmp key q) ≡ has_kind rows namespaces q n
         equal q =
-            equal_keys key q
-            ∙ flipped key.0 q.0 key.1.now q.1.now
-            ∙ ap (λ f. q.0 == f && bytes_eq q.1.now key.1.now) of
-            ∙ ap (λ m. q.0 == family rows n && bytes_eq q.1.now m) named
+            same_from_decides (is_eq (kind_cmp key q)) (has_kind rows namespaces q n)
+            (equal_kinds key q) (
+              (λ h. let e = (kind_has q n).0 h in
+                  (of ∙ sym e.0, (inside ∙ sym e.1.0, named ∙ sym e.1.1))),
+              (λ e. (kind_has q n).1 (sym e.0 ∙ of, (sym e.1.0 ∙ inside, sym e.1.1 ∙ named))),
+            )
 
-        step : (q : ℕ × Bor (List ℕ)) → IsLarge families q.0 → first_below (is_alike rows n) n ≡ None
-            → (b : Bool) → has_kind rows q n ≡ b
-            → cond (has_kind rows q n) (Some n) (get kind_cmp old q) ≡ first_below (has_kind rows q) (suc n)
+        step : (q : KindKey) → IsLarge families q.0
+            → first_below (is_alike rows namespaces n) n ≡ None → (b : Bool)
+            → has_kind rows namespaces q n ≡ b
+            → cond (has_kind rows namespaces q n) (Some n) (get kind_cmp old q)
+            ≡ first_below (has_kind rows namespaces q) (suc n)
         step q more first false none =
             ap (λ b. cond b (Some n) (get kind_cmp old q)) none
-            ∙ are q more ∙ sym (first_below-false (has_kind rows q) n none)
+            ∙ are q more ∙ sym (first_below-false (has_kind rows namespaces q) n none)
         step q more first true has =
-            let e = (Decides-and (q.0 == family rows n) (bytes_eq q.1.now (name_at rows n))
-            (Decides-eqb q.0 (family rows n)) (bytes_eq-Decides q.1.now (name_at rows n))).0 has in
             ap (λ b. cond b (Some n) (get kind_cmp old q)) has
-            ∙ sym (first_below-from (has_kind rows q) n (suc n) has (omega arith)
+            ∙ sym (first_below-from (has_kind rows namespaces q) n (suc n) has (omega arith)
             ∙ ap (λ r. Some (unwrap_or r n))
-            (first_below-same (has_kind rows q) (is_alike rows n) n
-            (λ j. ap (λ f. f == family rows j && bytes_eq q.1.now (name_at rows j)) e.0
-            ∙ ap (λ m. family rows n == family rows j && bytes_eq m (name_at rows j)) e.1) ∙ first))
+            (first_below-same (has_kind rows namespaces q) (is_alike rows namespaces n) n
+            (key-alike q has) ∙ first))

@@ -85,37 +85,42 @@ families_within rows families are k d lt =
     let is = get_or_from_slice_get families k (family rows k) d (are.each k within) in
     let most = family-at_most rows k in omega (arith, is, most, within)
 
-pub kinds_within : (rows : List Row) (kinds : List ℕ) → AreKinds rows kinds
+pub kinds_within : (rows : List Row) (namespaces kinds : List ℕ) → AreKinds rows namespaces kinds
     → All (λ number. number < length rows) kinds
-kinds_within rows kinds are k d lt =
+kinds_within rows namespaces kinds are k d lt =
     let all = are.all in
     let within : k < length rows = omega (arith, lt, all) in
-    let is = get_or_from_slice_get kinds k (kind rows k) d (are.each k within) in
-    let most = kind-at_most rows k in omega (arith, is, most, within)
+    let is = get_or_from_slice_get kinds k (kind rows namespaces k) d (are.each k within) in
+    let most = kind-at_most rows namespaces k in omega (arith, is, most, within)
 
 -- the elements of the kind with a number
-module _ (rows : List Row) (kinds : List ℕ) (are : AreKinds rows kinds) (i : ℕ)
+module _ (rows : List Row) (namespaces kinds : List ℕ) (are : AreKinds rows namespaces kinds) (i : ℕ)
     (within : i < length rows) where
-  alike_test : (j : ℕ) → j < length rows → is_in_group kinds (kind rows i) j ≡ is_alike rows i j
+  alike_test : (j : ℕ) → j < length rows
+      → is_in_group kinds (kind rows namespaces i) j ≡ is_alike rows namespaces i j
   alike_test j lt =
-      ap (λ r. option_map_or (λ k. kind rows i == k) r false) (are.each j lt) ∙ kind-test rows i j
+      ap (λ r. option_map_or (λ k. kind rows namespaces i == k) r false) (are.each j lt)
+      ∙ kind-test rows namespaces i j
 
   alike_count : (n : ℕ) → n ≤ length rows
-      → count_below (is_in_group kinds (kind rows i)) n ≡ count_below (is_alike rows i) n
+      → count_below (is_in_group kinds (kind rows namespaces i)) n
+      ≡ count_below (is_alike rows namespaces i) n
   alike_count n le =
-      count_below-same (is_in_group kinds (kind rows i)) (is_alike rows i) n
+      count_below-same (is_in_group kinds (kind rows namespaces i)) (is_alike rows namespaces i) n
       (λ j lt. alike_test j (omega (arith, lt, le)))
 
-  pub alike_before : count_below (is_in_group kinds (kind rows i)) i ≡ count_below (is_alike rows i) i
+  pub alike_before : count_below (is_in_group kinds (kind rows namespaces i)) i
+      ≡ count_below (is_alike rows namespaces i) i
   alike_before = alike_count i (omega (arith, within))
 
-  pub alike_after : count_after_number kinds (kind rows i) i ≡ count_after (is_alike rows i) i rows
+  pub alike_after : count_after_number kinds (kind rows namespaces i) i
+      ≡ count_after (is_alike rows namespaces i) i rows
   alike_after =
-      ap (λ n. count_below (is_in_group kinds (kind rows i)) n
-      - (count_below (is_in_group kinds (kind rows i)) i + 1)) are.all
-      ∙ ap (λ n. n - (count_below (is_in_group kinds (kind rows i)) i + 1))
+      ap (λ n. count_below (is_in_group kinds (kind rows namespaces i)) n
+      - (count_below (is_in_group kinds (kind rows namespaces i)) i + 1)) are.all
+      ∙ ap (λ n. n - (count_below (is_in_group kinds (kind rows namespaces i)) i + 1))
       (alike_count (length rows) (omega arith))
-      ∙ ap (λ n. count_below (is_alike rows i) (length rows) - (n + 1)) alike_before
+      ∙ ap (λ n. count_below (is_alike rows namespaces i) (length rows) - (n + 1)) alike_before
 
 -- a list of which the items below a number are known, and the next
 pub known_more : {X : Type 0} (P : ℕ → X → Type 0) (xs ys : List X) (x : X) (n i : ℕ)
@@ -147,12 +152,13 @@ known_more P xs ys x n i is len here before lt =
         let l = ap length is ∙ length-append xs (x ∷ []) in omega (arith, lt, l, len)
 
 -- the kinds of the elements below an index, and of the one at it
-pub kinds_more : (rows : List Row) (kinds more : List ℕ) (number n : ℕ) → HasKinds rows kinds n
-    → more ≡ kinds ++ number ∷ [] → number ≡ kind rows n → HasKinds rows more (n + 1)
-kinds_more rows kinds more number n are is of = record {
+pub kinds_more : (rows : List Row) (namespaces kinds more : List ℕ) (number n : ℕ)
+    → HasKinds rows namespaces kinds n → more ≡ kinds ++ number ∷ [] → number ≡ kind rows namespaces n
+    → HasKinds rows namespaces more (n + 1)
+kinds_more rows namespaces kinds more number n are is of = record {
   all = ap length is ∙ length-append kinds (number ∷ []) ∙ ap (λ k. k + 1) are.all;
-  each = λ i lt. (let k = known_more (λ j m. m ≡ kind rows j) kinds more number n i is are.all of
-      (λ j less. (kind rows j, are.each j less, refl)) lt in
+  each = λ i lt. (let k = known_more (λ j m. m ≡ kind rows namespaces j) kinds more number n i is
+      are.all of (λ j less. (kind rows namespaces j, are.each j less, refl)) lt in
       k.1 ∙ ap Some k.2);
 }
 

@@ -1,20 +1,19 @@
 -- What is decided for an element, by what is for its parent.
 -- Serves `surroundings`.
-use Rattle.std.proofs.Common.{◌≡◌, ℕ, zero, suc, ◌+◌, ◌<◌, Bool, true, false, not, ◌||◌, ◌&&◌, List, [], ◌∷◌, ◌++◌, length, Option, None, Some, refl, sym, ap, ◌∙◌, arith}
-use Rattle.std.specs.Prelude.{◌==◌, bytes_eq, codes, nat_eq, if◌then◌else◌}
+use Rattle.std.proofs.Common.{◌≡◌, ◌≢◌, ℕ, zero, suc, ◌+◌, ◌<◌, ◌≤◌, ◌⊎◌, inl, inr, Bool, true, false, ◌||◌, ◌&&◌, List, [], ◌∷◌, ◌++◌, length, Option, None, Some, refl, sym, ap, subst, ◌∙◌, arith}
+use Rattle.std.specs.Prelude.{◌==◌, codes, nat_eq}
 use Rattle.std.specs.List.{slice_get}
 use Rattle.std.specs.Option.{option_eq}
 use Rattle.std.proofs.lemmas.Bool.Decides.{Decides-eqb, nat_tests, same_from_decides}
 use Rattle.std.proofs.lemmas.List.{length-append}
-use Rattle.std.proofs.lemmas.Slice.Eq.{bytes_eq-Decides}
 use Rattle.css_matching.specs.ListTrees.{ancestors, ancestors_step, with_those_after}
 use Rattle.simplecss_tree.specs.Rows.{Row}
-use Rattle.simplecss_tree.specs.TreeNodes.{named_parent, name_at}
-use Rattle.css_tree.specs.Counts.{any_below, count_below}
+use Rattle.simplecss_tree.specs.TreeNodes.{named_parent}
+use Rattle.css_tree.specs.Counts.{any_below, last_below}
 use Rattle.css_tree.specs.HtmlElements.{is_named}
-use Rattle.css_tree.specs.Pages.{family, family_under, is_alike, parent_index}
+use Rattle.css_tree.specs.Pages.{family, family_under, is_sibling, parent_index}
 use Rattle.css_tree.specs.Surroundings.{surroundings, surroundings_by, within, at_root, is_legend_of}
-use Rattle.css_tree.proofs.Counting.{count_below-same}
+use Rattle.css_tree.proofs.Counting.{IsLast, last_below-is, last_or_before, same_or_other}
 use Rattle.css_tree.proofs.Numbering.{known_more}
 
 module _ (rows : List Row) (i : ℕ) where
@@ -35,21 +34,24 @@ module _ (rows : List Row) (i : ℕ) where
 
 -- ---- the first legend
 
-step_none : (b c : Bool) (n : ℕ) → not b ≡ (n == 0)
-    → not (b || c) ≡ (n + (if c then 1 else 0) == 0)
-step_none b true n h = grind (arith, nat_tests)
-step_none b false n h = grind (arith, h)
+any_with : (test : ℕ → Bool) (s n : ℕ) → s < n → test s ≡ true → any_below test n ≡ true
+any_with test s zero lt is = absurd (omega arith)
+any_with test s (suc n) lt is = elim (last_or_before s n lt) [
+  | inl same ↦
+      ap (λ b. any_below test n || b) (ap test (sym same) ∙ is) ∙ or_true (any_below test n)
+  | inr less ↦ ap (λ b. b || test n) (any_with test s n less is)
+]
+  where
+    or_true : (b : Bool) → (b || true) ≡ true
+    or_true true = refl
+    or_true false = refl
 
--- none is there, or their count is zero
-pub any_below-count : (test : ℕ → Bool) (n : ℕ) → not (any_below test n) ≡ (count_below test n == 0)
-any_below-count test zero = refl
-any_below-count test (suc n) =
-    step_none (any_below test n) (test n) (count_below test n) (any_below-count test n)
-
-same_names : (x y : List ℕ) → bytes_eq x y ≡ bytes_eq y x
-same_names x y =
-    same_from_decides (bytes_eq x y) (bytes_eq y x) (bytes_eq-Decides x y)
-    ((λ h. sym ((bytes_eq-Decides y x).0 h)), (λ e. (bytes_eq-Decides y x).1 (sym e)))
+any_without : (test : ℕ → Bool) (n : ℕ) → ((j : ℕ) → j < n → test j ≡ false)
+    → any_below test n ≡ false
+any_without test zero none = refl
+any_without test (suc n) none =
+    ap (λ b. b || test n) (any_without test n (λ j lt. none j (omega (arith, lt))))
+    ∙ none n (omega arith)
 
 never_zero : (n : ℕ) → (suc n == 0) ≡ false
 never_zero n = grind (arith, nat_tests)
@@ -66,30 +68,93 @@ same_parent : (parent : ℕ) (r : Option ℕ)
 same_parent parent None = never_zero parent
 same_parent parent (Some q) = sucs_same parent q
 
-swapped : (b c : Bool) → (b && c) ≡ (c && b)
-swapped true true = refl
-swapped true false = refl
-swapped false true = refl
-swapped false false = refl
+is_parent : (parent : ℕ) (r : Option ℕ) → option_eq nat_eq r (Some parent) ≡ true → r ≡ Some parent
+is_parent parent None is = absurd (cc)
+is_parent parent (Some q) is = ap Some ((Decides-eqb q parent).0 is)
 
-module _ (rows : List Row) (i parent : ℕ) (under : parent_index rows i ≡ Some parent)
-    (named : name_at rows i ≡ codes "legend") where
-  legend-alike : (j : ℕ) → is_alike rows i j ≡ is_legend_of rows parent j
-  legend-alike j =
-      ap (λ r. family_under r == family rows j && bytes_eq (name_at rows i) (name_at rows j)) under
-      ∙ ap (λ n. suc parent == family rows j && bytes_eq n (name_at rows j)) named
-      ∙ ap (λ b. b && bytes_eq (codes "legend") (name_at rows j))
-      (same_parent parent (parent_index rows j))
-      ∙ ap (λ b. option_eq nat_eq (parent_index rows j) (Some parent) && b)
-      (same_names (codes "legend") (name_at rows j))
-      ∙ swapped (option_eq nat_eq (parent_index rows j) (Some parent)) (is_named rows j (codes "legend"))
+and_false : (b : Bool) → (b && false) ≡ false
+and_false true = refl
+and_false false = refl
 
-  pub no_legends : (count_below (is_alike rows i) i == 0)
-      ≡ not (any_below (is_legend_of rows parent) i)
-  no_legends =
-      ap (λ n. n == 0) (count_below-same (is_alike rows i) (is_legend_of rows parent) i
-      (λ j lt. legend-alike j))
-      ∙ sym (any_below-count (is_legend_of rows parent) i)
+module _ (rows : List Row) (parent i : ℕ) where
+  -- a sibling that is not after the element: none from it on is a legend before the element
+  pub record ArePassed (earlier : ℕ) : Type 0 where
+    pub within : earlier ≤ i
+    pub under : parent_index rows earlier ≡ Some parent
+    pub none : (j : ℕ) → earlier ≤ j → j < i → is_legend_of rows parent j ≡ false
+
+  pub passed-none : parent_index rows i ≡ Some parent → ArePassed i
+  passed-none under = record {
+    within = omega arith;
+    under = under;
+    none = λ j low high. absurd (omega (arith, low, high));
+  }
+
+  module _ (earlier : ℕ) (so_far : ArePassed earlier) where
+    sibling-child : (j : ℕ)
+        → is_sibling rows earlier j ≡ option_eq nat_eq (parent_index rows j) (Some parent)
+    sibling-child j =
+        ap (λ r. family_under r == family rows j) so_far.under
+        ∙ same_parent parent (parent_index rows j)
+
+    no-child : (j : ℕ) → is_sibling rows earlier j ≡ false → is_legend_of rows parent j ≡ false
+    no-child j other =
+        ap (λ b. is_named rows j (codes "legend") && b) (sym (sibling-child j) ∙ other)
+        ∙ and_false (is_named rows j (codes "legend"))
+
+    before-or-after : (j n : ℕ) → (j < n) ⊎ (n ≤ j)
+    before-or-after j n = grind arith
+
+    -- no sibling is left
+    pub passed-all : last_below (is_sibling rows earlier) earlier ≡ None
+        → false ≡ any_below (is_legend_of rows parent) i
+    passed-all last =
+        let is = subst (IsLast (is_sibling rows earlier) earlier) last
+        (last_below-is (is_sibling rows earlier) earlier) in
+        sym (any_without (is_legend_of rows parent) i (λ j lt. elim (before-or-after j earlier) [
+          | inl less ↦ no-child j (is j less)
+          | inr more ↦ so_far.none j more lt
+        ]))
+
+    -- the next sibling
+    module _ (s : ℕ) (last : last_below (is_sibling rows earlier) earlier ≡ Some s) where
+      is_last : IsLast (is_sibling rows earlier) earlier (Some s)
+      is_last =
+          subst (IsLast (is_sibling rows earlier) earlier) last
+          (last_below-is (is_sibling rows earlier) earlier)
+
+      child : option_eq nat_eq (parent_index rows s) (Some parent) ≡ true
+      child = sym (sibling-child s) ∙ is_last.1
+
+      sooner : s < i
+      sooner = let a = is_last.0 in let b = so_far.within in omega (arith, a, b)
+
+      pub passed-legend : is_named rows s (codes "legend") ≡ true
+          → true ≡ any_below (is_legend_of rows parent) i
+      passed-legend named =
+          sym (any_with (is_legend_of rows parent) s i sooner
+          (ap (λ b. b && option_eq nat_eq (parent_index rows s) (Some parent)) named ∙ child))
+
+      pub passed-more : is_named rows s (codes "legend") ≡ false → ArePassed s
+      passed-more other = record {
+        within = (let l = sooner in omega (arith, l));
+        under = is_parent parent (parent_index rows s) child;
+        none = λ j low high. elim (before-or-after j earlier) [
+          | inl less ↦ elim (same_or_other s j) [
+            | inl same ↦
+                subst (λ k. is_legend_of rows parent k ≡ false) same
+                (ap (λ b. b && option_eq nat_eq (parent_index rows s) (Some parent)) other)
+            | inr apart ↦ no-child j (is_last.2 j (after j low apart) less)
+          ]
+          | inr more ↦ so_far.none j more high
+        ];
+      }
+        where
+          after : (j : ℕ) → s ≤ j → s ≢ j → s < j
+          after j low apart = elim (before-or-after s j) [
+            | inl less ↦ less
+            | inr more ↦ absurd (apart (omega (arith, low, more)))
+          ]
 
 -- ---- what is kept of the elements below an index, and of the one at it
 

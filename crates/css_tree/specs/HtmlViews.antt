@@ -3,11 +3,13 @@ use Rattle.std.specs.Prelude.{◌≡◌, ◌≤◌, ◌<◌, ◌+◌, ℕ, Bool,
 use Rattle.std.specs.Option.{option_map_or}
 use Rattle.std.specs.Borrow.{Bor}
 use Rattle.std.specs.BTreeMap.{BTreeMap, get}
+use Rattle.std.specs.Cmp.Lexicographic.{slice_cmp}
 use Rattle.std.specs.List.{slice_get}
+use Rattle.std.specs.Ordering.{nat_cmp, ordering_then}
+use Rattle.std.specs.declared.cmp.Ordering.{Ordering}
 use Rattle.simplecss_tree.specs.Rows.{Row}
 use Rattle.css_tree.specs.Counts.{any_below}
 use Rattle.css_tree.specs.HtmlStates.{is_checked, is_disabled, is_enabled, is_required, is_optional, is_read_write, is_input_with_placeholder, is_area_with_placeholder, is_default, is_indeterminate, is_open, is_defined, is_checked_in, is_submit_of, is_left_to_right, is_right_to_left, state_named}
-use Rattle.css_tree.specs.Keys.{kind_cmp}
 use Rattle.css_tree.specs.Surroundings.{surroundings}
 use Rattle.css_tree.specs.declared.html_states.HtmlState.{HtmlState}
 use Rattle.css_tree.specs.declared.html_states.HtmlState.TheVariants.{Checked, Disabled, Enabled, Required, Optional, ReadWrite, ReadOnly, PlaceholderShown, Default, Indeterminate, Open, Defined, InLeftToRight, InRightToLeft}
@@ -64,10 +66,14 @@ pub record AreAround (rows : List Row) (around : List Surroundings) (n : ℕ) : 
   pub all : length around ≡ n
   pub each : (i : ℕ) → i < n → slice_get around i ≡ Some (surroundings rows i)
 
+-- the order of numbers of forms with names
+abbrev pub group_cmp : ℕ × Bor (List ℕ) → ℕ × Bor (List ℕ) → Ordering
+group_cmp a b = ordering_then (nat_cmp a.0 b.0) (slice_cmp nat_cmp a.1.now b.1.now)
+
 -- the forms and the names of the radio buttons below an index that are checked
 abbrev pub AreChecked : List Row → BTreeMap (ℕ × Bor (List ℕ)) ℕ → ℕ → Type 0
 AreChecked rows groups n =
-    (key : ℕ × Bor (List ℕ)) → is_some (get kind_cmp groups key)
+    (key : ℕ × Bor (List ℕ)) → is_some (get group_cmp groups key)
     ≡ any_below (is_checked_in rows key.0 key.1.now) n
 
 -- which forms, by their numbers, have a submit button below an index

@@ -2,7 +2,8 @@
 //!
 //! The tree that they are matched on has in lower case: the names of elements and of attributes, the
 //! values of the attributes in `CASELESS_ATTRIBUTES`, and in quirks mode those in `QUIRKS_ATTRIBUTES`. The flag `s`
-//! of an attribute selector changes nothing at these attributes.
+//! of an attribute selector changes nothing at these attributes. They are in no namespace: the values of attributes
+//! in a namespace are as the document has them, and `[n|type=a]` compares them with case.
 ghost use Rattle.std.specs.Prelude.{◌≡◌, ◌<◌, IfOk, length, map, option_map};
 ghost use Rattle.std.specs.List.{list_any};
 ghost use Rattle.std.specs.Char.{is_ascii_uppercase};
@@ -12,7 +13,7 @@ ghost use Rattle.css_selectors.specs.Views.{namespace_of, local_of, simple_of, c
 ghost use Rattle.css_selectors.specs.declared.components.Simple.TheVariants.{Attribute, Function, Namespaced as NamespacedIs};
 ghost use Rattle.css_selectors.specs.declared.components.Local.TheVariants.{Attribute as AnAttribute};
 ghost use Rattle.css_tree.specs.Html.{caseless_attributes, quirks_attributes, is_among};
-ghost use Rattle.css_tree.specs.Html.{is_caseless};
+ghost use Rattle.css_tree.specs.Html.{is_caseless, is_caseless_in as is_caseless_within};
 ghost use Rattle.css_tree.specs.Html.{lower_case, word_in, local_in, simple_in};
 ghost use Rattle.css_tree.specs.Html.{condition_in, part_in, pseudo_element_in, html_selector, list_in};
 
@@ -143,13 +144,41 @@ fn test_in<'s>(
     mode: HtmlMode,
     test: &'s AttributeTest<'_>,
 ) -> Result<AttributeTest<'s>, AllocError>
-    ensures simple { IfOk result (λ read. simple_of (Attribute read)
+    ensures { IfOk result (λ read. simple_of (Attribute read)
         ≡ simple_in mode (simple_of (Attribute test.now))) }
-    ensures local { IfOk result (λ read. local_of (AnAttribute read)
-        ≡ local_in mode (local_of (AnAttribute test.now))) }
 {
     let name = lower_case(alloc, test.name.as_str())?;
     let ignores_case = test.ignores_case || is_caseless(mode, name.as_str());
+    Ok(AttributeTest {
+        name,
+        comparison: test.comparison,
+        text: CowStr::Borrowed(test.text.as_str()),
+        ignores_case,
+    })
+}
+
+/// Whether the values of an attribute that is in a namespace are compared without case.
+fn is_caseless_in(mode: HtmlMode, namespace: &Namespace<'_>, name: &str) -> bool
+    ensures { result ≡ is_caseless_within mode (namespace_of namespace.now) name.now }
+{
+    match namespace {
+        Namespace::Prefix(_, number) => *number == 0 && is_caseless(mode, name),
+        Namespace::Absent | Namespace::Any | Namespace::Default(_) => is_caseless(mode, name),
+    }
+}
+
+/// Returns a condition on an attribute that is in a namespace as a document reads it.
+fn namespaced_test_in<'s>(
+    alloc: Global,
+    mode: HtmlMode,
+    namespace: &Namespace<'_>,
+    test: &'s AttributeTest<'_>,
+) -> Result<AttributeTest<'s>, AllocError>
+    ensures { IfOk result (λ read. local_of (AnAttribute read)
+        ≡ local_in mode (namespace_of namespace.now) (local_of (AnAttribute test.now))) }
+{
+    let name = lower_case(alloc, test.name.as_str())?;
+    let ignores_case = test.ignores_case || is_caseless_in(mode, namespace, name.as_str());
     Ok(AttributeTest {
         name,
         comparison: test.comparison,
@@ -217,15 +246,19 @@ fn same_namespace<'s>(namespace: &'s Namespace<'_>) -> Namespace<'s>
 fn local_in<'s>(
     alloc: Global,
     mode: HtmlMode,
+    namespace: &Namespace<'_>,
     local: &'s Local<'_>,
 ) -> Result<Local<'s>, AllocError>
-    ensures { IfOk result (λ read. local_of read ≡ local_in mode (local_of local.now)) }
+    ensures { IfOk result (λ read. local_of read
+        ≡ local_in mode (namespace_of namespace.now) (local_of local.now)) }
 {
     match local {
         Local::Universal => Ok(Local::Universal),
         Local::TypeName(name) => Ok(Local::TypeName(lower_case(alloc, name.as_str())?)),
         Local::HasAttribute(name) => Ok(Local::HasAttribute(lower_case(alloc, name.as_str())?)),
-        Local::Attribute(test) => Ok(Local::Attribute(test_in(alloc, mode, test)?)),
+        Local::Attribute(test) => {
+            Ok(Local::Attribute(namespaced_test_in(alloc, mode, namespace, test)?))
+        }
         Local::Implied => Ok(Local::Implied),
     }
 }
@@ -241,7 +274,7 @@ fn namespaced_in<'s>(
 {
     Ok(Namespaced {
         namespace: same_namespace(&namespaced.namespace),
-        local: local_in(alloc, mode, &namespaced.local)?,
+        local: local_in(alloc, mode, &namespaced.namespace, &namespaced.local)?,
     })
 }
 

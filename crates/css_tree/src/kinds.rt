@@ -1,15 +1,16 @@
-//! Kinds of elements: those with one parent and one name.
+//! Kinds of elements: those with one parent and one type, which is a namespace and a name.
 ghost use Rattle.std.specs.Prelude.{◌≡◌, ◌<◌, ◌+◌, length, IfOk};
 ghost use Rattle.simplecss_tree.specs.TreeNodes.{name_at};
 ghost use Rattle.css_tree.specs.Keys.{AreFamilies, AreKinds, HasKinds};
 ghost use Rattle.css_tree.specs.Keys.{AreNamed, kind};
+ghost use Rattle.css_tree.specs.Pages.{namespace_at, have_one_type as are_of_one_type};
 
 use crate::groups::Groups;
 use simplecss_tree::Tree;
 use std::alloc::{AllocError, Global};
 use std::collections::BTreeMap;
 
-/// The most members of a family whose names are compared one after another.
+/// The most members of a family whose types are compared one after another.
 const COMPARED: u32 = 16;
 
 /// Returns the name of an element.
@@ -20,18 +21,40 @@ fn name_of<'t>(tree: &Tree<'t>, index: usize) -> &'t str
     tree.node(index).unwrap().name()
 }
 
-/// Returns the number of the kind of an element: its name is compared with those of its earlier
+/// Returns the number of the namespace of an element, which is 0 after the last of `namespaces`.
+pub(crate) fn namespace_of(namespaces: &[usize], index: usize) -> usize
+    ensures { result ≡ namespace_at namespaces.now index }
+{
+    namespaces.get(index).copied().unwrap_or(0)
+}
+
+/// Whether two elements have one type.
+fn have_one_type(tree: &Tree<'_>, namespaces: &[usize], index: usize, other: usize) -> bool
+    requires within { index < length tree.now }
+    requires other { other < length tree.now }
+    ensures { result ≡ are_of_one_type tree.now namespaces.now index other }
+{
+    namespace_of(namespaces, index) == namespace_of(namespaces, other)
+        && name_of(tree, index) == name_of(tree, other)
+}
+
+/// Returns the number of the kind of an element: its type is compared with those of its earlier
 /// siblings, one after another.
-fn kind_by_siblings(tree: &Tree<'_>, families: &Groups, kinds: &[usize], index: usize) -> usize
+fn kind_by_siblings(
+    tree: &Tree<'_>,
+    namespaces: &[usize],
+    families: &Groups,
+    kinds: &[usize],
+    index: usize,
+) -> usize
     requires within { index < length tree.now }
     requires families { AreFamilies tree.now families.now }
-    requires kinds { HasKinds tree.now kinds.now index }
-    ensures { result ≡ kind tree.now index }
+    requires kinds { HasKinds tree.now namespaces.now kinds.now index }
+    ensures { result ≡ kind tree.now namespaces.now index }
 {
-    let name = name_of(tree, index);
     let mut earlier = index;
     'siblings: while let Some(sibling) = families.before(earlier).last {
-        if name == name_of(tree, sibling) {
+        if have_one_type(tree, namespaces, index, sibling) {
             return kinds[sibling];
         }
         earlier = sibling;
@@ -39,27 +62,32 @@ fn kind_by_siblings(tree: &Tree<'_>, families: &Groups, kinds: &[usize], index: 
     index
 }
 
-/// Returns the number of the kind of an element. In a large family its name is searched among those of
+/// Returns the number of the kind of an element. In a large family its type is searched among those of
 /// the family, each with the number of its kind.
 fn kind_of<'t>(
     tree: &Tree<'t>,
+    namespaces: &[usize],
     families: &Groups,
     kinds: &[usize],
-    named: &mut BTreeMap<(usize, &'t str), usize>,
+    named: &mut BTreeMap<(usize, usize, &'t str), usize>,
     index: usize,
 ) -> Result<usize, AllocError>
     requires within { index < length tree.now }
     requires families { AreFamilies tree.now families.now }
-    requires kinds { HasKinds tree.now kinds.now index }
-    requires named { AreNamed tree.now families.now named.old index }
-    ensures { IfOk result (λ number. (number ≡ kind tree.now index)
-        × AreNamed tree.now families.now named.new (index + 1)) }
+    requires kinds { HasKinds tree.now namespaces.now kinds.now index }
+    requires named { AreNamed tree.now namespaces.now families.now named.old index }
+    ensures { IfOk result (λ number. (number ≡ kind tree.now namespaces.now index)
+        × AreNamed tree.now namespaces.now families.now named.new (index + 1)) }
 {
     let family = families.number(index);
     if families.count(family) <= COMPARED {
-        return Ok(kind_by_siblings(tree, families, kinds, index));
+        return Ok(kind_by_siblings(tree, namespaces, families, kinds, index));
     }
-    let key = (family, name_of(tree, index));
+    let key = (
+        family,
+        namespace_of(namespaces, index),
+        name_of(tree, index),
+    );
     if let Some(number) = named.get(&key) {
         return Ok(*number);
     }
@@ -67,19 +95,21 @@ fn kind_of<'t>(
     Ok(index)
 }
 
-/// Returns the number of the kind of each element. Kinds are elements with one parent and one name.
+/// Returns the number of the kind of each element. Kinds are elements with one parent, one namespace and
+/// one name.
 pub(crate) fn kinds_of(
     alloc: Global,
     tree: &Tree<'_>,
+    namespaces: &[usize],
     families: &Groups,
 ) -> Result<Vec<usize>, AllocError>
     requires { AreFamilies tree.now families.now }
-    ensures { IfOk result (λ kinds. AreKinds tree.now kinds.items) }
+    ensures { IfOk result (λ kinds. AreKinds tree.now namespaces.now kinds.items) }
 {
     let mut kinds = Vec::with_capacity(alloc, tree.len())?;
     let mut named = BTreeMap::new(alloc);
     for index in 0..tree.len() {
-        let kind = kind_of(tree, families, &kinds, &mut named, index)?;
+        let kind = kind_of(tree, namespaces, families, &kinds, &mut named, index)?;
         kinds.push(kind)?;
     }
     Ok(kinds)

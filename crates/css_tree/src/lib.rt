@@ -4,7 +4,9 @@
 //! of `css_selectors`, and `Element` and `Keyed` of `simplecss`, too. Names and values of attributes
 //! compare byte by byte, and the states are those of `simplecss_tree::States`, `any-link`, those that a caller
 //! names (`NumberedTree::set_states`), and on a tree of an HTML document those that attributes decide
-//! (`NumberedTree::set_html`).
+//! (`NumberedTree::set_html`). Elements are in namespaces (`NumberedTree::set_namespaces`), which
+//! `:first-of-type` and the like compare beside names, and have attributes in namespaces
+//! (`NumberedTree::set_namespaced_attributes`), which only the trait of `css_selectors` reports.
 //! `languages` says which languages `:lang()` matches.
 #![tactic(auto)]
 

@@ -107,7 +107,10 @@ impl<'p, 't> NumberedTree<'p, 't> {
     /// of an `&`, is of a list before it. For a list of `:has()`, `:nth-child()` or `:nth-last-child()` that
     /// takes time that is linear in the elements for each part of the list. Lists that had numbers lose
     /// them. The answers hold for the tree as it is: after [`set_text`](NumberedTree::set_text),
-    /// [`set_scope`](NumberedTree::set_scope) and [`set_html`](NumberedTree::set_html) mark again.
+    /// [`set_scope`](NumberedTree::set_scope), [`set_states`](NumberedTree::set_states),
+    /// [`set_namespaces`](NumberedTree::set_namespaces),
+    /// [`set_namespaced_attributes`](NumberedTree::set_namespaced_attributes) and
+    /// [`set_html`](NumberedTree::set_html) mark again.
     ///
     /// Fails with [`MarkingError::TooManyAnswers`] if there are more than `most` answers, and else only
     /// if an allocation fails; then no list has a number.

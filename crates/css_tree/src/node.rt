@@ -6,7 +6,7 @@ ghost use Rattle.css_tree.specs.Pages.{is_in_state};
 use crate::NumberedTree;
 use crate::languages::is_in_range;
 use css_index::Keyed;
-use css_selectors::Element;
+use css_selectors::{Element, NamespacedAttribute};
 use simplecss::{Element as PortElement, PseudoClass};
 use simplecss_tree::Node;
 use std::marker::Model;
@@ -98,6 +98,10 @@ impl<'n, 'p, 't> Element for NumberedNode<'n, 'p, 't> {
 
     fn attribute(&self, name: &str) -> Option<&str> {
         self.tree.attribute(self.index, name)
+    }
+
+    fn namespaced_attribute(&self, index: usize) -> Option<NamespacedAttribute<'_>> {
+        self.tree.namespaced_attribute(self.index, index)
     }
 
     fn is_in_state(&self, name: &str) -> bool {

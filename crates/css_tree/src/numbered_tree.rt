@@ -1,14 +1,16 @@
 //! Trees whose siblings are counted.
-ghost use Rattle.std.specs.Prelude.{◌≡◌, ◌<◌, ◌≤◌, ◌^◌, ℕ, length, slice_index_or};
-ghost use Rattle.std.specs.Prelude.{◌&&◌, ◌||◌, map, false, codes, IfOk, IfErr, IfSome, MatchOption, true, None, []};
+ghost use Rattle.std.specs.Prelude.{◌≡◌, ◌<◌, ◌≤◌, ◌^◌, ℕ, length, slice_get, slice_index_or};
+ghost use Rattle.std.specs.Prelude.{◌&&◌, ◌||◌, map, false, codes, IfOk, IfErr, IfSome, MatchOption, OnOk, OnErr, true, None, []};
 ghost use Rattle.std.specs.Option.{option_map};
 ghost use Rattle.css_matching.specs.ListTrees.{spot};
 ghost use Rattle.simplecss_tree.specs.TreeNodes.{attribute_at};
 ghost use Rattle.css_tree.specs.Counts.{count_below, last_below};
 ghost use Rattle.css_tree.specs.Pages.{parent_index, family, is_sibling, is_alike, count_after};
 ghost use Rattle.css_tree.specs.Pages.{has_content, is_scope, is_marked, is_in_page_state, is_among, is_in_named, is_of_tree as is_of_tree_name, language_of};
-ghost use Rattle.css_tree.specs.Pages.{with_text, with_scope, with_states, with_namespaces, is_in_namespace};
-ghost use Rattle.css_tree.specs.PageViews.{state_of};
+ghost use Rattle.css_tree.specs.Pages.{with_text, with_scope, with_states, with_namespaces, with_attributes};
+ghost use Rattle.css_tree.specs.Pages.{is_in_namespace, namespaced_attributes};
+ghost use Rattle.css_tree.specs.PageViews.{attributes_of, state_of};
+ghost use Rattle.css_selectors.specs.ElementViews.{namespaced_attribute_of};
 ghost use Rattle.std.specs.Str.{str_eq_ignore_ascii_case};
 ghost use Rattle.css_tree.specs.Keys.{AreFamilies, AreLanguages};
 ghost use Rattle.css_tree.specs.declared.numbered_tree.NumberingError.TheVariants.{TooManyElements};
@@ -18,7 +20,8 @@ use crate::NumberedNode;
 use crate::attributes::{many_attributes, value_of};
 use crate::groups::{Groups, Seen};
 use crate::html_states::HtmlStates;
-use crate::kinds::kinds_of;
+use crate::kinds::{kinds_of, namespace_of};
+use css_selectors::NamespacedAttribute;
 use simplecss::Element;
 use simplecss_tree::{Node, Tree};
 use std::alloc::{AllocError, AllocFailed, Global};
@@ -122,7 +125,7 @@ pub struct NumberedTree<'p, 't> {
     pub(crate) tree: &'p Tree<'t>,
     /// The elements by their parents: families.
     families: Groups,
-    /// The elements by their parents and their names: kinds.
+    /// The elements by their parents, their namespaces and their names: kinds.
     kinds: Groups,
     /// The language of each element.
     languages: Vec<&'t str>,
@@ -136,6 +139,8 @@ pub struct NumberedTree<'p, 't> {
     states: Vec<NamedState<'p>>,
     /// The number of the namespace of each element; those after the last one are in none.
     namespaces: Vec<usize>,
+    /// The attributes of each element that are in namespaces; those after the last one have none.
+    namespaced_attributes: Vec<Vec<NamespacedAttribute<'p>>>,
     /// For each list of selectors that has a number, from 1 on: whether it matches each element.
     pub(crate) marks: Vec<Vec<bool>>,
     /// The states of each element that its attributes decide, if the tree is that of an HTML document.
@@ -146,7 +151,7 @@ impl<'p, 't> Model for NumberedTree<'p, 't> {
     ghost use Rattle.std.specs.Prelude.{◌≡◌, ◌<◌, ◌^◌, IfSome, is_some, length, map};
     ghost use Rattle.css_tree.specs.HtmlViews.{AreStates};
     ghost use Rattle.css_tree.specs.Pages.{Page};
-    ghost use Rattle.css_tree.specs.PageViews.{state_of};
+    ghost use Rattle.css_tree.specs.PageViews.{attributes_of, state_of};
     ghost use Rattle.css_tree.specs.Attributes.{AreFound};
     ghost use Rattle.css_tree.specs.Keys.{AreFamilies, AreKinds, AreLanguages};
 
@@ -159,12 +164,14 @@ impl<'p, 't> Model for NumberedTree<'p, 't> {
         scope = t.scope;
         states = map state_of t.states.items;
         namespaces = t.namespaces.items;
+        attributes = map attributes_of t.namespaced_attributes.items;
       };
       marks = map (λ answers. answers.items) t.marks.items;
       is_html = is_some t.html;
     } };
 
-    ghost invariant = { λ t. AreFamilies t.tree.now t.families × AreKinds t.tree.now t.kinds
+    ghost invariant = { λ t. AreFamilies t.tree.now t.families
+        × AreKinds t.tree.now t.namespaces.items t.kinds
         × AreLanguages t.tree.now t.languages.items (length t.tree.now)
         × AreFound t.tree.now t.attributes
         × (length t.texts.items ≡ length t.tree.now)
@@ -255,8 +262,8 @@ pub(crate) fn no_marks(alloc: Global, count: usize) -> Result<Vec<bool>, AllocEr
 
 impl<'p, 't> NumberedTree<'p, 't> {
     /// Counts the siblings of each element of a tree. No element has a text yet, none is named as the
-    /// scoping root, none is in a namespace, no list of selectors has a number, and the tree is not that of
-    /// an HTML document.
+    /// scoping root, none is in a namespace or has an attribute in one, no list of selectors has a number, and
+    /// the tree is not that of an HTML document.
     pub fn new(alloc: Global, tree: &'p Tree<'t>) -> Result<NumberedTree<'p, 't>, NumberingError>
         ensures rows { IfOk result (λ page. page.rows ≡ tree.now) }
         ensures texts { IfOk result (λ page. (i : ℕ) → slice_index_or page.given.texts i false ≡ false) }
@@ -264,6 +271,7 @@ impl<'p, 't> NumberedTree<'p, 't> {
         ensures scope { IfOk result (λ page. page.given.scope ≡ None) }
         ensures states { IfOk result (λ page. page.given.states ≡ []) }
         ensures namespaces { IfOk result (λ page. page.given.namespaces ≡ []) }
+        ensures attributes { IfOk result (λ page. page.given.attributes ≡ []) }
         ensures marks { IfOk result (λ page. page.marks ≡ []) }
         ensures html { IfOk result (λ page. page.is_html ≡ false) }
         ensures err { IfErr result (λ error. error ≡ TooManyElements → 2 ^ 32 ≤ length tree.now) }
@@ -272,7 +280,7 @@ impl<'p, 't> NumberedTree<'p, 't> {
             return Err(NumberingError::TooManyElements);
         }
         let families = Groups::new(alloc, families_of(alloc, tree)?, tree.len())?;
-        let kinds = kinds_of(alloc, tree, &families)?;
+        let kinds = kinds_of(alloc, tree, &[], &families)?;
         Ok(NumberedTree {
             tree,
             families,
@@ -283,6 +291,7 @@ impl<'p, 't> NumberedTree<'p, 't> {
             scope: None,
             states: Vec::new(alloc),
             namespaces: Vec::new(alloc),
+            namespaced_attributes: Vec::new(alloc),
             marks: Vec::new(alloc),
             html: None,
         })
@@ -331,14 +340,39 @@ impl<'p, 't> NumberedTree<'p, 't> {
     }
 
     /// Says which namespaces the elements are in, each by its number. The number of no namespace is 0, and
-    /// elements after the last of these are in none, as all are before this call.
-    pub fn set_namespaces(&mut self, namespaces: Vec<usize>)
+    /// elements after the last of these are in none, as all are before this call. The siblings of each
+    /// element that have its type, a namespace and a name, are counted again.
+    ///
+    /// Fails only if an allocation fails; then the tree is unchanged.
+    pub fn set_namespaces(
+        &mut self,
+        alloc: Global,
+        namespaces: Vec<usize>,
+    ) -> Result<(), AllocError>
         ensures rows { self.new.rows ≡ self.old.rows }
-        ensures given { self.new.given ≡ with_namespaces self.old.given namespaces.items }
+        ensures given { OnOk result
+            (self.new.given ≡ with_namespaces self.old.given namespaces.items) }
+        ensures err { OnErr result (self.new.given ≡ self.old.given) }
         ensures marks { self.new.marks ≡ self.old.marks }
         ensures html { self.new.is_html ≡ self.old.is_html }
     {
+        let kinds = kinds_of(alloc, self.tree, namespaces.as_slice(), &self.families)?;
+        self.kinds = Groups::new(alloc, kinds, self.tree.len())?;
         self.namespaces = namespaces;
+        Ok(())
+    }
+
+    /// Says which attributes in namespaces each element has. Elements after the last of these have none, as
+    /// all before this call. The attributes of the tree are in no namespace. These replace those that were set
+    /// before.
+    pub fn set_namespaced_attributes(&mut self, attributes: Vec<Vec<NamespacedAttribute<'p>>>)
+        ensures rows { self.new.rows ≡ self.old.rows }
+        ensures given { self.new.given
+            ≡ with_attributes self.old.given (map attributes_of attributes.entry.items) }
+        ensures marks { self.new.marks ≡ self.old.marks }
+        ensures html { self.new.is_html ≡ self.old.is_html }
+    {
+        self.namespaced_attributes = attributes;
     }
 
     /// Returns the element at an index, if there is one.
@@ -418,18 +452,20 @@ impl<'p, 't> NumberedTree<'p, 't> {
         self.families.after(index)
     }
 
-    /// Returns the number of siblings before an element that have its name.
+    /// Returns the number of siblings before an element that have its type.
     pub(crate) fn alike_before(&self, index: usize) -> u32
         requires { index < length self.now.rows }
-        ensures { result ≡ count_below (is_alike self.now.rows index) index }
+        ensures { result
+            ≡ count_below (is_alike self.now.rows self.now.given.namespaces index) index }
     {
         self.kinds.before(index).count
     }
 
-    /// Returns the number of siblings after an element that have its name.
+    /// Returns the number of siblings after an element that have its type.
     pub(crate) fn alike_after(&self, index: usize) -> u32
         requires { index < length self.now.rows }
-        ensures { result ≡ count_after (is_alike self.now.rows index) index self.now.rows }
+        ensures { result ≡ count_after
+            (is_alike self.now.rows self.now.given.namespaces index) index self.now.rows }
     {
         self.kinds.after(index)
     }
@@ -446,7 +482,23 @@ impl<'p, 't> NumberedTree<'p, 't> {
     pub(crate) fn is_in_namespace(&self, index: usize, number: usize) -> bool
         ensures { result ≡ is_in_namespace self.now index number }
     {
-        self.namespaces.get(index).copied().unwrap_or(0) == number
+        namespace_of(&self.namespaces, index) == number
+    }
+
+    /// Returns the attribute of an element at a number among those that are in namespaces, if there is one.
+    pub(crate) fn namespaced_attribute(
+        &self,
+        index: usize,
+        number: usize,
+    ) -> Option<NamespacedAttribute<'p>>
+        ensures answer { option_map namespaced_attribute_of result
+            ≡ slice_get (namespaced_attributes self.now index) number }
+        ensures few { length (namespaced_attributes self.now index) < 2 ^ 64 }
+    {
+        match self.namespaced_attributes.get(index) {
+            Some(attributes) => attributes.get(number).copied(),
+            None => None,
+        }
     }
 
     /// Whether the element is the scoping root.

@@ -1,5 +1,6 @@
 //! What the ancestors of an element of an HTML document decide for it.
 ghost use Rattle.std.specs.Prelude.{◌≡◌, ◌<◌, Some, IfOk, length};
+ghost use Rattle.css_tree.specs.Counts.{any_below};
 ghost use Rattle.css_tree.specs.HtmlViews.{AreAround};
 ghost use Rattle.css_tree.specs.Pages.{parent_index};
 ghost use Rattle.css_tree.specs.Surroundings.{own_editing as says_editing, editing_named as editing_by};
@@ -8,7 +9,7 @@ ghost use Rattle.css_tree.specs.Surroundings.{usual_direction as usual_direction
 ghost use Rattle.css_tree.specs.Surroundings.{bars as bars_child, ends_group as is_end_of_group};
 ghost use Rattle.css_tree.specs.Surroundings.{within as decided_within, surroundings as decided};
 ghost use Rattle.css_tree.specs.Surroundings.{at_root as decided_at_root, is_grouped_within};
-ghost use Rattle.css_tree.specs.Surroundings.{is_first_legend as is_first_legend_of};
+ghost use Rattle.css_tree.specs.Surroundings.{is_first_legend as is_first_legend_of, is_legend_of};
 
 use crate::NumberedTree;
 use crate::html_elements::{has_attribute, is_named, is_telephone};
@@ -126,13 +127,30 @@ fn is_grouped(node: &Node<'_, '_>, above: bool) -> bool
     }
 }
 
+/// Whether a child of an element has a `legend` among its earlier siblings. It visits those from the last
+/// of these on, so for all the legends among the children of an element that takes linear time.
+fn has_earlier_legend(page: &NumberedTree<'_, '_>, parent: usize, index: usize) -> bool
+    requires within { index < length page.now.rows }
+    requires parent { parent_index page.now.rows index ≡ Some parent }
+    ensures { result ≡ any_below (is_legend_of page.now.rows parent) index }
+{
+    let mut earlier = index;
+    'siblings: while let Some(sibling) = page.before(earlier).last {
+        if is_named(&page.plain(sibling), "legend") {
+            return true;
+        }
+        earlier = sibling;
+    }
+    false
+}
+
 /// Whether an element is the first `legend` among the children of its parent.
 fn is_first_legend(page: &NumberedTree<'_, '_>, parent: usize, index: usize) -> bool
     requires within { index < length page.now.rows }
     requires parent { parent_index page.now.rows index ≡ Some parent }
     ensures { result ≡ is_first_legend_of page.now.rows parent index }
 {
-    is_named(&page.plain(index), "legend") && page.alike_before(index) == 0
+    is_named(&page.plain(index), "legend") && !has_earlier_legend(page, parent, index)
 }
 
 /// Whether the parent is a disabled `fieldset` that bars its child.

@@ -3,7 +3,7 @@ use Rattle.std.specs.BTreeMap.{get}
 use Rattle.std.specs.Ordering.{is_eq}
 use Rattle.css_tree.specs.HtmlElements.{is_radio}
 use Rattle.css_tree.specs.HtmlStates.{is_checked}
-use Rattle.css_tree.specs.Keys.{kind_cmp}
+use Rattle.css_tree.specs.HtmlViews.{group_cmp}
 use Rattle.css_tree.proofs.HtmlStateLemmas.{groups-more}
 use Rattle.css_tree.proofs.html_states.add_group.Goals as goal
 
@@ -16,6 +16,6 @@ returns-in_ok-insert c =
     groups-more rows c.args.groups.now c.insert.new.self i (c.form_of.result, c.group_name.result)
     (ap (λ b. b && is_checked rows i) radio ∙ checked) c.form_of.ensures c.group_name.ensures
     (λ q. c.in_ok-insert.ensures.updates.0 q
-    ∙ ap (λ n. cond (is_eq (kind_cmp (c.form_of.result, c.group_name.result) q)) (Some n)
-    (get kind_cmp c.args.groups.now q)) c.index.ensures)
+    ∙ ap (λ n. cond (is_eq (group_cmp (c.form_of.result, c.group_name.result) q)) (Some n)
+    (get group_cmp c.args.groups.now q)) c.index.ensures)
     c.requires.groups

@@ -11,7 +11,8 @@ returns-in-Some c =
     let of : c.number-family.result ≡ family c.args.tree.now i =
     some_same (sym c.number-family.ensures ∙ c.requires.families.each i c.requires.within) in
     let more : COMPARED < c.count.result = omega (arith, c.if-count-le-COMPARED.false) in
-    named-found c.args.tree.now c.args.families.now i (c.number-family.result, c.name_of.result) of
+    named-found c.args.tree.now c.args.namespaces.now c.args.families.now i
+    (c.number-family.result, c.namespace_of.result, c.name_of.result) of c.namespace_of.ensures
     c.name_of.ensures c.args.named.now c.in-Some.number.now
     (large-family _ _ _ _ of c.count.ensures more) c.requires.named (sym c.in-Some.ensures.value)
 
@@ -21,7 +22,8 @@ returns c =
     some_same (sym c.number-family.ensures
     ∙ c.requires.families.each c.args.index c.requires.within) in
     let more : COMPARED < c.count.result = omega (arith, c.if-count-le-COMPARED.false) in
-    named-new c.args.tree.now c.args.families.now c.args.index
-    (c.number-family.result, c.name_of.result) of c.name_of.ensures c.args.named.now
-    c.insert.new.self (large-family _ _ _ _ of c.count.ensures more) c.requires.named
+    named-new c.args.tree.now c.args.namespaces.now c.args.families.now c.args.index
+    (c.number-family.result, c.namespace_of.result, c.name_of.result) of c.namespace_of.ensures
+    c.name_of.ensures c.args.named.now c.insert.new.self
+    (large-family _ _ _ _ of c.count.ensures more) c.requires.named
     (sym c.in_default.ensures.value) c.in_ok-insert.ensures.updates.0

@@ -4,4 +4,5 @@ use Rattle.css_tree.proofs.kinds.kinds_of.Given as goal
 -- the kinds of the elements so far
 abbrev pub invariant-loop-index : goal.invariant-loop-index
 invariant-loop-index l =
-    HasKinds l.tree l.kinds.items l.index × AreNamed l.tree l.families l.named l.index
+    HasKinds l.tree l.namespaces l.kinds.items l.index
+    × AreNamed l.tree l.namespaces l.families l.named l.index

@@ -6,7 +6,9 @@ use Rattle.css_tree.proofs.numbered_tree.NumberedTree.alike_after.Goals as goal
 pub returns : goal.returns
 returns c =
     let rows = c.args.self.now.rows in
-    let are : AreKinds rows c.self.inside.kinds =
-    subst (λ p. AreKinds p.rows c.self.inside.kinds) c.self.view_is c.self.invariant.1 in
-    c.after.ensures (kind rows c.args.index) (are.each c.args.index c.requires)
-    ∙ alike_after rows c.self.inside.kinds are c.args.index c.requires
+    let namespaces = c.args.self.now.given.namespaces in
+    let are : AreKinds rows namespaces c.self.inside.kinds =
+    subst (λ p. AreKinds p.rows p.given.namespaces c.self.inside.kinds) c.self.view_is
+    c.self.invariant.1 in
+    c.after.ensures (kind rows namespaces c.args.index) (are.each c.args.index c.requires)
+    ∙ alike_after rows namespaces c.self.inside.kinds are c.args.index c.requires
