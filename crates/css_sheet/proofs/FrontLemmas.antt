@@ -4,6 +4,7 @@ use Rattle.std.proofs.Common.{◌≡◌, ℕ, ◌-◌, Bool, true, false, List, 
 use Rattle.css_syntax.specs.Statements.{SheetText, next_statement, past_between}
 use Rattle.css_syntax.specs.Placed.{placed_statements}
 use Rattle.css_syntax.proofs.PlacedSteps.{placed-statements-some, placed-statements-none}
+use Rattle.css_selectors.specs.Names.{no_names}
 use Rattle.css_sheet.specs.declared.import_rules.Import.{Import}
 use Rattle.css_sheet.specs.ImportRules.{ImportText}
 use Rattle.css_sheet.specs.ImportViews.{import_of}
@@ -19,7 +20,7 @@ pub record Read (size : ℕ) (text rest : List ℕ) (part : SheetText) (rule : F
     (before after : List Import) (all : List ImportText) : Type 0 where
   pub next : next_statement false text ≡ Some (part, rest)
   pub rule_is : rule
-      ≡ rule_in_front (size - length (past_between false text)) (length part.text) part.statement
+      ≡ rule_in_front no_names (size - length (past_between false text)) (length part.text) part.statement
   pub takes : (rules : List FrontRule) → TakesRule goes_on before rule rules after
   pub due : all_with before (rules_in size text) ≡ all
 

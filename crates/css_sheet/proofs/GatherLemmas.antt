@@ -13,6 +13,7 @@ use Rattle.css_syntax.specs.DeclarationLists.{ItemText, declared, at_rule_item, 
 use Rattle.css_cascade.specs.Layers.{LayerPart, LayerText, number_at, or_outermost, outermost_layers, with_name}
 use Rattle.css_syntax.specs.declared.quality.Fault.{Fault}
 use Rattle.css_selectors.specs.Components.{Placed}
+use Rattle.css_selectors.specs.Names.{Names}
 use Rattle.css_sheet.specs.RuleSelectors.{all_read, is_listed, listed_under}
 use Rattle.css_cascade.specs.LayerNames.{layer_names}
 use Rattle.css_cascade.proofs.NameLemmas.{Keeps, grows-name, keeps-then, keeps-itself, keeps-name, keeps-at, name-known, name-there}
@@ -304,24 +305,24 @@ module _ (holds : List ℕ → List ℕ → Bool) (outer : ℕ) (known after : L
         (stacked-keeps known after enters-keeps outer numbers before (fresh before parents) s) b inside
         (λ kept. subst (λ (ns : List ℕ). Tracks after outer ns (before ++ r ∷ [])) f (enters-kept kept).1))
 
-  follows : (part : SheetPart) (around : List OpenText) (place : List ℕ)
+  follows : (names : Names) (part : SheetPart) (around : List OpenText) (place : List ℕ)
       → around ≡ open_after holds before part place → StandsOutside part before
-      → Goes outer known numbers (not (is_known_dropped (after_part_of parents part around).innermost))
+      → Goes outer known numbers (not (is_known_dropped (after_part_of names parents part around).innermost))
       part around after now
-      → Follows outer known (after_part_of parents part around) around part after now
-  follows (states text) around place e out g = (g.0, stay around e (same g.0) g.1)
-  follows (begins kind) around place e out g =
+      → Follows outer known (after_part_of names parents part around) around part after now
+  follows names (states text) around place e out g = (g.0, stay around e (same g.0) g.1)
+  follows names (begins kind) around place e out g =
       let r = opened holds before kind place in
-      let next = begun (applies_in (before ++ r ∷ [])) kind (fresh before parents) in
+      let next = begun names (applies_in (before ++ r ∷ [])) kind (fresh before parents) in
       let last : slice_get (before ++ r ∷ []) (length (before ++ r ∷ []) - 1) ≡ Some r = last-append before r in
-      let nest : after_part_of parents (begins kind) around ≡ next =
-      ap (after_part_of parents (begins kind)) e
-      ∙ ap (begun (applies_in (before ++ r ∷ [])) kind) (fresh-before before r parents) in
+      let nest : after_part_of names parents (begins kind) around ≡ next =
+      ap (after_part_of names parents (begins kind)) e
+      ∙ ap (begun names (applies_in (before ++ r ∷ [])) kind) (fresh-before before r parents) in
       let h = subst (λ (o : Option OpenText). EntersLast outer known numbers (not (is_known_dropped next.innermost)) o after now) last
       (subst (λ (rs : List OpenText). EntersLast outer known numbers (not (is_known_dropped next.innermost)) (slice_get rs (length rs - 1)) after now) e
       (subst (λ (p : ParentsText). EntersLast outer known numbers (not (is_known_dropped p.innermost)) (slice_get around (length around - 1)) after now) nest g)) in
       let honest = (stacked-right known outer numbers before (fresh before parents) s).2 in
-      let b = rule-begins kind (applies_in (before ++ r ∷ [])) (fresh before parents) honest in
+      let b = rule-begins names kind (applies_in (before ++ r ∷ [])) (fresh before parents) honest in
       let is : r.applies ≡ applies_in (before ++ r ∷ []) = sym (ap applies_at last) in
       let inside : nesting_of (before ++ r ∷ []) ≡ nesting_in kind (nesting_of before) = ap nesting_at last in
       let layers_are = enters-as r (applies_in (before ++ r ∷ [])) next b is inside h.0 h.1 (is_dropped next.innermost) refl in
@@ -332,14 +333,14 @@ module _ (holds : List ℕ → List ℕ → Bool) (outer : ℕ) (known after : L
             (subst (λ (rs : List OpenText). Stacked after outer now rs (fresh rs next)) (sym e)
             (subst (Stacked after outer now (before ++ r ∷ [])) (sym (fresh-more before r next)) stack)),
       )
-  follows ends around place e out g = (
+  follows names ends around place e out g = (
     g.0,
     subst (λ (k : List LayerText). Stacked k outer now around (fresh around (left_innermost parents))) (sym g.0)
         (subst (λ (ns : List ℕ). Stacked known outer ns around (fresh around (left_innermost parents))) (sym g.1)
         (subst (λ (rs : List OpenText). Stacked known outer (take (length numbers - 1) numbers) rs (fresh rs (left_innermost parents))) (sym e)
         (stacked-left known outer numbers before parents s))),
   )
-  follows (stands item) around place e out g =
+  follows names (stands item) around place e out g =
       let number = tracks-number known outer numbers before
       (stacked-outside known outer numbers before (fresh before parents) s out) in
       let here : number_in_all outer around known ≡ innermost_of outer numbers =
@@ -492,7 +493,8 @@ module _ (holds : List ℕ → List ℕ → Bool) (sheets : List SheetText) (mos
         numbers
     follow-to known numbers goes =
         follows (with_layers holds) (outermost_in read.opened) (known_in read.opened) known
-        (numbers_in read.opened) numbers (open_in before) (parents_of read.parents) h.tracks (part_of part)
+        (numbers_in read.opened) numbers (open_in before) (parents_of read.parents) h.tracks
+        (source_of after).names (part_of part)
         (open_in after) open_is.0 open_is.1 open_is.3 goes
 
     -- all of the sheet is in the layer that is the outermost one now

@@ -4,11 +4,11 @@ use Rattle.std.proofs.Common.{◌≡◌, ℕ, suc, ◌-◌, ◌==◌, Bool, true
 use Rattle.css_syntax.specs.declared.quality.Fault.{Fault}
 use Rattle.css_syntax.specs.Parts.{Stated}
 use Rattle.css_selectors.specs.Components.{Placed}
-use Rattle.css_selectors.specs.declared.components.Nesting.{Nesting}
+use Rattle.css_selectors.specs.Names.{Names}
 use Rattle.css_cascade.specs.Layers.{LayerText}
 use Rattle.css_cascade.specs.LayerNames.{block_name}
 use Rattle.css_cascade.proofs.NameLemmas.{Keeps}
-use Rattle.css_sheet.specs.RuleSelectors.{all_read, is_listed, listed_under}
+use Rattle.css_sheet.specs.RuleSelectors.{ListContext, all_read, is_listed, listed_under}
 use Rattle.css_sheet.specs.SheetItems.{is_layer}
 use Rattle.css_sheet.specs.SheetParts.{OpenText, RuleKind, style_rule, group_rule, outside, within, nested, nesting_in, nesting_of}
 use Rattle.css_sheet.specs.SheetParts.{Nesting as NestingText}
@@ -35,7 +35,7 @@ Alike a b = (is_dropped a ≡ is_dropped b) × (a ≡ no_rule → b ≡ no_rule)
 alike-itself : (a : Parent) → Alike a a
 alike-itself a = (refl, λ none. none, λ honest. honest)
 
-alike-checked : (prelude : Stated) (under : Option Nesting) (listed : Bool)
+alike-checked : (prelude : Stated) (under : ListContext) (listed : Bool)
     → is_listed (listed_under under prelude) ≡ listed
     → Alike (style prelude under unread) (if listed then style prelude under valid else dropped)
 alike-checked prelude under true e = (ap not e, λ none. absurd (cc), λ honest. e)
@@ -54,7 +54,7 @@ checked_for-alike true parent = checked-alike parent
 checked_for-alike false parent = alike-itself parent
 
 -- the rule with its list
-listed-alike : (parents : ParentsText) (prelude : Stated) (under : Option Nesting) (own : OwnList)
+listed-alike : (parents : ParentsText) (prelude : Stated) (under : ListContext) (own : OwnList)
     (read : Result (List Placed) Fault) → is_dropped (style prelude under own) ≡ not (is_listed read)
     → Alike (style prelude under own) (with_selectors parents prelude under (all_read read)).innermost
 listed-alike parents prelude under own (Ok all) e = (e, λ none. absurd (cc), λ honest. tt)
@@ -75,7 +75,7 @@ list_of-alike parents (style prelude under valid) e honest =
 list_of-alike parents (style prelude under (numbered own)) e honest =
     same-alike parents (style prelude under (numbered own)) e
 
-listed-outer : (parents : ParentsText) (prelude : Stated) (under : Option Nesting)
+listed-outer : (parents : ParentsText) (prelude : Stated) (under : ListContext)
     (read : Result (List Placed) Fault)
     → (with_selectors parents prelude under (all_read read)).outer ≡ parents.outer
 listed-outer parents prelude under (Ok all) = refl
@@ -337,41 +337,43 @@ no-outside prelude outside e = absurd (cc)
 no-outside prelude (within other) e = absurd (cc)
 no-outside prelude nested e = absurd (cc)
 
-kept-in : (prelude : Stated) (parent : Parent) → is_dropped (parent_in prelude parent) ≡ false
+kept-in : (names : Names) (prelude : Stated) (parent : Parent)
+    → is_dropped (parent_in names prelude parent) ≡ false
     → is_dropped parent ≡ false
-kept-in prelude no_rule e = refl
-kept-in prelude dropped e = absurd (cc)
-kept-in prelude (style other under unread) e = absurd (cc)
-kept-in prelude (style other under valid) e = refl
-kept-in prelude (style other under (numbered own)) e = refl
+kept-in names prelude no_rule e = refl
+kept-in names prelude dropped e = absurd (cc)
+kept-in names prelude (style other under unread) e = absurd (cc)
+kept-in names prelude (style other under valid) e = refl
+kept-in names prelude (style other under (numbered own)) e = refl
 
-parent_in-honest : (prelude : Stated) (parent : Parent) → IsHonest (parent_in prelude parent)
-parent_in-honest prelude no_rule = tt
-parent_in-honest prelude dropped = tt
-parent_in-honest prelude (style other under unread) = tt
-parent_in-honest prelude (style other under valid) = tt
-parent_in-honest prelude (style other under (numbered own)) = tt
+parent_in-honest : (names : Names) (prelude : Stated) (parent : Parent)
+    → IsHonest (parent_in names prelude parent)
+parent_in-honest names prelude no_rule = tt
+parent_in-honest names prelude dropped = tt
+parent_in-honest names prelude (style other under unread) = tt
+parent_in-honest names prelude (style other under valid) = tt
+parent_in-honest names prelude (style other under (numbered own)) = tt
 
 no-name : (prelude : Stated) (place : List ℕ) (applies : Bool)
     → (if applies then kind_name (style_rule prelude) place else []) ≡ []
 no-name prelude place true = refl
 no-name prelude place false = refl
 
-style-begins : (prelude : Stated) (applies : Bool) (parents : ParentsText) → IsHonest parents.innermost
-    → Begins parents (begun applies (style_rule prelude) parents) (style_rule prelude) applies
-style-begins prelude true parents honest =
+style-begins : (names : Names) (prelude : Stated) (applies : Bool) (parents : ParentsText) → IsHonest parents.innermost
+    → Begins parents (begun names applies (style_rule prelude) parents) (style_rule prelude) applies
+style-begins names prelude true parents honest =
     let list = with_list parents in
     let alike = list_of-alike parents parents.innermost refl honest in
     record {
       outer = Some list.innermost;
       outer_is = ap (λ os. os ++ Some list.innermost ∷ []) (list_of-outer parents parents.innermost);
       alike = alike;
-      honest = parent_in-honest prelude list.innermost;
-      kept = λ e. alike.0 ∙ kept-in prelude list.innermost e;
+      honest = parent_in-honest names prelude list.innermost;
+      kept = λ e. alike.0 ∙ kept-in names prelude list.innermost e;
       out = λ nesting e. absurd (no-outside prelude nesting e);
       unnamed = λ e f place. no-name prelude place true;
     }
-style-begins prelude false parents honest = record {
+style-begins names prelude false parents honest = record {
   outer = Some parents.innermost;
   outer_is = refl;
   alike = alike-itself parents.innermost;
@@ -381,7 +383,7 @@ style-begins prelude false parents honest = record {
   unnamed = λ e f place. no-name prelude place false;
 }
 
-if-known : (prelude : Stated) (under : Option Nesting) (listed : Bool)
+if-known : (prelude : Stated) (under : ListContext) (listed : Bool)
     → is_dropped (if_listed listed prelude under) ≡ true
     → is_known_dropped (if_listed listed prelude under) ≡ false → ⊥
 if-known prelude under true e f = absurd (cc)
@@ -407,10 +409,11 @@ unnamed-group keyword prelude place parent true false l e f =
     ap (λ (b : Bool). if b then or_none (block_name prelude place) else []) l
 unnamed-group keyword prelude place parent false layer l e f = refl
 
-group-begins : (keyword prelude : List ℕ) (applies : Bool) (parents : ParentsText)
+group-begins : (names : Names) (keyword prelude : List ℕ) (applies : Bool) (parents : ParentsText)
     → IsHonest parents.innermost
-    → Begins parents (begun applies (group_rule keyword prelude) parents) (group_rule keyword prelude) applies
-group-begins keyword prelude applies parents honest =
+    → Begins parents (begun names applies (group_rule keyword prelude) parents) (group_rule keyword prelude)
+    applies
+group-begins names keyword prelude applies parents honest =
     let alike = checked_for-alike (applies && is_layer keyword) parents.innermost in
     record {
       outer = None;
@@ -423,11 +426,12 @@ group-begins keyword prelude applies parents honest =
           unnamed-group keyword prelude place parents.innermost applies (is_layer keyword) refl e f;
     }
 
-pub rule-begins : (kind : RuleKind) (applies : Bool) (parents : ParentsText) → IsHonest parents.innermost
-    → Begins parents (begun applies kind parents) kind applies
-rule-begins (style_rule prelude) applies parents honest = style-begins prelude applies parents honest
-rule-begins (group_rule keyword prelude) applies parents honest =
-    group-begins keyword prelude applies parents honest
+pub rule-begins : (names : Names) (kind : RuleKind) (applies : Bool) (parents : ParentsText)
+    → IsHonest parents.innermost → Begins parents (begun names applies kind parents) kind applies
+rule-begins names (style_rule prelude) applies parents honest =
+    style-begins names prelude applies parents honest
+rule-begins names (group_rule keyword prelude) applies parents honest =
+    group-begins names keyword prelude applies parents honest
 
 -- one more rule is open
 pub stacked-more : (known : List LayerText) (outermost : ℕ) (numbers : List ℕ) (around : List OpenText)

@@ -18,3 +18,4 @@ mod GatherLemmas
 mod WrittenItems
 pub mod ImportLemmas
 mod FrontLemmas
+mod NamespaceLemmas

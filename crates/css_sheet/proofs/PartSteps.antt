@@ -197,6 +197,17 @@ module _ (holds : List ℕ → List ℕ → Bool) (source : Source) where
       ap (part_then holds source (parts_from holds source (length text)) around
       (from_part source.depth around (b ∷ text))) e
 
+-- the same text, and the same start of the part
+pub part-same : (holds : List ℕ → List ℕ → Bool) (before after : Source) (start from : List ℕ)
+    (part : SheetPart) (around : List OpenText) (rest : List ℕ) → after ≡ before → from ≡ start
+    → placed_part before start part around rest ∷ parts_in holds before around rest
+    ≡ placed_part after from part around rest ∷ parts_in holds after around rest
+part-same holds before after start from part around rest e f =
+    ap (λ (source : Source).
+    placed_part source start part around rest ∷ parts_in holds source around rest) (sym e)
+    ∙ ap (λ (text : List ℕ).
+    placed_part after text part around rest ∷ parts_in holds after around rest) (sym f)
+
 -- ---- group rules that all of a sheet is in
 
 -- once all have begun, the parts that are to come are those of what is left of the text

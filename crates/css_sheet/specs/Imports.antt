@@ -1,19 +1,22 @@
 -- The `@import` rules of a sheet that are in force (CSS Cascading 5, section 2): no valid rule is
 -- before them but names of layers, and none is between them.
-use Rattle.std.specs.Prelude.{ℕ, ◌-◌, length, Bool, false, ◌||◌, ◌&&◌, if◌then◌else◌, List, [], ◌∷◌, codes, map, Option, Some, None}
+use Rattle.std.specs.Prelude.{ℕ, ◌-◌, length, Bool, false, ◌||◌, if◌then◌else◌, List, [], ◌∷◌, codes, map, Option, Some, None}
 use Rattle.std.specs.Option.{is_some}
-use Rattle.css_syntax.specs.Tokens.{past_gap, past_word, spells}
-use Rattle.css_syntax.specs.Statements.{begins_ident, BlockText, AtRuleText, StatementText, rule_set, at_rule_statement, skipped_statement}
+use Rattle.css_syntax.specs.Tokens.{spells}
+use Rattle.css_syntax.specs.Statements.{BlockText, AtRuleText, StatementText, rule_set, at_rule_statement, skipped_statement}
 use Rattle.css_syntax.specs.Placed.{PlacedStatement, placed_statements}
-use Rattle.css_cascade.specs.LayerNames.{block_name, is_empty, layer_names}
-use Rattle.css_sheet.specs.RuleSelectors.{is_listed, listed_under}
+use Rattle.css_cascade.specs.LayerNames.{block_name, layer_names}
+use Rattle.css_selectors.specs.Names.{Names, no_names}
+use Rattle.css_sheet.specs.RuleSelectors.{context, is_listed, listed_under}
 use Rattle.css_sheet.specs.SheetItems.{is_layer}
 use Rattle.css_sheet.specs.ImportRules.{UrlText, ImportText, url_here, import_from}
+use Rattle.css_sheet.specs.NamespaceRules.{NamespaceText, namespace_here}
 
--- What a statement is to the imports after it: an import; names of layers; another rule that is
--- valid; or nothing, since it is invalid, unknown or `@charset`.
+-- What a statement is to the imports and the namespace rules after it: an import; a namespace rule; names of
+-- layers; another rule that is valid; or nothing, since it is invalid, unknown or `@charset`.
 pub data FrontRule : Type 0 where
   import_rule : ImportText → FrontRule
+  namespace_rule : NamespaceText → FrontRule
   layer_list : FrontRule
   other_rule : FrontRule
   not_a_rule : FrontRule
@@ -50,16 +53,6 @@ abbrev pub is_block_rule : List ℕ → Bool
 is_block_rule name =
     is_outer_rule name || is_font_rule name || is_animation_rule name || is_definition_rule name
 
-abbrev pub is_last : Option (UrlText × List ℕ) → Bool
-is_last None = false
-is_last (Some found) = is_empty (past_gap found.1)
-
--- what `@namespace` has: a url, which a name may be before
-abbrev pub is_namespace : List ℕ → Bool
-is_namespace text =
-    is_last (url_here text)
-    || begins_ident text && is_last (url_here (past_gap (past_word text)))
-
 abbrev pub import_if : (start size : ℕ) → Option (UrlText × List ℕ) → FrontRule
 import_if start size None = not_a_rule
 import_if start size (Some found) = import_rule (import_from start size found)
@@ -67,12 +60,17 @@ import_if start size (Some found) = import_rule (import_from start size found)
 abbrev pub list_if : Bool → FrontRule
 list_if is_valid = if is_valid then layer_list else not_a_rule
 
+abbrev pub namespace_if : Option NamespaceText → FrontRule
+namespace_if None = not_a_rule
+namespace_if (Some one) = namespace_rule one
+
 -- an at-rule with this name and this prelude, without a block
 unfoldable pub statement_rule : (start size : ℕ) → (name prelude : List ℕ) → FrontRule
 statement_rule start size name prelude =
     if spells (codes "import") name then import_if start size (url_here prelude)
     else (if is_layer name then list_if (is_some (layer_names prelude))
-    else other_if (spells (codes "namespace") name && is_namespace prelude))
+    else (if spells (codes "namespace") name then namespace_if (namespace_here prelude)
+    else not_a_rule))
 
 -- the same with a block
 unfoldable pub block_rule : (name prelude : List ℕ) → FrontRule
@@ -83,21 +81,25 @@ abbrev pub at_rule_in_front : (start size : ℕ) → AtRuleText → Option Block
 at_rule_in_front start size rule None = statement_rule start size rule.name rule.prelude.text
 at_rule_in_front start size rule (Some block) = block_rule rule.name rule.prelude.text
 
--- a statement with this start and size
-abbrev pub rule_in_front : (start size : ℕ) → StatementText → FrontRule
-rule_in_front start size (rule_set prelude block) = other_if (is_listed (listed_under None prelude))
-rule_in_front start size (at_rule_statement rule) = at_rule_in_front start size rule rule.block
-rule_in_front start size (skipped_statement fault) = not_a_rule
+-- a statement with this start and size, where these names are declared
+abbrev pub rule_in_front : Names → (start size : ℕ) → StatementText → FrontRule
+rule_in_front names start size (rule_set prelude block) =
+    other_if (is_listed (listed_under (context None names) prelude))
+rule_in_front names start size (at_rule_statement rule) = at_rule_in_front start size rule rule.block
+rule_in_front names start size (skipped_statement fault) = not_a_rule
 
--- a statement of a sheet that has as many bytes
+-- A statement of a sheet that has as many bytes, before which no namespace is declared: after a namespace rule
+-- no import is in force.
 abbrev pub front_rule : (sheet_size : ℕ) → PlacedStatement → FrontRule
 front_rule sheet_size placed =
-    rule_in_front (sheet_size - length placed.from) (length placed.part.text) placed.part.statement
+    rule_in_front no_names (sheet_size - length placed.from) (length placed.part.text)
+    placed.part.statement
 
 -- the imports that follow an import: no other rule may be between
 abbrev pub further_imports : List FrontRule → List ImportText
 further_imports [] = []
 further_imports (import_rule one ∷ more) = one ∷ further_imports more
+further_imports (namespace_rule one ∷ more) = []
 further_imports (layer_list ∷ more) = []
 further_imports (other_rule ∷ more) = []
 further_imports (not_a_rule ∷ more) = further_imports more
@@ -106,6 +108,7 @@ further_imports (not_a_rule ∷ more) = further_imports more
 abbrev pub imports_of : List FrontRule → List ImportText
 imports_of [] = []
 imports_of (import_rule one ∷ more) = one ∷ further_imports more
+imports_of (namespace_rule one ∷ more) = []
 imports_of (layer_list ∷ more) = imports_of more
 imports_of (other_rule ∷ more) = []
 imports_of (not_a_rule ∷ more) = imports_of more

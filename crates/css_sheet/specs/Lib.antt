@@ -21,7 +21,10 @@ pub mod Words
 pub mod Said
 pub mod PrintedSheets
 pub mod ImportRules
+pub mod NamespaceRules
 pub mod Imports
+pub mod Namespaces
+pub mod NamespaceViews
 pub mod ImportViews
 pub mod SheetRuleViews
 pub mod internal

@@ -7,7 +7,8 @@ use Rattle.css_selectors.specs.declared.components.Nesting.{Nesting}
 use Rattle.css_selectors.specs.Components.{Selector}
 use Rattle.css_selectors.specs.Specificities.{nothing}
 use Rattle.css_sheet.specs.SheetItems.{is_layer}
-use Rattle.css_sheet.specs.RuleSelectors.{SelectorRead, is_listed, listed_under, selectors_under}
+use Rattle.css_selectors.specs.Names.{Names}
+use Rattle.css_sheet.specs.RuleSelectors.{SelectorRead, ListContext, context, is_listed, listed_under, selectors_under}
 use Rattle.css_sheet.specs.NestedSelectors.{element_selectors, greatest_read, list_numbered}
 use Rattle.css_sheet.specs.SheetParts.{OpenText, RuleKind, style_rule, group_rule, SheetPart, states, begins, ends, stands, PlacedPart, applies_in}
 
@@ -19,12 +20,12 @@ pub data OwnList : Type 0 where
   numbered : Nesting → OwnList
 
 -- The style rule that something is in: none; one that has no rules, since it does not apply or a rule
--- that it is in is invalid; or one, by what is before its block, by what `&` stands for there if it is
--- in another one, and by what is known of its list.
+-- that it is in is invalid; or one, by what is before its block, by what its list is read with, and by what
+-- is known of the list.
 pub data Parent : Type 0 where
   no_rule : Parent
   dropped : Parent
-  style : (prelude : Stated) → (under : Option Nesting) → (own : OwnList) → Parent
+  style : (prelude : Stated) → (under : ListContext) → (own : OwnList) → Parent
 
 -- Whether a style rule is dropped, with all that is in it: it does not apply, or its list or that of a rule
 -- that it is in is invalid (CSS Syntax 3, section 9).
@@ -49,7 +50,7 @@ none_open lists = record { innermost = no_rule; outer = []; lists = lists }
 -- ---- a list for the rules in the innermost rule
 
 -- with the list of this rule, if its selectors are valid
-abbrev pub with_selectors : ParentsText → Stated → Option Nesting → Result (List SelectorRead) Fault
+abbrev pub with_selectors : ParentsText → Stated → ListContext → Result (List SelectorRead) Fault
     → ParentsText
 with_selectors parents prelude under (Err fault) =
     record { innermost = dropped; outer = parents.outer; lists = parents.lists }
@@ -77,7 +78,7 @@ with_list parents = with_list_of parents parents.innermost
 
 -- ---- a layer in the innermost rule
 
-abbrev pub if_listed : Bool → Stated → Option Nesting → Parent
+abbrev pub if_listed : Bool → Stated → ListContext → Parent
 if_listed listed prelude under = if listed then style prelude under valid else dropped
 
 -- the rule, of whose list it is known whether it is valid
@@ -95,13 +96,14 @@ checked_for is_needed parent = if is_needed then checked parent else parent
 
 -- ---- rules that begin and end
 
--- a style rule with this prelude, in this one
-abbrev pub parent_in : Stated → Parent → Parent
-parent_in prelude no_rule = style prelude None unread
-parent_in prelude dropped = dropped
-parent_in prelude (style other under unread) = dropped
-parent_in prelude (style other under valid) = dropped
-parent_in prelude (style other under (numbered own)) = style prelude (Some own) unread
+-- a style rule with this prelude, in this one, where these names are declared
+abbrev pub parent_in : Names → Stated → Parent → Parent
+parent_in names prelude no_rule = style prelude (context None names) unread
+parent_in names prelude dropped = dropped
+parent_in names prelude (style other under unread) = dropped
+parent_in names prelude (style other under valid) = dropped
+parent_in names prelude (style other under (numbered own)) =
+    style prelude (context (Some own) names) unread
 
 -- a style rule is open in these, and what is in it is this
 abbrev pub entered : ParentsText → Parent → ParentsText
@@ -111,17 +113,17 @@ entered parents parent = record {
   lists = parents.lists;
 }
 
-abbrev pub with_style : ParentsText → Stated → ParentsText
-with_style parents prelude = entered parents (parent_in prelude parents.innermost)
+abbrev pub with_style : Names → ParentsText → Stated → ParentsText
+with_style names parents prelude = entered parents (parent_in names prelude parents.innermost)
 
 -- a rule that does not apply has no rules
-abbrev pub begun_style : Bool → Stated → ParentsText → ParentsText
-begun_style applies prelude parents =
-    if applies then with_style (with_list parents) prelude else entered parents dropped
+abbrev pub begun_style : Names → Bool → Stated → ParentsText → ParentsText
+begun_style names applies prelude parents =
+    if applies then with_style names (with_list parents) prelude else entered parents dropped
 
-abbrev pub begun : Bool → RuleKind → ParentsText → ParentsText
-begun applies (style_rule prelude) parents = begun_style applies prelude parents
-begun applies (group_rule keyword prelude) parents = record {
+abbrev pub begun : Names → Bool → RuleKind → ParentsText → ParentsText
+begun names applies (style_rule prelude) parents = begun_style names applies prelude parents
+begun names applies (group_rule keyword prelude) parents = record {
   innermost = checked_for (applies && is_layer keyword) parents.innermost;
   outer = parents.outer ++ None ∷ [];
   lists = parents.lists;
@@ -151,16 +153,16 @@ before_rule around parents =
 
 -- ---- parts
 
-abbrev pub after_part_of : ParentsText → SheetPart → List OpenText → ParentsText
-after_part_of parents (states text) around = parents
-after_part_of parents (begins kind) around =
-    begun (applies_in around) kind (before_rule around parents)
-after_part_of parents ends around = left_innermost parents
-after_part_of parents (stands item) around = parents
+abbrev pub after_part_of : Names → ParentsText → SheetPart → List OpenText → ParentsText
+after_part_of names parents (states text) around = parents
+after_part_of names parents (begins kind) around =
+    begun names (applies_in around) kind (before_rule around parents)
+after_part_of names parents ends around = left_innermost parents
+after_part_of names parents (stands item) around = parents
 
 -- after a part
 abbrev pub after_part : ParentsText → PlacedPart → ParentsText
-after_part parents placed = after_part_of parents placed.part placed.around
+after_part parents placed = after_part_of placed.names parents placed.part placed.around
 
 -- after these parts
 abbrev pub after_parts : ParentsText → List PlacedPart → ParentsText

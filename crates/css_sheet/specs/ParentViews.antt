@@ -7,6 +7,8 @@ use Rattle.css_sheet.specs.declared.parents.OwnList.TheVariants as lists
 use Rattle.css_sheet.specs.declared.parents.Parent.{Parent}
 use Rattle.css_sheet.specs.declared.parents.Parent.TheVariants as parents
 use Rattle.css_sheet.specs.declared.parents.OpenParents.{OpenParents}
+use Rattle.css_selectors.specs.NameViews.{names_of}
+use Rattle.css_sheet.specs.RuleSelectors.{context}
 use Rattle.css_sheet.specs.OpenParents.{ParentsText, no_rule, dropped, style, unread, valid, numbered}
 use Rattle.css_sheet.specs.OpenParents.{Parent as ParentText, OwnList as OwnText}
 
@@ -18,7 +20,8 @@ own_of (lists.Numbered own) = numbered own
 abbrev pub parent_of : Parent → ParentText
 parent_of parents.NoRule = no_rule
 parent_of parents.Dropped = dropped
-parent_of (parents.Style rule) = style (prelude_of rule.prelude) rule.under (own_of rule.own)
+parent_of (parents.Style rule) =
+    style (prelude_of rule.prelude) (context rule.under (names_of rule.names.now)) (own_of rule.own)
 
 abbrev pub parents_of : OpenParents → ParentsText
 parents_of o = record {

@@ -11,7 +11,7 @@ use Rattle.css_syntax.specs.Tokens.{past_gap}
 use Rattle.css_selectors.specs.declared.components.Nesting.{Nesting}
 use Rattle.css_selectors.specs.Components.{Placed, PseudoElement, Selector}
 use Rattle.css_selectors.specs.Grammar.{placed_list}
-use Rattle.css_selectors.specs.Names.{any_prefix, no_names}
+use Rattle.css_selectors.specs.Names.{Names, no_names}
 use Rattle.css_selectors.specs.Nested.{nested_list}
 use Rattle.css_selectors.specs.Originating.{originating}
 use Rattle.css_selectors.specs.Readings.{Reading, got, refused, Reader}
@@ -72,11 +72,22 @@ selector_read p = read_with p p.selector.pseudo_element
 
 -- ---- lists
 
--- The list that a text is, for a rule that is in no other, or for one in a rule for whose list `&` stands. What
--- namespaces a sheet declares is not read.
-abbrev pub list_under : Option Nesting → Reader (List Placed)
-list_under None = placed_list any_prefix
-list_under (Some list) = nested_list any_prefix list
+-- What the list of a rule is read with: what `&` stands for there, if the rule is in another one, and the names
+-- that its sheet declares.
+pub record ListContext : Type 0 where
+  pub list : Option Nesting
+  pub names : Names
+
+abbrev pub context : Option Nesting → Names → ListContext
+context list names = record { list = list; names = names }
+
+abbrev pub list_by : Names → Option Nesting → Reader (List Placed)
+list_by names None = placed_list names
+list_by names (Some list) = nested_list names list
+
+-- the list that a text is
+abbrev pub list_under : ListContext → Reader (List Placed)
+list_under under = list_by under.names under.list
 
 -- a list with one that is no selector is invalid as a whole
 abbrev pub listed_or : Reading (List Placed) → Result (List Placed) Fault
@@ -84,7 +95,7 @@ listed_or (got all rest) = Ok all
 listed_or (refused why rest) = Err InvalidSelector
 
 -- the list of selectors of a rule with this prelude, or why the rule is dropped
-abbrev pub listed_under : Option Nesting → Stated → Result (List Placed) Fault
+abbrev pub listed_under : ListContext → Stated → Result (List Placed) Fault
 listed_under under prelude =
     if is_good prelude.quality then listed_or (list_under under prelude.text)
     else Err (fault_of prelude.quality)
@@ -99,7 +110,7 @@ all_read (Ok all) = Ok (map selector_read all)
 all_read (Err fault) = Err fault
 
 -- the selectors of a rule with this prelude, in order, or why the rule is dropped
-abbrev pub selectors_under : Option Nesting → Stated → Result (List SelectorRead) Fault
+abbrev pub selectors_under : ListContext → Stated → Result (List SelectorRead) Fault
 selectors_under under prelude = all_read (listed_under under prelude)
 
 -- ---- one selector

@@ -1,9 +1,9 @@
 -- The parts of a sheet, in place: where its rules begin and end, whether they apply or not, and what is in the
 -- blocks of its style rules (CSS Nesting 1).
-use Rattle.std.specs.Prelude.{ℕ, true, List, [], map}
+use Rattle.std.specs.Prelude.{ℕ, true, List, [], length, map}
 use Rattle.css_syntax.specs.Placed.{PlacedItem, placed_items}
-use Rattle.css_sheet.specs.SheetParts.{SheetPart, states, begins, ends, stands, PlacedPart, sheet_parts}
-use Rattle.css_sheet.specs.Sheets.{authored}
+use Rattle.css_selectors.specs.Names.{no_names}
+use Rattle.css_sheet.specs.SheetParts.{SheetPart, states, begins, ends, stands, PlacedPart, Source, parts_in}
 
 -- A part, what is left of the sheet from it on, and the offset at which it ends.
 pub record ContentText : Type 0 where
@@ -14,9 +14,13 @@ pub record ContentText : Type 0 where
 abbrev pub content : PlacedPart → ContentText
 content placed = record { part = placed.part; from = placed.from; end = placed.end }
 
+-- a text that is in no group rule; what it declares makes no difference to its parts
+abbrev pub text_source : List ℕ → Source
+text_source text = record { sheet = 0; size = length text; depth = 0; names = no_names }
+
 -- the parts of a sheet, in order
 abbrev pub contents_of : List ℕ → List ContentText
-contents_of text = map content (sheet_parts (λ keyword prelude. true) 0 (authored text))
+contents_of text = map content (parts_in (λ keyword prelude. true) (text_source text) [] text)
 
 -- The items of a part, each with what is left of the part from it on: those of its text, if it is
 -- declarations in a style rule (CSS Syntax 3, "consume a block's contents"). Any other part has none.

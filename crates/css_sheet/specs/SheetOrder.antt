@@ -11,14 +11,13 @@ use Rattle.css_syntax.specs.declared.quality.Fault.{Fault}
 use Rattle.css_syntax.specs.Parts.{Stated}
 use Rattle.css_syntax.specs.DeclarationLists.{ListText, ItemText, declared, at_rule_item, skipped_item, items}
 use Rattle.css_selectors.specs.Components.{Selector}
-use Rattle.css_selectors.specs.declared.components.Nesting.{Nesting}
 use Rattle.css_selectors.specs.Specificities.{Counts, specificity}
 use Rattle.css_cascade.specs.Cascade.{origin_rank}
 use Rattle.css_cascade.specs.Layers.{LayerText, place_of}
 use Rattle.css_cascade.specs.declared.weights.Origin.{Origin}
 use Rattle.css_cascade.specs.declared.weights.Origin.TheVariants.{Author}
 use Rattle.css_sheet.specs.Sheets.{SheetText, origin_at, outermost_at}
-use Rattle.css_sheet.specs.RuleSelectors.{SelectorRead, selectors_under}
+use Rattle.css_sheet.specs.RuleSelectors.{SelectorRead, ListContext, selectors_under}
 use Rattle.css_sheet.specs.NestedSelectors.{with_element}
 use Rattle.css_sheet.specs.OpenParents.{Parent, no_rule, dropped, style, ParentsText, none_open, after_part, after_parts}
 use Rattle.css_sheet.specs.SheetParts.{SheetPart, states, begins, ends, stands, PlacedPart, applies_in}
@@ -97,8 +96,8 @@ abbrev pub unless_invalid : RunText → Result (List SelectorRead) Fault → Lis
 unless_invalid run (Ok selectors) = rules_with run selectors
 unless_invalid run (Err fault) = []
 
--- the rules of a rule set, in which `&` denotes this: none without a declaration
-abbrev pub rule_set_rules : Stated → Option Nesting → RunText → List SheetRuleText
+-- the rules of a rule set, whose list is read with this: none without a declaration
+abbrev pub rule_set_rules : Stated → ListContext → RunText → List SheetRuleText
 rule_set_rules prelude under run =
     if declaration_count run.text == 0 then []
     else unless_invalid run (selectors_under under prelude)

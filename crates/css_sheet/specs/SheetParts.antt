@@ -6,7 +6,9 @@ use Rattle.css_syntax.specs.Parts.{Stated}
 use Rattle.css_syntax.specs.Statements.{block, BlockText, past_between}
 use Rattle.css_syntax.specs.DeclarationLists.{ItemText, at_rule_item, past_separators}
 use Rattle.css_syntax.specs.Blocks.{BlockPart, listed, opens_rule, opens_at_rule, closes, next_block_part, next_rule_part}
+use Rattle.css_selectors.specs.Names.{Names}
 use Rattle.css_sheet.specs.SheetItems.{group_keyword}
+use Rattle.css_sheet.specs.Namespaces.{sheet_names}
 use Rattle.css_sheet.specs.Sheets.{GroupRuleText, SheetText}
 
 -- ---- the rules that are open
@@ -192,20 +194,23 @@ open_after holds around (begins kind) place = around ++ opened holds around kind
 open_after holds around ends place = take (length around - 1) around
 open_after holds around (stands item) place = around
 
--- A part; what is left of its text from it on; what is open after it, with what it begins; and the number of
--- the text that it is in and the offset there at which it ends.
+-- A part; what is left of its text from it on; what is open after it, with what it begins; the names that its
+-- text declares; and the number of the text that it is in and the offset there at which it ends.
 pub record PlacedPart : Type 0 where
   pub part : SheetPart
   pub from : List ℕ
   pub around : List OpenText
+  pub names : Names
   pub sheet : ℕ
   pub end : ℕ
 
--- A text: its number among all, from 0 on; how many bytes it has; and how many group rules all of it is in.
+-- A text: its number among all, from 0 on; how many bytes it has; how many group rules all of it is in; and the
+-- names that it declares.
 pub record Source : Type 0 where
   pub sheet : ℕ
   pub size : ℕ
   pub depth : ℕ
+  pub names : Names
 
 -- the offset in it from which on this is left
 abbrev pub offset_in : Source → List ℕ → ℕ
@@ -221,6 +226,7 @@ placed_part source from part around rest = record {
   part = part;
   from = from;
   around = around;
+  names = source.names;
   sheet = source.sheet;
   end = offset_in source rest;
 }
@@ -271,8 +277,12 @@ parts_given holds source around (rule ∷ rules) text =
 
 -- the text of the sheet of this number
 abbrev pub sheet_source : (number : ℕ) → SheetText → Source
-sheet_source number sheet =
-    record { sheet = number; size = length sheet.text; depth = length sheet.around }
+sheet_source number sheet = record {
+  sheet = number;
+  size = length sheet.text;
+  depth = length sheet.around;
+  names = sheet_names sheet;
+}
 
 -- The parts of the sheet of this number, where a group rule holds as `holds` says of its keyword and
 -- its prelude.

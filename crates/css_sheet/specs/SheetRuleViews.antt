@@ -2,6 +2,7 @@
 use Rattle.std.specs.Prelude.{◌≡◌, ℕ, ◌+◌, ◌<◌, ◌++◌, Bool, List, map, Result, Ok, Err}
 use Rattle.std.specs.Option.{option_map}
 use Rattle.std.specs.Borrow.{Bor}
+use Rattle.css_selectors.specs.NameViews.{texts_of}
 use Rattle.css_sheet.specs.declared.sheet_error.SheetError.{SheetError}
 use Rattle.css_sheet.specs.declared.sheet_error.SheetError.TheVariants.{TooManyDeclarations}
 use Rattle.css_sheet.specs.declared.sheet_rules.Sheet.{Sheet}
@@ -17,6 +18,7 @@ sheet_of s = record {
   text = s.text.now;
   origin = s.origin;
   around = map group_rule_of s.around.now;
+  namespaces = texts_of s.namespaces.now;
 }
 
 abbrev pub sheet_rule_of : SheetRule → SheetRuleText

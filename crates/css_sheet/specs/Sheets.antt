@@ -12,16 +12,18 @@ pub record GroupRuleText : Type 0 where
   pub prelude : List ℕ
   pub number : ℕ
 
--- A style sheet, where it comes from, and the group rules that all of it is in, from the outermost: those
--- of the `@import` that names it, for instance.
+-- A style sheet; where it comes from; the group rules that all of it is in, from the outermost: those of the
+-- `@import` that names it, for instance; and the urls of the namespaces that are known, of which the first has
+-- number 1.
 pub record SheetText : Type 0 where
   pub text : List ℕ
   pub origin : Origin
   pub around : List GroupRuleText
+  pub namespaces : List (List ℕ)
 
--- a sheet of the author's, in no group rule
+-- a sheet of the author's, in no group rule, where no namespace is known
 abbrev pub authored : List ℕ → SheetText
-authored text = record { text = text; origin = Author; around = [] }
+authored text = record { text = text; origin = Author; around = []; namespaces = [] }
 
 abbrev pub origin_if : Option SheetText → Origin
 origin_if (Some sheet) = sheet.origin

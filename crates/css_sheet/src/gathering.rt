@@ -1,9 +1,11 @@
 //! Gathers the rules of style rules.
 ghost use Rattle.std.specs.Prelude.{◌≡◌, IfErr, map, option_to_list};
 ghost use Rattle.css_syntax.specs.Views.{item_of, prelude_of};
+ghost use Rattle.css_selectors.specs.NameViews.{names_of};
 ghost use Rattle.css_sheet.specs.ContentViews.{part_of};
 ghost use Rattle.css_sheet.specs.internal.PartViews.{placed_last};
 ghost use Rattle.css_sheet.specs.ParentViews.{parent_of};
+ghost use Rattle.css_sheet.specs.RuleSelectors.{context};
 ghost use Rattle.css_sheet.specs.RuleViews.{rule_selector_of};
 ghost use Rattle.css_sheet.specs.SheetOrder.{declaration_count, is_declared, rule_with, rules_with};
 ghost use Rattle.css_sheet.specs.SheetOrder.{rule_set_rules, part_rules};
@@ -123,18 +125,19 @@ impl<'a> Gathered<'a> {
     fn push_stated(
         &mut self,
         alloc: Global,
-        rule: &StyleRule<'a>,
+        rule: &StyleRule<'_, 'a>,
         run: Run<'a>,
     ) -> Result<(), SheetError>
         ensures no_layers { IfErr result (λ error. error ≡ TooManyLayers → ⊥) }
         ensures gathers { Gathers self.old result self.new
-            (rule_set_rules (prelude_of rule.now.prelude) rule.now.under (run_of run.entry)) }
+            (rule_set_rules (prelude_of rule.now.prelude)
+            (context rule.now.under (names_of rule.now.names.now)) (run_of run.entry)) }
     {
         let count = count_declarations(run.text);
         if count == 0 {
             return Ok(());
         }
-        match read_selectors(alloc, rule.under, &rule.prelude) {
+        match read_selectors(alloc, rule.names, rule.under, &rule.prelude) {
             Ok(Ok(selectors)) => self.push_rules(selectors, run, count),
             Ok(Err(_)) => Ok(()),
             Err(_) => Err(SheetError::Memory),
@@ -147,7 +150,7 @@ impl<'a> Gathered<'a> {
         alloc: Global,
         part: &Part<'a>,
         layer: usize,
-        parent: &Parent<'a>,
+        parent: &Parent<'_, 'a>,
         reader: &SheetParts<'_, 'a>,
     ) -> Result<(), SheetError>
         ensures no_layers { IfErr result (λ error. error ≡ TooManyLayers → ⊥) }

@@ -1,35 +1,39 @@
 //! The `@import` rules at the front of a sheet.
-ghost use Rattle.std.specs.Prelude.{◌≡◌, List, IfOk, None, map, option_map};
+ghost use Rattle.std.specs.Prelude.{◌≡◌, List, IfOk, None, map};
 ghost use Rattle.css_syntax.specs.Views.{prelude_of, statement_of};
-ghost use Rattle.css_sheet.specs.Imports.{is_block_rule as is_block_rule_of, is_last as is_last_of};
+ghost use Rattle.css_selectors.specs.NameViews.{names_of};
+ghost use Rattle.css_sheet.specs.Imports.{is_block_rule as is_block_rule_of};
 ghost use Rattle.css_sheet.specs.Imports.{is_font_rule as is_font_rule_of, is_outer_rule as is_outer_rule_of};
 ghost use Rattle.css_sheet.specs.Imports.{is_animation_rule as is_animation_rule_of};
 ghost use Rattle.css_sheet.specs.Imports.{is_definition_rule as is_definition_rule_of};
-ghost use Rattle.css_sheet.specs.Imports.{is_namespace as is_namespace_of, other_if};
+ghost use Rattle.css_sheet.specs.Imports.{other_if};
 ghost use Rattle.css_sheet.specs.Imports.{statement_rule as statement_rule_of, block_rule as block_rule_of};
 ghost use Rattle.css_sheet.specs.Imports.{rule_in_front, sheet_imports, FrontRule as FrontRuleText};
 ghost use Rattle.css_sheet.specs.ImportViews.{import_of};
-ghost use Rattle.css_sheet.specs.internal.FoundViews.{found_url};
 ghost use Rattle.css_sheet.specs.internal.FrontViews.{front_rule_of, TakesRule};
-ghost use Rattle.css_sheet.specs.RuleSelectors.{is_listed, listed_under};
+ghost use Rattle.css_sheet.specs.RuleSelectors.{context, is_listed, listed_under};
 
-use crate::import_rules::{FoundUrl, Import, read_import, read_url};
+use crate::import_rules::{Import, read_import, read_url};
+use crate::namespace_rules::{FoundNamespace, read_namespace};
 use crate::open_layers::is_layer;
 use crate::selectors::read_listed;
 use css_cascade::{is_block_name, read_layer_names};
-use css_syntax::statements::{begins_ident, read_next};
-use css_syntax::texts::{past_gap, past_word, spells};
+use css_selectors::{NO_NAMES, Names};
+use css_syntax::statements::read_next;
+use css_syntax::texts::spells;
 use css_syntax::{AtRule, Prelude, Statement};
 use std::alloc::{AllocError, Global};
 
-/// What a statement is to the imports after it.
+/// What a statement is to the imports and the namespace rules after it.
 #[derive(Clone, Copy)]
 pub(crate) enum FrontRule<'a> {
     /// An import.
     Import(Import<'a>),
-    /// Names of layers, which may be before the first import.
+    /// A namespace rule, which no import may follow.
+    Namespace(FoundNamespace<'a>),
+    /// Names of layers, which may be before the first import or namespace rule.
     LayerList,
-    /// Another rule, which no import may follow.
+    /// Another rule, which none of these may follow.
     OtherRule,
     /// Nothing, since it is invalid or unknown.
     NoRule,
@@ -97,24 +101,6 @@ fn is_block_rule(name: &str) -> bool
     is_outer_rule(name) || is_font_rule(name) || is_animation_rule(name) || is_definition_rule(name)
 }
 
-/// Whether there is a url that only blanks follow.
-fn is_last(found: Option<FoundUrl<'_>>) -> bool
-    ensures { result ≡ is_last_of (option_map found_url found.entry) }
-{
-    match found {
-        Some(url) => past_gap(url.rest).is_empty(),
-        None => false,
-    }
-}
-
-/// Whether this is a url, which a name may be before.
-fn is_namespace(text: &str) -> bool
-    ensures { result ≡ is_namespace_of text.now }
-{
-    is_last(read_url(text))
-        || begins_ident(text.as_bytes()) && is_last(read_url(past_gap(past_word(text))))
-}
-
 /// Returns what an at-rule without a block is.
 #[tactic(auto, unfolding(crate::specs::Imports::statement_rule))]
 fn statement_rule<'a>(
@@ -133,12 +119,17 @@ fn statement_rule<'a>(
             None => Ok(FrontRule::NoRule),
         };
     }
-    if !is_layer(rule.name) {
-        let is_valid = spells("namespace", rule.name) && is_namespace(prelude);
-        return Ok(other_rule(is_valid));
+    if is_layer(rule.name) {
+        return match read_layer_names(alloc, prelude)? {
+            Some(_) => Ok(FrontRule::LayerList),
+            None => Ok(FrontRule::NoRule),
+        };
     }
-    match read_layer_names(alloc, prelude)? {
-        Some(_) => Ok(FrontRule::LayerList),
+    if !spells("namespace", rule.name) {
+        return Ok(FrontRule::NoRule);
+    }
+    match read_namespace(prelude) {
+        Some(found) => Ok(FrontRule::Namespace(found)),
         None => Ok(FrontRule::NoRule),
     }
 }
@@ -155,29 +146,36 @@ fn block_rule<'a>(rule: &AtRule<'_>) -> FrontRule<'a>
     }
 }
 
-/// Returns what a rule set with this prelude is.
-fn rule_set<'a>(alloc: Global, prelude: &Prelude<'_>) -> Result<FrontRule<'a>, AllocError>
+/// Returns what a rule set with this prelude is, where these names are declared.
+fn rule_set<'a>(
+    alloc: Global,
+    names: &Names<'_>,
+    prelude: &Prelude<'_>,
+) -> Result<FrontRule<'a>, AllocError>
     ensures { IfOk result (λ found. front_rule_of found
-        ≡ other_if (is_listed (listed_under None (prelude_of prelude.now)))) }
+        ≡ other_if (is_listed (listed_under (context None (names_of names.now))
+        (prelude_of prelude.now)))) }
 {
-    match read_listed(alloc, None, prelude)? {
+    match read_listed(alloc, names, None, prelude)? {
         Ok(_) => Ok(FrontRule::OtherRule),
         Err(_) => Ok(FrontRule::NoRule),
     }
 }
 
-/// Returns what a statement is that begins at this offset and has as many bytes.
-fn front_rule<'a>(
+/// Returns what a statement is that begins at this offset and has as many bytes, where these names are
+/// declared.
+pub(crate) fn front_rule<'a>(
     alloc: Global,
+    names: &Names<'_>,
     start: usize,
     size: usize,
     statement: &Statement<'a>,
 ) -> Result<FrontRule<'a>, AllocError>
     ensures { IfOk result (λ found. front_rule_of found
-        ≡ rule_in_front start size (statement_of statement.now)) }
+        ≡ rule_in_front (names_of names.now) start size (statement_of statement.now)) }
 {
     match statement {
-        Statement::RuleSet(rule) => rule_set(alloc, &rule.prelude),
+        Statement::RuleSet(rule) => rule_set(alloc, names, &rule.prelude),
         Statement::AtRule(rule) if rule.block.is_some() => Ok(block_rule(rule)),
         Statement::AtRule(rule) => statement_rule(alloc, start, size, rule),
         Statement::Skipped(_) => Ok(FrontRule::NoRule),
@@ -195,6 +193,7 @@ fn push_rule<'a>(imports: &mut Vec<Import<'a>>, rule: FrontRule<'a>) -> Result<b
             Ok(true)
         }
         FrontRule::LayerList => Ok(imports.is_empty()),
+        FrontRule::Namespace(_) => Ok(false),
         FrontRule::OtherRule => Ok(false),
         FrontRule::NoRule => Ok(true),
     }
@@ -214,7 +213,7 @@ pub fn read_imports<'a>(alloc: Global, text: &'a str) -> Result<Vec<Import<'a>>,
     'statements: while let Some(found) = read_next(rest, false) {
         let start = text.len() - found.from.len();
         let size = found.part.text.len();
-        let rule = front_rule(alloc, start, size, &found.part.statement)?;
+        let rule = front_rule(alloc, &NO_NAMES, start, size, &found.part.statement)?;
         if !push_rule(&mut imports, rule)? {
             return Ok(imports);
         }

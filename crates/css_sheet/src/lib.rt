@@ -4,6 +4,10 @@
 //!
 //! `read_sheets` returns the style rules of several sheets in the order of the cascade. `print_sheet` prints a
 //! sheet, and what it returns says the same.
+//!
+//! The `@namespace` rules of a sheet declare prefixes and the default namespace of its selectors (CSS Namespaces
+//! 3). `read_sheets` reads each sheet with what it declares; for `read_listed` and `read_selectors`
+//! `SheetNamespaces::read` reads it.
 #![tactic(auto)]
 
 mod gathering;
@@ -11,6 +15,8 @@ mod groups;
 mod import_rules;
 mod imports;
 pub mod laws;
+mod namespace_rules;
+mod namespaces;
 mod nested_selectors;
 mod open_layers;
 mod parents;
@@ -22,6 +28,7 @@ mod said;
 mod selectors;
 mod sheet_contents;
 mod sheet_error;
+mod sheet_namespaces;
 mod sheet_order;
 mod sheet_rules;
 mod state;
@@ -29,6 +36,7 @@ mod words;
 
 pub use import_rules::{Import, ImportLayer, ImportUrl};
 pub use imports::read_imports;
+pub use namespaces::{DeclaredNamespaces, SheetNamespaces};
 pub use parts::{Part, RuleKind};
 pub use printing::{Layout, print_sheet};
 pub use selectors::{RuleSelector, read_listed, read_selectors, read_supported, rule_selector};

@@ -2,7 +2,8 @@
 //! the rules in them.
 ghost use Rattle.std.specs.Prelude.{◌≡◌, ◌++◌, ◌∷◌, [], IfOk, None, map, option_map};
 ghost use Rattle.css_syntax.specs.Views.{prelude_of};
-ghost use Rattle.css_sheet.specs.RuleSelectors.{is_listed as is_listed_of, listed_under};
+ghost use Rattle.css_selectors.specs.NameViews.{names_of};
+ghost use Rattle.css_sheet.specs.RuleSelectors.{context, is_listed as is_listed_of, listed_under};
 ghost use Rattle.css_sheet.specs.RuleViews.{listed_result};
 ghost use Rattle.css_sheet.specs.OpenParents.{none_open, with_selectors, with_list, parent_in as parent_in_of};
 ghost use Rattle.css_sheet.specs.OpenParents.{entered, begun, begun_style, left_innermost, before_rule, after_part_of};
@@ -17,7 +18,7 @@ use crate::nested_selectors::list_of;
 use crate::open_layers::is_layer;
 use crate::parts::{OpenRule, Part, RuleKind};
 use crate::selectors::{RuleSelector, read_listed, read_selectors};
-use css_selectors::{Nesting, Selector};
+use css_selectors::{Names, Nesting, Selector};
 use css_syntax::{Fault, Prelude};
 use std::alloc::{AllocError, Global};
 
@@ -34,40 +35,47 @@ pub(crate) enum OwnList {
 
 /// A style rule that is open.
 #[derive(Clone, Copy)]
-pub(crate) struct StyleRule<'a> {
+pub(crate) struct StyleRule<'n, 'a> {
     /// What is before its block.
     pub(crate) prelude: Prelude<'a>,
     /// What `&` stands for there, if the rule is in another one.
     pub(crate) under: Option<Nesting>,
+    /// The names that its sheet declares.
+    pub(crate) names: &'n Names<'n>,
     /// What is known of its list.
     pub(crate) own: OwnList,
 }
 
 /// The style rule that something is in.
 #[derive(Clone, Copy)]
-pub(crate) enum Parent<'a> {
+pub(crate) enum Parent<'n, 'a> {
     /// None.
     NoRule,
     /// One that has no rules: it does not apply, or a rule that it is in is invalid.
     Dropped,
     /// This one.
-    Style(StyleRule<'a>),
+    Style(StyleRule<'n, 'a>),
 }
 
 /// The style rules that are open, and the lists of those with rules in them.
 #[derive(Drop)]
-pub(crate) struct OpenParents<'a> {
+pub(crate) struct OpenParents<'n, 'a> {
     /// The style rule that is innermost.
-    pub(crate) innermost: Parent<'a>,
+    pub(crate) innermost: Parent<'n, 'a>,
     /// Of each rule that is open, from the outermost: the style rule that it is in, if it is a style rule.
-    pub(crate) outer: Vec<Option<Parent<'a>>>,
+    pub(crate) outer: Vec<Option<Parent<'n, 'a>>>,
     /// The lists so far.
     pub(crate) lists: Vec<Vec<Selector<'a>>>,
 }
 
-/// Returns a style rule with this prelude, in this one.
-fn parent_in<'a>(prelude: Prelude<'a>, outer: Parent<'a>) -> Parent<'a>
-    ensures { parent_of result ≡ parent_in_of (prelude_of prelude.entry) (parent_of outer.entry) }
+/// Returns a style rule with this prelude, in this one, where these names are declared.
+fn parent_in<'n, 'a>(
+    names: &'n Names<'n>,
+    prelude: Prelude<'a>,
+    outer: Parent<'n, 'a>,
+) -> Parent<'n, 'a>
+    ensures { parent_of result
+        ≡ parent_in_of (names_of names.now) (prelude_of prelude.entry) (parent_of outer.entry) }
 {
     let under = match outer {
         Parent::NoRule => None,
@@ -82,21 +90,22 @@ fn parent_in<'a>(prelude: Prelude<'a>, outer: Parent<'a>) -> Parent<'a>
     Parent::Style(StyleRule {
         prelude,
         under,
+        names,
         own: OwnList::Unread,
     })
 }
 
 /// Whether the list of a style rule is valid.
-fn is_listed(alloc: Global, rule: &StyleRule<'_>) -> Result<bool, AllocError>
-    ensures { IfOk result (λ valid. is_listed_of (listed_under rule.now.under
-        (prelude_of rule.now.prelude)) ≡ valid) }
+fn is_listed(alloc: Global, rule: &StyleRule<'_, '_>) -> Result<bool, AllocError>
+    ensures { IfOk result (λ valid. is_listed_of (listed_under
+        (context rule.now.under (names_of rule.now.names.now)) (prelude_of rule.now.prelude)) ≡ valid) }
 {
-    let read = read_listed(alloc, rule.under, &rule.prelude)?;
+    let read = read_listed(alloc, rule.names, rule.under, &rule.prelude)?;
     Ok(read.is_ok())
 }
 
 /// Returns the same style rule, of whose list it is known whether it is valid.
-fn check<'a>(alloc: Global, parent: Parent<'a>) -> Result<Parent<'a>, AllocError>
+fn check<'n, 'a>(alloc: Global, parent: Parent<'n, 'a>) -> Result<Parent<'n, 'a>, AllocError>
     ensures { IfOk result (λ same. parent_of same ≡ checked (parent_of parent.entry)) }
 {
     match parent {
@@ -114,15 +123,15 @@ fn check<'a>(alloc: Global, parent: Parent<'a>) -> Result<Parent<'a>, AllocError
 }
 
 /// Returns the style rule that the rule was in which ends, if it is a style rule, or else the same.
-fn or_same<'a>(innermost: Parent<'a>, last: Option<Parent<'a>>) -> Parent<'a>
+fn or_same<'n, 'a>(innermost: Parent<'n, 'a>, last: Option<Parent<'n, 'a>>) -> Parent<'n, 'a>
     ensures { parent_of result ≡ or_same_of (parent_of innermost.entry) (option_map parent_of last.entry) }
 {
     last.unwrap_or(innermost)
 }
 
-impl<'a> OpenParents<'a> {
+impl<'n, 'a> OpenParents<'n, 'a> {
     /// Returns that nothing is open, and no list.
-    pub(crate) fn new(alloc: Global) -> OpenParents<'a>
+    pub(crate) fn new(alloc: Global) -> OpenParents<'n, 'a>
         ensures { parents_of result ≡ none_open [] }
     {
         OpenParents {
@@ -136,11 +145,11 @@ impl<'a> OpenParents<'a> {
     fn add_list(
         &mut self,
         alloc: Global,
-        rule: StyleRule<'a>,
+        rule: StyleRule<'n, 'a>,
         selectors: Result<Vec<RuleSelector<'a>>, Fault>,
     ) -> Result<(), AllocError>
         ensures { IfOk result (λ _. parents_of self.new ≡ with_selectors (parents_of self.old)
-            (prelude_of rule.entry.prelude) rule.entry.under
+            (prelude_of rule.entry.prelude) (context rule.entry.under (names_of rule.entry.names.now))
             (listed_result (λ l. l.items) selectors.entry)) }
     {
         match selectors {
@@ -167,7 +176,7 @@ impl<'a> OpenParents<'a> {
         let innermost = self.innermost;
         match innermost {
             Parent::Style(rule) if !matches!(rule.own, OwnList::Numbered(_)) => {
-                let selectors = read_selectors(alloc, rule.under, &rule.prelude)?;
+                let selectors = read_selectors(alloc, rule.names, rule.under, &rule.prelude)?;
                 self.add_list(alloc, rule, selectors)
             }
             _ => Ok(()),
@@ -175,7 +184,7 @@ impl<'a> OpenParents<'a> {
     }
 
     /// Enters a style rule, of which this is innermost then.
-    fn enter(&mut self, parent: Parent<'a>) -> Result<(), AllocError>
+    fn enter(&mut self, parent: Parent<'n, 'a>) -> Result<(), AllocError>
         ensures { IfOk result (λ _. parents_of self.new
             ≡ entered (parents_of self.old) (parent_of parent.entry)) }
     {
@@ -188,17 +197,18 @@ impl<'a> OpenParents<'a> {
     fn begin_style(
         &mut self,
         alloc: Global,
+        names: &'n Names<'n>,
         prelude: Prelude<'a>,
         applies: bool,
     ) -> Result<(), AllocError>
         ensures { IfOk result (λ _. parents_of self.new
-            ≡ begun_style applies (prelude_of prelude.entry) (parents_of self.old)) }
+            ≡ begun_style (names_of names.now) applies (prelude_of prelude.entry) (parents_of self.old)) }
     {
         if !applies {
             return self.enter(Parent::Dropped);
         }
         self.add_own_list(alloc)?;
-        self.enter(parent_in(prelude, self.innermost))
+        self.enter(parent_in(names, prelude, self.innermost))
     }
 
     /// Enters a group rule. If it is a layer that applies, the list of the innermost rule is needed.
@@ -217,12 +227,18 @@ impl<'a> OpenParents<'a> {
     }
 
     /// Begins a rule, which applies or not.
-    fn begin(&mut self, alloc: Global, kind: &RuleKind<'a>, applies: bool) -> Result<(), AllocError>
+    fn begin(
+        &mut self,
+        alloc: Global,
+        names: &'n Names<'n>,
+        kind: &RuleKind<'a>,
+        applies: bool,
+    ) -> Result<(), AllocError>
         ensures { IfOk result (λ _. parents_of self.new
-            ≡ begun applies (kind_of kind.now) (parents_of self.old)) }
+            ≡ begun (names_of names.now) applies (kind_of kind.now) (parents_of self.old)) }
     {
         match kind {
-            RuleKind::Style(prelude) => self.begin_style(alloc, *prelude, applies),
+            RuleKind::Style(prelude) => self.begin_style(alloc, names, *prelude, applies),
             RuleKind::Group(keyword, _) => {
                 let is_needed = applies && is_layer(*keyword);
                 self.enter_group(alloc, is_needed)
@@ -256,22 +272,25 @@ impl<'a> OpenParents<'a> {
         matches!(self.innermost, Parent::Dropped)
     }
 
-    /// Enters what a part begins, and leaves what it ends. These rules are open then.
+    /// Enters what a part begins, and leaves what it ends. These rules are open then, and its sheet declares
+    /// these names.
     pub(crate) fn go_through(
         &mut self,
         alloc: Global,
+        names: &'n Names<'n>,
         part: &Part<'a>,
         around: &[OpenRule<'a>],
         applies: bool,
     ) -> Result<(), AllocError>
         requires { applies ≡ applies_in_rules (map open_of around.now) }
         ensures { IfOk result (λ _. parents_of self.new
-            ≡ after_part_of (parents_of self.old) (part_of part.now) (map open_of around.now)) }
+            ≡ after_part_of (names_of names.now) (parents_of self.old) (part_of part.now)
+            (map open_of around.now)) }
     {
         match part {
             Part::Begins(kind) => {
                 self.leave_others(around);
-                self.begin(alloc, kind, applies)
+                self.begin(alloc, names, kind, applies)
             }
             Part::Ends => {
                 self.leave();

@@ -5,6 +5,7 @@ ghost use Rattle.css_syntax.specs.DeclarationLists.{past_separators};
 ghost use Rattle.css_syntax.specs.Statements.{past_between};
 ghost use Rattle.css_syntax.specs.Views.{prelude_of};
 ghost use Rattle.css_syntax.specs.BlockViews.{block_part_of};
+ghost use Rattle.css_selectors.specs.NameViews.{names_of};
 ghost use Rattle.css_sheet.specs.SheetItems.{group_keyword as group_keyword_of};
 ghost use Rattle.css_sheet.specs.SheetParts.{nesting_of as nesting_of_rules, applies_in as applies_in_rules};
 ghost use Rattle.css_sheet.specs.SheetParts.{nesting_in as nesting_in_kind, kind_holds as kind_holds_by};
@@ -12,7 +13,7 @@ ghost use Rattle.css_sheet.specs.SheetParts.{after_at_rule, run_part as run_part
 ghost use Rattle.css_sheet.specs.SheetParts.{stated_from, at_rule_in, part_inside as inside_of};
 ghost use Rattle.css_sheet.specs.SheetParts.{at_rule_outside, part_outside as outside_of, next_inside, next_outside};
 ghost use Rattle.css_sheet.specs.SheetParts.{is_more_open as is_more_open_in, from_part, next_in, opened, open_after, offset_in};
-ghost use Rattle.css_sheet.specs.SheetParts.{begins, given_kind, open_given, parts_given, sheet_parts};
+ghost use Rattle.css_sheet.specs.SheetParts.{begins, given_kind, open_given, parts_given, Source};
 ghost use Rattle.css_sheet.specs.GroupViews.{group_rule_of};
 ghost use Rattle.css_sheet.specs.ContentViews.{kind_of, part_of};
 ghost use Rattle.css_sheet.specs.internal.PartViews.{nesting_text, open_of, open_in, from_in, left_in, given_in};
@@ -22,6 +23,7 @@ ghost use Rattle.css_sheet.specs.SheetRuleViews.{Answers, sheet_of};
 
 use crate::groups::group_keyword;
 use crate::sheet_rules::{GroupRule, Sheet};
+use css_selectors::Names;
 use css_syntax::blocks::{BlockPart, FoundBlockPart, read_next_block_part, read_next_rule_part};
 use css_syntax::statements::read_block;
 use css_syntax::texts::front;
@@ -106,6 +108,8 @@ pub(crate) struct SheetParts<'s, 'a> {
     pub(crate) sheet: usize,
     /// How many bytes it has.
     pub(crate) size: usize,
+    /// The names that it declares.
+    pub(crate) names: &'s Names<'s>,
 }
 
 /// Returns what the next part is in.
@@ -352,13 +356,27 @@ fn read_next_in<'a>(around: &[OpenRule<'_>], depth: usize, text: &'a str) -> Opt
 }
 
 impl<'s, 'a> SheetParts<'s, 'a> {
-    /// Returns a reader at the start of the sheet, which has this number. Allocates nothing.
-    pub(crate) fn new(alloc: Global, sheet: &Sheet<'s, 'a>, number: usize) -> SheetParts<'s, 'a>
+    /// Returns a reader at the start of the sheet, which has this number and declares these names. Allocates
+    /// nothing.
+    pub(crate) fn new(
+        alloc: Global,
+        sheet: &Sheet<'s, 'a>,
+        names: &'s Names<'s>,
+        number: usize,
+    ) -> SheetParts<'s, 'a>
         ensures open { open_in result ≡ [] }
         ensures sheet { (source_of result).sheet ≡ number }
         ensures size { (source_of result).size ≡ length sheet.now.text.now }
-        ensures parts { (answers : List ℕ → List ℕ → Bool)
-            → parts_to_come answers result ≡ sheet_parts answers number (sheet_of sheet.now) }
+        ensures names { (source_of result).names ≡ names_of names.now }
+        ensures parts { let text = sheet_of sheet.now in
+            let source : Source = record {
+              sheet = number;
+              size = length text.text;
+              depth = length text.around;
+              names = names_of names.now;
+            } in
+            (answers : List ℕ → List ℕ → Bool)
+            → parts_to_come answers result ≡ parts_given answers source [] text.around text.text }
     {
         SheetParts {
             around: Vec::new(alloc),
@@ -368,6 +386,7 @@ impl<'s, 'a> SheetParts<'s, 'a> {
             rest: sheet.text,
             sheet: number,
             size: sheet.text.len(),
+            names,
         }
     }
 

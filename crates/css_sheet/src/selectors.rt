@@ -2,13 +2,14 @@
 ghost use Rattle.std.specs.Prelude.{◌≡◌, IfOk, map};
 ghost use Rattle.css_syntax.specs.Views.{prelude_of};
 ghost use Rattle.css_selectors.specs.ReadSelectors.{ParsesPlaced};
+ghost use Rattle.css_selectors.specs.NameViews.{names_of};
 ghost use Rattle.css_selectors.specs.ReadViews.{placed_of};
 ghost use Rattle.css_sheet.specs.RuleSelectors.{text_between as text_between_of, past_colons as past_colons_of};
 ghost use Rattle.css_sheet.specs.RuleSelectors.{if_supported as if_supported_of, element_read, selector_read, selector_of};
-ghost use Rattle.css_sheet.specs.RuleSelectors.{list_under, listed_under, selectors_under};
+ghost use Rattle.css_sheet.specs.RuleSelectors.{context, list_under, listed_under, selectors_under};
 ghost use Rattle.css_sheet.specs.RuleViews.{rule_selector_of, listed_result, placed_result};
 
-use css_selectors::{ANY_PREFIX, Listed, Nesting, Refusal, Selector, Why};
+use css_selectors::{Listed, Names, Nesting, Refusal, Selector, Why};
 use css_syntax::quality::{fault_of, is_good};
 use css_syntax::texts::{past_byte, past_gap};
 use css_syntax::{Fault, Prelude};
@@ -105,32 +106,36 @@ pub fn rule_selector<'a>(alloc: Global, listed: Listed<'a>) -> Result<RuleSelect
 /// Reads a text that is the list of a rule.
 fn read_list<'a>(
     alloc: Global,
+    names: &Names<'_>,
     under: Option<Nesting>,
     text: &'a str,
 ) -> Result<Vec<Listed<'a>>, Refusal<'a>>
-    ensures { ParsesPlaced result (list_under under text.now) }
+    ensures { ParsesPlaced result (list_under (context under (names_of names.now)) text.now) }
 {
     match under {
-        None => Selector::read_list_in(alloc, text, &ANY_PREFIX),
-        Some(list) => Selector::read_nested_list_in(alloc, list, text, &ANY_PREFIX),
+        None => Selector::read_list_in(alloc, text, names),
+        Some(list) => Selector::read_nested_list_in(alloc, list, text, names),
     }
 }
 
 /// Reads the list of selectors of a rule with this prelude: of one that is in no other rule, or of a nested
-/// one in which `&` stands for `under`. The inner error is why the rule is dropped: CSS drops it as a whole
-/// for one part that is no selector. Fails only if an allocation fails.
+/// one in which `&` stands for `under`. `names` are those that its sheet declares, as
+/// [`SheetNamespaces`](crate::SheetNamespaces) reads them: a prefix that is not declared is no selector. The
+/// inner error is why the rule is dropped: CSS drops it as a whole for one part that is no selector. Fails only
+/// if an allocation fails.
 pub fn read_listed<'a>(
     alloc: Global,
+    names: &Names<'_>,
     under: Option<Nesting>,
     prelude: &Prelude<'a>,
 ) -> Result<Result<Vec<Listed<'a>>, Fault>, AllocError>
-    ensures { IfOk result (λ read. listed_under under (prelude_of prelude.now)
+    ensures { IfOk result (λ read. listed_under (context under (names_of names.now)) (prelude_of prelude.now)
         ≡ placed_result (λ l. l.items) read) }
 {
     if !is_good(prelude.quality) {
         return Ok(Err(fault_of(prelude.quality)));
     }
-    match read_list(alloc, under, prelude.text) {
+    match read_list(alloc, names, under, prelude.text) {
         Ok(all) => Ok(Ok(all)),
         Err(refusal) if refusal.why == Why::Memory => Err(AllocError),
         Err(_) => Ok(Err(Fault::InvalidSelector)),
@@ -155,13 +160,14 @@ fn rule_selectors<'a>(
 /// Reads the selectors of a rule with this prelude, in order, as `read_listed` does.
 pub fn read_selectors<'a>(
     alloc: Global,
+    names: &Names<'_>,
     under: Option<Nesting>,
     prelude: &Prelude<'a>,
 ) -> Result<Result<Vec<RuleSelector<'a>>, Fault>, AllocError>
-    ensures { IfOk result (λ read. selectors_under under (prelude_of prelude.now)
+    ensures { IfOk result (λ read. selectors_under (context under (names_of names.now)) (prelude_of prelude.now)
         ≡ listed_result (λ l. l.items) read) }
 {
-    match read_listed(alloc, under, prelude)? {
+    match read_listed(alloc, names, under, prelude)? {
         Ok(all) => Ok(Ok(rule_selectors(alloc, all)?)),
         Err(fault) => Ok(Err(fault)),
     }

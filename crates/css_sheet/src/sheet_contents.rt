@@ -7,6 +7,7 @@ ghost use Rattle.css_sheet.specs.internal.PartViews.{placed_last, source_of};
 use crate::parts::{Part, SheetParts};
 use crate::sheet_rules::Sheet;
 use css_cascade::Origin;
+use css_selectors::NO_NAMES;
 use std::alloc::{AllocError, Global};
 
 /// A part of a sheet, and where it is.
@@ -52,8 +53,9 @@ pub fn read_contents<'a>(alloc: Global, text: &'a str) -> Result<Vec<PlacedPart<
         text,
         origin: Origin::Author,
         around: &[],
+        namespaces: &[],
     };
-    let mut reader = SheetParts::new(alloc, &sheet, 0);
+    let mut reader = SheetParts::new(alloc, &sheet, &NO_NAMES, 0);
     'parts: while let Some(part) = reader.next(
         &|_: &str, _: &str| -> bool
             ensures { result ≡ true }

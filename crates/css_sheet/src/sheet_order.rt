@@ -6,6 +6,8 @@ ghost use Rattle.css_sheet.specs.internal.OpenViews.{known_in, numbers_in, outer
 ghost use Rattle.css_sheet.specs.ContentViews.{part_of};
 ghost use Rattle.css_sheet.specs.internal.PartViews.{open_in};
 ghost use Rattle.css_sheet.specs.SheetLayers.{layer_count, sheet_layers, with_layers as with_layers_of};
+ghost use Rattle.css_selectors.specs.NameViews.{names_of};
+ghost use Rattle.css_sheet.specs.Namespaces.{sheet_names};
 ghost use Rattle.css_sheet.specs.SheetParts.{PlacedPart, sheet_parts};
 ghost use Rattle.css_sheet.specs.SheetOrder.{cascade_rules, nested_lists, source_rules};
 ghost use Rattle.css_sheet.specs.SheetOrder.{declarations_in, ranked, rule_key};
@@ -19,9 +21,10 @@ use crate::open_layers::{OpenLayers, is_layer};
 use crate::parents::OpenParents;
 use crate::parts::{Part, SheetParts};
 use crate::sheet_error::SheetError;
+use crate::sheet_namespaces::{declare_all, names_in, read_namespaces};
 use crate::sheet_rules::{Sheet, SheetRule};
 use css_cascade::{Layers, Origin, is_block_name, outermost};
-use css_selectors::Selector;
+use css_selectors::{Names, Selector};
 use std::alloc::{AllocError, Global};
 
 /// Whether a group rule holds: an `@layer` does, if its prelude is a name or nothing, and others hold as
@@ -40,22 +43,22 @@ fn with_layers<C: Fn(&str, &str) -> bool>(holds: &C, keyword: &str, prelude: &st
 
 /// The rules of sheets as far as they are read, each with the number of its layer, and the layers.
 #[derive(Drop)]
-pub(crate) struct ReadRules<'a> {
+pub(crate) struct ReadRules<'n, 'a> {
     /// The rules.
     pub(crate) gathered: Gathered<'a>,
     /// The layers.
     pub(crate) opened: OpenLayers<'a>,
     /// The style rules that are open, and the lists of those with rules in them.
-    pub(crate) parents: OpenParents<'a>,
+    pub(crate) parents: OpenParents<'n, 'a>,
 }
 
-impl<'a> ReadRules<'a> {
+impl<'n, 'a> ReadRules<'n, 'a> {
     /// Adds the layers and the rules of the part that was read last.
     fn push_part(
         &mut self,
         alloc: Global,
         part: &Part<'a>,
-        reader: &SheetParts<'_, 'a>,
+        reader: &SheetParts<'n, 'a>,
     ) -> Result<(), SheetError>
         ensures pushes { Pushes self.old result self.new (part_of part.now) reader.now }
         ensures few { OnOk result (AreFew (known_in self.old.opened) → AreFew (known_in self.new.opened)) }
@@ -66,7 +69,7 @@ impl<'a> ReadRules<'a> {
     {
         let applies = reader.applies();
         self.parents
-            .go_through(alloc, part, &reader.around, applies)?;
+            .go_through(alloc, reader.names, part, &reader.around, applies)?;
         let counts = !self.parents.is_known_dropped();
         self.opened
             .go_through(alloc, part, &reader.around, applies, counts)?;
@@ -75,17 +78,19 @@ impl<'a> ReadRules<'a> {
             .push_part(alloc, part, layer, &self.parents.innermost, reader)
     }
 
-    /// Adds the layers and the rules of the sheet of this number, which comes from this origin. Nothing of
-    /// another is open in it.
+    /// Adds the layers and the rules of the sheet of this number, which declares these names and comes from this
+    /// origin. Nothing of another is open in it.
     fn push_sheet<C: Fn(&str, &str) -> bool>(
         &mut self,
         alloc: Global,
-        sheet: &Sheet<'_, 'a>,
+        sheet: &Sheet<'n, 'a>,
+        names: &'n Names<'n>,
         number: usize,
         origin: Origin,
         holds: &C,
     ) -> Result<(), SheetError>
-        requires { C.IsAlwaysCallable holds.now }
+        requires callable { C.IsAlwaysCallable holds.now }
+        requires names { names_of names.now ≡ sheet_names (sheet_of sheet.now) }
         ensures awaits { (answers : List ℕ → List ℕ → Bool) → Answers (C.post holds.now) answers
             → (sheets : List SheetText) (most : ℕ) (more : List PlacedPart)
             → outermost_number origin ≡ outermost_at sheets number
@@ -101,7 +106,7 @@ impl<'a> ReadRules<'a> {
             → IfErr result (λ error. error ≡ TooManyLayers → AreMany (sheet_layers answers sheets)) }
     {
         self.opened.begin_sheet(outermost(origin));
-        let mut reader = SheetParts::new(alloc, sheet, number);
+        let mut reader = SheetParts::new(alloc, sheet, names, number);
         'parts: loop {
             let part = reader.next(
                 &|keyword: &str, prelude: &str| -> bool
@@ -128,14 +133,17 @@ fn origin_at(sheets: &[Sheet<'_, '_>], number: usize) -> Origin
     }
 }
 
-/// Reads the rules of sheets in the order of the texts, each with the number of its layer.
-fn gather<'a, C: Fn(&str, &str) -> bool>(
+/// Reads the rules of sheets in the order of the texts, each with the number of its layer. Each sheet declares
+/// the names at its place.
+fn gather<'n, 'a, C: Fn(&str, &str) -> bool>(
     alloc: Global,
-    sheets: &[Sheet<'_, 'a>],
+    sheets: &[Sheet<'n, 'a>],
+    names: &'n [Names<'n>],
     most: usize,
     holds: &C,
-) -> Result<ReadRules<'a>, SheetError>
-    requires { C.IsAlwaysCallable holds.now }
+) -> Result<ReadRules<'n, 'a>, SheetError>
+    requires callable { C.IsAlwaysCallable holds.now }
+    requires names { map names_of names.now ≡ map (λ sheet. sheet_names (sheet_of sheet)) sheets.now }
     ensures gathers { (answers : List ℕ → List ℕ → Bool) → Answers (C.post holds.now) answers
         → GathersAll most result answers (map sheet_of sheets.now) }
     ensures few { IfOk result (λ read. AreFew (known_in read.opened)) }
@@ -155,11 +163,16 @@ fn gather<'a, C: Fn(&str, &str) -> bool>(
     };
     let mut number: usize = 0;
     let mut rest = sheets;
+    let mut declared = names;
     'sheets: while let [sheet, after @ ..] = rest {
+        let [one, others @ ..] = declared else {
+            return Ok(read);
+        };
         let origin = origin_at(sheets, number);
-        read.push_sheet(alloc, sheet, number, origin, holds)?;
+        read.push_sheet(alloc, sheet, one, number, origin, holds)?;
         number += 1;
         rest = after;
+        declared = others;
     }
     Ok(read)
 }
@@ -197,6 +210,11 @@ pub struct SheetRules<'a> {
 /// A group rule or a style rule may be in a style rule: then the declarations before it, in it, and after it
 /// are rules of their own, those of one style rule with the same selectors, which are read again for each.
 ///
+/// The selectors of a sheet are read with the prefixes and the default namespace that its `@namespace` rules
+/// declare, as [`SheetNamespaces::read`](crate::SheetNamespaces::read) reads them, wherever a selector is in the
+/// sheet. A part with a prefix that is not declared is no selector. The number of a namespace is that of its url
+/// among the `namespaces` of the sheet; nothing is in one that is not among them.
+///
 /// In a nested style rule `&` denotes the list of the one that it is in, by a number. An element is asked
 /// whether it is in the list ([`Element::is_in_list`](css_selectors::Element)), and the lists are returned
 /// beside the rules. A rule in one with a part that is no selector has no rules, nor have those in it.
@@ -209,8 +227,9 @@ pub struct SheetRules<'a> {
 /// itself, and what is in no layer comes last. `!important` makes no difference here.
 ///
 /// The time is linear, with the group rules of each sheet, but for that, which takes at most the length of a
-/// rule's selectors times the number of group rules and nested rules in it, and for layers: for each name of one
-/// and for each rule at most 1,028 layers are looked through.
+/// rule's selectors times the number of group rules and nested rules in it, for layers: for each name of one
+/// and for each rule at most 1,028 layers are looked through, and for namespaces: each prefix of a selector is
+/// looked for among at most 256, and the url of each `@namespace` rule among the `namespaces` of its sheet.
 ///
 /// Fails if the rules hold more than `most` declarations, if there are more than 1,024 layers, or if an
 /// allocation fails. The declarations of a rule set count once for each of its rules, though none is
@@ -240,7 +259,10 @@ pub fn read_sheets<'a, C: Fn(&str, &str) -> bool>(
         → IfErr result (λ error. error ≡ TooManyLayers
         → most_layers < layer_count answers (map sheet_of sheets.now)) }
 {
-    let read = gather(alloc, sheets, most, &holds)?;
+    let namespaces = read_namespaces(alloc, sheets)?;
+    let declared = declare_all(alloc, namespaces.as_slice())?;
+    let names = names_in(alloc, declared.as_slice())?;
+    let read = gather(alloc, sheets, names.as_slice(), most, &holds)?;
     let ReadRules {
         gathered,
         opened,
@@ -288,6 +310,7 @@ pub fn read_sheet<'a, C: Fn(&str, &str) -> bool>(
         text,
         origin: Origin::Author,
         around: &[],
+        namespaces: &[],
     };
     read_sheets(alloc, &[sheet], most, holds)
 }

@@ -50,6 +50,10 @@ pub struct Sheet<'s, 'a> {
     /// The group rules that all of it is in, from the outermost: those of the `@import` rule that names it, for
     /// instance. Its own top level stays one, which no `}` closes.
     pub around: &'s [GroupRule<'a>],
+    /// The urls of the namespaces that are known: the first has number 1, of which
+    /// [`Element::is_in_namespace`](css_selectors::Element) is asked. If there are none, a selector with a prefix
+    /// that is declared is unsupported, and no default namespace counts.
+    pub namespaces: &'s [&'s str],
 }
 
 /// A style rule with one selector. The rules of one rule set share the text of its block.

@@ -16,10 +16,10 @@
 //! declarations are printed, not in fields: each with what closes its value and a blank, or as one
 //! list.
 
-use css_selectors::{Condition, Selector, Simple};
+use css_selectors::{Condition, Names, Selector, Simple};
 use css_sheet::{
-    Import, ImportLayer, ImportUrl, RuleSelector, SheetError, SheetReader, read_imports,
-    read_listed, read_selectors, read_sheet,
+    Import, ImportLayer, ImportUrl, RuleSelector, SheetError, SheetNamespaces, SheetReader,
+    read_imports, read_listed, read_selectors, read_sheet,
 };
 use css_syntax::{
     AtRule, Declaration, DeclarationList, Declarations, Item, RuleSet, Statement, Statements,
@@ -134,9 +134,9 @@ fn write_levels<W: Write>(out: &mut W, reader: &SheetReader<'_>) -> io::Result<(
     out.write_all(b"\x01")
 }
 
-/// The word for why a rule set is dropped, if it is.
-fn drop_word(alloc: Global, rule: &RuleSet<'_>) -> io::Result<&'static str> {
-    match read_listed(alloc, None, &rule.prelude)? {
+/// The word for why a rule set is dropped, if it is, where its sheet declares these names.
+fn drop_word(alloc: Global, names: &Names<'_>, rule: &RuleSet<'_>) -> io::Result<&'static str> {
+    match read_listed(alloc, names, None, &rule.prelude)? {
         Ok(_) => Ok(""),
         Err(fault) => Ok(fault.words()),
     }
@@ -144,6 +144,9 @@ fn drop_word(alloc: Global, rule: &RuleSet<'_>) -> io::Result<&'static str> {
 
 /// Writes the rule sets of a text and of its group rules.
 fn write_rules<W: Write>(alloc: Global, out: &mut W, text: &str) -> io::Result<()> {
+    let namespaces = SheetNamespaces::read(alloc, text, &[])?;
+    let declared = namespaces.declare(alloc)?;
+    let names = declared.names();
     let mut reader = SheetReader::new(alloc, text);
     // Each item has a byte or more.
     for _ in 0..text.len() {
@@ -152,7 +155,7 @@ fn write_rules<W: Write>(alloc: Global, out: &mut W, text: &str) -> io::Result<(
         };
         if let Statement::RuleSet(rule) = part.statement {
             write_levels(out, &reader)?;
-            write_field(out, drop_word(alloc, &rule)?)?;
+            write_field(out, drop_word(alloc, &names, &rule)?)?;
             write_field(out, rule.prelude.text)?;
             write_field(out, rule.block.text)?;
         }
@@ -170,9 +173,14 @@ fn write_selector<W: Write>(alloc: Global, out: &mut W, one: &RuleSelector<'_>) 
     write_fields(out, one.text, read.as_str(), pseudo_element, "")
 }
 
-/// Writes the selectors of a rule set, or why it is dropped.
-fn write_selectors_of<W: Write>(alloc: Global, out: &mut W, rule: &RuleSet<'_>) -> io::Result<()> {
-    match read_selectors(alloc, None, &rule.prelude) {
+/// Writes the selectors of a rule set, or why it is dropped, where its sheet declares these names.
+fn write_selectors_of<W: Write>(
+    alloc: Global,
+    out: &mut W,
+    names: &Names<'_>,
+    rule: &RuleSet<'_>,
+) -> io::Result<()> {
+    match read_selectors(alloc, names, None, &rule.prelude) {
         Ok(Ok(selectors)) => {
             for one in &selectors {
                 write_selector(alloc, out, one)?;
@@ -186,6 +194,9 @@ fn write_selectors_of<W: Write>(alloc: Global, out: &mut W, rule: &RuleSet<'_>) 
 
 /// Writes the selectors of a text and of its group rules.
 fn write_selectors<W: Write>(alloc: Global, out: &mut W, text: &str) -> io::Result<()> {
+    let namespaces = SheetNamespaces::read(alloc, text, &[])?;
+    let declared = namespaces.declare(alloc)?;
+    let names = declared.names();
     let mut reader = SheetReader::new(alloc, text);
     // Each item has a byte or more.
     for _ in 0..text.len() {
@@ -193,7 +204,7 @@ fn write_selectors<W: Write>(alloc: Global, out: &mut W, text: &str) -> io::Resu
             break;
         };
         if let Statement::RuleSet(rule) = part.statement {
-            write_selectors_of(alloc, out, &rule)?;
+            write_selectors_of(alloc, out, &names, &rule)?;
         }
     }
     Ok(())

@@ -4,12 +4,14 @@ use Rattle.css_sheet.specs.declared.import_rules.Import.{Import}
 use Rattle.css_sheet.specs.declared.imports.FrontRule.{FrontRule}
 use Rattle.css_sheet.specs.declared.imports.FrontRule.TheVariants as rules
 use Rattle.css_sheet.specs.ImportRules.{ImportText}
-use Rattle.css_sheet.specs.Imports.{import_rule, layer_list, other_rule, not_a_rule, imports_of, further_imports}
+use Rattle.css_sheet.specs.Imports.{import_rule, namespace_rule, layer_list, other_rule, not_a_rule, imports_of, further_imports}
 use Rattle.css_sheet.specs.Imports.{FrontRule as RuleText}
 use Rattle.css_sheet.specs.ImportViews.{import_of}
+use Rattle.css_sheet.specs.internal.FoundViews.{found_namespace}
 
 abbrev pub front_rule_of : FrontRule → RuleText
 front_rule_of (rules.Import one) = import_rule (import_of one)
+front_rule_of (rules.Namespace one) = namespace_rule (found_namespace one)
 front_rule_of rules.LayerList = layer_list
 front_rule_of rules.OtherRule = other_rule
 front_rule_of rules.NoRule = not_a_rule

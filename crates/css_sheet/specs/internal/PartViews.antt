@@ -1,6 +1,7 @@
 -- What contracts see of a reader of the parts of a sheet.
 use Rattle.std.specs.Prelude.{◌≡◌, ℕ, ◌+◌, ◌<◌, Bool, List, [], ◌∷◌, map, length, Option, Some, None}
 use Rattle.css_syntax.specs.Views.{prelude_of}
+use Rattle.css_selectors.specs.NameViews.{names_of}
 use Rattle.css_sheet.specs.declared.parts.Nesting.{Nesting}
 use Rattle.css_sheet.specs.declared.parts.Nesting.TheVariants as nestings
 use Rattle.css_sheet.specs.declared.parts.OpenRule.{OpenRule}
@@ -43,7 +44,12 @@ given_in r = map group_rule_of r.given.now
 
 -- the text that the sheet is
 abbrev pub source_of : SheetParts → Source
-source_of r = record { sheet = r.sheet; size = r.size; depth = r.depth }
+source_of r = record {
+  sheet = r.sheet;
+  size = r.size;
+  depth = r.depth;
+  names = names_of r.names.now;
+}
 
 -- the parts of the sheet that are still to come
 abbrev pub parts_to_come : (List ℕ → List ℕ → Bool) → SheetParts → List PlacedPart

@@ -3,6 +3,7 @@ use Rattle.css_text.proofs.reading.EachLemmas.{took}
 use Rattle.css_syntax.specs.Statements.{next_statement}
 use Rattle.css_syntax.specs.Views.{sheet_part_of, statement_of}
 use Rattle.css_syntax.proofs.ItemLemmas.{next_statement-takes, past_between-within}
+use Rattle.css_selectors.specs.Names.{no_names}
 use Rattle.css_sheet.specs.Imports.{rule_in_front, sheet_imports}
 use Rattle.css_sheet.specs.internal.FrontViews.{front_rule_of}
 use Rattle.css_sheet.proofs.FrontLemmas.{read-on, read-last, read-all}
@@ -25,7 +26,7 @@ returns-then-not-branch c =
       next = c.in-Some.ensures.read;
       rule_is =
           c.in_ok-rule.ensures
-          ∙ ap (λ (from : List ℕ). rule_in_front (size - length from)
+          ∙ ap (λ (from : List ℕ). rule_in_front no_names (size - length from)
           (length found.part.text.now) (statement_of found.part.statement)) c.in-Some.ensures.from;
       takes = c.in_ok-push_rule.ensures;
       due = c.statements.invariant.all;
@@ -55,7 +56,7 @@ statements-preserved c =
             next = c.in-Some.ensures.read;
             rule_is =
                 c.in_ok-rule.ensures
-                ∙ ap (λ (from : List ℕ). rule_in_front (size - length from)
+                ∙ ap (λ (from : List ℕ). rule_in_front no_names (size - length from)
                 (length found.part.text.now) (statement_of found.part.statement))
                 c.in-Some.ensures.from;
             takes = c.in_ok-push_rule.ensures;

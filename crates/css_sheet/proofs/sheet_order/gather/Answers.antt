@@ -1,12 +1,15 @@
 use Rattle.std.proofs.Common.{◌≡◌, List, ap, subst, length, map, arith, rules}
 use Rattle.std.proofs.lemmas.List.{nil_from_length}
 use Rattle.css_cascade.specs.Layers.{outermost_number}
+use Rattle.css_selectors.specs.NameViews.{names_of}
 use Rattle.css_sheet.specs.declared.sheet_rules.Sheet.{Sheet}
+use Rattle.css_sheet.specs.Namespaces.{sheet_names}
 use Rattle.css_sheet.specs.SheetLayers.{sheet_layers}
 use Rattle.css_sheet.specs.SheetRuleViews.{sheet_of}
 use Rattle.css_sheet.specs.internal.GatherViews.{Awaits}
 use Rattle.css_sheet.specs.internal.OpenViews.{AreMany}
 use Rattle.css_sheet.proofs.GatherLemmas.{awaits-all, counted-next, handed-error, stopped-all, sheets-first, sheets_left}
+use Rattle.css_sheet.proofs.NamespaceLemmas.{alike-next}
 use Rattle.css_sheet.proofs.sheet_order.gather.Goals as goal
 
 pub sheets-preserved : goal.sheets-preserved
@@ -23,6 +26,9 @@ sheets-preserved g c =
           (sheets-first answers sheets c.args.most c.sheets.read c.sheets.number rest _ some
           (c.sheets.invariant.awaits answers k));
       few = c.in_ok-push_sheet.ensures.few c.sheets.invariant.few;
+      named =
+          alike-next names_of (λ sheet. sheet_names (sheet_of sheet)) c.sheets.declared.now rest
+          c.in-len1-up-declared.len_at_least some c.sheets.invariant.named;
     }
 
 pub returns-in_err-push_sheet-clause-gathers : goal.returns-in_err-push_sheet-clause-gathers

@@ -1,9 +1,9 @@
 use Rattle.std.proofs.Common.{◌≡◌, ◌∷◌, [], ◌∙◌, ℕ, List, Some, None, sym, ap, map}
 use Rattle.css_sheet.specs.declared.parts.OpenRule.{OpenRule}
-use Rattle.css_sheet.specs.SheetParts.{OpenText, Source, from_part, next_in, open_after, parts_in, placed_part}
+use Rattle.css_sheet.specs.SheetParts.{from_part, next_in, open_after}
 use Rattle.css_sheet.specs.ContentViews.{part_of}
 use Rattle.css_sheet.specs.internal.PartViews.{open_of, open_in, left_in, source_of}
-use Rattle.css_sheet.proofs.PartSteps.{took, parts-some, parts-none}
+use Rattle.css_sheet.proofs.PartSteps.{took, part-same, parts-some, parts-none}
 use Rattle.css_sheet.proofs.parts.SheetParts.read_next.Goals as goal
 
 pub returns-in-None-clause-parts : goal.returns-in-None-clause-parts
@@ -43,8 +43,6 @@ returns-in_ok-go_through-in-Some-clause-parts g c = λ answers k.
     (c.in_ok-go_through-in-Some.ensures.around answers k
     ∙ ap (λ (end : ℕ). open_after answers (open_in old) (part_of found.part) (old.sheet ∷ end ∷ []))
     c.offset.ensures)
-    ∙ ap (λ (source : Source). placed_part source (from_part old.depth (open_in old) (left_in old))
-    (part_of found.part) around found.rest.now ∷ parts_in answers source around found.rest.now)
-    (sym c.go_through.ensures.source)
-    ∙ ap (λ (start : List ℕ). placed_part (source_of c.go_through.new.self) start (part_of found.part) around
-    found.rest.now ∷ parts_in answers (source_of c.go_through.new.self) around found.rest.now) (sym from)
+    ∙ part-same answers (source_of old) (source_of c.go_through.new.self)
+    (from_part old.depth (open_in old) (left_in old)) found.from.now (part_of found.part) around
+    found.rest.now c.go_through.ensures.source from

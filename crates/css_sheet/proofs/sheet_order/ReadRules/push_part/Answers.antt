@@ -1,4 +1,5 @@
 use Rattle.std.proofs.Common.{◌≡◌, ◌∙◌, Bool, List, not, map, ap, subst, rules}
+use Rattle.css_selectors.specs.NameViews.{names_of}
 use Rattle.css_sheet.specs.declared.parts.OpenRule.{OpenRule}
 use Rattle.css_sheet.specs.OpenParents.{ParentsText, after_part_of}
 use Rattle.css_sheet.specs.ParentViews.{parents_of}
@@ -17,7 +18,7 @@ returns-in_err-go_through-2-clause-many c =
     let counts : not c.is_known_dropped-counts.result ≡ counts_after before part reader =
     ap not (c.is_known_dropped-counts.ensures
     ∙ ap (λ (p : ParentsText). is_known_dropped p.innermost) (c.in_ok-go_through.ensures
-    ∙ ap (λ (rs : List OpenRule). after_part_of (parents_of before.parents) part (map open_of rs))
+    ∙ ap (λ (rs : List OpenRule). after_part_of (names_of reader.names.now) (parents_of before.parents) part (map open_of rs))
     c.deref.ensures.value)) in
     let Over = GoesOver (outermost_in before.opened) (known_in before.opened) (numbers_in before.opened) in
     handed-error (Over (counts_after before part reader) part (open_in reader)) _ _ (search rules)

@@ -1,10 +1,11 @@
-use Rattle.std.proofs.Common.{◌∙◌, ap, subst, sym, rules, of_calls, Option, refl}
+use Rattle.std.proofs.Common.{◌∙◌, [], length, ap, subst, sym, rules, of_calls, Option, refl}
 use Rattle.css_sheet.specs.declared.parts.Part.{Part}
 use Rattle.css_sheet.specs.internal.PartViews.{GivesPart}
 use Rattle.css_sheet.specs.SheetLayers.{sheet_layers, with_layers}
 use Rattle.css_sheet.specs.internal.OpenViews.{AreFew, AreMany}
 use Rattle.css_sheet.specs.Sheets.{outermost_at}
-use Rattle.css_sheet.specs.SheetParts.{sheet_parts}
+use Rattle.css_selectors.specs.Names.{Names}
+use Rattle.css_sheet.specs.SheetParts.{parts_given, sheet_parts}
 use Rattle.css_sheet.specs.SheetRuleViews.{sheet_of}
 use Rattle.css_sheet.proofs.GatherLemmas.{handed-error, reads-many, reads-none, reads-part, reads-over, reads-all, stopped-sheet}
 use Rattle.css_sheet.proofs.sheet_order.ReadRules.push_sheet.Goals as goal
@@ -22,7 +23,13 @@ parts-init g c = record {
       (c.begin_sheet.ensures.outermost ∙ c.outermost.ensures ∙ same
       ∙ ap (outermost_at sheets) (sym c.new-reader.ensures.sheet))
       c.begin_sheet.ensures.known c.begin_sheet.ensures.numbers refl refl c.new-reader.ensures.open
-      (c.new-reader.ensures.parts (with_layers answers)) awaits;
+      (c.new-reader.ensures.parts (with_layers answers)
+      ∙ ap (λ (names : Names). parts_given (with_layers answers) (record {
+        sheet = c.args.number;
+        size = length c.args.sheet.now.text.now;
+        depth = length (sheet_of c.args.sheet.now).around;
+        names = names;
+      }) [] (sheet_of c.args.sheet.now).around c.args.sheet.now.text.now) c.requires.names) awaits;
   few = subst AreFew (sym c.begin_sheet.ensures.known);
 }
 
