@@ -17,10 +17,10 @@ use Rattle.css_selectors.specs.Components.{Placed, PseudoElement, Selector}
 use Rattle.css_selectors.specs.Nested.{absolute, nested, nested_readings}
 use Rattle.css_selectors.specs.Originating.{originating}
 use Rattle.css_selectors.specs.Readings.{Reading, got, refused}
-use Rattle.css_selectors.specs.Names.{any_prefix}
+use Rattle.css_selectors.specs.Names.{Names}
 use Rattle.css_selectors.specs.Supported.{is_last_condition, is_supported_selector}
 use Rattle.css_tree.specs.Asked.{SelectorAsksBelow, AskEarlier}
-use Rattle.css_sheet.specs.RuleSelectors.{SelectorRead, is_listed, listed_under, if_supported, element_read, read_with, selector_read, list_under, listed_or, all_read, selectors_under}
+use Rattle.css_sheet.specs.RuleSelectors.{SelectorRead, ListContext, is_listed, listed_under, if_supported, element_read, read_with, selector_read, list_by, list_under, listed_or, all_read, selectors_under}
 use Rattle.css_sheet.specs.NestedSelectors.{if_of_elements, element_selector, element_selectors}
 use Rattle.css_sheet.specs.SheetItems.{is_layer}
 use Rattle.css_sheet.specs.OpenParents.{OwnList, unread, valid, numbered, Parent, no_rule, dropped, style, checked, checked_for, if_listed, ParentsText, none_open, with_selectors, with_list_of, with_list, parent_in, entered, begun, or_same, left_last, left_innermost, before_rule, after_part_of, after_part, after_parts}
@@ -29,6 +29,7 @@ use Rattle.css_cascade.specs.declared.weights.Origin.TheVariants.{Author}
 use Rattle.css_sheet.specs.SheetOrder.{SheetRuleText, RunText, rule_with, unless_invalid, declaration_count, stated_rules, run_at, rules_if_stated, placed_rules, rules_of_parts, numbered_rules, nested_lists, is_before, ranked, source_rules, cascade_rules}
 use Rattle.css_sheet.specs.Sheets.{SheetText, outermost_at}
 use Rattle.css_sheet.specs.SheetLayers.{number_in_all, layered_parts, sheet_layers}
+use Rattle.css_laws.proofs.ListLemmas.{each-of-more}
 use Rattle.css_laws.proofs.OutermostLemmas.{list-asks}
 use Rattle.css_laws.proofs.AskLemmas.{selector-under, originating-asks}
 
@@ -76,10 +77,10 @@ ordered-all {A = A} P lt xs h =
 
 -- ---- a selector that is read
 
--- What a selector of a rule asks, and that one of elements has no pseudo-element.
+-- What a selector of a rule asks, and that it has no pseudo-element.
 pub record GoodRead (n : ℕ) (read : SelectorRead) : Type 0 where
   pub asks : (s : Selector) → read.selector ≡ Some s → SelectorAsksBelow n s
-  pub plain : (s : Selector) → element_selector read ≡ Some s → s.pseudo_element ≡ None
+  pub plain : (s : Selector) → read.selector ≡ Some s → s.pseudo_element ≡ None
 
 supported-is : (s t : Selector) → if_supported s ≡ Some t → s ≡ t
 supported-is s t = by (is_supported_selector s)
@@ -96,7 +97,9 @@ read-good n p h = by p.selector.pseudo_element refl
     last e true = record {
       asks = λ s f. subst (SelectorAsksBelow n) (supported-is (originating p.selector) s f)
           (originating-asks n p.selector h);
-      plain = λ s f. absurd (cc);
+      plain = λ s f.
+          subst (λ (t : Selector). t.pseudo_element ≡ None)
+          (supported-is (originating p.selector) s f) refl;
     }
     last e false = record { asks = λ s f. absurd (cc); plain = λ s f. absurd (cc) }
 
@@ -119,35 +122,36 @@ module _ (m : ℕ) where
   abbrev AskAll : List Placed → Type 0
   AskAll all = All (λ p. SelectorAsksBelow (suc m) p.selector) all
 
-  nested-asks : (list : Nesting) → list.number < suc m → (all : List Placed)
-      → AskAll (map (nested any_prefix list) all)
-  nested-asks list below all =
-      All-map (λ p. SelectorAsksBelow (suc m) p.selector) (nested any_prefix list) all
-      (every _ (λ p. selector-under list (suc m) below (absolute any_prefix p.selector)) all)
+  nested-asks : (names : Names) (list : Nesting) → list.number < suc m → (all : List Placed)
+      → AskAll (map (nested names list) all)
+  nested-asks names list below all =
+      All-map (λ p. SelectorAsksBelow (suc m) p.selector) (nested names list) all
+      (every _ (λ p. selector-under list (suc m) below (absolute names p.selector)) all)
 
-  under-asks : (under : Option Nesting) → NestingBelow (suc m) under → (text rest : List ℕ)
-      (all : List Placed) → list_under under text ≡ got all rest → AskAll all
-  under-asks None below text rest all e =
-      list-asks any_prefix (suc m) (omega arith) text rest all e
-  under-asks (Some list) below text rest all e = by _ e
+  under-asks : (names : Names) (under : Option Nesting) → NestingBelow (suc m) under
+      → (text rest : List ℕ) (all : List Placed) → list_by names under text ≡ got all rest → AskAll all
+  under-asks names None below text rest all e =
+      list-asks names (suc m) (omega arith) text rest all e
+  under-asks names (Some list) below text rest all e = by _ e
     where
-      by : (r : Reading (List Placed)) → nested_readings any_prefix list r ≡ got all rest → AskAll all
+      by : (r : Reading (List Placed)) → nested_readings names list r ≡ got all rest → AskAll all
       by (got found t) f =
-          let is : map (nested any_prefix list) found ≡ all = cc in
-          subst AskAll is (nested-asks list below found)
+          let is : map (nested names list) found ≡ all = cc in
+          subst AskAll is (nested-asks names list below found)
       by (refused why t) f = absurd (cc)
 
-  listed-asks : (under : Option Nesting) → NestingBelow (suc m) under → (text : List ℕ)
+  listed-asks : (under : ListContext) → NestingBelow (suc m) under.list → (text : List ℕ)
       (all : List Placed) → listed_or (list_under under text) ≡ Ok all → AskAll all
   listed-asks under below text all e = by (list_under under text) refl e
     where
       by : (r : Reading (List Placed)) → list_under under text ≡ r → listed_or r ≡ Ok all
           → AskAll all
       by (got found t) f g =
-          let is : found ≡ all = cc in subst AskAll is (under-asks under below text t found f)
+          let is : found ≡ all = cc in
+          subst AskAll is (under-asks under.names under.list below text t found f)
       by (refused why t) f g = absurd (cc)
 
-  pub reads-good : (under : Option Nesting) → NestingBelow (suc m) under → (prelude : Stated)
+  pub reads-good : (under : ListContext) → NestingBelow (suc m) under.list → (prelude : Stated)
       (reads : List SelectorRead) → selectors_under under prelude ≡ Ok reads
       → All (GoodRead (suc m)) reads
   reads-good under below prelude reads e = by (is_good prelude.quality) e
@@ -179,7 +183,7 @@ OwnWithin m (numbered own) = NestingBelow (suc m) (Some own)
 pub ParentWithin : ℕ → Parent → Type 0
 ParentWithin m no_rule = Unit {0}
 ParentWithin m dropped = Unit {0}
-ParentWithin m (style prelude under own) = NestingBelow (suc m) under × OwnWithin m own
+ParentWithin m (style prelude under own) = NestingBelow (suc m) under.list × OwnWithin m own
 
 pub OuterWithin : ℕ → Option Parent → Type 0
 OuterWithin m None = Unit {0}
@@ -201,7 +205,7 @@ unfolding ParentWithin
 parent-more m n no_rule h w = tt
 parent-more m n dropped h w = tt
 parent-more m n (style prelude under own) h w =
-    (nesting-more m n under h w.0, own-more m n own h w.1)
+    (nesting-more m n under.list h w.0, own-more m n own h w.1)
 
 outer-more : (m n : ℕ) (o : Option Parent) → m ≤ n → OuterWithin m o → OuterWithin n o
 unfolding OuterWithin
@@ -230,52 +234,17 @@ outers-more : (m n : ℕ) (outer : List (Option Parent)) → m ≤ n → All (Ou
     → All (OuterWithin n) outer
 outers-more m n outer h w k d less = outer-more m n _ h (w k d less)
 
-last_or_before : (k n : ℕ) → k < suc n → (k < n) ⊎ (k ≡ n)
-last_or_before k zero h = inr (omega (arith, h))
-last_or_before zero (suc n) h = inl (omega arith)
-last_or_before (suc k) (suc n) h =
-    elim (last_or_before k n (omega (arith, h))) [
-      | inl less ↦ inl (omega (arith, less))
-      | inr same ↦ inr (ap suc same)
-    ]
-
--- one list more
-module _ (lists : List (List Selector)) (list : List Selector) where
-  at-last : {A : Type 0} (P : A → Type 0) (f : List Selector → A) → P (f list)
-      → P (f (get_or (lists ++ list ∷ []) (length lists) []))
-  at-last P f h =
-      let zero_more : length lists + 0 ≡ length lists = omega arith in
-      subst (λ (l : List Selector). P (f l))
-      (sym (ap (λ (n : ℕ). get_or (lists ++ list ∷ []) n []) (sym zero_more)
-      ∙ get_or-append-add lists (list ∷ []) 0 [])) h
-
-  each-of-more : (P : ℕ → List Selector → Type 0)
-      → ((k : ℕ) → k < length lists → P k (get_or lists k [])) → P (length lists) list
-      → (k : ℕ) → k < length (lists ++ list ∷ []) → P k (get_or (lists ++ list ∷ []) k [])
-  each-of-more P each last k less =
-      elim (before_or_last k less) [
-        | inl h ↦
-            subst (P k) (sym (get_or_append_left lists (list ∷ []) [] k h)) (each k h)
-        | inr e ↦
-            subst (λ (n : ℕ). P n (get_or (lists ++ list ∷ []) n [])) (sym e)
-            (at-last (P (length lists)) (λ l. l) last)
-      ]
-    where
-      before_or_last : (k : ℕ) → k < length (lists ++ list ∷ [])
-          → (k < length lists) ⊎ (k ≡ length lists)
-      before_or_last k less = last_or_before k (length lists)
-          (omega (arith, less, length-append lists (list ∷ [])))
-
-element-asks : (n : ℕ) (read : SelectorRead) → GoodRead n read → (s : Selector)
-    → element_selector read ≡ Some s → SelectorAsksBelow n s
-element-asks n read good s e = by read.pseudo_element e
+-- one of elements is that of the rule
+element-is : (read : SelectorRead) (s : Selector) → element_selector read ≡ Some s
+    → read.selector ≡ Some s
+element-is read s e = by read.pseudo_element e
   where
-    by : (o : Option (List ℕ)) → if_of_elements o read.selector ≡ Some s → SelectorAsksBelow n s
-    by None f = good.asks s f
+    by : (o : Option (List ℕ)) → if_of_elements o read.selector ≡ Some s → read.selector ≡ Some s
+    by None f = f
     by (Some name) f = absurd (cc)
 
-selectors-chained : (parents : ParentsText) (prelude : Stated) (under : Option Nesting)
-    → Chained parents → NestingBelow (suc (length parents.lists)) under
+selectors-chained : (parents : ParentsText) (prelude : Stated) (under : ListContext)
+    → Chained parents → NestingBelow (suc (length parents.lists)) under.list
     → Chained (with_selectors parents prelude under (selectors_under under prelude))
 unfolding ParentWithin OwnWithin
 selectors-chained parents prelude under chained below =
@@ -299,17 +268,17 @@ selectors-chained parents prelude under chained below =
         let longer : length lists ≡ m + 1 = omega (arith, length-append parents.lists (list ∷ [])) in
         let asks : All (SelectorAsksBelow (suc m)) list =
         given-all (SelectorAsksBelow (suc m)) element_selector reads
-        (λ k d less. element-asks (suc m) (get_or reads k d) (good reads refl k d less)) in
+        (λ k d less s e. (good reads refl k d less).asks s (element-is (get_or reads k d) s e)) in
         let plain : All (λ s. s.pseudo_element ≡ None) list =
         given-all (λ s. s.pseudo_element ≡ None) element_selector reads
-        (λ k d less. (good reads refl k d less).plain) in
+        (λ k d less s e. (good reads refl k d less).plain s (element-is (get_or reads k d) s e)) in
         record {
-          lists = each-of-more parents.lists list (λ k l. All (SelectorAsksBelow (suc k)) l)
+          lists = each-of-more [] parents.lists list (λ k l. All (SelectorAsksBelow (suc k)) l)
               chained.lists asks;
-          plain = each-of-more parents.lists list (λ k l. All (λ s. s.pseudo_element ≡ None) l)
+          plain = each-of-more [] parents.lists list (λ k l. All (λ s. s.pseudo_element ≡ None) l)
               chained.plain plain;
           innermost = (
-            nesting-more m (length lists) under (omega (arith, longer)) below,
+            nesting-more m (length lists) under.list (omega (arith, longer)) below,
             omega (arith, longer),
           );
           outer = outers-more m (length lists) parents.outer (omega (arith, longer)) chained.outer;
@@ -341,14 +310,14 @@ entered-chained parents parent chained w = record {
       chained.innermost (All-nil (OuterWithin (length parents.lists))));
 }
 
-parent_in-within : (m : ℕ) (prelude : Stated) (parent : Parent) → ParentWithin m parent
-    → ParentWithin m (parent_in prelude parent)
+parent_in-within : (m : ℕ) (names : Names) (prelude : Stated) (parent : Parent) → ParentWithin m parent
+    → ParentWithin m (parent_in names prelude parent)
 unfolding ParentWithin OwnWithin
-parent_in-within m prelude no_rule w = (tt, tt)
-parent_in-within m prelude dropped w = tt
-parent_in-within m prelude (style other under unread) w = tt
-parent_in-within m prelude (style other under valid) w = tt
-parent_in-within m prelude (style other under (numbered own)) w = (w.1, tt)
+parent_in-within m names prelude no_rule w = (tt, tt)
+parent_in-within m names prelude dropped w = tt
+parent_in-within m names prelude (style other under unread) w = tt
+parent_in-within m names prelude (style other under valid) w = tt
+parent_in-within m names prelude (style other under (numbered own)) w = (w.1, tt)
 
 checked-within : (m : ℕ) (parent : Parent) → ParentWithin m parent → ParentWithin m (checked parent)
 unfolding ParentWithin OwnWithin
@@ -367,17 +336,17 @@ checked_for-within : (m : ℕ) (is_needed : Bool) (parent : Parent) → ParentWi
 checked_for-within m true parent w = checked-within m parent w
 checked_for-within m false parent w = w
 
-begun-chained : (applies : Bool) (kind : RuleKind) (parents : ParentsText) → Chained parents
-    → Chained (begun applies kind parents)
+begun-chained : (names : Names) (applies : Bool) (kind : RuleKind) (parents : ParentsText)
+    → Chained parents → Chained (begun names applies kind parents)
 unfolding ParentWithin OuterWithin
-begun-chained true (style_rule prelude) parents chained =
+begun-chained names true (style_rule prelude) parents chained =
     let listed = list-chained parents chained parents.innermost refl in
-    entered-chained (with_list parents) (parent_in prelude (with_list parents).innermost) listed
-    (parent_in-within (length (with_list parents).lists) prelude (with_list parents).innermost
+    entered-chained (with_list parents) (parent_in names prelude (with_list parents).innermost) listed
+    (parent_in-within (length (with_list parents).lists) names prelude (with_list parents).innermost
     listed.innermost)
-begun-chained false (style_rule prelude) parents chained =
+begun-chained names false (style_rule prelude) parents chained =
     entered-chained parents dropped chained tt
-begun-chained applies (group_rule keyword prelude) parents chained = record {
+begun-chained names applies (group_rule keyword prelude) parents chained = record {
   lists = chained.lists;
   plain = chained.plain;
   innermost = checked_for-within (length parents.lists) (applies && is_layer keyword) parents.innermost
@@ -435,10 +404,10 @@ part-chained : (parents : ParentsText) (placed : PlacedPart) → Chained parents
     → Chained (after_part parents placed)
 part-chained parents placed chained = by placed.part
   where
-    by : (part : SheetPart) → Chained (after_part_of parents part placed.around)
+    by : (part : SheetPart) → Chained (after_part_of placed.names parents part placed.around)
     by (states text) = chained
     by (begins kind) =
-        begun-chained (applies_in placed.around) kind (before_rule placed.around parents)
+        begun-chained placed.names (applies_in placed.around) kind (before_rule placed.around parents)
         (before-chained placed.around parents chained)
     by ends = left-chained parents chained
     by (stands item) = chained
@@ -451,7 +420,7 @@ parts-chained parents (placed ∷ more) chained =
 
 -- ---- lists are added
 
-selectors-grow : (parents : ParentsText) (prelude : Stated) (under : Option Nesting)
+selectors-grow : (parents : ParentsText) (prelude : Stated) (under : ListContext)
     (r : Result (List SelectorRead) Fault)
     → length parents.lists ≤ length (with_selectors parents prelude under r).lists
 selectors-grow parents prelude under (Err fault) = omega arith
@@ -468,11 +437,11 @@ list-grows parents (style prelude under valid) =
 list-grows parents (style prelude under unread) =
     selectors-grow parents prelude under (selectors_under under prelude)
 
-begun-grows : (applies : Bool) (kind : RuleKind) (parents : ParentsText)
-    → length parents.lists ≤ length (begun applies kind parents).lists
-begun-grows true (style_rule prelude) parents = list-grows parents parents.innermost
-begun-grows false (style_rule prelude) parents = omega arith
-begun-grows applies (group_rule keyword prelude) parents = omega arith
+begun-grows : (names : Names) (applies : Bool) (kind : RuleKind) (parents : ParentsText)
+    → length parents.lists ≤ length (begun names applies kind parents).lists
+begun-grows names true (style_rule prelude) parents = list-grows parents parents.innermost
+begun-grows names false (style_rule prelude) parents = omega arith
+begun-grows names applies (group_rule keyword prelude) parents = omega arith
 
 left-keeps : (parents : ParentsText) (o : Option (Option Parent))
     → (left_last parents o).lists ≡ parents.lists
@@ -492,13 +461,13 @@ part-grows : (parents : ParentsText) (placed : PlacedPart)
 part-grows parents placed = by placed.part
   where
     by : (part : SheetPart)
-        → length parents.lists ≤ length (after_part_of parents part placed.around).lists
+        → length parents.lists ≤ length (after_part_of placed.names parents part placed.around).lists
     by (states text) = omega arith
     by (begins kind) =
         omega (
           arith,
           ap length (before-keeps placed.around parents),
-          begun-grows (applies_in placed.around) kind (before_rule placed.around parents),
+          begun-grows placed.names (applies_in placed.around) kind (before_rule placed.around parents),
         )
     by ends =
         omega (
@@ -516,13 +485,14 @@ parts-grow parents (placed ∷ more) =
 
 -- ---- rules
 
+-- what a rule asks, whose selector has no pseudo-element
 abbrev pub RuleAsks : ℕ → SheetRuleText → Type 0
-RuleAsks n rule = SelectorAsksBelow n rule.selector
+RuleAsks n rule = SelectorAsksBelow n rule.selector × (rule.selector.pseudo_element ≡ None)
 
 module _ (m : ℕ) where
   rule-asks : (run : RunText) (read : SelectorRead) → GoodRead (suc m) read → (rule : SheetRuleText)
       → rule_with run read ≡ Some rule → RuleAsks (suc m) rule
-  rule-asks run read good rule e = by read.selector good.asks e
+  rule-asks run read good rule e = by read.selector good.asks good.plain e
     where
       made : Selector → SheetRuleText
       made s = record {
@@ -537,10 +507,12 @@ module _ (m : ℕ) where
       }
 
       by : (o : Option Selector) → ((s : Selector) → o ≡ Some s → SelectorAsksBelow (suc m) s)
+          → ((s : Selector) → o ≡ Some s → s.pseudo_element ≡ None)
           → option_map made o ≡ Some rule → RuleAsks (suc m) rule
-      by None asks f = absurd (cc)
-      by (Some s) asks f =
-          let is : made s ≡ rule = cc in subst (RuleAsks (suc m)) is (asks s refl)
+      by None asks plain f = absurd (cc)
+      by (Some s) asks plain f =
+          let is : made s ≡ rule = cc in
+          subst (RuleAsks (suc m)) is (asks s refl, plain s refl)
 
   stated-ask : (parent : Parent) → ParentWithin m parent → (run : RunText)
       → All (RuleAsks (suc m)) (stated_rules parent run)

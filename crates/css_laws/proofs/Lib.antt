@@ -7,3 +7,5 @@ pub mod OrderLemmas
 pub mod OutermostLemmas
 pub mod AskLemmas
 pub mod ChainedLists
+pub mod ListLemmas
+pub mod NumberedLists

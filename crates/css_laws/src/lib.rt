@@ -3,11 +3,13 @@
 #![tactic(auto)]
 
 mod nested_lists;
+mod numbered_lists;
 mod one_tree;
 mod pages;
 mod rule_order;
 
 pub use nested_lists::nested_lists_law;
+pub use numbered_lists::numbered_lists_law;
 pub use one_tree::converted_law;
 pub use pages::page_law;
 pub use rule_order::rule_order_law;

@@ -8,4 +8,4 @@ pub returns-clause-elements : goal.returns-clause-elements
 returns-clause-elements c = lists-plain
 
 pub returns-clause-rules : goal.returns-clause-rules
-returns-clause-rules c = rules-ask
+returns-clause-rules c holds sheets k d less = (rules-ask holds sheets k d less).0
