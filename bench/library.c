@@ -95,7 +95,7 @@ static simplecss_tree tree_of(text source) {
     strings found = strings_for(source, lines + 2 * count_of(source, '\t'));
     size_t count = read_tree(source, elements, &found);
     return (simplecss_tree){
-        elements, count, found.all.data, found.all.len, found.ends, found.count, 0, NULL, 0,
+        elements, count, found.all.data, found.all.len, found.ends, found.count, NULL, 0, 0, NULL, 0,
     };
 }
 

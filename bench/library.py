@@ -43,6 +43,8 @@ class TreeArrays(ctypes.Structure):
         ("strings_len", SIZE),
         ("string_ends", ctypes.POINTER(SIZE)),
         ("string_ends_count", SIZE),
+        ("attributes", ctypes.POINTER(SIZE)),
+        ("attributes_count", SIZE),
         ("states_count", SIZE),
         ("prefixes", ctypes.POINTER(SIZE)),
         ("prefixes_count", SIZE),

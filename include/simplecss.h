@@ -18,10 +18,10 @@
  * the group rules that each item is in, up to 64. Pass SIMPLECSS_NO_LIMIT for no limit. The call stops at the
  * first line that passes the limit, and makes nothing after it.
  *
- * A tree is a structure of three arrays: its elements in document order, the bytes of all its strings one
- * after another, and where each string ends. An element's strings are its name and then, for each
- * attribute, its key and its value; those of the first element come first. A value may be any text:
- * empty, with TABs, newlines, `=`, control characters or zero bytes. So may a key, but no two keys of
+ * A tree is a structure of arrays: its elements in document order, the bytes of all its strings one
+ * after another, where each string ends, and what else is said of its elements. An element's strings are its name
+ * and then, for each attribute, its key and its value; those of the first element come first. A value may be any
+ * text: empty, with TABs, newlines, `=`, control characters or zero bytes. So may a key, but no two keys of
  * an element are equal. A name is not empty.
  *
  * A call that reads selectors has a `grammar`, such as SIMPLECSS_MODERN. The calls whose names begin with
@@ -106,11 +106,20 @@ typedef struct simplecss_element {
  * The second is twice this number, and so on, while a size_t has bits for them without its last one: 56 of 64 bits. */
 #define SIMPLECSS_NAMED 128u
 
+/* An attribute that is in a namespace, such as `xlink:href`. It is none of those that its element counts. */
+typedef struct simplecss_namespaced_attribute {
+    size_t element;          /* the index of its element, from 0; if there is none, the attribute is ignored */
+    size_t namespace_number; /* the number of its namespace; with 0, the attribute is ignored */
+} simplecss_namespaced_attribute;
+
 /* A tree: its elements in document order, the bytes of all its strings, and where each ends. After the strings of
- * all elements come names of states, which compare without case, and then prefixes. simplecss_select reads selectors
- * with these: modern `svg|a` matches an element `a` in the namespace with the number of the prefix `svg`, whose case
- * matters; a prefix that is not here refuses the list. The empty prefix is of the default namespace. Reading takes
- * time that grows as the text times the prefixes, matching as the tests of states times the states. */
+ * all elements come those of the attributes in namespaces, then names of states, which compare without case, and then
+ * prefixes. An attribute in a namespace has two strings, its local name and its value. simplecss_select reads
+ * selectors with these: modern `svg|a` matches an element `a` in the namespace with the number of the prefix `svg`,
+ * whose case matters; a prefix that is not here refuses the list. The empty prefix is of the default namespace.
+ * `[svg|a]` matches an element with an attribute `a` in the namespace of the prefix, `[a]` and `[|a]` one with an
+ * attribute `a` in no namespace, and `[*|a]` both. Reading takes time that grows as the text times the prefixes,
+ * matching as the tests of states times the states, and as those of attributes times the element's. */
 typedef struct simplecss_tree {
     const simplecss_element *elements;
     size_t elements_count;
@@ -118,7 +127,9 @@ typedef struct simplecss_tree {
     size_t strings_len;
     const size_t *string_ends;
     size_t string_ends_count;
-    size_t states_count; /* how many names of states are after the strings of the elements */
+    const simplecss_namespaced_attribute *attributes; /* the attributes in namespaces, in any order */
+    size_t attributes_count;
+    size_t states_count; /* how many names of states are after the strings of the attributes */
     const size_t *prefixes; /* the numbers of the namespaces of prefixes, which are the last strings */
     size_t prefixes_count;
 } simplecss_tree;
@@ -197,9 +208,11 @@ uint32_t simplecss_printed(const uint8_t *text, size_t text_len, size_t grammar,
 
 /* Writes the row, the column and the reason of the first error of a list of selectors, with a space between them, or
  * nothing where it has none: "1 4 `>` begins no selector", of `.a >> b`. Rows and columns begin at 1, and columns
- * count characters. */
+ * count characters. Modern lists are read with the names that the tree declares, as simplecss_select reads them. For
+ * the port the tree is not read. */
 uint32_t simplecss_refusal(const uint8_t *text, size_t text_len, size_t grammar,
-                           uint8_t *out, size_t out_size, size_t *len);
+                           const simplecss_tree *tree,
+                           uint8_t *out, size_t out_size, size_t *len, simplecss_tree_fault *fault);
 
 /* The calls that match elements: `:first-child` matches an element without a previous sibling, a first root
  * too. `:lang(x)` tests the attribute `lang` of the element or of its nearest ancestor that has one. `:link`,
@@ -240,9 +253,11 @@ uint32_t simplecss_select(const uint8_t *selectors, size_t selectors_len, size_t
  *   start len  name name_len prelude prelude_len
  *   start len  is_read ids classes types  element name is_any
  * `is_read` says whether what is before the pseudo-element is a modern selector, by which the library matches
- * elements: then `ids`, `classes` and `types` are the specificity of the whole. `element` is where the pseudo-element
- * begins, with its colons, and `name` where its name does; both are the end of the selector if there is none. `is_any`
- * is 1 if there is one of any element, as in `a > ::before`: what is before it is then to be read with `*` after it.
+ * elements: then `ids`, `classes` and `types` are the specificity of the whole. It is 0 with a prefix that an
+ * `@namespace` of the sheet declares, since this call knows no namespaces; another prefix makes the selector invalid.
+ * `element` is where the pseudo-element begins, with its colons, and `name` where its name does; both are the end of
+ * the selector if there is none. `is_any` is 1 if there is one of any element, as in `a > ::before`: what is before it
+ * is then to be read with `*` after it.
  * Each item of the block has ten numbers, as a statement has, or
  *   SIMPLECSS_DECLARATION  start len closed  name name_len value value_len  important 0
  * Of "a{b:c}" the numbers are 3 0 6 1 0 1 2 3 0 0, 0 9 10, 0 1 1 0 0 1 1 1 0, and 0 2 3 1 2 1 4 1 0 0. `most`, `out_size`
@@ -376,7 +391,13 @@ uint32_t simplecss_inherited(const uint8_t *name, size_t name_len,
  * how many each sheet is: in none if there are fewer numbers. `around` has the numbers of these, those of the first
  * sheet first, and of each sheet from the outermost. The first of `groups` has the number 0; an `@layer` that a sheet is
  * in is one of them. One whose number is greater than all does not hold. A layer without a name is the same where its
- * number is. The top level of the sheet stays one, which no `}` closes. */
+ * number is. The top level of the sheet stays one, which no `}` closes.
+ *
+ * `namespaces` has the urls of the namespaces that elements are in, of which the first has the number 1 in a tree, the
+ * second 2, and so on. The rules of each sheet are read with the prefixes and the default namespace that its
+ * `@namespace` rules declare (CSS Namespaces 3). A url that is not one of these is of a namespace that no element is
+ * in. A rule with a prefix that its sheet does not declare is skipped. If there are no urls, namespaces are not known:
+ * a rule with a declared prefix is not supported, and a default namespace changes nothing. */
 typedef struct simplecss_sheets {
     const uint8_t *texts;
     size_t texts_len;
@@ -392,6 +413,10 @@ typedef struct simplecss_sheets {
     size_t around_count;
     const size_t *depths;
     size_t depths_count;
+    const uint8_t *namespaces;
+    size_t namespaces_len;
+    const size_t *namespace_ends;
+    size_t namespace_ends_count;
 } simplecss_sheets;
 
 /* The origins of sheets. */

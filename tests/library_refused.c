@@ -23,7 +23,12 @@ static const size_t pair_ends[] = {3, 11, 14, 54};
 static const simplecss_device device = {1280, 800, 2000, SIMPLECSS_SCREEN, SIMPLECSS_FINE, 1, 0, 0};
 static const char strings[] = "ullicl\tssnewlititlea\nb";
 static const size_t string_ends[] = {2, 4, 9, 12, 14, 19, 22};
-static const simplecss_tree tree = {elements, 3, TEXT(strings), string_ends, 7, 0, NULL, 0};
+static const simplecss_tree tree = {elements, 3, TEXT(strings), string_ends, 7, NULL, 0, 0, NULL, 0};
+static const simplecss_namespaced_attribute attributes[] = {{1, 1}};
+static const char spaced_strings[] = "ullicl\tssnewlititlea\nbkvn";
+static const size_t spaced_ends[] = {2, 4, 9, 12, 14, 19, 22, 23, 24, 25};
+static const size_t prefixes[] = {1};
+static const simplecss_tree spaced = {elements, 3, TEXT(spaced_strings), spaced_ends, 10, attributes, 1, 0, prefixes, 1};
 static const size_t group_ends[] = {5, 6};
 static const size_t origins[] = {SIMPLECSS_USER, SIMPLECSS_AUTHOR};
 static const size_t own_ends[] = {3, 6};
@@ -33,10 +38,14 @@ static const size_t name_counts[] = {2};
 static const size_t around[] = {0};
 static const size_t depths[] = {0, 1};
 static const simplecss_asked asked = {TEXT("ac"), asked_ends, 2, name_counts, 1};
-static const simplecss_sheets sheets = {TEXT(sheet), sheet_ends, 2, origins, 2, TEXT("mediax"), group_ends, 2, around, 1, depths, 2};
+static const simplecss_sheets sheets = {TEXT(sheet), sheet_ends, 2, origins, 2, TEXT("mediax"), group_ends, 2, around, 1, depths, 2, TEXT(""), NULL, 0};
 static const char rules[] = "ul { > li { a: b } @layer x { &, li::before { c: d } } }";
 static const size_t rules_ends[] = {sizeof(rules) - 1};
-static const simplecss_sheets nested = {TEXT(rules), rules_ends, 1, origins, 1, TEXT("mediax"), group_ends, 2, around, 0, depths, 0};
+static const simplecss_sheets nested = {TEXT(rules), rules_ends, 1, origins, 1, TEXT("mediax"), group_ends, 2, around, 0, depths, 0, TEXT(""), NULL, 0};
+static const char named[] = "@namespace n 'u'; n|a { b: c } [n|k] { d: e }";
+static const size_t named_ends[] = {sizeof(named) - 1};
+static const size_t url_ends[] = {1};
+static const simplecss_sheets declared = {TEXT(named), named_ends, 1, origins, 1, TEXT("mediax"), group_ends, 2, around, 0, depths, 0, TEXT("u"), url_ends, 1};
 static uint8_t out[4096];
 static size_t numbers[128];
 
@@ -59,7 +68,7 @@ int main(int count, char **words) {
     switch (call) {
     case 0: status = simplecss_port_selector(TEXT("a b > c.d[e='f']:hover"), OUT); break;
     case 1: status = simplecss_list(TEXT("a b, c > d, e + f"), SIMPLECSS_PORT, NUMBERS); break;
-    case 2: status = simplecss_refusal(TEXT("a b, c > > d"), SIMPLECSS_PORT, OUT); break;
+    case 2: status = simplecss_refusal(TEXT("a b, c > > d"), SIMPLECSS_PORT, TREE, OUT, &fault); break;
     case 3: status = simplecss_port_sheet(SHEET, OUT); break;
     case 4: status = simplecss_port_rules(SHEET, OUT); break;
     case 5: status = simplecss_port_skipped(TEXT(sheet), OUT); break;
@@ -72,7 +81,7 @@ int main(int count, char **words) {
     case 12: status = simplecss_declarations(TEXT("a: b !important; c"), NUMBERS); break;
     case 13: status = simplecss_match_selectors(TEXT("li.new"), selector_ends, 2, SIMPLECSS_PORT, TREE, MOST, OUT, &fault); break;
     case 14: status = simplecss_list(TEXT("a\\62 > c, d:not(e, f)::before"), SIMPLECSS_MODERN, NUMBERS); break;
-    case 15: status = simplecss_refusal(TEXT("a, b:nth-child(2"), SIMPLECSS_MODERN, OUT); break;
+    case 15: status = simplecss_refusal(TEXT("a, b:nth-child(2"), SIMPLECSS_MODERN, TREE, OUT, &fault); break;
     case 16: status = simplecss_match_selectors(TEXT("LI.new"), selector_ends, 2, SIMPLECSS_HTML, TREE, MOST, OUT, &fault); break;
     case 17: status = simplecss_select(TEXT("LI:empty, :is(UL, a) > .NEW"), SIMPLECSS_HTML_QUIRKS, TREE, MOST, OUT, &fault); break;
     case 18: status = simplecss_close(TEXT("f(g['h"), OUT); break;
@@ -101,13 +110,16 @@ int main(int count, char **words) {
     case 41: status = simplecss_imports(TEXT("@import 'a' layer(b) supports(c:d) print;"), OUT); break;
     case 42: status = simplecss_contents(TEXT("a { b: c; @media x { d { e } } }"), NUMBERS); break;
     case 43: status = simplecss_print(TEXT("a { b : c } @media x { d { e : f/**/g } }"), SIMPLECSS_LINES, OUT); break;
+    case 44: status = simplecss_select(TEXT("[n|k], n|a"), SIMPLECSS_MODERN, &spaced, MOST, OUT, &fault); break;
+    case 45: status = simplecss_matches(&declared, SIMPLECSS_MODERN, 9, &spaced, MOST, NUMBERS, &fault); break;
+    case 46: status = simplecss_refusal(TEXT("[n|k], m|a"), SIMPLECSS_MODERN, &spaced, OUT, &fault); break;
     default: break;
     }
     (void)!write(2, "end", 3);
     if (status != SIMPLECSS_DONE && len != 0)
         return 1;
     const size_t written = status == SIMPLECSS_DONE ? len : 0;
-    const int counts = call == 1 || call == 14 || call == 11 || call == 12 || call == 21 || call == 22 || (call >= 26 && call <= 31) || call == 38 || call == 42;
+    const int counts = call == 1 || call == 14 || call == 11 || call == 12 || call == 21 || call == 22 || (call >= 26 && call <= 31) || call == 38 || call == 42 || call == 45;
     if (!is_unwritten(out + (counts ? 0 : written), sizeof out - (counts ? 0 : written)))
         return 1;
     if (!is_unwritten(numbers + (counts ? written : 0), sizeof numbers - (counts ? written : 0) * sizeof *numbers))

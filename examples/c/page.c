@@ -34,7 +34,7 @@ int main(void) {
     size_t name_ends[COUNT(strings)];
     size_t names_len = put(strings, COUNT(strings), names, name_ends);
     simplecss_tree tree = {elements, COUNT(elements), (const uint8_t *)names, names_len,
-                           name_ends, COUNT(strings), 0, NULL, 0};
+                           name_ends, COUNT(strings), NULL, 0, 0, NULL, 0};
 
     /* The first call asks for the length, and the second writes. */
     uint8_t *out = (uint8_t *)malloc(1);

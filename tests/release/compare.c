@@ -54,7 +54,7 @@ int main(void) {
         put(simplecss_decode(text, end, 1, OUT));
         put_numbers(simplecss_list(text, end, SIMPLECSS_MODERN, NUMBERS));
         put(simplecss_printed(text, end, SIMPLECSS_MODERN, OUT));
-        put(simplecss_refusal(text, end, SIMPLECSS_MODERN, OUT));
+        put(simplecss_refusal(text, end, SIMPLECSS_MODERN, &TREE, OUT, &fault));
         put(simplecss_select(text, end, SIMPLECSS_MODERN, &TREE, MOST, OUT, &fault));
         put(simplecss_match_selectors(SHEET, SIMPLECSS_MODERN, &TREE, MOST, OUT, &fault));
     }

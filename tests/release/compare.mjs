@@ -24,7 +24,7 @@ for (let at = 0; at < input.length; ) {
     call('close', [text]), call('print', [text, 0n]), call('print', [text, 1n]),
     call('escape', [text]), call('quote', [text]), call('decode', [text, 1n]),
     call('list', [text, modern[0]], { isNumbers }), call('printed', [text, modern[0]]),
-    call('refusal', [text, modern[0]]), call('select', [text, ...modern], { most, hasTree }),
+    call('refusal', [text, ...modern], { hasTree }), call('select', [text, ...modern], { most, hasTree }),
     call('match_selectors', [text, ends, ...modern], { most, hasTree }),
   ];
   for (const answer of answers) {

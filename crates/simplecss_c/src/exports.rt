@@ -83,18 +83,22 @@ pub extern "C" fn simplecss_printed(
 }
 
 /// Writes the row, the column and the reason of why a text is no list of selectors, with a space between
-/// them. Nothing where it is one.
+/// them, where a tree declares names. Nothing where it is one.
 #[unsafe(no_mangle)]
 pub extern "C" fn simplecss_refusal(
     alloc: Global,
     text: &[u8],
     grammar: usize,
+    tree: &PassedTree<'_>,
     out: &mut [u8],
     len: &mut usize,
+    fault: &mut TreeFault,
 ) -> u32
-    ensures { IsAnswered (IsRefusalCall (grammar_of grammar) text.now) result out.old out.new len.new }
+    ensures { IsAnsweredOfTree (IsRefusalCall (grammar_of grammar) text.now (passed_of tree.now))
+        result out.old out.new len.new fault.old fault.new }
 {
-    hand_over(calls::refusal(alloc, text, grammar), out, len)
+    let outcome = calls::refusal(alloc, text, grammar, *tree);
+    hand_over_of_tree(outcome, out, len, fault)
 }
 
 /// Writes a line for each element of a tree: its number, a colon, the number of each of the

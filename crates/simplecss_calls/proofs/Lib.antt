@@ -22,3 +22,4 @@ pub mod ValueCalls
 pub mod OwnTexts
 pub mod ImportSteps
 pub mod ImportVectors
+mod SpacedAttributes

@@ -1,26 +1,27 @@
 -- What a call for modern selectors answers.
 -- Serves `modern::{list, printed, refusal, page_lines, match_selectors, select}`.
-use Rattle.std.proofs.Common.{◌≡◌, ℕ, List, Option, None, Some, inl, inr, sym, ap, subst, ◌∙◌}
+use Rattle.std.proofs.Common.{◌≡◌, ℕ, List, Option, None, Some, length, inl, inr, sym, ap, subst, ◌∙◌}
 use Rattle.std.specs.Prelude.{Result, Ok, Err, MatchResult, Vec, string_bytes}
 use Rattle.std.specs.Option.{option_map}
 use Rattle.std.specs.Result.{IsErrAnd}
 use Rattle.std.specs.declared.string.String.{String}
 use Rattle.std.specs.Str.{IsUtf8}
 use Rattle.css_sheet.specs.RuleSelectors.{selector_of}
-use Rattle.css_selectors.specs.Names.{no_names}
+use Rattle.css_selectors.specs.Documents.{NamespacedAttribute}
+use Rattle.css_selectors.specs.Names.{Names}
 use Rattle.css_selectors.specs.Components.{Placed, Selector}
 use Rattle.css_selectors.specs.Numberings.{no_lists, numbered_selectors}
 use Rattle.css_selectors.specs.Supported.{supported_list}
 use Rattle.css_tree.specs.Pages.{Page}
 use Rattle.simplecss_tree.specs.Rows.{Row}
 use Rattle.simplecss_calls.specs.declared.answer.CallError.{CallError}
-use Rattle.simplecss_calls.specs.declared.answer.CallError.TheVariants.{Memory}
+use Rattle.simplecss_calls.specs.declared.answer.CallError.TheVariants.{Memory, NotUtf8}
 use Rattle.simplecss_calls.specs.declared.modern.document_kind.DocumentKind.{DocumentKind}
 use Rattle.simplecss_calls.specs.declared.pages.LineContent.{LineContent}
 use Rattle.simplecss_calls.specs.declared.pages.LineContent.TheVariants.{Numbers, Selected}
 use Rattle.simplecss_calls.specs.Outcomes.{numbers_outcome, outcome_of}
-use Rattle.simplecss_calls.specs.Elements.{named_states}
-use Rattle.simplecss_calls.specs.Calls.{FailsFor, FailsWithin, FailsLonger, HasTexts, HasNoSelector, AreSelectorsIn, HasBadEnds, IsBrokenUtf8, Passed, passed_tree, passed_names, passed_states, passed_declared}
+use Rattle.simplecss_calls.specs.Elements.{attributes_by, named_states}
+use Rattle.simplecss_calls.specs.Calls.{FailsFor, FailsWithin, FailsLonger, HasTexts, HasNoSelector, AreSelectorsIn, HasBadEnds, IsBrokenUtf8, Passed, passed_tree, passed_names, passed_states, passed_attributes, passed_spaced, passed_declared}
 use Rattle.simplecss_calls.specs.ModernCalls.{AreNumberedLines, AreReadLines, IsOfList, IsModernRefusalCall, IsModernMatchCall, IsModernSelectCall}
 use Rattle.simplecss_calls.specs.ModernLines.{IsRefusal, page_with}
 use Rattle.simplecss_calls.specs.Readings.{listed_in, selectors_of}
@@ -56,7 +57,8 @@ ReadLines r IsAnswer passed =
 -- the lines that are due for a page
 lines-due : {Z : Type 0} (most : ℕ) (content : LineContent) (kind : DocumentKind)
     (selectors : List Selector) (passed : Passed) (rows : List Row) (page : Page) → IsUtf8 passed.strings → passed_tree passed ≡ Ok rows
-    → page ≡ page_with kind (passed_states passed) passed.elements rows → (r : Result (String Z) CallError)
+    → page ≡ page_with kind (passed_states passed) (passed_spaced passed) passed.elements rows
+    → (r : Result (String Z) CallError)
     → MatchResult r (λ text. AreNumberedLines most content kind (numbered_selectors no_lists selectors) page
     (Some (string_bytes text)))
     (FailsLonger (AreNumberedLines most content kind (numbered_selectors no_lists selectors) page None))
@@ -107,16 +109,34 @@ module _ (written : List ℕ → List Placed → List ℕ) (text read : List ℕ
   text-listed (Ok out) due = listed-ok (string_bytes out) due
   text-listed (Err error) due = listed-failed error due
 
--- the refusal of a text that was read
-pub refusal-due : {Z : Type 0} (text read : List ℕ) → read ≡ text → IsUtf8 text
-    → (r : Result (String Z) CallError)
-    → MatchResult r (λ refusal. IsRefusal read (supported_list no_names read) (string_bytes refusal))
+-- the refusal of a text that was read, where a tree declares these names
+pub refusal-due : {Z : Type 0} (text read : List ℕ) (passed : Passed) (names : Names) (rows : List Row)
+    → read ≡ text → IsUtf8 text → IsUtf8 passed.strings → passed_tree passed ≡ Ok rows
+    → names ≡ passed_declared passed → (r : Result (String Z) CallError)
+    → MatchResult r (λ refusal. IsRefusal read (supported_list names read) (string_bytes refusal))
     (λ error. error ≡ Memory)
-    → IsModernRefusalCall text (outcome_of r)
-refusal-due text read same utf8 (Ok refusal) due =
-    (utf8, subst (λ t. IsRefusal t (supported_list no_names t) (string_bytes refusal)) same due)
-refusal-due text read same utf8 (Err error) due =
-    subst (λ e. IsModernRefusalCall text (Err e)) (sym due) tt
+    → IsModernRefusalCall text passed (outcome_of r)
+refusal-due text read passed names rows same utf8 strings tree declared (Ok refusal) due = (
+  rows,
+  utf8,
+  strings,
+  tree,
+  subst (λ n. IsRefusal text (supported_list n text) (string_bytes refusal)) declared
+      (subst (λ t. IsRefusal t (supported_list names t) (string_bytes refusal)) same due),
+)
+refusal-due text read passed names rows same utf8 strings tree declared (Err error) due =
+    subst (λ e. IsModernRefusalCall text passed (Err e)) (sym due) tt
+
+-- why the text is none, or the tree
+pub refusal-text-failed : (text : List ℕ) (passed : Passed) → ¬ (IsUtf8 text)
+    → IsModernRefusalCall text passed (Err NotUtf8)
+refusal-text-failed text passed broken = inl broken
+
+pub refusal-tree-failed : (text : List ℕ) (passed : Passed) (error : CallError)
+    → FailsFor ⊥ (λ fault. passed_tree passed ≡ Err fault) (¬ (IsUtf8 passed.strings)) error
+    → IsModernRefusalCall text passed (Err error)
+refusal-tree-failed text passed error h =
+    fails_wider (λ is. is) (λ fault is. is) (λ broken. inr broken) error h
 
 -- the lines that are due for the selectors of texts
 pub match-due : {Z : Type 0} (most : ℕ) (buffer ends : List ℕ) (kind : DocumentKind) (passed : Passed)
@@ -171,21 +191,36 @@ list-failed most text read kind passed same error h =
     (λ is. absurd is) (λ is. is) (λ is. absurd is) error
     (fails_within (selectors_of (passed_declared passed) read ≡ None) (λ fault. ⊥) ⊥ ⊥ ⊥ error h)
 
--- the lines of a tree that was read, with the states that it names
+-- a page with the names of states and the attributes that were read
+abbrev pub read-page : DocumentKind → Passed → List (List ℕ) → List (ℕ × NamespacedAttribute) → List Row
+    → Page
+read-page kind passed names attributes rows =
+    page_with kind (named_states names passed.elements) (attributes_by (length passed.elements) attributes)
+    passed.elements rows
+
+pub read-page-same : (kind : DocumentKind) (passed : Passed) (names : List (List ℕ))
+    (attributes : List (ℕ × NamespacedAttribute)) (rows : List Row) → names ≡ passed_names passed
+    → attributes ≡ passed_attributes passed
+    → read-page kind passed names attributes rows
+    ≡ page_with kind (passed_states passed) (passed_spaced passed) passed.elements rows
+read-page-same kind passed names attributes rows named placed =
+    ap (λ ns. read-page kind passed ns attributes rows) named
+    ∙ ap (λ (all : List (ℕ × NamespacedAttribute)). read-page kind passed (passed_names passed) all rows) placed
+
+-- the lines of a tree that was read, with the states that it names and its attributes in namespaces
 pub read-due : {Z : Type 0} (most : ℕ) (content : LineContent) (kind : DocumentKind)
     (selectors : List Selector) (passed : Passed) (rows : List Row) (names : List (List ℕ))
+    (attributes : List (ℕ × NamespacedAttribute))
     → IsUtf8 passed.strings → passed_tree passed ≡ Ok rows → names ≡ passed_names passed
-    → (r : Result (String Z) CallError)
+    → attributes ≡ passed_attributes passed → (r : Result (String Z) CallError)
     → MatchResult r (λ text. AreNumberedLines most content kind (numbered_selectors no_lists selectors)
-    (page_with kind (named_states names passed.elements) passed.elements rows)
-    (Some (string_bytes text)))
+    (read-page kind passed names attributes rows) (Some (string_bytes text)))
     (FailsLonger (AreNumberedLines most content kind (numbered_selectors no_lists selectors)
-    (page_with kind (named_states names passed.elements) passed.elements rows) None))
+    (read-page kind passed names attributes rows) None))
     → ReadLines r (AreReadLines most content kind selectors passed) passed
-read-due most content kind selectors passed rows names utf8 tree same r due =
-    lines-due most content kind selectors passed rows
-    (page_with kind (named_states names passed.elements) passed.elements rows) utf8 tree
-    (ap (λ ns. page_with kind (named_states ns passed.elements) passed.elements rows) same) r due
+read-due most content kind selectors passed rows names attributes utf8 tree named placed r due =
+    lines-due most content kind selectors passed rows (read-page kind passed names attributes rows) utf8 tree
+    (read-page-same kind passed names attributes rows named placed) r due
 
 -- why the tree is none
 pub select-tree-failed : (most : ℕ) (text : List ℕ) (kind : DocumentKind) (passed : Passed)

@@ -5,13 +5,12 @@ use Rattle.std.specs.Prelude.{Result, Ok, Err, if◌then◌else◌}
 use Rattle.std.proofs.lemmas.List.{take_more, take_more_set, map_more, take_all}
 use Rattle.std.proofs.lemmas.Grind.{common_steps}
 use Rattle.simplecss_tree.specs.Rows.{Row}
-use Rattle.css_tree.specs.Pages.{Page, Given, NamedState, with_text, with_states}
+use Rattle.css_tree.specs.Pages.{Page, Given, with_text}
 use Rattle.simplecss_calls.specs.declared.answer.CallError.{CallError}
 use Rattle.simplecss_calls.specs.declared.answer.CallError.TheVariants.{Refused, Tree, Memory, TooManyDeclarations, NotUtf8, AnswerTooLong, TooManyLayers}
 use Rattle.simplecss_calls.specs.declared.elements.ElementFault.{ElementFault}
 use Rattle.simplecss_calls.specs.declared.elements.TreeElement.{TreeElement}
-use Rattle.simplecss_calls.specs.declared.modern.document_kind.DocumentKind.TheVariants.{AsWritten, Html}
-use Rattle.css_tree.specs.declared.html.HtmlMode.{HtmlMode}
+use Rattle.simplecss_calls.specs.declared.modern.document_kind.DocumentKind.TheVariants.{AsWritten}
 use Rattle.simplecss_calls.specs.Calls.{FailsFor}
 use Rattle.simplecss_calls.specs.Elements.{Strings, has_text, scope_in, fault_in, limit_after, strings_of, tree_from, tree_of, with_element}
 use Rattle.simplecss_calls.specs.ModernLines.{page_with}
@@ -48,9 +47,10 @@ tree_from-length rows depths left (element ∷ elements) out is =
     omega (arith, more, one)
 
 -- a tree has as many elements as were passed
-pub tree-length : (elements : List TreeElement) (buffer ends : List ℕ) (states prefixes : ℕ)
-    (rows : List Row) → tree_of elements buffer ends states prefixes ≡ Ok rows → length elements ≡ length rows
-tree-length elements buffer ends states prefixes rows is =
+pub tree-length : (elements : List TreeElement) (buffer ends : List ℕ) (attributes states prefixes : ℕ)
+    (rows : List Row) → tree_of elements buffer ends attributes states prefixes ≡ Ok rows
+    → length elements ≡ length rows
+tree-length elements buffer ends attributes states prefixes rows is =
     let all = tree_from-length [] [] _ elements rows is in omega (arith, all)
 
 -- ---- which elements have a text
@@ -67,12 +67,14 @@ pages-same page other same given marks html =
 
 -- what is said of elements, of the same parts
 given-same : (given other : Given) → given.texts ≡ other.texts → given.scope ≡ other.scope
-    → given.states ≡ other.states → given.namespaces ≡ other.namespaces → given ≡ other
-given-same given other texts scope states namespaces =
-    ap (λ t. record { texts = t; scope = given.scope; states = given.states; namespaces = given.namespaces }) texts
-    ∙ ap (λ s. record { texts = other.texts; scope = s; states = given.states; namespaces = given.namespaces }) scope
-    ∙ ap (λ s. record { texts = other.texts; scope = other.scope; states = s; namespaces = given.namespaces }) states
-    ∙ ap (λ n. record { texts = other.texts; scope = other.scope; states = other.states; namespaces = n }) namespaces
+    → given.states ≡ other.states → given.namespaces ≡ other.namespaces
+    → given.attributes ≡ other.attributes → given ≡ other
+given-same given other texts scope states namespaces attributes =
+    ap (λ t. record given { texts = t }) texts
+    ∙ ap (λ s. record given { texts = other.texts; scope = s }) scope
+    ∙ ap (λ s. record given { texts = other.texts; scope = other.scope; states = s }) states
+    ∙ ap (λ n. record other { namespaces = n; attributes = given.attributes }) namespaces
+    ∙ ap (λ a. record other { attributes = a }) attributes
 
 -- those below an index are known
 pub record TextsSoFar (elements : List TreeElement) (rows : List Row) (index : ℕ) (page : Page)
@@ -84,6 +86,7 @@ pub record TextsSoFar (elements : List TreeElement) (rows : List Row) (index : �
   pub scoped : page.given.scope ≡ scope_in elements
   pub unnamed : page.given.states ≡ []
   pub spaced : page.given.namespaces ≡ map (λ element. element.namespace) elements
+  pub unplaced : page.given.attributes ≡ []
   pub unmarked : page.marks ≡ []
   pub plain : page.is_html ≡ false
 
@@ -92,8 +95,9 @@ pub texts-none : (elements : List TreeElement) (rows : List Row) (page : Page) �
     → length page.given.texts ≡ length rows → ((i : ℕ) → get_or page.given.texts i false ≡ false)
     → length elements ≡ length rows → page.given.scope ≡ scope_in elements
     → page.given.states ≡ []
-    → page.given.namespaces ≡ map (λ element. element.namespace) elements → page.marks ≡ [] → page.is_html ≡ false → TextsSoFar elements rows 0 page
-texts-none elements rows page same all none many scoped unnamed spaced unmarked plain = record {
+    → page.given.namespaces ≡ map (λ element. element.namespace) elements → page.given.attributes ≡ []
+    → page.marks ≡ [] → page.is_html ≡ false → TextsSoFar elements rows 0 page
+texts-none elements rows page same all none many scoped unnamed spaced unplaced unmarked plain = record {
   same = same;
   all = all ∙ sym many;
   known = refl;
@@ -101,6 +105,7 @@ texts-none elements rows page same all none many scoped unnamed spaced unmarked 
   scoped = scoped;
   unnamed = unnamed;
   spaced = spaced;
+  unplaced = unplaced;
   unmarked = unmarked;
   plain = plain;
 }
@@ -126,6 +131,7 @@ module _ {elements : List TreeElement} {rows : List Row} {index : ℕ} {page : P
       scoped = ap (λ g. g.scope) given ∙ so_far.scoped;
       unnamed = ap (λ g. g.states) given ∙ so_far.unnamed;
       spaced = ap (λ g. g.namespaces) given ∙ so_far.spaced;
+      unplaced = ap (λ g. g.attributes) given ∙ so_far.unplaced;
       unmarked = marks ∙ so_far.unmarked;
       plain = html ∙ so_far.plain;
     }
@@ -145,6 +151,7 @@ module _ {elements : List TreeElement} {rows : List Row} {index : ℕ} {page : P
       scoped = so_far.scoped;
       unnamed = so_far.unnamed;
       spaced = so_far.spaced;
+      unplaced = so_far.unplaced;
       unmarked = so_far.unmarked;
       plain = so_far.plain;
     }
@@ -152,32 +159,13 @@ module _ {elements : List TreeElement} {rows : List Row} {index : ℕ} {page : P
 -- of all elements it is known
 pub texts-known : (elements : List TreeElement) (rows : List Row) (index : ℕ) (page : Page)
     → TextsSoFar elements rows index page → index ≡ length elements
-    → page ≡ page_with AsWritten [] elements rows
+    → page ≡ page_with AsWritten [] [] elements rows
 texts-known elements rows index page so_far all =
-    pages-same page (page_with AsWritten [] elements rows) so_far.same
-    (given-same page.given (page_with AsWritten [] elements rows).given
+    pages-same page (page_with AsWritten [] [] elements rows) so_far.same
+    (given-same page.given (page_with AsWritten [] [] elements rows).given
     (sym (take_all index page.given.texts (omega (arith, all, so_far.all)))
     ∙ so_far.known ∙ ap (map has_text) (take_all index elements (omega (arith, all))))
-    so_far.scoped so_far.unnamed so_far.spaced) so_far.unmarked so_far.plain
-
--- and the document is HTML
-pub page-html : (mode : HtmlMode) (states : List NamedState) (elements : List TreeElement)
-    (rows : List Row) (old new : Page) → old ≡ page_with AsWritten states elements rows
-    → new.rows ≡ old.rows → new.given ≡ old.given → new.marks ≡ old.marks → new.is_html ≡ true
-    → new ≡ page_with (Html mode) states elements rows
-page-html mode states elements rows old new is same given marks html =
-    pages-same new (page_with (Html mode) states elements rows) (same ∙ ap (λ p. p.rows) is)
-    (given ∙ ap (λ p. p.given) is) (marks ∙ ap (λ p. p.marks) is) html
-
--- and states are named
-pub page-named : (states : List NamedState) (elements : List TreeElement) (rows : List Row)
-    (old new : Page) → old ≡ page_with AsWritten [] elements rows → new.rows ≡ old.rows
-    → new.given ≡ with_states old.given states → new.marks ≡ old.marks → new.is_html ≡ old.is_html
-    → new ≡ page_with AsWritten states elements rows
-page-named states elements rows old new is same given marks html =
-    pages-same new (page_with AsWritten states elements rows) (same ∙ ap (λ p. p.rows) is)
-    (given ∙ ap (λ p. with_states p.given states) is) (marks ∙ ap (λ p. p.marks) is)
-    (html ∙ ap (λ p. p.is_html) is)
+    so_far.scoped so_far.unnamed so_far.spaced so_far.unplaced) so_far.unmarked so_far.plain
 
 -- ---- failures
 

@@ -21,14 +21,14 @@ use Rattle.simplecss_calls.specs.declared.answer.CallError.TheVariants.{Refused,
 use Rattle.simplecss_calls.specs.declared.contents.ElementContent.{ElementContent}
 use Rattle.simplecss_calls.specs.declared.elements.ElementFault.{ElementFault}
 use Rattle.simplecss_calls.specs.declared.modern.document_kind.DocumentKind.{DocumentKind}
-use Rattle.simplecss_calls.specs.Calls.{FailsFor, FailsLonger, FailsWithin, HasBadEnds, HasTexts, IsBrokenUtf8, Passed, passed_tree, passed_states}
+use Rattle.simplecss_calls.specs.Calls.{FailsFor, FailsLonger, FailsWithin, HasBadEnds, HasTexts, IsBrokenUtf8, Passed, passed_tree, passed_states, passed_spaced}
 use Rattle.simplecss_calls.specs.MarkedPages.{AreOnMarked}
 use Rattle.simplecss_calls.specs.ModernLines.{page_with}
 use Rattle.std.specs.declared.string.String.{String}
 use Rattle.simplecss_calls.specs.Outcomes.{numbers_outcome, outcome_of}
 use Rattle.simplecss_calls.specs.RuleTexts.{rule_texts, AreLongerTexts, IsRuleTextsCall}
 use Rattle.simplecss_calls.specs.Readings.{selector_as}
-use Rattle.simplecss_calls.specs.WinnerNumbers.{ContentText, PassedSheets, AreSheets, FailsBeside, group_rule_at, sheets_with, AreAskedOnTree, AreBeyond, AreRules, AreNumbers, HasBadContent, IsBrokenContent, IsContent, IsModernNumbersCall, held_declarations, held_layers, unread}
+use Rattle.simplecss_calls.specs.WinnerNumbers.{ContentText, PassedSheets, AreSheets, FailsBeside, HasBadBeside, IsBrokenBeside, group_rule_at, sheets_with, AreAskedOnTree, AreBeyond, AreRules, AreNumbers, HasBadContent, IsBrokenContent, IsContent, IsModernNumbersCall, held_declarations, held_layers, unread}
 use Rattle.simplecss_calls.proofs.Limits.{fails_within, within_wider, longer_wider}
 
 -- a failure that is handed on
@@ -39,39 +39,46 @@ numbers-failed Is (Ok numbers) error is due = absurd is
 numbers-failed Is (Err reported) error is due = subst (λ e. Is (Err e)) (sym is) due
 
 -- the sheets that are made of texts and of group rules that were read, each of which was borrowed
-pub are-sheets : (passed : PassedSheets) (texts lent_texts groups lent_groups : List (Bor (List ℕ)))
+pub are-sheets : (passed : PassedSheets)
+    (texts lent_texts groups lent_groups urls lent_urls : List (Bor (List ℕ)))
     (rules lent_rules : List GroupRule) (sheets : List Sheet)
     → HasTexts passed.texts passed.ends (map (λ t. t.now) texts)
     → HasTexts passed.groups passed.group_ends (map (λ t. t.now) groups)
-    → lent_texts ≡ texts → lent_groups ≡ groups → lent_rules ≡ rules
+    → HasTexts passed.namespaces passed.namespace_ends (map (λ t. t.now) urls)
+    → lent_texts ≡ texts → lent_groups ≡ groups → lent_rules ≡ rules → lent_urls ≡ urls
     → map group_rule_of rules ≡ map (group_rule_at (map (λ t. t.now) lent_groups)) passed.around
     → map sheet_of sheets
-    ≡ sheets_with passed.origins passed.depths (map group_rule_of lent_rules) (map (λ t. t.now) lent_texts)
+    ≡ sheets_with passed.origins passed.depths (map group_rule_of lent_rules) (map (λ t. t.now) lent_urls)
+    (map (λ t. t.now) lent_texts)
     → AreSheets passed (map sheet_of sheets) (map (λ t. t.now) groups)
-are-sheets passed texts lent_texts groups lent_groups rules lent_rules sheets has held st sg sr e f = (
-  map (λ t. t.now) texts,
-  record { sheets = has; held = held },
-  f ∙ ap (λ (rs : List GroupRule). sheets_with passed.origins passed.depths (map group_rule_of rs)
-      (map (λ t. t.now) lent_texts)) sr
-      ∙ ap (λ (ts : List (Bor (List ℕ))). sheets_with passed.origins passed.depths (map group_rule_of rules)
-      (map (λ t. t.now) ts)) st
-      ∙ ap (λ (rs : List GroupRuleText). sheets_with passed.origins passed.depths rs (map (λ t. t.now) texts))
-      (e ∙ ap (λ (gs : List (Bor (List ℕ))). map (group_rule_at (map (λ g. g.now) gs)) passed.around) sg),
-)
+are-sheets passed texts lent_texts groups lent_groups urls lent_urls rules lent_rules sheets has held spaces
+    st sg sr su e f = (
+      map (λ t. t.now) texts,
+      map (λ t. t.now) urls,
+      record { sheets = has; held = held; spaces = spaces },
+      f ∙ ap (λ (rs : List GroupRule). sheets_with passed.origins passed.depths (map group_rule_of rs)
+          (map (λ t. t.now) lent_urls) (map (λ t. t.now) lent_texts)) sr
+          ∙ ap (λ (us : List (Bor (List ℕ))). sheets_with passed.origins passed.depths (map group_rule_of rules)
+          (map (λ t. t.now) us) (map (λ t. t.now) lent_texts)) su
+          ∙ ap (λ (ts : List (Bor (List ℕ))). sheets_with passed.origins passed.depths (map group_rule_of rules)
+          (map (λ t. t.now) urls) (map (λ t. t.now) ts)) st
+          ∙ ap (λ (rs : List GroupRuleText). sheets_with passed.origins passed.depths rs (map (λ t. t.now) urls)
+          (map (λ t. t.now) texts))
+          (e ∙ ap (λ (gs : List (Bor (List ℕ))). map (group_rule_at (map (λ g. g.now) gs)) passed.around) sg),
+    )
 
-none-more : {A B C : Type 0} → A ⊎ (B ⊎ ⊥) → A ⊎ (B ⊎ C)
+none-more : {A B C D : Type 0} → A ⊎ (B ⊎ (D ⊎ ⊥)) → A ⊎ (B ⊎ (D ⊎ C))
 none-more (inl first) = inl first
 none-more (inr (inl second)) = inr (inl second)
-none-more (inr (inr is)) = absurd is
+none-more (inr (inr (inl third))) = inr (inr (inl third))
+none-more (inr (inr (inr is))) = absurd is
 
 module _ (sheets : PassedSheets) (limit : ℕ) (R : Type 0) (F : ElementFault → Type 0) (B L : Type 0)
   where
     -- a failure that is not about layers
     beside : (error : CallError)
-        → FailsWithin (HasBadEnds sheets.texts sheets.ends
-        ⊎ (HasBadEnds sheets.groups sheets.group_ends ⊎ R))
-        F (IsBrokenUtf8 sheets.texts sheets.ends
-        ⊎ (IsBrokenUtf8 sheets.groups sheets.group_ends ⊎ B)) (AreBeyond sheets limit) L error
+        → FailsWithin (HasBadEnds sheets.texts sheets.ends ⊎ HasBadBeside sheets R)
+        F (IsBrokenUtf8 sheets.texts sheets.ends ⊎ IsBrokenBeside sheets B) (AreBeyond sheets limit) L error
         → FailsBeside sheets limit R F B L error
     beside Refused h = h
     beside (Tree fault) h = h
@@ -105,20 +112,33 @@ module _ (sheets : PassedSheets) (limit : ℕ) (R : Type 0) (F : ElementFault �
         (fails_within (HasBadEnds sheets.groups sheets.group_ends) (λ fault. ⊥)
         (IsBrokenUtf8 sheets.groups sheets.group_ends) ⊥ ⊥ error h))
 
+    -- those of namespaces are none
+    pub spaces-beside : (error : CallError)
+        → FailsFor (HasBadEnds sheets.namespaces sheets.namespace_ends) (λ fault. ⊥)
+        (IsBrokenUtf8 sheets.namespaces sheets.namespace_ends) error
+        → FailsBeside sheets limit R F B L error
+    spaces-beside error h =
+        beside error
+        (within_wider (λ bad. inr (inr (inl bad))) (λ fault is. absurd is)
+        (λ broken. inr (inr (inl broken))) (λ is. absurd is) (λ is. absurd is) error
+        (fails_within (HasBadEnds sheets.namespaces sheets.namespace_ends) (λ fault. ⊥)
+        (IsBrokenUtf8 sheets.namespaces sheets.namespace_ends) ⊥ ⊥ error h))
+
     -- other texts are none
     pub content-beside : (B' : Type 0) → (B' → B) → (error : CallError) → FailsFor R (λ fault. ⊥) B' error
         → FailsBeside sheets limit R F B L error
     content-beside B' more error h =
         beside error
-        (within_wider (λ bad. inr (inr bad)) (λ fault is. absurd is) (λ broken. inr (inr (more broken)))
-        (λ is. absurd is) (λ is. absurd is) error (fails_within R (λ fault. ⊥) B' ⊥ ⊥ error h))
+        (within_wider (λ bad. inr (inr (inr bad))) (λ fault is. absurd is)
+        (λ broken. inr (inr (inr (more broken)))) (λ is. absurd is) (λ is. absurd is) error
+        (fails_within R (λ fault. ⊥) B' ⊥ ⊥ error h))
 
     -- the tree is none
     pub tree-beside : (B' : Type 0) → (B' → B) → (error : CallError) → FailsFor ⊥ F B' error
         → FailsBeside sheets limit R F B L error
     tree-beside B' more error h =
         beside error
-        (within_wider (λ is. absurd is) (λ fault is. is) (λ broken. inr (inr (more broken)))
+        (within_wider (λ is. absurd is) (λ fault is. is) (λ broken. inr (inr (inr (more broken))))
         (λ is. absurd is) (λ is. absurd is) error (fails_within ⊥ F B' ⊥ ⊥ error h))
 
     -- the answer is too long
@@ -170,7 +190,8 @@ module _ (asked : ElementContent) (content : ContentText) (asks : IsContent aske
 
   pub numbers-due : {Z : Type 0} (page : Page) → AreRules sheets limit rules lists
       → IsUtf8 passed.strings → passed_tree passed ≡ Ok rows
-      → page ≡ page_with kind (passed_states passed) passed.elements rows → (r : Result (Vec ℕ Z) CallError)
+      → page ≡ page_with kind (passed_states passed) (passed_spaced passed) passed.elements rows
+      → (r : Result (Vec ℕ Z) CallError)
       → MatchResult r (λ out. are_on page (Some out.items)) (FailsLonger (are_on page None))
       → IsModernNumbersCall asked most limit sheets kind passed (numbers_outcome r)
   numbers-due page are utf8 tree same (Ok out) due = (

@@ -1,5 +1,5 @@
 -- What each call must write, and when it fails.
-use Rattle.std.specs.Prelude.{◌≡◌, ◌≢◌, ◌<◌, ◌≤◌, ◌⊎◌, ℕ, List, [], ◌∷◌, length, map, Option, None, Some, Result, Ok, Err}
+use Rattle.std.specs.Prelude.{◌≡◌, ◌≢◌, ◌<◌, ◌≤◌, ◌*◌, ◌⊎◌, ℕ, List, [], ◌∷◌, length, map, Option, None, Some, Result, Ok, Err}
 use Rattle.std.specs.List.{All, slice_range}
 use Rattle.std.specs.Str.{IsUtf8}
 use Rattle.simplecss.specs.Components.{Component}
@@ -10,6 +10,7 @@ use Rattle.simplecss.specs.Sheets.{sheet}
 use Rattle.simplecss.specs.DeclarationCounts.{kept_in_all}
 use Rattle.simplecss.specs.Skipped.{skipped}
 use Rattle.simplecss_tree.specs.Rows.{Row}
+use Rattle.css_selectors.specs.Documents.{NamespacedAttribute}
 use Rattle.css_selectors.specs.Names.{Names, last_number}
 use Rattle.css_tree.specs.Pages.{NamedState}
 use Rattle.css_syntax.specs.Printing.{IsClosed}
@@ -17,12 +18,13 @@ use Rattle.cssq.specs.SelectorRuns.{selector_in, selector_line}
 use Rattle.cssq.specs.SheetRuns.{sheet_output}
 use Rattle.simplecss_calls.specs.declared.elements.PassedTree.{PassedTree}
 use Rattle.simplecss_calls.specs.declared.elements.ElementFault.{ElementFault}
+use Rattle.simplecss_calls.specs.declared.elements.TreeAttribute.{TreeAttribute}
 use Rattle.simplecss_calls.specs.declared.elements.TreeElement.{TreeElement}
 use Rattle.simplecss_calls.specs.declared.answer.CallError.{CallError}
 use Rattle.simplecss_calls.specs.declared.answer.CallError.TheVariants.{Refused, Tree, Memory, TooManyDeclarations, NotUtf8, AnswerTooLong, TooManyLayers}
 use Rattle.simplecss_calls.specs.declared.pages.LineContent.TheVariants.{Numbers, Selected}
 use Rattle.simplecss_calls.specs.Texts.{texts_in}
-use Rattle.simplecss_calls.specs.Elements.{tree_of, strings_in, all_but, last_names, named_states, prefixes_with}
+use Rattle.simplecss_calls.specs.Elements.{Strings, tree_of, strings_in, all_but, last_names, named_states, prefixes_with, attributes_with, attributes_by}
 use Rattle.simplecss_calls.specs.PortTexts.{rule_texts, skipped_texts}
 use Rattle.simplecss_calls.specs.Refusals.{read_text}
 use Rattle.simplecss_calls.specs.SelectorNumbers.{port_numbers, port_texts}
@@ -157,12 +159,14 @@ abbrev pub IsCloseCall : List ℕ → Result (List ℕ) CallError → Type 0
 IsCloseCall value (Ok text) = IsUtf8 value × IsClosed value text
 IsCloseCall value (Err failure) = FailsFor (Unit {0}) (λ fault. ⊥) (¬ (IsUtf8 value)) failure
 
--- A tree as a caller passes it: its elements, a buffer of strings, where each ends, how many names of states are
--- after those of the elements, and the numbers of the namespaces of prefixes, which are the last strings.
+-- A tree as a caller passes it: its elements, a buffer of strings, where each ends, the attributes in namespaces,
+-- whose strings are after those of the elements, how many names of states are after these, and the numbers of the
+-- namespaces of prefixes, which are the last strings.
 pub record Passed : Type 0 where
   pub elements : List TreeElement
   pub strings : List ℕ
   pub ends : List ℕ
+  pub attributes : List TreeAttribute
   pub states : ℕ
   pub prefixes : List ℕ
 
@@ -172,6 +176,7 @@ passed_of p = record {
   elements = p.elements.now;
   strings = p.strings.now;
   ends = p.ends.now;
+  attributes = p.attributes.now;
   states = p.states;
   prefixes = p.prefixes.now;
 }
@@ -179,12 +184,27 @@ passed_of p = record {
 -- the tree that is passed, or its fault
 abbrev pub passed_tree : Passed → Result (List Row) ElementFault
 passed_tree passed =
-    tree_of passed.elements passed.strings passed.ends passed.states (length passed.prefixes)
+    tree_of passed.elements passed.strings passed.ends (length passed.attributes) passed.states
+    (length passed.prefixes)
+
+-- the strings that are passed with it, but for prefixes
+abbrev pub before_prefixes : Passed → Strings
+before_prefixes passed = all_but (length passed.prefixes) (strings_in passed.strings passed.ends)
 
 -- the names of states that are passed with it
 abbrev pub passed_names : Passed → List (List ℕ)
-passed_names passed =
-    last_names passed.states (all_but (length passed.prefixes) (strings_in passed.strings passed.ends))
+passed_names passed = last_names passed.states (before_prefixes passed)
+
+-- the attributes in namespaces that are passed with it, each with the index of its element
+abbrev pub passed_attributes : Passed → List (ℕ × NamespacedAttribute)
+passed_attributes passed =
+    attributes_with
+    (last_names (2 * length passed.attributes) (all_but passed.states (before_prefixes passed)))
+    passed.attributes
+
+-- those of each element
+abbrev pub passed_spaced : Passed → List (List NamespacedAttribute)
+passed_spaced passed = attributes_by (length passed.elements) (passed_attributes passed)
 
 -- the prefixes that are passed with it, with the numbers of their namespaces
 abbrev pub passed_prefixes : Passed → List (List ℕ × ℕ)
@@ -206,7 +226,6 @@ declared_by states prefixes = record {
   element_functions = [];
   default_namespace = last_number None prefixes [];
   prefixes = prefixes;
-  other_prefixes = None;
 }
 
 -- what a tree declares

@@ -1,11 +1,14 @@
 -- A tree as a caller passes it: its elements in document order, and all their strings in one
 -- buffer, by where each ends. An element's strings are its name, and a key and a value for each
--- attribute. After those of all elements come names of states, and then prefixes of namespaces.
+-- attribute. After those of all elements come a name and a value for each attribute in a namespace, then
+-- names of states, and then prefixes of namespaces.
 use Rattle.std.specs.Prelude.{◌≡◌, ℕ, zero, suc, ◌+◌, ◌*◌, ◌-◌, ◌^◌, ◌/◌, ◌%◌, ◌<◌, Bool, false, ◌&&◌, ◌||◌, ◌==◌, nat_le, nat_lt, if◌then◌else◌, bytes_eq, List, [], ◌∷◌, ◌++◌, length, map, take, drop, slice_index, Option, None, Some, Result, Ok, Err}
-use Rattle.std.specs.List.{slice_range, slice_index_or, list_any, position, range_with_len}
+use Rattle.std.specs.List.{slice_range, slice_index_or, filter_map, list_any, position, range_with_len}
+use Rattle.css_selectors.specs.Documents.{NamespacedAttribute}
 use Rattle.simplecss_tree.specs.Rows.{Row, last_child, no_states, row_in}
 use Rattle.simplecss_tree.specs.declared.tree.States.{States}
 use Rattle.css_tree.specs.Pages.{NamedState}
+use Rattle.simplecss_calls.specs.declared.elements.TreeAttribute.{TreeAttribute}
 use Rattle.simplecss_calls.specs.declared.elements.TreeElement.{TreeElement}
 use Rattle.simplecss_calls.specs.declared.elements.ElementFault.{ElementFault}
 use Rattle.simplecss_calls.specs.declared.elements.ElementFault.TheVariants.{BadDepth, EmptyName, BadStrings, RepeatedKey}
@@ -59,6 +62,31 @@ abbrev pub prefixes_with : List (List ℕ) → List ℕ → List (List ℕ × �
 prefixes_with [] numbers = []
 prefixes_with (name ∷ names) [] = []
 prefixes_with (name ∷ names) (number ∷ numbers) = (name, number) ∷ prefixes_with names numbers
+
+-- ---- attributes in namespaces
+
+-- Attributes in namespaces, each with the index of its element: the strings are a name and a value for each,
+-- and there are as many as there are both.
+abbrev pub attributes_with : List (List ℕ) → List TreeAttribute → List (ℕ × NamespacedAttribute)
+attributes_with [] places = []
+attributes_with (name ∷ []) places = []
+attributes_with (name ∷ value ∷ strings) [] = []
+attributes_with (name ∷ value ∷ strings) (place ∷ places) =
+    (place.element, record { namespace = place.namespace; name = name; value = value })
+    ∷ attributes_with strings places
+
+-- an attribute, if it is in a namespace and of the element at this index
+abbrev pub attribute_of : (index : ℕ) → ℕ × NamespacedAttribute → Option NamespacedAttribute
+attribute_of index placed =
+    if placed.0 == index && nat_lt 0 placed.1.namespace then Some placed.1 else None
+
+-- those of the element at an index, in order
+abbrev pub attributes_of : List (ℕ × NamespacedAttribute) → (index : ℕ) → List NamespacedAttribute
+attributes_of placed index = filter_map (attribute_of index) placed
+
+-- those of each element, of which there are this many
+abbrev pub attributes_by : (count : ℕ) → List (ℕ × NamespacedAttribute) → List (List NamespacedAttribute)
+attributes_by count placed = map (attributes_of placed) (range_with_len 0 count)
 
 -- ---- where an element is among the others
 
@@ -212,10 +240,11 @@ tree_from rows depths left (element ∷ elements) =
     ]
 
 -- the tree of the elements, or the fault of the first that has one
-abbrev pub tree_of : List TreeElement → List ℕ → List ℕ → (states prefixes : ℕ)
+abbrev pub tree_of : List TreeElement → List ℕ → List ℕ → (attributes states prefixes : ℕ)
     → Result (List Row) ElementFault
-tree_of elements buffer ends states prefixes =
-    tree_from [] [] (all_but states (all_but prefixes (strings_in buffer ends))) elements
+tree_of elements buffer ends attributes states prefixes =
+    tree_from [] []
+    (all_but (2 * attributes) (all_but states (all_but prefixes (strings_in buffer ends)))) elements
 
 -- the number of the kind of fault
 abbrev pub fault_number : ElementFault → ℕ

@@ -20,11 +20,12 @@ IsPrintedCall None text outcome = outcome ≡ Err Refused
 IsPrintedCall (Some (Modern reading)) text outcome = IsModernPrintedCall text outcome
 IsPrintedCall (Some Port) text outcome = IsPortPrintedCall text outcome
 
--- where the text is no list of selectors, and why, or nothing where it is one
-abbrev pub IsRefusalCall : Option Grammar → List ℕ → Result (List ℕ) CallError → Type 0
-IsRefusalCall None text outcome = outcome ≡ Err Refused
-IsRefusalCall (Some (Modern reading)) text outcome = IsModernRefusalCall text outcome
-IsRefusalCall (Some Port) text outcome = IsPortRefusalCall text outcome
+-- where the text is no list of selectors, and why, or nothing where it is one, where a tree declares names for
+-- modern selectors
+abbrev pub IsRefusalCall : Option Grammar → List ℕ → Passed → Result (List ℕ) CallError → Type 0
+IsRefusalCall None text passed outcome = outcome ≡ Err Refused
+IsRefusalCall (Some (Modern reading)) text passed outcome = IsModernRefusalCall text passed outcome
+IsRefusalCall (Some Port) text passed outcome = IsPortRefusalCall text outcome
 
 -- which of the selectors of texts match each element, in at most this number of bytes
 abbrev pub IsMatchSelectorsCall : Option Grammar → (most : ℕ) → List ℕ → List ℕ → Passed

@@ -3,7 +3,6 @@ use Rattle.std.specs.Prelude.{◌≡◌, ◌⊎◌, ℕ, List, map, length, Opti
 use Rattle.std.specs.Option.{option_map}
 use Rattle.std.specs.Str.{IsUtf8}
 use Rattle.css_sheet.specs.RuleSelectors.{selector_of}
-use Rattle.css_selectors.specs.Names.{no_names}
 use Rattle.css_selectors.specs.Components.{Placed, Selector}
 use Rattle.css_selectors.specs.Numberings.{NumberingText, no_lists, numbered_selectors}
 use Rattle.css_selectors.specs.Supported.{supported_list}
@@ -13,7 +12,7 @@ use Rattle.simplecss_calls.specs.declared.answer.CallError.{CallError}
 use Rattle.simplecss_calls.specs.declared.modern.document_kind.DocumentKind.{DocumentKind}
 use Rattle.simplecss_calls.specs.declared.pages.LineContent.{LineContent}
 use Rattle.simplecss_calls.specs.declared.pages.LineContent.TheVariants.{Numbers, Selected}
-use Rattle.simplecss_calls.specs.Calls.{FailsFor, FailsWithin, HasTexts, HasBadEnds, IsBrokenUtf8, HasRefusedText, AreSelectorsIn, Passed, passed_tree, passed_states, passed_declared}
+use Rattle.simplecss_calls.specs.Calls.{FailsFor, FailsWithin, HasTexts, HasBadEnds, IsBrokenUtf8, HasRefusedText, AreSelectorsIn, Passed, passed_tree, passed_states, passed_spaced, passed_declared}
 use Rattle.simplecss_calls.specs.MarkedPages.{AreOnMarked}
 use Rattle.simplecss_calls.specs.ModernLines.{IsRefusal, page_with, AreModernLines}
 use Rattle.simplecss_calls.specs.Readings.{listed_in, selector_as, selectors_of}
@@ -34,10 +33,14 @@ IsModernListCall text = IsOfList (listed_numbers (length text)) text
 abbrev pub IsModernPrintedCall : List ℕ → Result (List ℕ) CallError → Type 0
 IsModernPrintedCall text = IsOfList printed_texts text
 
--- where the text is no list of selectors, and why, or nothing where it is one
-abbrev pub IsModernRefusalCall : List ℕ → Result (List ℕ) CallError → Type 0
-IsModernRefusalCall text (Ok bytes) = IsUtf8 text × IsRefusal text (supported_list no_names text) bytes
-IsModernRefusalCall text (Err error) = FailsFor ⊥ (λ fault. ⊥) (¬ (IsUtf8 text)) error
+-- where the text is no list of selectors, and why, or nothing where it is one, where a tree declares names
+abbrev pub IsModernRefusalCall : List ℕ → Passed → Result (List ℕ) CallError → Type 0
+IsModernRefusalCall text passed (Ok bytes) =
+    (rows : List Row) × IsUtf8 text × IsUtf8 passed.strings × (passed_tree passed ≡ Ok rows)
+    × IsRefusal text (supported_list (passed_declared passed) text) bytes
+IsModernRefusalCall text passed (Err error) =
+    FailsFor ⊥ (λ fault. passed_tree passed ≡ Err fault)
+    (¬ (IsUtf8 text) ⊎ ¬ (IsUtf8 passed.strings)) error
 
 -- which elements of a page these selectors match, as a document reads them; or none within a limit
 abbrev pub AreLinesOn : (most : ℕ) → LineContent → DocumentKind → List Selector → Page
@@ -58,7 +61,7 @@ abbrev pub AreReadLines : (most : ℕ) → LineContent → DocumentKind → List
 AreReadLines most content kind selectors passed answer =
     (rows : List Row) × IsUtf8 passed.strings × (passed_tree passed ≡ Ok rows)
     × AreNumberedLines most content kind (numbered_selectors no_lists selectors)
-    (page_with kind (passed_states passed) passed.elements rows) answer
+    (page_with kind (passed_states passed) (passed_spaced passed) passed.elements rows) answer
 
 -- which of the selectors of texts match each element, or none within a limit
 abbrev pub AreModernMatched : (most : ℕ) → List ℕ → List ℕ → DocumentKind → Passed

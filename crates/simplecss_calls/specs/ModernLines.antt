@@ -5,6 +5,7 @@ use Rattle.css_text.specs.Errors.{position_of}
 use Rattle.css_text.specs.Reading.{rest_offset}
 use Rattle.css_text.specs.declared.TextPos.{TextPos}
 use Rattle.css_selectors.specs.Components.{Selector}
+use Rattle.css_selectors.specs.Documents.{NamespacedAttribute}
 use Rattle.css_selectors.specs.Readings.{Reading as Reads, got, refused}
 use Rattle.css_selectors.specs.RefusalWords.{quote, why_words}
 use Rattle.css_selectors.specs.declared.refusal.Why.{Why}
@@ -43,15 +44,18 @@ abbrev pub is_html : DocumentKind → Bool
 is_html AsWritten = false
 is_html (Html mode) = true
 
--- the elements of a tree as a page of a document that reads selectors in this way
-abbrev pub page_with : DocumentKind → List NamedState → List TreeElement → List Row → Page
-page_with kind states elements rows = record {
+-- The elements of a tree as a page of a document that reads selectors in this way, with these states and with
+-- these attributes in namespaces, which are a list for each element.
+abbrev pub page_with : DocumentKind → List NamedState → List (List NamespacedAttribute) → List TreeElement
+    → List Row → Page
+page_with kind states attributes elements rows = record {
   rows = rows;
   given = record {
     texts = map has_text elements;
     scope = scope_in elements;
     states = states;
     namespaces = map (λ element. element.namespace) elements;
+    attributes = attributes;
   };
   marks = [];
   is_html = is_html kind;

@@ -7,9 +7,11 @@ use Rattle.css_syntax.specs.declared.quality.Fault.{Fault}
 use Rattle.css_syntax.specs.Parts.{Stated}
 use Rattle.css_syntax.specs.Statements.{BlockText, AtRuleText, StatementText, rule_set, at_rule_statement, skipped_statement}
 use Rattle.css_sheet.specs.Places.{PlacesText}
-use Rattle.css_sheet.specs.RuleSelectors.{listed_under}
+use Rattle.css_sheet.specs.Namespaces.{text_names}
+use Rattle.css_sheet.specs.RuleSelectors.{context, listed_under}
 use Rattle.css_sheet.specs.SheetItems.{ConditionText, SheetItemText, sheet_items}
 use Rattle.css_selectors.specs.Components.{Placed}
+use Rattle.css_selectors.specs.Names.{Names}
 use Rattle.simplecss_calls.specs.declared.answer.CallError.{CallError}
 use Rattle.simplecss_calls.specs.Calls.{FailsWithin}
 use Rattle.simplecss_calls.specs.ItemNumbers.{at_rule_row, fault_row, item_numbers}
@@ -41,11 +43,12 @@ abbrev pub unless_faulty : Stated → BlockText → Result (List Placed) Fault �
 unless_faulty prelude block (Ok selectors) = shown_rule prelude block selectors
 unless_faulty prelude block (Err fault) = shown_skipped fault
 
--- a rule set with a bad prelude, or with one part that is no selector, is skipped
-abbrev pub shown_of : StatementText → ShownText
-shown_of (rule_set prelude block) = unless_faulty prelude block (listed_under None prelude)
-shown_of (at_rule_statement rule) = shown_at_rule rule
-shown_of (skipped_statement fault) = shown_skipped fault
+-- a rule set with a bad prelude, or with one part that is no selector where these names are declared, is skipped
+abbrev pub shown_of : Names → StatementText → ShownText
+shown_of names (rule_set prelude block) =
+    unless_faulty prelude block (listed_under (context None names) prelude)
+shown_of names (at_rule_statement rule) = shown_at_rule rule
+shown_of names (skipped_statement fault) = shown_skipped fault
 
 -- Ten numbers of a rule set: that it is one, where it begins, its length, and whether its block is closed; the
 -- offset and the length of its prelude and of what is in its block; and 0 and 0.
@@ -89,13 +92,13 @@ shown_numbers places count conditions shown =
     counted (shown_row places count shown) (level_numbers conditions) (shown_selectors places shown)
     (shown_items places shown)
 
-abbrev pub statement_numbers : SheetItemText → List ℕ
-statement_numbers item =
-    shown_numbers item.places (length item.part.text) item.conditions (shown_of item.part.statement)
+abbrev pub statement_numbers : Names → SheetItemText → List ℕ
+statement_numbers names item =
+    shown_numbers item.places (length item.part.text) item.conditions (shown_of names item.part.statement)
 
--- those of the statements of a sheet
+-- those of the statements of a sheet, with the names that it declares, where no namespace is known
 abbrev pub sheet_numbers : List ℕ → List ℕ
-sheet_numbers text = flat_map statement_numbers (sheet_items text)
+sheet_numbers text = flat_map (statement_numbers (text_names [] text)) (sheet_items text)
 
 -- the numbers of each statement of the style sheet, at most so many
 abbrev pub IsReadCall : (most : ℕ) → List ℕ → Result (List ℕ) CallError → Type 0

@@ -37,7 +37,7 @@ use Rattle.simplecss_calls.specs.declared.grammar.Grammar.{Grammar}
 use Rattle.simplecss_calls.specs.declared.grammar.Grammar.TheVariants.{Modern, Port}
 use Rattle.simplecss_calls.specs.declared.modern.document_kind.DocumentKind.{DocumentKind}
 use Rattle.simplecss_calls.specs.AnswerLines.{AreLinesWithin}
-use Rattle.simplecss_calls.specs.Calls.{FailsWithin, HasTexts, HasBadEnds, IsBrokenUtf8, Passed, passed_tree, passed_states}
+use Rattle.simplecss_calls.specs.Calls.{FailsWithin, HasTexts, HasBadEnds, IsBrokenUtf8, Passed, passed_tree, passed_states, passed_spaced}
 use Rattle.simplecss_calls.specs.MarkedPages.{AreOnMarked}
 use Rattle.simplecss_calls.specs.ModernLines.{page_with}
 use Rattle.simplecss_calls.specs.Numbers.{number_if, offset}
@@ -241,9 +241,9 @@ IsBrokenContent contents.Matches = ⊥
 
 -- ---- calls
 
--- what is passed beside a tree: the texts of sheets and of the group rules that hold, each in a buffer,
--- with their ends; the numbers of the sheets' origins; those of the group rules that sheets are in, and in
--- how many each is
+-- what is passed beside a tree: the texts of sheets, of the group rules that hold and of the urls of namespaces,
+-- each in a buffer, with their ends; the numbers of the sheets' origins; those of the group rules that sheets are
+-- in, and in how many each is
 pub record PassedSheets : Type 0 where
   pub texts : List ℕ
   pub ends : List ℕ
@@ -252,6 +252,8 @@ pub record PassedSheets : Type 0 where
   pub group_ends : List ℕ
   pub around : List ℕ
   pub depths : List ℕ
+  pub namespaces : List ℕ
+  pub namespace_ends : List ℕ
 
 -- what contracts see of it
 abbrev pub sheets_of : Sheets → PassedSheets
@@ -263,6 +265,8 @@ sheets_of p = record {
   group_ends = p.group_ends.now;
   around = p.around.now;
   depths = p.depths.now;
+  namespaces = p.namespaces.now;
+  namespace_ends = p.namespace_ends.now;
 }
 
 -- the origin of a number: any other is the author's
@@ -289,17 +293,19 @@ group_rule_at groups number = record {
 }
 
 -- The sheets with these texts, with the origins of these numbers, others being the author's; each is in as
--- many of these group rules as its depth says, others in none.
-abbrev pub sheets_with : (origins depths : List ℕ) → List GroupRuleText → (texts : List (List ℕ))
-    → List SheetText
-sheets_with origins depths rules [] = []
-sheets_with origins depths rules (text ∷ texts) =
+-- many of these group rules as its depth says, others in none. The namespaces with these urls are known.
+abbrev pub sheets_with : (origins depths : List ℕ) → List GroupRuleText → (namespaces : List (List ℕ))
+    → (texts : List (List ℕ)) → List SheetText
+sheets_with origins depths rules namespaces [] = []
+sheets_with origins depths rules namespaces (text ∷ texts) =
     record {
       text = text;
       origin = origin_of (first_number origins);
       around = take (first_number depths) rules;
+      namespaces = namespaces;
     }
-    ∷ sheets_with (later_numbers origins) (later_numbers depths) (drop (first_number depths) rules) texts
+    ∷ sheets_with (later_numbers origins) (later_numbers depths) (drop (first_number depths) rules)
+    namespaces texts
 
 -- the failure of a call whose sheets are not read
 abbrev pub unread : SheetError → CallError
@@ -308,9 +314,10 @@ unread sheet.TooManyLayers = TooManyLayers
 unread sheet.Memory = Memory
 
 -- these are the texts
-pub record HasSheets (passed : PassedSheets) (texts groups : List (List ℕ)) : Type 0 where
+pub record HasSheets (passed : PassedSheets) (texts groups namespaces : List (List ℕ)) : Type 0 where
   pub sheets : HasTexts passed.texts passed.ends texts
   pub held : HasTexts passed.groups passed.group_ends groups
+  pub spaces : HasTexts passed.namespaces passed.namespace_ends namespaces
 
 -- how many declarations the rules of the sheets hold where these group rules hold
 abbrev pub held_declarations : List SheetText → (groups : List (List ℕ)) → ℕ
@@ -329,9 +336,9 @@ held_rules sheets groups =
 -- the sheets are these, and these are the texts of group rules
 abbrev pub AreSheets : PassedSheets → List SheetText → (groups : List (List ℕ)) → Type 0
 AreSheets passed sheets groups =
-    (texts : List (List ℕ)) × HasSheets passed texts groups
+    (texts namespaces : List (List ℕ)) × HasSheets passed texts groups namespaces
     × (sheets
-    ≡ sheets_with passed.origins passed.depths (map (group_rule_at groups) passed.around) texts)
+    ≡ sheets_with passed.origins passed.depths (map (group_rule_at groups) passed.around) namespaces texts)
 
 -- they hold more than the limit
 abbrev pub AreBeyond : PassedSheets → (limit : ℕ) → Type 0
@@ -354,15 +361,25 @@ AreRules passed limit rules lists =
     × (rules ≡ (held_rules sheets groups).0)
     × (lists ≡ (held_rules sheets groups).1.lists)
 
+-- the ends of group rules or of urls of namespaces are not those of texts, or others are not
+abbrev pub HasBadBeside : PassedSheets → Type 0 → Type 0
+HasBadBeside sheets HasBad =
+    HasBadEnds sheets.groups sheets.group_ends
+    ⊎ (HasBadEnds sheets.namespaces sheets.namespace_ends ⊎ HasBad)
+
+-- one of these texts is not UTF-8
+abbrev pub IsBrokenBeside : PassedSheets → Type 0 → Type 0
+IsBrokenBeside sheets IsBroken =
+    IsBrokenUtf8 sheets.groups sheets.group_ends
+    ⊎ (IsBrokenUtf8 sheets.namespaces sheets.namespace_ends ⊎ IsBroken)
+
 -- why sheets are not read, and what is said of a tree and of other texts beside them
 abbrev pub FailsBeside : PassedSheets → (limit : ℕ) → Type 0 → (ElementFault → Type 0) → Type 0
     → Type 0 → CallError → Type 0
 FailsBeside sheets limit HasBad IsFaulty IsBroken IsLonger TooManyLayers = AreLayeredBeyond sheets
 FailsBeside sheets limit HasBad IsFaulty IsBroken IsLonger failure =
-    FailsWithin (HasBadEnds sheets.texts sheets.ends
-    ⊎ (HasBadEnds sheets.groups sheets.group_ends ⊎ HasBad))
-    IsFaulty (IsBrokenUtf8 sheets.texts sheets.ends
-    ⊎ (IsBrokenUtf8 sheets.groups sheets.group_ends ⊎ IsBroken))
+    FailsWithin (HasBadEnds sheets.texts sheets.ends ⊎ HasBadBeside sheets HasBad)
+    IsFaulty (IsBrokenUtf8 sheets.texts sheets.ends ⊎ IsBrokenBeside sheets IsBroken)
     (AreBeyond sheets limit) IsLonger failure
 
 -- the numbers of each rule of the sheets, in the order of the cascade
@@ -379,7 +396,7 @@ abbrev pub AreOnTree : ContentText → (most limit : ℕ) → PassedSheets → D
 AreOnTree content most limit sheets kind passed answer =
     (rules : List SheetRuleText) × (lists : List ListText) × (rows : List Row)
     × AreRules sheets limit rules lists × IsUtf8 passed.strings × (passed_tree passed ≡ Ok rows)
-    × AreOnMarked most kind lists (page_with kind (passed_states passed) passed.elements rows)
+    × AreOnMarked most kind lists (page_with kind (passed_states passed) (passed_spaced passed) passed.elements rows)
     (AreNumbers content most (selector_as kind) rules) answer
 
 -- those of what a caller asks for

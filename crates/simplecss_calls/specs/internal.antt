@@ -2,3 +2,4 @@
 pub mod Shown
 pub mod Held
 pub mod Contents
+pub mod Attributes

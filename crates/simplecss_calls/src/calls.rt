@@ -39,12 +39,17 @@ pub fn printed(alloc: Global, text: &[u8], grammar: usize) -> Result<String, Cal
     }
 }
 
-/// Where a text is no list of selectors, and why, or nothing where it is one.
-pub fn refusal(alloc: Global, text: &[u8], grammar: usize) -> Result<String, CallError>
-    ensures { IsRefusalCall (grammar_of grammar) text.now (outcome_of result) }
+/// Where a text is no list of selectors, and why, or nothing where it is one, where a tree declares names.
+pub fn refusal(
+    alloc: Global,
+    text: &[u8],
+    grammar: usize,
+    tree: PassedTree<'_>,
+) -> Result<String, CallError>
+    ensures { IsRefusalCall (grammar_of grammar) text.now (passed_of tree.entry) (outcome_of result) }
 {
     match Grammar::from_number(grammar)? {
-        Grammar::Modern(_) => modern::refusal(alloc, text),
+        Grammar::Modern(_) => modern::refusal(alloc, text, tree),
         Grammar::Port => port::refusal(alloc, text),
     }
 }

@@ -9,13 +9,16 @@ ghost use Rattle.simplecss_calls.specs.Elements.{Strings, may_end, strings_in, I
 ghost use Rattle.simplecss_calls.specs.Elements.{parent_after, element_row, repeats_key, strings_of};
 ghost use Rattle.simplecss_calls.specs.Elements.{fault_in, with_element, tree_from};
 ghost use Rattle.simplecss_calls.specs.Elements.{all_but, last_names, prefixes_with as prefixes_with_of};
+ghost use Rattle.simplecss_calls.specs.Elements.{attributes_with as attributes_with_of};
+ghost use Rattle.simplecss_calls.specs.internal.Attributes.{placed_attribute_of};
 ghost use Rattle.css_selectors.specs.NameViews.{prefix_of};
 ghost use Rattle.simplecss_calls.specs.Elements.{fault_number, fault_element, has_bit, has_text, is_scope, scope_in, states_in};
 ghost use Rattle.simplecss_calls.specs.Calls.{FailsFor, passed_of, passed_tree, passed_names, passed_prefixes};
+ghost use Rattle.simplecss_calls.specs.Calls.{passed_attributes};
 
 use crate::answer::CallError;
 use crate::texts::text_of;
-use css_selectors::Prefix;
+use css_selectors::{NamespacedAttribute, Prefix};
 use simplecss_tree::{States, Tree, TreeError};
 use std::alloc::{AllocError, Global};
 use std::collections::BTreeSet;
@@ -36,6 +39,16 @@ pub struct TreeElement {
     pub namespace: usize,
 }
 
+/// Where an attribute of a tree is that is in a namespace.
+#[repr(C)]
+#[derive(Clone, Copy, Debug)]
+pub struct TreeAttribute {
+    /// The index of its element, from 0 on.
+    pub element: usize,
+    /// The number of its namespace, which is not 0.
+    pub namespace: usize,
+}
+
 /// A tree as a caller passes it.
 #[repr(C)]
 #[derive(Clone, Copy)]
@@ -46,10 +59,21 @@ pub struct PassedTree<'t> {
     pub strings: &'t [u8],
     /// Where each string ends.
     pub ends: &'t [usize],
-    /// How many names of states are after the strings of the elements.
+    /// The attributes that are in namespaces. Their names and values are after the strings of the elements.
+    pub attributes: &'t [TreeAttribute],
+    /// How many names of states are after these.
     pub states: usize,
     /// The numbers of the namespaces of prefixes, which are the last strings.
     pub prefixes: &'t [usize],
+}
+
+/// An attribute that is in a namespace, and the index of its element.
+#[derive(Clone, Copy)]
+pub struct PlacedAttribute<'t> {
+    /// The index of the element. There may be none.
+    pub element: usize,
+    /// The attribute.
+    pub attribute: NamespacedAttribute<'t>,
 }
 
 /// A tree, and what it declares for selectors.
@@ -57,6 +81,8 @@ pub struct PassedTree<'t> {
 pub struct ReadTree<'t> {
     /// The tree.
     pub rows: Tree<'t>,
+    /// The attributes of elements that are in namespaces.
+    pub attributes: Vec<PlacedAttribute<'t>>,
     /// The names of the states that elements may be in beside those of every tree.
     pub states: Vec<&'t str>,
     /// Prefixes. The empty one is of the default namespace.
@@ -306,6 +332,40 @@ fn link<'t>(
     Ok(tree)
 }
 
+/// Attributes in namespaces, by a name and a value for each, while there are both.
+fn attributes_with<'t>(
+    alloc: Global,
+    strings: &[&'t str],
+    places: &[TreeAttribute],
+) -> Result<Vec<PlacedAttribute<'t>>, AllocError>
+    ensures { IfOk result (λ found. map placed_attribute_of found.items
+        ≡ attributes_with_of (map (λ string. string.now) strings.now) places.now) }
+{
+    let mut found = Vec::new(alloc);
+    let mut left = strings;
+    let mut more = places;
+    'strings: while let [name, after @ ..] = left {
+        let [value, strings @ ..] = after else {
+            break 'strings;
+        };
+        let [place, places @ ..] = more else {
+            break 'strings;
+        };
+        let attribute = NamespacedAttribute {
+            namespace: place.namespace,
+            name: *name,
+            value: *value,
+        };
+        found.push(PlacedAttribute {
+            element: place.element,
+            attribute,
+        })?;
+        left = strings;
+        more = places;
+    }
+    Ok(found)
+}
+
 /// Prefixes with the numbers of their namespaces, while there are both.
 fn prefixes_with<'t>(
     alloc: Global,
@@ -345,35 +405,40 @@ fn cut_names<'t>(
     Ok((own, names))
 }
 
-/// The tree of the elements, by all strings, of which the last ones are names: of `states` states, and then
-/// prefixes of the namespaces with these numbers.
+/// The tree of the elements that are passed, by all strings, of which the last ones are those of attributes, then
+/// the names of states, and then prefixes.
 fn link_named<'t>(
     alloc: Global,
-    elements: &[TreeElement],
+    tree: PassedTree<'_>,
     strings: Vec<&'t str>,
     are_all: bool,
-    states: usize,
-    numbers: &[usize],
 ) -> Result<ReadTree<'t>, CallError>
     ensures { let all : Strings = record {
       strings = map (λ string. string.now) strings.entry.items;
       are_all = are_all;
     } in
-        let before = all_but (length numbers.now) all in
-        let due = tree_from [] [] (all_but states before) elements.now in
+        let before = all_but (length tree.entry.prefixes.now) all in
+        let fields = all_but tree.entry.states before in
+        let count = 2 * length tree.entry.attributes.now in
+        let due = tree_from [] [] (all_but count fields) tree.entry.elements.now in
         MatchResult result (λ read. (due ≡ Ok read.rows)
-        × (map (λ name. name.now) read.states.items ≡ last_names states before)
+        × (map (λ name. name.now) read.states.items ≡ last_names tree.entry.states before)
         × (map prefix_of read.prefixes.items
-        ≡ prefixes_with_of (last_names (length numbers.now) all) numbers.now))
+        ≡ prefixes_with_of (last_names (length tree.entry.prefixes.now) all) tree.entry.prefixes.now)
+        × (map placed_attribute_of read.attributes.items
+        ≡ attributes_with_of (last_names count fields) tree.entry.attributes.now))
         (λ failure. FailsFor ⊥ (λ fault. due ≡ Err fault) ⊥ failure) }
 {
-    let (before, prefix_names) = cut_names(strings, numbers.len())?;
-    let (own, state_names) = cut_names(before, states)?;
-    let rows = link(alloc, elements, &own, are_all)?;
-    let prefixes = prefixes_with(alloc, &prefix_names, numbers)?;
+    let (before, prefix_names) = cut_names(strings, tree.prefixes.len())?;
+    let (fields, states) = cut_names(before, tree.states)?;
+    let (own, attribute_strings) = cut_names(fields, 2 * tree.attributes.len())?;
+    let rows = link(alloc, tree.elements, &own, are_all)?;
+    let attributes = attributes_with(alloc, &attribute_strings, tree.attributes)?;
+    let prefixes = prefixes_with(alloc, &prefix_names, tree.prefixes)?;
     Ok(ReadTree {
         rows,
-        states: state_names,
+        attributes,
+        states,
         prefixes,
     })
 }
@@ -384,20 +449,14 @@ pub fn read_named_tree<'t>(alloc: Global, tree: PassedTree<'t>) -> Result<ReadTr
         MatchResult result
         (λ read. IsUtf8 passed.strings × (passed_tree passed ≡ Ok read.rows)
         × (map (λ name. name.now) read.states.items ≡ passed_names passed)
-        × (map prefix_of read.prefixes.items ≡ passed_prefixes passed))
+        × (map prefix_of read.prefixes.items ≡ passed_prefixes passed)
+        × (map placed_attribute_of read.attributes.items ≡ passed_attributes passed))
         (λ failure. FailsFor ⊥ (λ fault. passed_tree passed ≡ Err fault)
         (¬ (IsUtf8 passed.strings)) failure) }
 {
     let buffer = text_of(tree.strings)?;
     let (strings, are_all) = cut_strings(alloc, buffer, tree.ends)?;
-    link_named(
-        alloc,
-        tree.elements,
-        strings,
-        are_all,
-        tree.states,
-        tree.prefixes,
-    )
+    link_named(alloc, tree, strings, are_all)
 }
 
 /// The tree of the elements, by a buffer of strings and where each ends.

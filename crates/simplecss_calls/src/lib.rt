@@ -6,6 +6,7 @@
 
 pub mod answer;
 mod around;
+mod attributes;
 pub mod calls;
 pub mod conditions;
 pub mod contents;

@@ -5,7 +5,8 @@ ghost use Rattle.std.specs.Str.{IsUtf8};
 ghost use Rattle.css_selectors.specs.MarkedLists.{list_of};
 ghost use Rattle.css_selectors.specs.Numberings.{no_lists, numbered_selectors};
 ghost use Rattle.simplecss_calls.specs.Calls.{FailsLonger, FailsWithin, passed_of, passed_tree};
-ghost use Rattle.simplecss_calls.specs.Elements.{named_states};
+ghost use Rattle.simplecss_calls.specs.Elements.{attributes_by, named_states};
+ghost use Rattle.simplecss_calls.specs.internal.Attributes.{placed_attribute_of};
 ghost use Rattle.simplecss_calls.specs.MarkedPages.{AreOnMarked};
 ghost use Rattle.simplecss_calls.specs.ModernLines.{page_with};
 ghost use Rattle.simplecss_calls.specs.ModernCalls.{IsModernListCall, IsModernPrintedCall};
@@ -44,11 +45,13 @@ pub fn printed(alloc: Global, text: &[u8]) -> Result<String, CallError>
     lists::list_printed(alloc, text_of(text)?)
 }
 
-/// Where a text is no list of selectors, and why, or nothing where it is one.
-pub fn refusal(alloc: Global, text: &[u8]) -> Result<String, CallError>
-    ensures { IsModernRefusalCall text.now (outcome_of result) }
+/// Where a text is no list of selectors, and why, or nothing where it is one, where a tree declares names.
+pub fn refusal(alloc: Global, text: &[u8], tree: PassedTree<'_>) -> Result<String, CallError>
+    ensures { IsModernRefusalCall text.now (passed_of tree.entry) (outcome_of result) }
 {
-    lists::refusal(alloc, text_of(text)?)
+    let text = text_of(text)?;
+    let read = read_named_tree(alloc, tree)?;
+    lists::refusal(alloc, &names_in(&read), text)
 }
 
 /// The lines of the elements of a page, by selectors with these numbers, after the lists of the numbers are
@@ -110,9 +113,11 @@ fn read_lines(
 ) -> Result<String, CallError>
     requires { length elements.now ≡ length read.now.rows }
     ensures { let states = named_states (map (λ name. name.now) read.now.states.items) elements.now in
+        let attributes = attributes_by (length elements.now)
+        (map placed_attribute_of read.now.attributes.items) in
         let are = AreNumberedLines most content kind
         (numbered_selectors no_lists selectors.entry.items)
-        (page_with kind states elements.now read.now.rows) in
+        (page_with kind states attributes elements.now read.now.rows) in
         MatchResult result (λ text. are (Some (string_bytes text))) (FailsLonger (are None)) }
 {
     let page = page_of(alloc, kind, read, elements)?;

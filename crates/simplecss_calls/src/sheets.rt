@@ -2,9 +2,12 @@
 
 ghost use Rattle.std.specs.Prelude.{◌≡◌, ◌<◌, ◌^◌, ◌-◌, ◌+◌, ◌++◌, ◌≤◌, OnOk, IfOk, MatchResult};
 ghost use Rattle.std.specs.Prelude.{length, map, option_map};
+ghost use Rattle.std.specs.List.{flat_map};
 ghost use Rattle.css_syntax.specs.Views.{prelude_of, block_of, statement_of, sheet_part_of};
 ghost use Rattle.css_sheet.specs.Places.{places_of};
 ghost use Rattle.css_sheet.specs.ReaderViews.{level_of, condition_at};
+ghost use Rattle.css_sheet.specs.SheetItems.{sheet_items};
+ghost use Rattle.css_selectors.specs.NameViews.{names_of};
 ghost use Rattle.simplecss_calls.specs.Calls.{FailsLonger};
 ghost use Rattle.simplecss_calls.specs.SheetNumbers.{level_row as level_row_of, level_numbers as level_numbers_of};
 ghost use Rattle.simplecss_calls.specs.SheetNumbers.{shown_of, rule_row as rule_row_of, shown_row as shown_row_of};
@@ -16,8 +19,8 @@ ghost use Rattle.simplecss_calls.specs.internal.Shown.{shown_text};
 use crate::answer::{CallError, check_count};
 use crate::items::{at_rule_row, fault_row, item_numbers};
 use crate::selector_numbers::selector_numbers;
-use css_selectors::Listed;
-use css_sheet::{Level, Places, SheetReader, read_listed};
+use css_selectors::{Listed, Names};
+use css_sheet::{Level, Places, SheetNamespaces, SheetReader, read_listed};
 use css_syntax::{AtRule, Fault, RuleSet, SheetPart, Statement};
 use std::alloc::{AllocError, Global};
 
@@ -66,11 +69,16 @@ enum Shown<'s, 'a> {
 }
 
 /// Returns what a statement is in an answer: a rule set with an invalid prelude is skipped.
-fn show<'s, 'a>(alloc: Global, statement: &'s Statement<'a>) -> Result<Shown<'s, 'a>, AllocError>
-    ensures { IfOk result (λ shown. shown_text shown ≡ shown_of (statement_of statement.now)) }
+fn show<'s, 'a>(
+    alloc: Global,
+    names: &Names<'_>,
+    statement: &'s Statement<'a>,
+) -> Result<Shown<'s, 'a>, AllocError>
+    ensures { IfOk result (λ shown. shown_text shown
+        ≡ shown_of (names_of names.now) (statement_of statement.now)) }
 {
     match statement {
-        Statement::RuleSet(rule) => match read_listed(alloc, None, &rule.prelude)? {
+        Statement::RuleSet(rule) => match read_listed(alloc, names, None, &rule.prelude)? {
             Ok(selectors) => Ok(Shown::Rule(rule, selectors)),
             Err(fault) => Ok(Shown::Skipped(fault)),
         },
@@ -167,21 +175,22 @@ fn push_counted(
     out.extend_from_slice(items)
 }
 
-/// Appends the numbers of a statement that is in these group rules.
+/// Appends the numbers of a statement that is in these group rules, where these names are declared.
 fn push_part(
     out: &mut Vec<usize>,
     alloc: Global,
+    names: &Names<'_>,
     levels: &[Level<'_>],
     places: Places,
     part: &SheetPart<'_>,
 ) -> Result<(), AllocError>
-    ensures { OnOk result (out.new.items ≡ out.old.items ++ statement_numbers (record {
+    ensures { OnOk result (out.new.items ≡ out.old.items ++ statement_numbers (names_of names.now) (record {
       conditions = map (λ level. condition_at (level_of level)) levels.now;
       part = sheet_part_of part.now;
       places = places_of places;
     })) }
 {
-    let shown = show(alloc, &part.statement)?;
+    let shown = show(alloc, names, &part.statement)?;
     let row = shown_row(&shown, places, part.text.len());
     let levels = level_numbers(alloc, levels)?;
     let items = shown_items(alloc, &shown, places)?;
@@ -189,17 +198,40 @@ fn push_part(
     push_counted(out, &row, &levels, &selectors, &items)
 }
 
-/// Returns the numbers of the statements of a sheet, at most so many.
+/// Returns the numbers of the statements of a sheet where these names are declared, at most so many.
+fn numbers_with(
+    alloc: Global,
+    names: &Names<'_>,
+    text: &str,
+    most: usize,
+) -> Result<Vec<usize>, CallError>
+    ensures { let due = flat_map (statement_numbers (names_of names.now)) (sheet_items text.now) in
+        MatchResult result (λ out. (out.items ≡ due) × (length out.items ≤ most))
+        (FailsLonger (most < length due)) }
+{
+    let mut out = Vec::new(alloc);
+    let mut reader = SheetReader::new(alloc, text);
+    'items: while let Some(part) = reader.read_next()? {
+        push_part(
+            &mut out,
+            alloc,
+            names,
+            reader.levels(),
+            reader.places(),
+            &part,
+        )?;
+        check_count(&out, most)?;
+    }
+    Ok(out)
+}
+
+/// Returns the numbers of the statements of a sheet, which declares names, at most so many.
 pub fn sheet_numbers(alloc: Global, text: &str, most: usize) -> Result<Vec<usize>, CallError>
     ensures { MatchResult result
         (λ out. (out.items ≡ sheet_numbers_of text.now) × (length out.items ≤ most))
         (FailsLonger (most < length (sheet_numbers_of text.now))) }
 {
-    let mut out = Vec::new(alloc);
-    let mut reader = SheetReader::new(alloc, text);
-    'items: while let Some(part) = reader.read_next()? {
-        push_part(&mut out, alloc, reader.levels(), reader.places(), &part)?;
-        check_count(&out, most)?;
-    }
-    Ok(out)
+    let namespaces = SheetNamespaces::read(alloc, text, &[])?;
+    let declared = namespaces.declare(alloc)?;
+    numbers_with(alloc, &declared.names(), text, most)
 }

@@ -83,6 +83,10 @@ pub struct Sheets<'t> {
     pub around: &'t [usize],
     /// In how many of them each sheet is. Each sheet after these is in none.
     pub depths: &'t [usize],
+    /// The urls of the namespaces that are known.
+    pub namespaces: &'t [u8],
+    /// Where each of these ends.
+    pub namespace_ends: &'t [usize],
 }
 
 /// Returns the offset at which this rest of a text begins, by the offset at which the text ends.
@@ -262,16 +266,18 @@ fn later_numbers(numbers: &[usize]) -> &[usize]
 }
 
 /// Returns the sheets with these texts, with the origins of these numbers, and each in so many of these group
-/// rules as `depths` says.
+/// rules as `depths` says. The namespaces with these urls are known.
 fn sheets_with<'s, 'a>(
     alloc: Global,
     origins: &[usize],
     depths: &[usize],
     rules: &'s [GroupRule<'a>],
+    namespaces: &'s [&'s str],
     texts: &[&'a str],
 ) -> Result<Vec<Sheet<'s, 'a>>, AllocError>
     ensures { IfOk result (λ sheets. map sheet_of sheets.items ≡ sheets_with_of origins.now depths.now
-        (map group_rule_of rules.now) (map (λ text. text.now) texts.now)) }
+        (map group_rule_of rules.now) (map (λ url. url.now) namespaces.now)
+        (map (λ text. text.now) texts.now)) }
 {
     let mut sheets = Vec::new(alloc);
     let mut numbers = origins;
@@ -284,6 +290,7 @@ fn sheets_with<'s, 'a>(
             text: *text,
             origin: origin_of(first_number(numbers)),
             around: first_rules(left, depth),
+            namespaces,
         })?;
         numbers = later_numbers(numbers);
         counts = later_numbers(counts);
@@ -304,8 +311,16 @@ pub fn read_rules<'a>(
 {
     let texts = texts_of(alloc, sheets.texts, sheets.ends)?;
     let groups = texts_of(alloc, sheets.groups, sheets.group_ends)?;
+    let namespaces = texts_of(alloc, sheets.namespaces, sheets.namespace_ends)?;
     let around = group_rules(alloc, &groups, sheets.around)?;
-    let placed = sheets_with(alloc, sheets.origins, sheets.depths, &around, &texts)?;
+    let placed = sheets_with(
+        alloc,
+        sheets.origins,
+        sheets.depths,
+        &around,
+        &namespaces,
+        &texts,
+    )?;
     let rules = read_styles(alloc, &placed, &groups, limit)?;
     Ok(rules)
 }

@@ -5,7 +5,6 @@ ghost use Rattle.std.specs.Prelude.{None, Some, is_none, length, map, option_map
 ghost use Rattle.css_sheet.specs.RuleSelectors.{selector_of};
 ghost use Rattle.css_selectors.specs.ReadViews.{placed_of};
 ghost use Rattle.css_selectors.specs.NameViews.{names_of};
-ghost use Rattle.css_selectors.specs.Names.{no_names};
 ghost use Rattle.css_selectors.specs.Supported.{first_unsupported, supported_list};
 ghost use Rattle.simplecss_calls.specs.Calls.{FailsFor, HasNoSelector, AreSelectorsIn};
 ghost use Rattle.simplecss_calls.specs.ModernLines.{refusal_text, IsRefusal};
@@ -180,12 +179,13 @@ fn is_memory(why: Why) -> bool
 }
 
 /// Where a text is no list of selectors, and why, or nothing where it is one.
-pub fn refusal(alloc: Global, text: &str) -> Result<String, CallError>
+pub fn refusal(alloc: Global, names: &Names<'_>, text: &str) -> Result<String, CallError>
     ensures { MatchResult result
-        (λ refusal. IsRefusal text.now (supported_list no_names text.now) (string_bytes refusal))
+        (λ refusal. IsRefusal text.now (supported_list (names_of names.now) text.now)
+        (string_bytes refusal))
         (λ error. error ≡ Memory) }
 {
-    let refusal = match Selector::parse_list(alloc, text) {
+    let refusal = match Selector::parse_list_in(alloc, text, names) {
         Ok(_) => return Ok(String::new(alloc)),
         Err(refusal) => refusal,
     };

@@ -5,13 +5,15 @@ ghost use Rattle.std.specs.Prelude.{length, map, string_bytes};
 ghost use Rattle.css_tree.specs.Walks.{IsOpenAt};
 ghost use Rattle.simplecss_calls.specs.ModernLines.{page_with, IsModernLine, AreModernLines};
 ghost use Rattle.simplecss_calls.specs.Calls.{FailsLonger};
-ghost use Rattle.simplecss_calls.specs.Elements.{named_states as named_states_of};
+ghost use Rattle.simplecss_calls.specs.Elements.{attributes_by, named_states as named_states_of};
+ghost use Rattle.simplecss_calls.specs.internal.Attributes.{placed_attribute_of};
 ghost use Rattle.simplecss_calls.specs.Readings.{selector_as};
 ghost use Rattle.simplecss_calls.specs.declared.answer.CallError.TheVariants.{Memory};
 ghost use Rattle.simplecss_calls.specs.declared.modern.document_kind.DocumentKind.TheVariants.{AsWritten};
 
 use super::document_kind::DocumentKind;
 use crate::answer::{CallError, check_length};
+use crate::attributes::attributes_of_each;
 use crate::elements::{ReadTree, TreeElement, has_text, scope_in};
 use crate::named_states::named_states;
 use crate::pages::{LineContent, push_indices};
@@ -51,13 +53,13 @@ fn counted_page<'p, 't>(
     elements: &[TreeElement],
 ) -> Result<NumberedTree<'p, 't>, CallError>
     requires { length elements.now ≡ length tree.now }
-    ensures { MatchResult result (λ page. page ≡ page_with AsWritten [] elements.now tree.now)
+    ensures { MatchResult result (λ page. page ≡ page_with AsWritten [] [] elements.now tree.now)
         (λ error. error ≡ Memory) }
 {
     let mut page = NumberedTree::new(alloc, tree)?;
     page.set_scope(scope_in(elements));
     let numbers = namespaces(alloc, elements)?;
-    page.set_namespaces(numbers);
+    page.set_namespaces(alloc, numbers)?;
     for index in 0..elements.len() {
         if has_text(elements[index]) {
             page.set_text(index);
@@ -75,11 +77,14 @@ pub fn page_of<'p, 't>(
 ) -> Result<NumberedTree<'p, 't>, CallError>
     requires { length elements.now ≡ length read.now.rows }
     ensures { MatchResult result (λ page. page ≡ page_with kind
-        (named_states_of (map (λ name. name.now) read.now.states.items) elements.now) elements.now
-        read.now.rows) (λ error. error ≡ Memory) }
+        (named_states_of (map (λ name. name.now) read.now.states.items) elements.now)
+        (attributes_by (length elements.now) (map placed_attribute_of read.now.attributes.items))
+        elements.now read.now.rows) (λ error. error ≡ Memory) }
 {
     let mut page = counted_page(alloc, &read.rows, elements)?;
     page.set_states(named_states(alloc, &read.states, elements)?);
+    let attributes = attributes_of_each(alloc, &read.attributes, elements.len())?;
+    page.set_namespaced_attributes(attributes);
     match kind {
         DocumentKind::AsWritten => Ok(page),
         DocumentKind::Html(_) => {

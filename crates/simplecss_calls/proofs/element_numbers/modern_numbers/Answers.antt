@@ -1,11 +1,11 @@
-use Rattle.std.proofs.Common.{◌≡◌, length, None, inl, inr, ap, ◌∙◌}
+use Rattle.std.proofs.Common.{◌≡◌, length, map, None, inl, inr, ◌∙◌}
 use Rattle.std.specs.Prelude.{Err, ◌⊎◌}
 use Rattle.std.specs.Str.{IsUtf8}
 use Rattle.simplecss_calls.specs.Calls.{passed_of, passed_tree}
-use Rattle.simplecss_calls.specs.Elements.{named_states}
-use Rattle.simplecss_calls.specs.ModernLines.{page_with}
 use Rattle.simplecss_calls.specs.WinnerNumbers.{AreAskedOnTree, HasBadContent, IsBrokenContent, IsModernNumbersCall, sheets_of}
+use Rattle.simplecss_calls.specs.internal.Attributes.{placed_attribute_of}
 use Rattle.simplecss_calls.specs.internal.Contents.{content_of}
+use Rattle.simplecss_calls.proofs.ModernCalls.{read-page-same}
 use Rattle.simplecss_calls.proofs.ModernPages.{tree-length}
 use Rattle.simplecss_calls.proofs.WinnerCalls.{content-beside, numbers-failed, sheets-beside, tree-beside, numbers-due}
 use Rattle.simplecss_calls.proofs.element_numbers.modern_numbers.Goals as goal
@@ -49,15 +49,16 @@ returns-in_err-read c =
 pub page_of-requires : goal.page_of-requires
 page_of-requires c =
     let passed = passed_of c.args.tree in
-    tree-length passed.elements passed.strings passed.ends passed.states (length passed.prefixes)
+    tree-length passed.elements passed.strings passed.ends (length passed.attributes) passed.states
+    (length passed.prefixes)
     c.in_ok-read.read.rows c.in_ok-read.ensures.1
 
 pub returns : goal.returns
 returns c =
-    let elements = c.args.tree.elements.now in
     let page = c.in_ok-page.ensures
-    ∙ ap (λ names. page_with c.args.kind (named_states names elements) elements c.in_ok-read.read.rows)
-    c.in_ok-read.ensures.2 in
+    ∙ read-page-same c.args.kind (passed_of c.args.tree) (map (λ name. name.now) c.in_ok-read.read.states.items)
+    (map placed_attribute_of c.in_ok-read.read.attributes.items) c.in_ok-read.read.rows
+    c.in_ok-read.ensures.2 c.in_ok-read.ensures.4 in
     numbers-due c.args.asked (content_of c.in_ok-content.content) c.in_ok-content.ensures
     c.args.most c.args.limit (sheets_of c.args.sheets) c.args.kind
     (passed_of c.args.tree) c.in_ok-rules.rules.rules c.in_ok-rules.rules.lists c.in_ok-read.read.rows

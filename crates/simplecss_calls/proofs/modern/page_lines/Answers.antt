@@ -3,6 +3,7 @@ use Rattle.std.specs.Prelude.{Err, string_bytes}
 use Rattle.std.specs.Str.{IsUtf8}
 use Rattle.simplecss_calls.specs.Calls.{passed_of, passed_tree}
 use Rattle.simplecss_calls.specs.ModernCalls.{AreReadLines}
+use Rattle.simplecss_calls.specs.internal.Attributes.{placed_attribute_of}
 use Rattle.simplecss_calls.proofs.ModernCalls.{handed-match, ReadFails, read-due}
 use Rattle.simplecss_calls.proofs.ModernPages.{tree-length}
 use Rattle.simplecss_calls.proofs.Limits.{fails_within, within_wider}
@@ -25,12 +26,14 @@ returns-in_err-read c =
 pub read_lines-requires : goal.read_lines-requires
 read_lines-requires c =
     let passed = passed_of c.args.tree in
-    tree-length passed.elements passed.strings passed.ends passed.states (length passed.prefixes)
+    tree-length passed.elements passed.strings passed.ends (length passed.attributes) passed.states
+    (length passed.prefixes)
     c.in_ok-read.read.rows c.in_ok-read.ensures.1
 
 pub returns : goal.returns
 returns c =
     read-due c.args.most c.args.content c.args.kind c.args.selectors.items (passed_of c.args.tree)
     c.in_ok-read.read.rows (map (λ name. name.now) c.in_ok-read.read.states.items)
-    c.in_ok-read.ensures.0 c.in_ok-read.ensures.1 c.in_ok-read.ensures.2 c.read_lines.result
-    c.read_lines.ensures
+    (map placed_attribute_of c.in_ok-read.read.attributes.items)
+    c.in_ok-read.ensures.0 c.in_ok-read.ensures.1 c.in_ok-read.ensures.2 c.in_ok-read.ensures.4
+    c.read_lines.result c.read_lines.ensures

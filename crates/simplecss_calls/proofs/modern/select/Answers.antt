@@ -4,6 +4,7 @@ use Rattle.css_selectors.specs.NameViews.{names_of, prefix_of}
 use Rattle.simplecss_calls.specs.Calls.{FailsFor, declared_by, passed_of, passed_names, passed_declared}
 use Rattle.simplecss_calls.specs.ModernCalls.{IsModernSelectCall}
 use Rattle.simplecss_calls.specs.Readings.{selectors_of}
+use Rattle.simplecss_calls.specs.internal.Attributes.{placed_attribute_of}
 use Rattle.simplecss_calls.specs.declared.pages.LineContent.TheVariants.{Selected}
 use Rattle.simplecss_calls.proofs.ModernCalls.{handed-on, read-due, select-due, select-tree-failed, list-failed}
 use Rattle.simplecss_calls.proofs.ModernPages.{tree-length}
@@ -40,7 +41,8 @@ returns-in_err-selectors c =
 pub read_lines-requires : goal.read_lines-requires
 read_lines-requires c =
     let passed = passed_of c.args.tree in
-    tree-length passed.elements passed.strings passed.ends passed.states (length passed.prefixes)
+    tree-length passed.elements passed.strings passed.ends (length passed.attributes) passed.states
+    (length passed.prefixes)
     c.in_ok-read.read.rows c.in_ok-read.ensures.1
 
 pub returns : goal.returns
@@ -54,5 +56,7 @@ returns c =
     ∙ c.in_ok-selectors.ensures)
     c.read_lines.result
     (read-due c.args.most Selected c.args.kind selectors passed c.in_ok-read.read.rows
-    (map (λ name. name.now) c.in_ok-read.read.states.items) c.in_ok-read.ensures.0
-    c.in_ok-read.ensures.1 c.in_ok-read.ensures.2 c.read_lines.result c.read_lines.ensures)
+    (map (λ name. name.now) c.in_ok-read.read.states.items)
+    (map placed_attribute_of c.in_ok-read.read.attributes.items) c.in_ok-read.ensures.0
+    c.in_ok-read.ensures.1 c.in_ok-read.ensures.2 c.in_ok-read.ensures.4 c.read_lines.result
+    c.read_lines.ensures)

@@ -1,35 +1,33 @@
-use Rattle.std.proofs.Common.{◌≡◌, ◌≤◌, ◌<◌, ◌++◌, length, arith}
+use Rattle.std.proofs.Common.{◌≡◌, ◌≤◌, ◌<◌, length, subst, ◌∙◌}
+use Rattle.std.specs.Prelude.{MatchResult}
 use Rattle.std.specs.List.{flat_map}
-use Rattle.std.proofs.lemmas.Grind.{common_steps}
-use Rattle.css_sheet.specs.ReaderViews.{to_come}
-use Rattle.simplecss_calls.specs.SheetNumbers.{statement_numbers, sheet_numbers}
-use Rattle.simplecss_calls.proofs.PageLines.{front_longer, memory_due}
+use Rattle.css_selectors.specs.Names.{Names}
+use Rattle.css_sheet.specs.SheetItems.{sheet_items}
+use Rattle.simplecss_calls.specs.Calls.{FailsLonger}
+use Rattle.simplecss_calls.specs.SheetNumbers.{sheet_numbers, statement_numbers}
+use Rattle.simplecss_calls.proofs.PageLines.{memory_due}
 use Rattle.simplecss_calls.proofs.sheets.sheet_numbers.Goals as goal
 
-pub returns-in_err-part : goal.returns-in_err-part
-returns-in_err-part c =
+pub returns-in_err-namespaces : goal.returns-in_err-namespaces
+returns-in_err-namespaces c =
     let most = c.args.most in
     let whole = sheet_numbers c.args.text.now in
     memory_due (λ out. (out.items ≡ whole) × (length out.items ≤ most))
     (most < length whole) c.from_residual.result c.from_residual.ensures.1
 
-pub returns-in_err-push_part : goal.returns-in_err-push_part
-returns-in_err-push_part c =
+pub returns-in_err-declared : goal.returns-in_err-declared
+returns-in_err-declared c =
     let most = c.args.most in
     let whole = sheet_numbers c.args.text.now in
     memory_due (λ out. (out.items ≡ whole) × (length out.items ≤ most))
-    (most < length whole) c.from_residual-in_err-push_part.result
-    c.from_residual-in_err-push_part.ensures.1
+    (most < length whole) c.from_residual-in_err-declared.result c.from_residual-in_err-declared.ensures.1
 
--- the numbers up to this statement are too many
-pub returns-in_err-check_count : goal.returns-in_err-check_count
-returns-in_err-check_count c =
+-- the names are those that the sheet declares
+pub returns : goal.returns
+returns c =
     let most = c.args.most in
-    let whole = sheet_numbers c.args.text.now in
-    let front = c.push_part.new.out.items in
-    let rest = flat_map statement_numbers (to_come c.read_next.new.self) in
-    let same : front ++ rest ≡ whole = grind (arith, common_steps) in
-    front_longer (λ out. (out.items ≡ whole) × (length out.items ≤ most)) most
-    front rest whole same c.from_residual-in_err-check_count.result
-    c.in_err-check_count.field-0.0 c.from_residual-in_err-check_count.ensures.1
-    c.in_err-check_count.ensures
+    let items = sheet_items c.args.text.now in
+    subst (λ (names : Names). MatchResult c.numbers_with.result
+    (λ out. (out.items ≡ flat_map (statement_numbers names) items) × (length out.items ≤ most))
+    (FailsLonger (most < length (flat_map (statement_numbers names) items))))
+    (c.names.ensures ∙ c.in_ok-declared.ensures ∙ c.in_ok-namespaces.ensures) c.numbers_with.ensures

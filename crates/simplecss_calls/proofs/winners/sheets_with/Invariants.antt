@@ -8,8 +8,10 @@ use Rattle.simplecss_calls.proofs.winners.sheets_with.Given as goal
 abbrev pub invariant-texts : goal.invariant-texts
 invariant-texts l =
     map sheet_of l.sheets.items
-    ++ sheets_with l.numbers l.counts (map group_rule_of l.left) (map (λ text. text.now) l.rest)
-    ≡ sheets_with l.origins l.depths (map group_rule_of l.rules) (map (λ text. text.now) l.texts)
+    ++ sheets_with l.numbers l.counts (map group_rule_of l.left) (map (λ url. url.now) l.namespaces)
+    (map (λ text. text.now) l.rest)
+    ≡ sheets_with l.origins l.depths (map group_rule_of l.rules) (map (λ url. url.now) l.namespaces)
+    (map (λ text. text.now) l.texts)
 
 abbrev pub decreases-texts : goal.decreases-texts
 decreases-texts l = length l.rest

@@ -8,7 +8,7 @@ pub loop-index-init : goal.loop-index-init
 loop-index-init c =
     let new = c.in_ok-page.ensures in
     let set = c.set_scope.ensures in
-    let spaces = c.set_namespaces.ensures in
+    let spaces = c.in_ok-set_namespaces.ensures in
     texts-none c.args.elements.now c.args.tree.now _ (spaces.rows ∙ set.rows ∙ new.rows)
     (ap (λ g. length g.texts) spaces.given ∙ ap (λ g. length g.texts) set.given ∙ new.all)
     (λ i. ap (λ g. get_or g.texts i false) spaces.given ∙ ap (λ g. get_or g.texts i false) set.given
@@ -16,6 +16,7 @@ loop-index-init c =
     (ap (λ g. g.scope) spaces.given ∙ ap (λ g. g.scope) set.given ∙ c.scope_in.ensures)
     (ap (λ g. g.states) spaces.given ∙ ap (λ g. g.states) set.given ∙ new.states)
     (ap (λ g. g.namespaces) spaces.given ∙ c.in_ok-numbers.ensures)
+    (ap (λ g. g.attributes) spaces.given ∙ ap (λ g. g.attributes) set.given ∙ new.attributes)
     (spaces.marks ∙ set.marks ∙ new.marks) (spaces.html ∙ set.html ∙ new.html)
 
 pub set_text-requires : goal.set_text-requires
