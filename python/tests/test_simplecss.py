@@ -711,7 +711,10 @@ class Trees(unittest.TestCase):
         )
         tree = simplecss.Tree.from_xml(text)
         self.assertEqual([element.name for element in tree], ["svg", "linearGradient", "use"])
-        self.assertEqual(tree.select("use[href='#a'], linearGradient"), [tree[1], tree[2]])
+        self.assertEqual(tree.select("[*|href='#a'], linearGradient"), [tree[1], tree[2]])
+        # The grammar of the Rust crate knows no namespaces.
+        for grammar, found in (("modern", []), ("simplecss", [tree[2]])):
+            self.assertEqual(tree.select("[href]", grammar=grammar), found)
         self.assertEqual(tree.select("lineargradient"), [])
         self.assertEqual(
             [(element.row, element.column) for element in tree],
@@ -969,6 +972,21 @@ class Namespaces(unittest.TestCase):
         with self.assertRaises(ValueError):
             inner.matches("b", grammar="simplecss", namespaces={})
 
+    def test_many(self):
+        """Sheets know the first 1,024 namespaces of a page, and selectors know all."""
+        page = "".join(f"<a xmlns='urn:{number}'/>" for number in range(1100))
+        tree = simplecss.Tree.from_xml(f"<r>{page}</r>")
+        declared = "".join(f"@namespace x{at} 'urn:{at}';" for at in (0, 1000, 1025, 1099, 9999))
+        rules = "".join(f"x{at}|a {{ --x{at}: 1 }}" for at in (0, 1000, 1025, 1099, 9999))
+        styles = simplecss.StyleSheet(declared + rules + "*|a { --y: 1 }").styles(tree)
+        names = [[each.name for each in declarations] for declarations in styles]
+        found = {at: each for at, each in enumerate(names) if each not in ([], ["--y"])}
+        self.assertEqual(found, {1: ["--x0", "--y"], 1001: ["--x1000", "--y"]})
+        for number in (0, 1000, 1025, 1099):
+            spaces = {"x": f"urn:{number}"}
+            self.assertEqual(self.found(tree, "x|a", spaces), [number + 1])
+        self.assertEqual(self.found(tree, "x|a", {"x": "urn:9999"}), [])
+
     def found(self, tree, selectors, namespaces):
         """Returns the numbers of the elements that selectors match."""
         return [element.index for element in tree.select(selectors, namespaces=namespaces)]
@@ -1019,10 +1037,10 @@ class Namespaces(unittest.TestCase):
         except ImportError:
             self.skipTest("there is no lxml")
         self.check_drawing(simplecss.Tree.from_lxml(lxml.etree.fromstring(self.DRAWING)))
-        # Its HTML has no namespaces.
+        # All elements of its HTML are in the namespace of HTML.
         tree = simplecss.Tree.from_lxml(lxml.html.document_fromstring(self.PAGE))
-        self.assertEqual(len(tree.select("|a", namespaces={})), 2)
-        self.assertEqual(tree.select("svg|*, h|*", namespaces=self.DECLARED), [])
+        self.assertEqual(len(tree.select("h|a", namespaces=self.DECLARED)), 2)
+        self.assertEqual(tree.select("svg|*, |*", namespaces=self.DECLARED), [])
 
     def test_soup(self):
         try:
@@ -1040,7 +1058,8 @@ class Namespaces(unittest.TestCase):
             with self.subTest(features=features):
                 check(simplecss.Tree.from_soup(soup))
         tree = simplecss.Tree.from_soup(bs4.BeautifulSoup(self.PAGE, "html.parser"))
-        self.assertEqual(len(tree.select("|a", namespaces={})), 2)
+        self.assertEqual(len(tree.select("h|a", namespaces=self.DECLARED)), 2)
+        self.assertEqual(tree.select("svg|*, |*", namespaces=self.DECLARED), [])
 
     def test_items(self):
         """The elements of a program's own are in no namespace."""
@@ -1057,8 +1076,7 @@ class Namespaces(unittest.TestCase):
             "y|a",
             "SVG|a",
             "a, y|b",
-            "[svg|href]",
-            "[*|href]",
+            "[y|href]",
             ":not(y|a)",
             "%",
         ):
@@ -1066,9 +1084,23 @@ class Namespaces(unittest.TestCase):
                 with self.subTest(selectors=selectors, namespaces=namespaces):
                     with self.assertRaises(simplecss.SelectorError):
                         tree.select(selectors, namespaces=namespaces)
-        for selectors in ("svg|a", "%"):
+        for selectors in ("svg|a", "[svg|a]", "%"):
             with self.assertRaises(simplecss.SelectorError):
                 tree.select(selectors, namespaces={})
+        for selectors, namespaces, reason in (
+            ("svg|a,\n y|b", {"svg": self.SVG}, "2:2: `y` is no declared prefix"),
+            (
+                "svg|a, b >",
+                {"svg": self.SVG},
+                "1:11: a blank or the end of the text begins no selector",
+            ),
+            ("[y|b]", {}, "1:2: `y` is no declared prefix"),
+            ("y|b", None, "1:1: `y` is no declared prefix"),
+        ):
+            with self.subTest(selectors=selectors):
+                with self.assertRaises(simplecss.SelectorError) as found:
+                    tree.select(selectors, namespaces=namespaces)
+                self.assertEqual(str(found.exception), reason)
         for namespaces in (
             [],
             "x",
@@ -1090,6 +1122,133 @@ class Namespaces(unittest.TestCase):
                 tree.select("a", grammar="simplecss", namespaces=namespaces)
         with self.assertRaisesRegex(TypeError, "not int"):
             tree.select(1, namespaces={})
+
+    XLINK = "http://www.w3.org/1999/xlink"
+    XML = "http://www.w3.org/XML/1998/namespace"
+    SPACED = {
+        "svg": SVG,
+        "l": XLINK,
+        "x": XML,
+        "xmlns": "http://www.w3.org/2000/xmlns/",
+        "none": "",
+    }
+    LINKS = (
+        "<svg xmlns='http://www.w3.org/2000/svg' xmlns:l='http://www.w3.org/1999/xlink'>"
+        "<a href='b'/><use l:href='c'/><a l:href='d' href='e'/><text xml:lang='de' class='f'/></svg>"
+    )
+    IN_LINKS = (
+        ("[href]", [1, 3]),
+        ("[|href]", [1, 3]),
+        ("[none|href]", [1, 3]),
+        ("[l|href]", [2, 3]),
+        ("[*|href]", [1, 2, 3]),
+        ("[l|href='d'], [l|href='e']", [3]),
+        ("[*|href='e'], [*|href^=b]", [1, 3]),
+        ("[svg|href], [x|href]", []),
+        ("svg|a[l|href]:not([href=b])", [3]),
+        ("[x|lang|=de]", [4]),
+        (":lang(de)", [4]),
+        ("[class]", [4]),
+        ("[*|class]", [4]),
+        ("svg|svg:has(> [l|href])", [0]),
+    )
+
+    def check_links(self, tree, *, has_language=True):
+        """Checks the attributes of a drawing that are in namespaces."""
+        for selectors, found in self.IN_LINKS:
+            with self.subTest(selectors=selectors):
+                if has_language or ":lang" not in selectors:
+                    self.assertEqual(self.found(tree, selectors, self.SPACED), found)
+        # A default namespace is none of attributes.
+        self.assertEqual(self.found(tree, "[href]", {"": self.SVG}), [1, 3])
+        # They have no namespaces in the grammar of the Rust crate.
+        self.assertEqual(len(tree.select("[href]", grammar="simplecss")), 3 if has_language else 2)
+
+    def test_attributes(self):
+        """Attributes are in namespaces in XML."""
+        self.check_links(simplecss.Tree.from_xml(self.LINKS))
+        root = xml.etree.ElementTree.fromstring(self.LINKS)
+        tree = simplecss.Tree.from_etree(root)
+        self.check_links(tree)
+        self.check_links(pickle.loads(pickle.dumps(tree)))
+        self.assertEqual(tree[2].attributes, {"href": "c"})
+        self.assertEqual(tree[3].attributes, {"href": "e"})
+        self.assertEqual(tree[4].attributes, {"lang": "de", "class": "f"})
+        try:
+            import bs4
+
+            soup = bs4.BeautifulSoup(self.LINKS, "xml")
+        except Exception:
+            self.skipTest("there is no BeautifulSoup with lxml")
+        tree = simplecss.Tree.from_soup(soup)
+        self.check_links(tree, has_language=False)
+        self.assertEqual(self.found(tree, "[xmlns|l], [xmlns|xmlns]", self.SPACED), [0])
+
+    def test_attributes_in_html(self):
+        """Attributes of SVG and MathML are in namespaces in HTML, and no others."""
+        text = (
+            "<p xlink:href=a xml:lang=b><svg XLINK:HREF=c viewBox=d xmlns=e xmlns:xlink=f>"
+            "<a xml:lang=g xlink:x=h href=i></a></svg><math xml:space=j xmlns:l=k></math>"
+        )
+        tree = simplecss.Tree.from_html(text, is_part=True)
+        for selectors, found in (
+            ("[l|href]", [1]),
+            ("[L|HREF], [l|Href=c]", None),
+            ("[l|HREF=c]", [1]),
+            ("[l|href=C]", []),
+            (r"[xlink\:href]", [0]),
+            (r"[xml\:lang]", [0]),
+            ("[x|lang]", [2]),
+            ("[*|lang]", [2]),
+            (r"[xlink\:x]", [2]),
+            ("[xmlns]", []),
+            ("[xmlns|xmlns]", [1]),
+            ("[xmlns|xlink]", [1]),
+            ("[x|space]", [3]),
+            (r"[xmlns\:l]", [3]),
+            ("[viewbox=d], [*|href=i]", [1, 2]),
+        ):
+            with self.subTest(selectors=selectors):
+                if found is None:
+                    with self.assertRaises(simplecss.SelectorError):
+                        tree.select(selectors, namespaces=self.SPACED)
+                else:
+                    self.assertEqual(self.found(tree, selectors, self.SPACED), found)
+        self.assertEqual(tree[1].attributes["xlink:href"], "c")
+
+    def test_sheets(self):
+        """What `@namespace` rules declare counts in rules, matches and styles."""
+        text = (
+            f"@import 'a'; @namespace '{self.SVG}'; @namespace h url({self.HTML});"
+            f"@namespace l '{self.XLINK}'; a{{b:1}} h|a{{b:2}} [l|href]{{c:3}} *|p::before{{d:4}}"
+            "u|a{b:5} a:host{e:6} h|p{a *|*&{f:7} h|a &, u|a{g:8}} @namespace u 'v'; u|a{h:9}"
+        )
+        sheet = simplecss.StyleSheet(text)
+        self.assertEqual(
+            [each.selector for each in sheet.rules],
+            ["a", "h|a", "*|p", "a *|*&", "[l|href]"],
+        )
+        self.assertEqual([each.selector for each in sheet.unsupported], ["a:host"])
+        invalid = [each.text for each in sheet.skipped if each.reason == "invalid selector"]
+        self.assertEqual(invalid, ["u|a{b:5}", "u|a{h:9}"])
+        tree = simplecss.Tree.from_html(
+            "<p><a></a><svg><a xlink:href=x><foreignObject><p>", is_part=True
+        )
+        self.assertEqual([each.name for each in tree], ["p", "a", "svg", "a", "foreignObject", "p"])
+        self.assertEqual(list(sheet.match(tree)), [[], [1], [], [0, 4], [], [3]])
+        self.assertEqual(
+            [[each.value for each in found] for found in sheet.styles(tree)],
+            [[], ["2"], [], ["1", "3"], [], ["7"]],
+        )
+        self.assertEqual(
+            [each and each.value for each in sheet.style(tree, "b")],
+            [None, "2", None, "1", None, None],
+        )
+        # Elements of a program's own are in no namespace.
+        tree = simplecss.Tree([simplecss.Item("a")])
+        for declared, found in (("''", [[0]]), ("'x'", [[]])):
+            sheet = simplecss.StyleSheet(f"@namespace {declared}; a{{b:c}}")
+            self.assertEqual(list(sheet.match(tree)), found)
 
     def test_states(self):
         """States are set by selectors without namespaces, and then match with them."""

@@ -38,6 +38,7 @@ from ._selectors import (
     matched,
     selector_error,
 )
+from ._spaced import HTML_SPACE, MATH_SPACE, SVG_SPACE, Attributes, parted_in_html
 from ._words import BLANKS, lower, words_of
 from ._xml import XmlDocument
 from .html import HTML, RAW, SVG, Builder, Made, Node, Text, decode, with_line_feeds
@@ -51,7 +52,6 @@ _FIRST_NAMED = 128
 _MOST_NAMED = 8 * ctypes.sizeof(ctypes.c_size_t) - 8
 NO_STATES: FrozenSet[str] = frozenset()
 LINK = frozenset(("link",))
-SVG_SPACE = "http://www.w3.org/2000/svg"
 # The number of the library for an element that has a text of its own.
 _HAS_TEXT = 32
 # How many numbers of what wins on an element there is room for at first.
@@ -69,12 +69,11 @@ _CDATA = "<![CDATA["
 States = Mapping[str, Iterable[str]]
 # Prefixes of selectors and the namespaces of each. That of the empty prefix is the default one.
 Namespaces = Mapping[str, str]
-# The namespaces of a document in HTML, in the order of their numbers.
-_SPACES_OF_HTML = (
-    "http://www.w3.org/1999/xhtml",
-    SVG_SPACE,
-    "http://www.w3.org/1998/Math/MathML",
-)
+# The namespaces of a document in HTML, in the order of their numbers from 1 on. They have these numbers in any
+# tree.
+_SPACES_OF_HTML = (HTML_SPACE, SVG_SPACE, MATH_SPACE)
+# How many namespaces the library knows in sheets. The number after them is of those that no element is in.
+_MOST_KNOWN = 1024
 
 
 class TreeError(ValueError):
@@ -150,6 +149,8 @@ class _Computed:
         self.answers: Dict[Tuple[str, str], List[int]] = {}
         self.spaced: Dict[Tuple[Tuple[str, str], ...], library.TreeArrays] = {}
         self.sets: Dict[Tuple[str, str], FrozenSet[int]] = {}
+        # The numbers of namespaces, of which nothing stands for none.
+        self.numbers: Optional[Dict[str, int]] = None
         self.lines: Optional[List[int]] = None
         self.ends: Optional[List[int]] = None
         self.children: Optional[List[List[int]]] = None
@@ -165,7 +166,10 @@ class Elements:
         self.parents: List[int] = []
         self.depths: List[int] = []
         self.states: Dict[int, FrozenSet[str]] = {}
-        # The namespace of each element, but in a document that was read as HTML here.
+        # Of each element with attributes in namespaces, these and the others.
+        self.spaced: Dict[int, Attributes] = {}
+        # The namespace of each element, but in a document that was read as HTML here. That of an element of
+        # HTML may not be known.
         self.spaces: List[str] = []
         # The elements of SVG, and of MathML in HTML.
         self.drawn: Set[int] = set()
@@ -220,7 +224,13 @@ class Elements:
                 self.states[index] = LINK
             if node.space != HTML:
                 (self.drawn if node.space == SVG else self.formulas).add(index)
+                self.take_spaced(index, parted_in_html(node.attributes))
         return taken
+
+    def take_spaced(self, index: int, attributes: Optional[Attributes]) -> None:
+        """Takes the attributes of an element, if some are in namespaces."""
+        if attributes is not None:
+            self.spaced[index] = attributes
 
     def _take_made(self, made: Made) -> List[Node]:
         """Takes the texts, and where each element is, in the order in which they were made."""
@@ -283,6 +293,7 @@ class Elements:
             if tag.space == SVG_SPACE or not tag.space and document.tags[0].name == "svg":
                 self.drawn.add(index)
             self.spaces.append(tag.space)
+            self.take_spaced(index, tag.spaced)
         for begun, owner, value in document.texts:
             self.texts.add(begun, owner, value)
 
@@ -484,8 +495,9 @@ class Elements:
         """Returns what a call, which takes `more`, writes of each element for sheets: how many winners or
         rules it has, and so many numbers for each of these. More of them than `limit` raise `LimitError`.
         """
+        spaces = list(map(library.encode, self.namespaces()))
         words = (
-            sheets,
+            sheets.with_namespaces(spaces),
             self._number_of(MODERN),
             library.NO_LIMIT,
             self._arrays(MODERN),
@@ -522,30 +534,58 @@ class Elements:
     def _make_arrays(
         self, grammar: str, namespaces: Sequence[Tuple[str, str]]
     ) -> library.TreeArrays:
-        pairs = self._compared_attributes(grammar == PORT)
-        compared = [pairs[id(attributes)] for attributes in self.attributes]
+        # By the grammar of the Rust crate, no attribute is in a namespace.
+        spaced = {} if grammar == PORT else self.spaced
+        own = self.attributes.copy()
+        for index, attributes in spaced.items():
+            own[index] = attributes.plain
+        pairs = self._compared_attributes(own, grammar == PORT)
+        compared = [pairs[id(each)] for each in own]
         counts = [len(each) // 2 for each in compared]
-        numbers = {"": 0}
-        spaces = self._numbered_spaces(numbers)
-        shaped = zip(self.depths, counts, self._numbered_states(), spaces)
+        numbers = self._space_numbers()
+        shaped = zip(self.depths, counts, self._numbered_states(), self._numbered_spaces())
         shapes = array.array(library.SIZE, itertools.chain.from_iterable(shaped))
         names = {name: self.reading.compared_name(name) for name in set(self.names)}
         strings: List[str] = []
         for name, each in zip(self.names, compared):
             strings.append(names[name])
             strings += each
+        places: List[int] = []
+        for index, attributes in spaced.items():
+            for space, name, value in attributes.spaced:
+                places += (index, numbers[space])
+                strings += (self.reading.compared_name(name), value)
         # One that no element is in has a number of none.
-        prefixes = [(name, numbers.get(space, len(numbers))) for name, space in namespaces]
-        return library.TreeArrays(shapes, strings, self._named_states(), prefixes)
+        prefixes = [(name, numbers.get(space, len(numbers) + 1)) for name, space in namespaces]
+        return library.TreeArrays(shapes, strings, self._named_states(), prefixes, places)
 
-    def _numbered_spaces(self, numbers: Dict[str, int]) -> Iterable[int]:
-        """Returns the number of the namespace of each element, and adds it to the numbers."""
+    def namespaces(self) -> List[str]:
+        """Returns the namespaces of elements and attributes that the library may know in sheets, in the
+        order of their numbers from 1 on."""
+        return list(self._space_numbers())[1 : 1 + _MOST_KNOWN]
+
+    def _space_numbers(self) -> Dict[str, int]:
+        """Returns the numbers of namespaces. That of no namespace is 0."""
+        numbers = self._computed.numbers
+        if numbers is None:
+            of_attributes = (one[0] for each in self.spaced.values() for one in each.spaced)
+            every = itertools.chain(("", *_SPACES_OF_HTML), self.spaces, of_attributes)
+            numbers = {
+                space: number + (number > _MOST_KNOWN)
+                for number, space in enumerate(dict.fromkeys(every))
+            }
+            self._computed.numbers = numbers
+        return numbers
+
+    def _numbered_spaces(self) -> Iterable[int]:
+        """Returns the number of the namespace of each element. An element of HTML of which it is not known is
+        in that of HTML."""
+        is_html = self.reading != Reading.AS_WRITTEN
         if self.spaces:
-            return [numbers.setdefault(space, len(numbers)) for space in self.spaces]
-        if self.reading == Reading.AS_WRITTEN:
+            numbers = {**self._space_numbers(), "": 1 if is_html else 0}
+            return [numbers[space] for space in self.spaces]
+        if not is_html:
             return itertools.repeat(0)
-        for space in _SPACES_OF_HTML:
-            numbers[space] = len(numbers)
         found = [1] * len(self)
         for index in self.drawn:
             found[index] = 2
@@ -553,12 +593,14 @@ class Elements:
             found[index] = 3
         return found
 
-    def _compared_attributes(self, is_port: bool) -> Dict[int, List[str]]:
+    def _compared_attributes(
+        self, own: Iterable[Dict[str, str]], is_port: bool
+    ) -> Dict[int, List[str]]:
         """Returns the keys and values of attributes as they are compared, by their identity: equal
         tags have the same. By the grammar of the Rust crate, spaces alone part the words of a
         class."""
         reading = self.reading
-        every = {id(attributes): attributes for attributes in self.attributes}
+        every = {id(attributes): attributes for attributes in own}
         changing = reading.may_change(set(itertools.chain.from_iterable(every.values())))
         found: Dict[int, List[str]] = {}
         for key, attributes in every.items():

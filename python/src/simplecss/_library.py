@@ -119,6 +119,10 @@ class _Element(ctypes.Structure):
     ]
 
 
+class _Attribute(ctypes.Structure):
+    _fields_ = [("element", ctypes.c_size_t), ("namespace_number", ctypes.c_size_t)]
+
+
 class _Tree(ctypes.Structure):
     _fields_ = [
         ("elements", ctypes.POINTER(_Element)),
@@ -127,6 +131,8 @@ class _Tree(ctypes.Structure):
         ("strings_len", ctypes.c_size_t),
         ("string_ends", _SIZES),
         ("string_ends_count", ctypes.c_size_t),
+        ("attributes", ctypes.POINTER(_Attribute)),
+        ("attributes_count", ctypes.c_size_t),
         ("states_count", ctypes.c_size_t),
         ("prefixes", _SIZES),
         ("prefixes_count", ctypes.c_size_t),
@@ -149,6 +155,10 @@ class _Sheets(ctypes.Structure):
         ("around_count", ctypes.c_size_t),
         ("depths", _SIZES),
         ("depths_count", ctypes.c_size_t),
+        ("namespaces", ctypes.c_char_p),
+        ("namespaces_len", ctypes.c_size_t),
+        ("namespace_ends", _SIZES),
+        ("namespace_ends_count", ctypes.c_size_t),
     ]
 
 
@@ -164,11 +174,13 @@ class SheetArrays:
         around: Sequence[Sequence[int]] = (),
     ) -> None:
         """Takes the texts of sheets, the keyword and the prelude of each group rule, the numbers of the
-        origins of the sheets, and those of the group rules that each sheet is in."""
+        origins of the sheets, and those of the group rules that each sheet is in. No namespaces are
+        known."""
         ends, group_ends = ends_of(map(len, texts)), ends_of(map(len, groups))
         numbers, depths = _sizes(origins), _sizes(map(len, around))
         outer = _sizes(itertools.chain.from_iterable(around))
         joined, joined_groups = b"".join(texts), b"".join(groups)
+        self._whole: Optional[SheetArrays] = None
         self.structure = _Sheets(
             joined,
             len(joined),
@@ -184,7 +196,23 @@ class SheetArrays:
             len(outer),
             pointer_to(depths),
             len(depths),
+            b"",
+            0,
+            pointer_to(_sizes(())),
+            0,
         )
+
+    def with_namespaces(self, spaces: Sequence[bytes]) -> "SheetArrays":
+        """Returns the same sheets, where these namespaces are known."""
+        found = copy.copy(self)
+        # The other arrays are those of this one.
+        found._whole = self
+        ends, joined = ends_of(map(len, spaces)), b"".join(spaces)
+        found.structure = _Sheets.from_buffer_copy(self.structure)
+        found.structure.namespaces, found.structure.namespaces_len = joined, len(joined)
+        found.structure.namespace_ends = pointer_to(ends)
+        found.structure.namespace_ends_count = len(ends)
+        return found
 
 
 class _Own(ctypes.Structure):
@@ -249,13 +277,16 @@ class TreeArrays:
         strings: Sequence[str],
         states: Sequence[str] = (),
         prefixes: Sequence[Tuple[str, int]] = (),
+        attributes: Sequence[int] = (),
     ) -> None:
         """Takes the depth, the number of attributes, the states and the number of the namespace of
-        each element, the strings of all, names of states, and prefixes with the numbers of
-        namespaces.
+        each element, the strings of all, names of states, prefixes with the numbers of namespaces,
+        and for each attribute in a namespace the index of its element and the number of the
+        namespace.
 
-        The strings of an element are its name, and a key and a value for each attribute. A lone
-        surrogate raises `UnicodeEncodeError`.
+        The strings of an element are its name, and a key and a value for each attribute. Those of
+        attributes in namespaces are after them, a local name and a value for each. A lone surrogate
+        raises `UnicodeEncodeError`.
         """
         strings = [*strings, *states, *(name for name, _ in prefixes)]
         self.count = len(shapes) // 4
@@ -267,6 +298,8 @@ class TreeArrays:
             map(len, strings) if is_ascii else (len(each.encode("utf-8")) for each in strings)
         )
         numbers = _sizes(number for _, number in prefixes)
+        count = len(attributes) // 2
+        places = (_Attribute * count).from_buffer_copy(_sizes(attributes))
         self.structure = _Tree(
             ctypes.cast(self._elements, ctypes.POINTER(_Element)),
             self.count,
@@ -274,6 +307,8 @@ class TreeArrays:
             len(joined),
             pointer_to(ends),
             len(ends),
+            ctypes.cast(places, ctypes.POINTER(_Attribute)),
+            count,
             len(states),
             pointer_to(numbers),
             len(numbers),

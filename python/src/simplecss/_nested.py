@@ -2,6 +2,7 @@
 
 from __future__ import annotations
 
+import itertools
 from typing import Iterable, Iterator, List, NamedTuple, Optional, Sequence, Tuple
 
 from ._reading import (
@@ -97,9 +98,19 @@ class _Reader:
             self._next += 1
         if self._next == len(rules) or rules[self._next].span[0] > at:
             return _Open(None, "", 0)
-        rule = rules[self._next]
-        block = Block((rule.head[1], rule.span[1]), (), conditions_of(rule.levels))
-        return _Open(block, self._source.at(begun.head), 0)
+        return _Open(_block_of(rules[self._next]), self._source.at(begun.head), 0)
+
+
+def _block_of(rule: RuleSet) -> Block:
+    """Returns the block of a style rule that is in no other."""
+    return Block((rule.head[1], rule.span[1]), (), conditions_of(rule.levels))
+
+
+def every_block(statements: Iterable[Statement], blocks: Iterable[Block]) -> List[Block]:
+    """Returns the blocks of all style rules of a sheet, of which those that `blocks_of` returns are some."""
+    sets = (_block_of(each) for each in statements if isinstance(each, RuleSet))
+    found = {each.span: each for each in itertools.chain(sets, blocks)}
+    return [found[span] for span in sorted(found, key=lambda span: (span[0], -span[1]))]
 
 
 def blocks_of(source: Source, statements: Iterable[Statement]) -> List[Block]:

@@ -255,10 +255,8 @@ def selector_error(
     text: str, grammar: str, tree: Optional[library.TreeArrays] = None
 ) -> SelectorError:
     """Returns the error of a list of selectors that was refused, where a tree declares names."""
-    if tree is not None and tree.structure.prefixes_count:
-        return SelectorError("no selectors, or a prefix that is not declared", 1, 1)
-    number = NUMBERS[grammar]
-    answer = library.call("simplecss_refusal", library.encode(text), number, room=4096)
+    words = (library.encode(text), NUMBERS[grammar], tree or library.TreeArrays([], []))
+    answer = library.call("simplecss_refusal", *words, room=4096, with_fault=True)
     if not answer.output:
         return SelectorError("refused", 1, 1)
     row, column, reason = answer.output.decode("utf-8").split(" ", 2)

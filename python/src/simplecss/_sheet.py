@@ -7,6 +7,7 @@ import functools
 import itertools
 from typing import (
     Any,
+    Container,
     Dict,
     Iterable,
     Iterator,
@@ -29,7 +30,7 @@ from ._elements import Elements
 from ._lines import Lines
 from ._linked import Load, Name, Piece, Shelf, Unread, pieces_of, sheets_of
 from ._making import sheet_text
-from ._nested import Block, Places, blocks_of
+from ._nested import Block, Places, blocks_of, every_block
 from ._properties import shorthands as shorthands_of
 from ._reading import (
     GROUPS,
@@ -143,8 +144,8 @@ class ByElement(List[T]):
 
 
 class _Contents(NamedTuple):
-    """What the texts of a sheet have, and the indices of the rules of style rules with rules in them, by
-    the numbers of their texts and where their declarations begin."""
+    """What the texts of a sheet have, and the indices of the rules that the library places, by the numbers
+    of their texts and where their declarations begin."""
 
     rules: Tuple[Rule, ...]
     unsupported: Tuple[Unsupported, ...]
@@ -320,9 +321,10 @@ class StyleSheet:
             for each in found
         ]
         self._check_limit()
-        found = list(self._nested_rules()) if any(self._blocks()) else []
-        nested = [(place, rule) for place, _, rule in found]
-        plain, unsupported = _rules_of(self._sets({block for _, block, _ in found}))
+        found = list(self._placed_rules()) if any(self._placed_blocks()) else []
+        nested = [(each.place, each.rule) for each in found]
+        supported = {(each.block, each.text) for each in found}.union(self._silent())
+        plain, unsupported = _rules_of(self._sets({each.block for each in found}), supported)
         # Rules of equal specificity stay as they stand.
         rules = sorted(plain + nested, key=lambda each: each[0])
         rules.sort(key=lambda each: each[1].specificity)
@@ -354,18 +356,35 @@ class StyleSheet:
                     place = (number, each.head[1])
                     yield place, each, place not in own, self._conditions[number]
 
-    def _nested_rules(self) -> Iterator[Tuple[Place, Place, Rule]]:
-        """Yields the rules of style rules with rules in them, as they stand in the texts: where the
-        declarations of each are, where its block is, and the rule."""
+    def _placed_blocks(self) -> List[List[Block]]:
+        """Returns of each text the blocks of the style rules that the library places: of those with rules
+        in them, or of all if the text declares namespaces, with which it reads their selectors."""
+        return [
+            every_block(found, blocks) if _declares_namespaces(found) else blocks
+            for (_, found), blocks in zip(self._statements(), self._blocks())
+        ]
+
+    def _silent(self) -> Iterator[Tuple[Place, str]]:
+        """Yields the selectors of the rules without declarations of texts that declare namespaces, and where
+        each is. The library says nothing of these rules."""
+        for number, (_, found) in enumerate(self._statements()):
+            for each in found if _declares_namespaces(found) else ():
+                if isinstance(each, RuleSet) and not each.declarations:
+                    yield from (((number, each.head[1]), one.text) for one in each.selectors)
+
+    def _placed_rules(self) -> Iterator["_Placed"]:
+        """Yields the rules that the library places, as they stand in the texts."""
         every = self._winning_by(lambda text: True, (self,))
+        blocks = self._placed_blocks()
         rules = sorted(zip(every.rules, every.texts()), key=lambda each: each[0][:2])
         for number, found in itertools.groupby(rules, key=lambda each: each[0].sheet):
-            places = Places(self._blocks()[number])
+            places = Places(blocks[number])
             for placed, text in found:
                 block = places.at(placed.start)
                 if block is not None:
                     rule = _nested_rule(placed, text, block, self._conditions[number])
-                    yield (number, placed.start), (number, block.span[0]), rule
+                    place = (number, placed.start)
+                    yield _Placed(place, (number, block.span[0]), text, rule)
 
     def _read_sheets(self) -> Iterator[ReadSheet]:
         """Yields what each text has, with the group rules that all of it is in."""
@@ -513,8 +532,8 @@ class StyleSheet:
             yield sorted(indices + others)
 
     def _nested_on(self, elements: Elements, media: Media) -> Iterator[List[int]]:
-        """Yields for each element the indices of the rules that match it of style rules with rules in
-        them."""
+        """Yields for each element the indices of the rules that match it of those that the library
+        places."""
         winning = self._winning(media, (self,))
         left = {place: iter(indices) for place, indices in self._all().nested.items()}
         # The index of each rule, but for those of others and of pseudo-elements.
@@ -736,8 +755,25 @@ def text_of(sheet: StyleSheet) -> str:
     return sheet._text()
 
 
+class _Placed(NamedTuple):
+    """A rule that the library places: where its declarations are, where its block is, and the text of its
+    selector, with its pseudo-element."""
+
+    place: Place
+    block: Place
+    text: str
+    rule: Rule
+
+
+def _declares_namespaces(statements: Iterable[Statement]) -> bool:
+    """Whether a sheet may declare namespaces."""
+    return any(
+        isinstance(each, ReadAtRule) and each.rule.name == "namespace" for each in statements
+    )
+
+
 class _Selectors:
-    """The selectors of the rules that apply, but for those of style rules with rules in them."""
+    """The selectors of the rules that apply, but for those that the library places."""
 
     def __init__(self, contents: _Contents, media: Media) -> None:
         rules = contents.rules
@@ -786,17 +822,20 @@ def _declaration_of_port(lines: Lines) -> Declaration:
 
 
 def _rules_of(
-    sets: Iterable[Tuple[Place, RuleSet, bool, Tuple[Condition, ...]]]
+    sets: Iterable[Tuple[Place, RuleSet, bool, Tuple[Condition, ...]]],
+    supported: Container[Tuple[Place, str]],
 ) -> Tuple[List[Tuple[Place, Rule]], List[Unsupported]]:
-    """Returns the rules of rule sets, of those that have them, and the unsupported ones of all. Each
-    rule set is with the conditions of its whole text."""
+    """Returns the rules of rule sets, of those that have them, and the unsupported ones of all, but for
+    those of these places with these selectors. Each rule set is with the conditions of its whole text.
+    """
     rules: List[Tuple[Place, Rule]] = []
     unsupported: List[Unsupported] = []
     for place, found, has_rules, outer in sets:
         declarations, conditions = found.declarations, outer + found.conditions
         for each in found.selectors:
             if each.specificity is None:
-                unsupported.append(Unsupported(each.text, declarations, conditions))
+                if (place, each.text) not in supported:
+                    unsupported.append(Unsupported(each.text, declarations, conditions))
                 continue
             if has_rules:
                 element = each.pseudo_element

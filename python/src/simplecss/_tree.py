@@ -24,7 +24,6 @@ from . import _library as library
 from ._elements import (
     LINK,
     NO_STATES,
-    SVG_SPACE,
     Elements,
     Namespaces,
     States,
@@ -32,11 +31,12 @@ from ._elements import (
     states_of,
 )
 from ._selectors import MODERN, PORT, Reading, grammar_of
+from ._spaced import HTML_SPACE, SVG_SPACE, parted
 from ._words import words_of
 from ._xml import XmlError, read_xml
 from .html import Builder, TooDeep, decode_page
 
-_LINK_SPACES = ("", "http://www.w3.org/1999/xhtml", SVG_SPACE)
+_LINK_SPACES = ("", HTML_SPACE, SVG_SPACE)
 # The nodes of BeautifulSoup that are no elements and no texts.
 _NO_TEXTS = frozenset(
     (
@@ -444,6 +444,8 @@ def _take_element(elements: Elements, node: Any, parent: int) -> int:
     space, _, name = node.tag.rpartition("}")
     attributes = _local_attributes(node.attrib.items())
     index = elements.add(name, attributes, parent)
+    spaced = parted((*_cut(str(key)), str(value)) for key, value in node.attrib.items())
+    elements.take_spaced(index, spaced and spaced.with_language())
     row = getattr(node, "sourceline", None)
     elements.places.append((row, None if row is None else 1))
     if name in ("a", "area") and "href" in attributes and space[1:] in _LINK_SPACES:
@@ -463,6 +465,9 @@ def _take_tag(elements: Elements, node: Any, parent: int) -> int:
         for key, value in node.attrs.items()
     }
     index = elements.add(node.name.rpartition(":")[2], attributes, parent)
+    values = attributes.values()
+    spaced = parted((*_name_in_soup(key), value) for key, value in zip(node.attrs, values))
+    elements.take_spaced(index, spaced)
     row, column = getattr(node, "sourceline", None), getattr(node, "sourcepos", None)
     elements.places.append((row, None if column is None else column + 1))
     if node.name in ("a", "area") and "href" in attributes:
@@ -473,6 +478,18 @@ def _take_tag(elements: Elements, node: Any, parent: int) -> int:
     if elements.nodes is not None:
         elements.nodes.append(node)
     return index
+
+
+def _cut(name: str) -> Tuple[str, str]:
+    """Returns the namespace and the local name of a name of ElementTree."""
+    space, _, local = name.rpartition("}")
+    return space[1:], local
+
+
+def _name_in_soup(key: Any) -> Tuple[str, str]:
+    """Returns the namespace and the local name of an attribute of BeautifulSoup."""
+    space = getattr(key, "namespace", None)
+    return (space, key.name or str(key)) if space else ("", str(key))
 
 
 def _local_attributes(items: Iterable[Tuple[Any, Any]]) -> Dict[str, str]:

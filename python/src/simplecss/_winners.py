@@ -32,6 +32,7 @@ from ._reading import (
     conditions_of,
 )
 from ._selectors import Specificity
+from ._spaced import HTML_SPACE
 from ._specified import Own
 
 # How many numbers the library writes of a rule before those of its declarations, of each of these,
@@ -145,7 +146,7 @@ class Winning:
         ]
         # The numbers of the sheets that the pieces are of.
         self._numbers = [number for number, _ in parts]
-        self._sheets = library.SheetArrays(
+        sheet_arrays = library.SheetArrays(
             [text for _, text in parts],
             words,
             [ORIGINS[origins[number]] for number in self._numbers],
@@ -155,6 +156,8 @@ class Winning:
                 for number in self._numbers
             ],
         )
+        # Which rules are read does not depend on what the namespaces are.
+        self._sheets = sheet_arrays.with_namespaces([library.encode(HTML_SPACE)])
         self._size = sum(len(text) for _, text in parts)
         self._limit = limit
         self.rules = list(self._read([each[0] for each in sheets], limit))

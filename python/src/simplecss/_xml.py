@@ -5,6 +5,7 @@ from __future__ import annotations
 from typing import Dict, List, NamedTuple, Optional, Tuple
 
 from ._patterns import pattern
+from ._spaced import Attributes, SpacedAttribute
 from ._words import lower
 
 # How many characters entities may add to a document, and attributes of their own beside those that
@@ -27,14 +28,16 @@ class XmlError(ValueError):
 
 
 class XmlTag:
-    """An element: its local name, its attributes by local names, its parent's index or -1, where
-    its start tag begins and ends, and where the element ends, as offsets in the text.
+    """An element: its local name, its attributes by local names, and as they are if some are in
+    namespaces, its parent's index or -1, where its start tag begins and ends, and where the element
+    ends, as offsets in the text.
     """
 
     __slots__ = (
         "name",
         "prefix",
         "attributes",
+        "spaced",
         "parent",
         "row",
         "column",
@@ -51,6 +54,7 @@ class XmlTag:
         self.prefix = prefix
         self.space = space
         self.attributes: Dict[str, str] = {}
+        self.spaced: Optional[Attributes] = None
         self.parent = parent
         self.row = self.column = 0
         self.start = self.inner = self.inner_end = self.end = 0
@@ -164,14 +168,20 @@ class _Reader:
         tag.inner = tag.inner_end = tag.end = found.end() if found else tag.start
         tag.row = self.parser.CurrentLineNumber
         tag.column = self.parser.CurrentColumnNumber + 1
-        spaced: Dict[str, str] = {}
+        spaced: List[SpacedAttribute] = []
         for key, value in zip(attributes[::2], attributes[1::2]):
             key_space, key_name, _ = _cut(key)
             self.room -= 1 + len(value)
-            (spaced if key_space else tag.attributes)[key_name] = value
+            if key_space:
+                key_space = self.spaces.setdefault(key_space, key_space)
+                spaced.append((key_space, key_name, value))
+            else:
+                tag.attributes[key_name] = value
         if self.room < 0:
             raise self._refused(f"attributes without a text add more than {_MOST_ADDED} characters")
-        for key, value in spaced.items():
+        if spaced:
+            tag.spaced = Attributes(tag.attributes.copy(), spaced).with_language()
+        for key, value in {name: value for _, name, value in spaced}.items():
             tag.attributes.setdefault(key, value)
         tag.is_link = local in ("a", "area") and "href" in tag.attributes and space in _LINK_SPACES
         self.open.append(len(self.tags))
