@@ -6,7 +6,7 @@ import { deviceOf } from './device.mjs';
 import { lower, readBlock, readSheet } from './reading.mjs';
 import { partsOf } from './resolving.mjs';
 import { wordsOf } from './sheet.mjs';
-import { MODERN, NUMBERS } from './tree.mjs';
+import { MODERN, refusal } from './tree.mjs';
 import { openedIn, pseudoNames, tokens } from './tokens.mjs';
 
 // The at-rules whose blocks have declarations; within a rule of elements, further ones; and those whose blocks have rules,
@@ -266,7 +266,7 @@ function preludeOf(text) {
 
 /** Whether a list of selectors is refused for a name. */
 function isOfOthers(head) {
-  const reason = call('refusal', [encode(head), NUMBERS[MODERN]]);
+  const reason = refusal(head, MODERN);
   return NAME_REFUSED.some(words => reason.endsWith(words));
 }
 

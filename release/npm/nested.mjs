@@ -50,6 +50,11 @@ function openIn({ block, head, depth }, { kind, offset, end, prelude, condition 
     : { block: { span, parents, conditions: [...conditions, condition] }, head, depth: depth + 1 };
 }
 
+/** Returns the block of a style rule that is in no other. */
+function blockOf({ head, span, levels }) {
+  return { span: [head[1], span[1]], parents: [], conditions: conditionsOf(levels) };
+}
+
 /** Yields the blocks of these rules, which are in order, and of those in them. */
 function* blocksIn(source, rules) {
   const open = [];
@@ -61,8 +66,7 @@ function* blocksIn(source, rules) {
     else if (edge.kind === BEGINS_STYLE) {
       while (rules[next]?.span[1] < edge.offset) next += 1;
       const rule = rules[next], isOne = rule?.span[0] <= edge.offset;
-      const block = isOne ? { span: [rule.head[1], rule.span[1]], parents: [], conditions: conditionsOf(rule.levels) } : null;
-      open.push({ block, head: edge.prelude, depth: 0 });
+      open.push({ block: isOne ? blockOf(rule) : null, head: edge.prelude, depth: 0 });
     } else open.push(null);
     if (edge.kind !== ENDS && open.at(-1)?.block) yield open.at(-1).block;
   }
@@ -75,6 +79,13 @@ function* blocksIn(source, rules) {
 export function blocksOf({ source, statements }) {
   const rules = statements.filter(each => each.kind === 'rule' && each.items.some(isRule));
   return rules.length ? [...blocksIn(source, rules)] : [];
+}
+
+/** Returns the blocks of all style rules of a sheet, of which some have rules in them. */
+export function everyBlock({ statements, blocks }) {
+  const known = new Set(blocks.map(each => each.span[0]));
+  const others = statements.filter(each => each.kind === 'rule').map(blockOf).filter(each => !known.has(each.span[0]));
+  return [...blocks, ...others].sort((a, b) => a.span[0] - b.span[0]);
 }
 
 /** The innermost of blocks at offsets that do not fall. */

@@ -1,7 +1,7 @@
 // Selectors and style sheets: which rules match the elements of a tree, and which declarations win on them.
 import { holds } from './device.mjs';
 import { Lines, LimitError, call, decode, encode, expectText, joined, limited, rowsOf } from './library.mjs';
-import { Places, blocksOf } from './nested.mjs';
+import { Places, blocksOf, everyBlock } from './nested.mjs';
 import { conditionsOf, readSheet, Source } from './reading.mjs';
 import { decoded, originating, pseudoNames } from './tokens.mjs';
 import { NUMBERS, PORT, SelectorError, Tree, grammarOf, matches, selected } from './tree.mjs';
@@ -117,8 +117,14 @@ export class StyleSheet {
   #contentsOfModern() {
     const read = this.#statements();
     this.#checkLimit();
-    const nested = read.some(({ blocks }) => blocks.length) ? [...this.#nestedRules()] : [];
-    const { rules, unsupported } = rulesOf(read, new Set(nested.map(each => each.block)));
+    const spaced = new Set([...read.keys()].filter(sheet => read[sheet].statements.some(isNamespace)));
+    const blocks = read.map((each, sheet) => spaced.has(sheet) ? everyBlock(each) : each.blocks);
+    const nested = blocks.some(each => each.length) ? [...this.#placedRules(blocks)] : [];
+    const supported = new Set(nested.map(each => `${each.block} ${each.text}`));
+    // Of a rule without declarations the library does not say whether it knows its namespaces.
+    const isKnown = ({ declarations, sheet }, block, text) => (
+      spaced.has(sheet) && declarations.length === 0 || supported.has(`${block} ${text}`));
+    const { rules, unsupported } = rulesOf(read, new Set(nested.map(each => each.block)), isKnown);
     const every = [...rules, ...nested].sort(inOrder), starts = new Set(nested.map(each => each.start)), places = new Map();
     every.forEach(({ start }, index) => {
       if (starts.has(start)) places.set(start, [...places.get(start) ?? [], index]);
@@ -128,17 +134,17 @@ export class StyleSheet {
   }
 
   /**
-   * Yields the rules of style rules with rules in them, as they stand in the texts: where the declarations of each are, where its
-   * block is, and the rule.
+   * Yields the rules of these blocks, as they stand in the texts: where the declarations of each are, where its block is, and the
+   * rule. They are those of style rules with rules in them, and all of texts that declare namespaces.
    */
-  * #nestedRules() {
+  * #placedRules(blocks) {
     const every = new Winning(this.#statements(), () => true, this.#limit), texts = every.texts();
     const found = every.rules.map((rule, index) => ({ ...rule, text: texts[index] }));
     found.sort((a, b) => a.sheet - b.sheet || a.start - b.start);
-    const places = this.#statements().map(({ blocks }) => new Places(blocks));
+    const places = blocks.map(each => new Places(each));
     for (const each of found) {
       const block = places[each.sheet].at(each.start);
-      if (block) yield placedRule(each.sheet, each.start, block.span[0], nestedRule(each, block));
+      if (block) yield { ...placedRule(each.sheet, each.start, block.span[0], nestedRule(each, block)), text: each.text };
     }
   }
 
@@ -221,7 +227,7 @@ export class StyleSheet {
     return this.#counted(plain.map((each, index) => [...each, ...others[index]].sort((a, b) => a - b)));
   }
 
-  /** Yields for each element the indices of the rules that match it of style rules with rules in them. */
+  /** Yields for each element the indices of the rules that match it of those that the library places. */
   * #nestedOn(elements, media) {
     const winning = this.#winning(media), taken = new Map();
     const kept = winning.rules.map(({ sheet, start }) => {
@@ -295,17 +301,22 @@ function inOrder(one, other) {
   return a[0] - b[0] || a[1] - b[1] || a[2] - b[2] || one.sheet - other.sheet || one.at - other.at;
 }
 
-/** Returns the rules of rule sets, of those whose blocks are not among these, and the unsupported ones of all. */
-function rulesOf(read, blocks) {
+/** Whether a statement may declare a namespace. */
+const isNamespace = ({ kind, rule }) => kind === 'at-rule' && rule.name === 'namespace';
+
+/** Returns the rules of rule sets, of those whose blocks are not among these, and the unsupported ones of all that are not known. */
+function rulesOf(read, blocks, isKnown) {
   const rules = [], unsupported = [];
   const sets = read.flatMap(({ statements }, sheet) => (
     statements.filter(each => each.kind === 'rule').map(set => ({ ...set, sheet }))));
-  for (const { selectors, declarations, levels, head: [, start], sheet } of sets) {
-    const conditions = conditionsOf(levels);
+  for (const set of sets) {
+    const { selectors, declarations, levels, head: [, start], sheet } = set;
+    const conditions = conditionsOf(levels), block = placeOf(sheet, start);
     for (const { text, front, specificity, pseudoElement } of selectors) {
       const rule = { selector: front, specificity, declarations, conditions, pseudoElement, parents: [] };
-      if (specificity === null) unsupported.push({ selector: text, declarations, conditions });
-      else if (!blocks.has(placeOf(sheet, start))) rules.push(placedRule(sheet, start, start, rule));
+      if (specificity === null) {
+        if (!isKnown(set, block, text)) unsupported.push({ selector: text, declarations, conditions });
+      } else if (!blocks.has(block)) rules.push(placedRule(sheet, start, start, rule));
     }
   }
   return { rules, unsupported };

@@ -20,7 +20,10 @@ const WITHOUT_CASE = new Set((
   + ' disabled enctype face frame hreflang http-equiv lang language link media method multiple nohref noresize noshade'
   + ' nowrap readonly rel rev rules scope scrolling selected shape target text type valign valuetype vlink').split(' '));
 const CASELESS = new Map([[HTML, WITHOUT_CASE], [QUIRKS, new Set([...WITHOUT_CASE, 'class', 'id'])]]);
-const SPACE_OF_HTML = 'http://www.w3.org/1999/xhtml', SPACE_OF_SVG = 'http://www.w3.org/2000/svg';
+export const SPACE_OF_HTML = 'http://www.w3.org/1999/xhtml';
+// How many namespaces the library knows in sheets. The number after them is of those that no element is in.
+const MOST_KNOWN = 1024;
+const SPACE_OF_SVG = 'http://www.w3.org/2000/svg', SPACE_OF_XML = 'http://www.w3.org/XML/1998/namespace';
 // Kinds of nodes of a DOM.
 const IS_ELEMENT = 1, IS_TEXT = 3, IS_CDATA = 4, IS_DOCUMENT = 9, IS_FRAGMENT = 11;
 // How many numbers of what wins on an element there is room for at first.
@@ -52,13 +55,27 @@ function namespacesOf({ namespaces, grammar } = {}) {
   return [...textsOf(namespaces)];
 }
 
-/** Returns what a call for a list of selectors writes. A list that is refused is an error. */
-export function selected(name, text, grammar, words, options) {
+/** Returns what a call for a list of selectors writes, which are read with the names of a tree. A list that is refused is an error. */
+export function selected(name, text, grammar, words, options, tree) {
   const written = call(name, words, options);
   if (written !== null) return written;
-  if (options.hasPrefixes) throw new SelectorError('no selectors, or a prefix that is not declared', 1, 1);
-  const [row, column, ...reason] = (call('refusal', [encode(text), NUMBERS[grammar]]) || '1 1 refused').split(' ');
+  const [row, column, ...reason] = (refusal(text, grammar, tree) || '1 1 refused').split(' ');
   throw new SelectorError(reason.join(' '), Number(row), Number(column));
+}
+
+/** Returns the row, the column and the reason of why a text is no list of selectors, where a tree declares names. */
+export function refusal(text, grammar, tree = treeOf([], [])) {
+  return call('refusal', [encode(text), NUMBERS[grammar], tree], { hasTree: true });
+}
+
+/** Returns a tree as calls of the library take it: four numbers of each element, two of each attribute in a namespace, the strings
+ * of all, names of states, and prefixes with the numbers of their namespaces. */
+function treeOf(shapes, strings, places = [], states = [], prefixes = []) {
+  const elements = Object.assign(sizes(shapes), { count: shapes.length / 4 });
+  const attributes = Object.assign(sizes(places), { count: places.length / 2 });
+  const all = [...strings, ...states, ...prefixes.map(([prefix]) => prefix)];
+  const numbers = sizes(prefixes.map(([, number]) => number));
+  return { arrays: [elements, ...joined(all), attributes, BigInt(states.length), numbers] };
 }
 
 /** An element of a tree. */
@@ -111,11 +128,14 @@ export class Element {
 class Elements {
   names = [];
   attributes = [];
+  // Of each element with attributes in namespaces: `plain` are those in none, and `spaced` the namespace, the local name and the
+  // value of each other one.
+  spacedAttributes = new Map();
   // The indices of the parents, and -1 of an element without one.
   parents = [];
   depths = [];
   states = [];
-  // The namespace of each, and nothing of an element in none.
+  // The namespace of each, and nothing of an element in none. That of one of HTML may not be known.
   spaces = [];
   places = [];
   nodes = [];
@@ -134,7 +154,7 @@ class Elements {
     this.parents.push(parent);
     this.depths.push(parent < 0 ? 0 : this.depths[parent] + 1);
     this.states.push(states);
-    this.spaces.push(space ?? '');
+    this.spaces.push(space === undefined && this.reading !== AS_WRITTEN ? SPACE_OF_HTML : space ?? '');
     this.places.push(place);
     if (node) this.nodes.push(node);
     this.#texts.push(hasText);
@@ -173,8 +193,7 @@ class Elements {
     const tree = namespaces ? this.#spaced(namespaces) : known;
     const isScoped = scope !== undefined && grammar === MODERN && mayNameScope(selectors);
     if (isScoped || namespaces) {
-      const words = [bytes, number, isScoped ? withScope(tree, scope) : tree];
-      return this.#find(selectors, grammar, words, namespaces?.length > 0);
+      return this.#find(selectors, grammar, [bytes, number, isScoped ? withScope(tree, scope) : tree]);
     }
     const key = `${grammar} ${selectors}`;
     if (!this.#answers.has(key)) {
@@ -184,9 +203,10 @@ class Elements {
     return this.#answers.get(key);
   }
 
-  #find(selectors, grammar, words, hasPrefixes = false) {
-    const options = { room: 1024 + 8 * this.names.length, hasTree: true, hasPrefixes };
-    const numbers = selected('select', selectors, grammar, [...words, NO_LIMIT], options).split('\n').slice(0, -1);
+  #find(selectors, grammar, words) {
+    const options = { room: 1024 + 8 * this.names.length, hasTree: true };
+    const written = selected('select', selectors, grammar, [...words, NO_LIMIT], options, words.at(-1));
+    const numbers = written.split('\n').slice(0, -1);
     return new Set(numbers.map(number => number - 1));
   }
 
@@ -234,22 +254,42 @@ class Elements {
     return this.#spacedArrays.tree;
   }
 
+  /** The namespaces of elements and attributes that the library may know in sheets, in the order of their numbers from 1 on. */
+  get namespaces() {
+    return [...this.#spaceNumbers().keys()].slice(1, 1 + MOST_KNOWN);
+  }
+
+  /** Returns the numbers of namespaces. That of no namespace is 0, that of HTML 1. */
+  #spaceNumbers() {
+    const spaced = [...this.spacedAttributes.values()].flatMap(each => each.spaced.map(([space]) => space));
+    const every = [...new Set(['', SPACE_OF_HTML, ...this.spaces, ...spaced])];
+    return new Map(every.map((space, number) => [space, number > MOST_KNOWN ? number + 1 : number]));
+  }
+
   #makeArrays(grammar, namespaces = []) {
-    const spaces = new Map([...new Set(['', ...this.spaces])].map((space, number) => [space, number]));
+    const spaces = this.#spaceNumbers();
     const shapes = [], strings = [], named = this.#namedStates(), numbers = { ...STATES };
     named.forEach((state, at) => { numbers[state] = FIRST_NAMED * 2 ** at; });
     this.names.forEach((name, index) => {
-      const attributes = [...this.#compared(this.attributes[index], grammar)];
+      const plain = grammar === MODERN && this.spacedAttributes.get(index)?.plain;
+      const attributes = [...this.#compared(plain || this.attributes[index], grammar)];
       const states = this.states[index].reduce((sum, state) => sum + numbers[state], this.#texts[index] ? HAS_TEXT : 0);
       shapes.push(this.depths[index], attributes.length, states, spaces.get(this.spaces[index]));
-      strings.push(this.reading === AS_WRITTEN ? name : lower(name));
+      strings.push(this.#comparedName(name));
       for (const [key, value] of attributes) strings.push(key, value);
     });
-    const elements = Object.assign(sizes(shapes), { count: this.names.length });
+    const places = [];
+    for (const [index, { spaced }] of grammar === MODERN ? this.spacedAttributes : []) {
+      places.push(...spaced.flatMap(([space]) => [index, spaces.get(space)]));
+      strings.push(...spaced.flatMap(([, name, value]) => [this.#comparedName(name), value]));
+    }
     // One that no element is in has a number of none.
-    const prefixes = sizes(namespaces.map(([, space]) => spaces.get(space) ?? spaces.size));
-    const all = [...strings, ...named, ...namespaces.map(([prefix]) => prefix)];
-    return { arrays: [elements, ...joined(all), BigInt(named.length), prefixes] };
+    const prefixes = namespaces.map(([prefix, space]) => [prefix, spaces.get(space) ?? spaces.size + 1]);
+    return treeOf(shapes, strings, places, named, prefixes);
+  }
+
+  #comparedName(name) {
+    return this.reading === AS_WRITTEN ? name : lower(name);
   }
 
   /** Returns the names of states that elements are in and the library does not number. */
@@ -328,6 +368,7 @@ export class Tree {
       isText: node => (node.nodeType === IS_TEXT || node.nodeType === IS_CDATA) && node.data !== '',
       nameOf: node => node.localName,
       attributesOf: node => isHTML ? Array.from(node.attributes, each => [each.name, each.value]) : localAttributes(node),
+      spacedOf: node => Array.from(node.attributes, each => [each.namespaceURI, each.localName, each.value]),
       placeOf: () => undefined,
     });
   }
@@ -341,12 +382,13 @@ export class Tree {
       isText: node => node.nodeName === '#text' && node.value !== '',
       nameOf: node => node.tagName,
       attributesOf: node => node.attrs.map(({ prefix, name, value }) => [prefix ? `${prefix}:${name}` : name, value]),
+      spacedOf: node => node.attrs.map(({ namespace, name, value }) => [namespace, name, value]),
       placeOf: ({ sourceCodeLocation: place }) => place && { row: place.startLine, column: place.startCol },
     });
   }
 
   /** Takes the elements of nodes. */
-  static #taken(root, reading, { isElement, isText, nameOf, attributesOf, placeOf }) {
+  static #taken(root, reading, { isElement, isText, nameOf, attributesOf, spacedOf, placeOf }) {
     const tree = new Tree(), elements = tree.#elements;
     elements.reading = reading;
     const waiting = [[root, -1]];
@@ -361,6 +403,8 @@ export class Tree {
           name, attributes, parent, states, space: node.namespaceURI, place: placeOf(node), node,
           hasText: children.some(isText),
         });
+        const spaced = spacedAttributes(spacedOf(node), reading);
+        if (spaced) elements.spacedAttributes.set(index, spaced);
       }
       for (const child of children.reverse()) if (isElement(child)) waiting.push([child, index]);
     }
@@ -428,6 +472,17 @@ function localAttributes(node) {
   const own = Array.from(node.attributes, each => [each.localName, each.value, each.namespaceURI]);
   const names = new Set(own.filter(each => !each[2]).map(each => each[0]));
   return own.filter(each => !each[2] || !names.has(each[0]));
+}
+
+/** Returns the attributes in no namespace and the others, if there are others. In XML, that of the language is the `lang` that
+ * `:lang()` tests, too. */
+function spacedAttributes(all, reading) {
+  const spaced = all.filter(([space]) => space);
+  if (spaced.length === 0) return null;
+  const plain = new Map(all.filter(([space]) => !space).map(([, name, value]) => [name, value]));
+  const language = spaced.find(([space, name]) => space === SPACE_OF_XML && name === 'lang');
+  if (reading === AS_WRITTEN && language && !plain.has('lang')) plain.set('lang', language[2]);
+  return { plain, spaced };
 }
 
 function isLink(name, space, attributes) {

@@ -2,6 +2,7 @@
 import { holds } from './device.mjs';
 import { call, decode, encode, joined, joinedBytes, limited, mostWritten, sizes } from './library.mjs';
 import { conditionsOf, declared } from './reading.mjs';
+import { SPACE_OF_HTML } from './tree.mjs';
 
 // How many numbers the library writes of a rule before those of its declarations, of each of these, and of one that wins.
 const OF_RULE = 9, OF_DECLARATION = 6, OF_WINNER = 2;
@@ -27,6 +28,7 @@ function asked(media) {
 
 /** The rules of sheets that apply, in the order of the cascade, and what wins of these. */
 export class Winning {
+  #arrays;
   #sheets;
   #limit;
   #size;
@@ -42,7 +44,9 @@ export class Winning {
     this.#limit = limit;
     // A sheet without an origin is the author's, and one without a depth is in no group rule.
     const none = [sizes([]), sizes([])], words = pairs.flat().map(encode);
-    this.#sheets = { arrays: [...joinedBytes(texts), sizes([]), ...joinedBytes(words), ...none] };
+    this.#arrays = [...joinedBytes(texts), sizes([]), ...joinedBytes(words), ...none];
+    // Which rules are read does not depend on what the namespaces are.
+    this.#sheets = this.#sheetsOn([SPACE_OF_HTML]);
     /**
      * The rules: the number of the sheet of each, where its declarations begin there, these, its specificity, and how many bytes
      * the text of its selector has and the pseudo-element at the end of that.
@@ -64,6 +68,11 @@ export class Winning {
     }
   }
 
+  /** Returns the sheets as calls take them, where elements are in these namespaces. */
+  #sheetsOn(namespaces) {
+    return { arrays: [...this.#arrays, ...joined(namespaces)] };
+  }
+
   #numbers() {
     return call('rules', [this.#sheets, limited(this.#limit)], { room: 1024 + this.#size, isNumbers: true });
   }
@@ -81,7 +90,7 @@ export class Winning {
    * are an error.
    */
   * matching(elements, limit) {
-    const numbers = elements.numbers('matches', this.#sheets, [], 1, limit);
+    const numbers = elements.numbers('matches', this.#sheetsOn(elements.namespaces), [], 1, limit);
     for (let at = 0, end; at < numbers.length; at = end) {
       end = at + 1 + numbers[at];
       yield numbers.slice(at + 1, end);
@@ -90,7 +99,8 @@ export class Winning {
 
   /** Returns what wins on each element, in the order of the cascade. More declarations than `limit` are an error. */
   on(elements, limit) {
-    const numbers = elements.numbers('winners', this.#sheets, [{ arrays: joined([]) }], OF_WINNER, limit);
+    const sheets = this.#sheetsOn(elements.namespaces), own = { arrays: joined([]) };
+    const numbers = elements.numbers('winners', sheets, [own], OF_WINNER, limit);
     const found = [];
     for (let at = 0; at < numbers.length;) {
       const end = at + 1 + OF_WINNER * numbers[at], winners = [];
