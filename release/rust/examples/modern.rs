@@ -4,7 +4,9 @@
 //!     cargo run --features modern --example modern < picture.svg
 
 use simplecss::modern::{declarations, is_in_range};
-use simplecss::modern::{Declaration, Declarations, Element, Item, Keyed, Rule, Sheet};
+use simplecss::modern::{
+    Declaration, Declarations, Element, Item, Keyed, NamespacedAttribute, Rule, Sheet,
+};
 use std::collections::HashMap;
 use std::io::Read;
 
@@ -75,6 +77,13 @@ impl Element for XmlNode<'_, '_> {
 
     fn attribute(&self, name: &str) -> Option<&str> {
         self.node.attribute(name)
+    }
+
+    /// No selector declares a namespace, so all of them have one number.
+    fn namespaced_attribute(&self, index: usize) -> Option<NamespacedAttribute<'_>> {
+        let mut attributes = self.node.attributes().filter(|it| it.namespace().is_some());
+        let found = attributes.nth(index)?;
+        Some(NamespacedAttribute { namespace: 1, name: found.name(), value: found.value() })
     }
 
     /// A drawing that is not on a screen has no states.

@@ -41,7 +41,9 @@ use alloc::vec::Vec;
 use core::fmt;
 
 pub use crate::erased::css_index::Keyed;
-pub use crate::erased::css_selectors::{Element, Key, Names, Nesting, Prefix, Specificity, NO_NAMES};
+pub use crate::erased::css_selectors::{
+    Element, Key, NamespacedAttribute, Names, Nesting, Prefix, Specificity, NO_NAMES,
+};
 pub use crate::erased::css_styles::{Own, Source, Winner};
 pub use crate::erased::css_syntax::{
     AtRule, Block, Declaration, Declarations, Fault, Item, ListPart, Prelude, Quality,
@@ -209,10 +211,33 @@ impl<'a> Sheet<'a> {
         most: usize,
         holds: impl Fn(&str, &str) -> bool,
     ) -> Result<Self, SheetError> {
+        Sheet::read_in(text, &[], most, holds)
+    }
+
+    /// Reads a sheet with the namespaces of these urls. The first has number 1. Selectors are read with what the
+    /// sheet's `@namespace` rules declare. If no url is given, or more than 1,024, a rule with a prefix has no
+    /// selectors that are supported, and a default namespace changes nothing. Else it reads as
+    /// [`Sheet::read_limited`] does.
+    ///
+    /// ```
+    /// use simplecss::modern::Sheet;
+    ///
+    /// let text = "@namespace svg 'http://www.w3.org/2000/svg'; svg|a { b: c } html|a { d: e }";
+    /// let known = ["http://www.w3.org/2000/svg"];
+    /// let sheet = Sheet::read_in(text, &known, 1_000, |_, _| true).unwrap();
+    /// assert_eq!(sheet.rules().map(|rule| rule.text()).collect::<Vec<_>>(), ["svg|a"]);
+    /// ```
+    pub fn read_in(
+        text: &'a str,
+        namespaces: &[&str],
+        most: usize,
+        holds: impl Fn(&str, &str) -> bool,
+    ) -> Result<Self, SheetError> {
         let sheet = css_sheet::Sheet {
             text: within(text),
             origin: css_cascade::Origin::Author,
             around: &[],
+            namespaces,
         };
         match css_styles::StyleRules::read(Global, &[sheet], most, holds) {
             Err(css_sheet::SheetError::TooManyDeclarations) => Err(SheetError::TooManyDeclarations),
@@ -425,7 +450,27 @@ impl<'p, 't> Document<'p, 't> {
     /// Says which namespaces the elements are in, each by its number. The number of no namespace is 0, and
     /// elements after the last of these are in none.
     pub fn set_namespaces(&mut self, namespaces: Vec<usize>) {
-        self.0.set_namespaces(crate::rattle_std::vec::Vec(namespaces));
+        done(self.0.set_namespaces(Global, crate::rattle_std::vec::Vec(namespaces)));
+    }
+
+    /// Names the attributes in namespaces of each element. The tree has the others. Elements after the last of
+    /// these have none.
+    ///
+    /// ```
+    /// use simplecss::modern::{Document, NamespacedAttribute, Selector};
+    /// use simplecss::tree::Tree;
+    ///
+    /// let mut tree = Tree::new();
+    /// let link = tree.push(None, "a").unwrap();
+    /// let mut document = Document::new(&tree);
+    /// let href = NamespacedAttribute { namespace: 1, name: "href", value: "#b" };
+    /// document.set_namespaced_attributes(vec![vec![href]]);
+    /// let matches = |text| Selector::parse(text).unwrap().matches(&document.node(link).unwrap());
+    /// assert_eq!([matches("[*|href='#b']"), matches("[href]")], [true, false]);
+    /// ```
+    pub fn set_namespaced_attributes(&mut self, attributes: Vec<Vec<NamespacedAttribute<'p>>>) {
+        let each = attributes.into_iter().map(crate::rattle_std::vec::Vec);
+        self.0.set_namespaced_attributes(crate::rattle_std::vec::Vec(each.collect()));
     }
 
     /// Names states, such as `target` or `dir(ltr)`, each with whether each element is in it. Names of states
