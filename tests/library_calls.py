@@ -34,7 +34,8 @@ class TreeFault(ctypes.Structure):
 
 
 class TreeArrays(ctypes.Structure):
-    """A tree: its elements, its strings, and where each ends, each with its length."""
+    """A tree: its elements, its strings, where each ends, and its attributes in namespaces, each with its
+    length; how many states it names; and the numbers of the namespaces of its prefixes."""
 
     _fields_ = [
         ("elements", ctypes.POINTER(SIZE)),
@@ -43,6 +44,8 @@ class TreeArrays(ctypes.Structure):
         ("strings_len", SIZE),
         ("string_ends", ctypes.POINTER(SIZE)),
         ("string_ends_count", SIZE),
+        ("attributes", ctypes.POINTER(SIZE)),
+        ("attributes_count", SIZE),
         ("states_count", SIZE),
         ("prefixes", ctypes.POINTER(SIZE)),
         ("prefixes_count", SIZE),
@@ -57,9 +60,9 @@ class Device(ctypes.Structure):
 
 
 class SheetArrays(ctypes.Structure):
-    """Sheets, and the keyword and the prelude of each group rule that holds: each as texts with their
-    length, and where each ends with how many there are; the numbers of the sheets' origins; and those of
-    the group rules that each is in, with how many these are."""
+    """Sheets, the keyword and the prelude of each group rule that holds, and the urls of namespaces: each as
+    texts with their length, and where each ends with how many there are; the numbers of the sheets'
+    origins; and those of the group rules that each is in, with how many these are."""
 
     _fields_ = [
         ("texts", ctypes.c_char_p),
@@ -76,6 +79,10 @@ class SheetArrays(ctypes.Structure):
         ("around_count", SIZE),
         ("depths", ctypes.POINTER(SIZE)),
         ("depths_count", SIZE),
+        ("namespaces", ctypes.c_char_p),
+        ("namespaces_len", SIZE),
+        ("namespace_ends", ctypes.POINTER(SIZE)),
+        ("namespace_ends_count", SIZE),
     ]
 
 
@@ -114,10 +121,14 @@ def buffer_of(texts: Sequence[bytes]) -> Buffer:
 
 
 def tree_of(
-    *elements: Any, states: Sequence[bytes] = (), prefixes: Sequence[Tuple[bytes, int]] = ()
+    *elements: Any,
+    attributes: Sequence[Tuple[int, int, bytes, bytes]] = (),
+    states: Sequence[bytes] = (),
+    prefixes: Sequence[Tuple[bytes, int]] = (),
 ) -> Tree:
     """The arrays of a tree: each element is a depth, or a depth, states and the number of a
-    namespace, a name, and keys and values. The tree names states and prefixes."""
+    namespace, a name, and keys and values. Each attribute in a namespace is the index of its element,
+    the number of the namespace, a name and a value. The tree names states and prefixes."""
     shapes: List[int] = []
     spaces = []
     for place, _, *fields in elements:
@@ -125,14 +136,17 @@ def tree_of(
         shapes += [depth, len(fields) // 2, own]
         spaces.append(space)
     texts = [string for _, *strings in elements for string in strings]
+    texts += [string for _, _, *strings in attributes for string in strings]
     strings, ends = buffer_of([*texts, *states, *(name for name, _ in prefixes)])
     numbers = [number for _, number in prefixes]
-    return Elements(shapes, len(states), spaces, numbers), strings, ends
+    places = [number for each in attributes for number in each[:2]]
+    return Elements(shapes, len(states), spaces, numbers, places), strings, ends
 
 
 class Elements:
     """The depth, the number of attributes, the states and the namespace of each element, how many
-    states the tree names, and the numbers of the namespaces of its prefixes."""
+    states the tree names, the numbers of the namespaces of its prefixes, and the element and the
+    namespace of each attribute in one."""
 
     def __init__(
         self,
@@ -140,11 +154,13 @@ class Elements:
         states: int = 0,
         spaces: Sequence[int] = (),
         prefixes: Sequence[int] = (),
+        attributes: Sequence[int] = (),
     ) -> None:
         rows = zip(*[iter(shapes)] * 3, itertools.chain(spaces, itertools.repeat(0)))
         self.array = sizes(list(itertools.chain.from_iterable(rows)))
         self.states = states
         self.prefixes = sizes(list(prefixes))
+        self.attributes = sizes(list(attributes))
 
     def __len__(self) -> int:
         return len(self.array) // 4
@@ -155,7 +171,8 @@ def arrays_of(tree: Tree) -> TreeArrays:
     elements, strings, ends = tree
     first, last = (ctypes.cast(each, ctypes.POINTER(SIZE)) for each in (elements.array, ends))
     lengths = len(elements), len(strings), len(ends)
-    more = elements.states, *counted(elements.prefixes)
+    attributes, number = counted(elements.attributes)
+    more = attributes, number // 2, elements.states, *counted(elements.prefixes)
     return TreeArrays(first, lengths[0], strings, lengths[1], last, lengths[2], *more)
 
 
@@ -175,9 +192,10 @@ def sheets_of(
     origins: Sequence[int] = (),
     around: Sequence[int] = (),
     depths: Sequence[int] = (),
+    namespaces: Buffer = (b"", (SIZE * 0)()),
 ) -> SheetArrays:
-    """The structure of sheets and of the group rules that hold."""
-    numbers = (*counted(sizes(around)), *counted(sizes(depths)))
+    """The structure of sheets, of the group rules that hold, and of the urls of namespaces."""
+    numbers = (*counted(sizes(around)), *counted(sizes(depths)), *fields_of(namespaces))
     return SheetArrays(*fields_of(texts), *counted(sizes(origins)), *fields_of(groups), *numbers)
 
 
@@ -273,6 +291,25 @@ SPACES = (
 )
 SPACED = tree_of(*SPACES, states=(b"own",), prefixes=((b"n", 3), (b"s", 2), (b"n", 1)))
 DEFAULT = tree_of(*SPACES, prefixes=((b"", 1), (b"s", 2)))
+# Attributes in namespaces: two elements with two of one name, and a third with one of that name in no namespace,
+# too. Those of the namespace 0, and of an element that is not there, are ignored.
+ATTRIBUTED = tree_of(
+    (0, b"a"),
+    (1, b"b"),
+    (1, b"c", b"k", b"1"),
+    (1, b"d"),
+    attributes=(
+        (1, 1, b"k", b"v w"),
+        (0, 2, b"k", b"x"),
+        (1, 2, b"k", b"y"),
+        (2, 1, b"l", b""),
+        (2, 1, b"k", b"2"),
+        (3, 0, b"k", b""),
+        (4, 1, b"k", b""),
+    ),
+    states=(b"own",),
+    prefixes=((b"n", 1), (b"m", 2), (b"o", 0), (b"p", 3)),
+)
 MODERN, HTML, QUIRKS, PORT = range(4)
 SELECTORS3 = buffer_of(
     (
@@ -322,7 +359,7 @@ SUPPORTS = (
     (b"selector(:not(\xc3\xa9))", b"true"),
     (b"display: grid", b"false"),
 )
-# The calls with a limit on the answer: those on trees, and one on a text.
+# The calls on trees, and those with a limit on the answer.
 WITH_TREE = (
     "simplecss_port_match",
     "simplecss_match_selectors",
@@ -332,8 +369,9 @@ WITH_TREE = (
     "simplecss_winners",
     "simplecss_winners_named",
     "simplecss_matches",
+    "simplecss_refusal",
 )
-LIMITED = (*WITH_TREE, "simplecss_read", "simplecss_rule_texts", "simplecss_values")
+LIMITED = (*WITH_TREE[:-1], "simplecss_read", "simplecss_rule_texts", "simplecss_values")
 RED, BLUE = b"5 3 0\ncolorred\n", b"5 4 1\ncolorblue\n"
 MODERN_SHEET = b"@media x { a, b:not(c), d::before { e: f; g } } h , { } @i;"
 # The numbers of its three statements: a rule in a group rule, with three selectors and two items; a rule
@@ -461,19 +499,19 @@ ANSWERS: Sequence[Tuple[str, Tuple[Any, ...], bytes]] = (
         (b"a, #b", PORT),
         b"a*[id='b']",
     ),
-    ("simplecss_refusal", (b"a, b", PORT), b""),
+    ("simplecss_refusal", (b"a, b", PORT, PAGE), b""),
     (
         "simplecss_refusal",
-        (b"a,\n b:none", PORT),
+        (b"a,\n b:none", PORT, PAGE),
         b"2 3 unknown pseudo-class ':none'",
     ),
     # What follows an unknown pseudo-class is not read.
-    ("simplecss_refusal", (b"a:foo <", PORT), b"1 2 unknown pseudo-class ':foo'"),
-    ("simplecss_refusal", (b"a:foo >", PORT), b"1 2 unknown pseudo-class ':foo'"),
+    ("simplecss_refusal", (b"a:foo <", PORT, PAGE), b"1 2 unknown pseudo-class ':foo'"),
+    ("simplecss_refusal", (b"a:foo >", PORT, PAGE), b"1 2 unknown pseudo-class ':foo'"),
     # A position in an item counts from the start of the list.
-    ("simplecss_refusal", (b"a,\nb, c[d=]", PORT), b"2 8 invalid ident"),
-    ("simplecss_refusal", (b"a, b >", PORT), b"1 7 selector missing"),
-    ("simplecss_refusal", (b"a, b/c", PORT), b"1 5 unexpected text after a selector"),
+    ("simplecss_refusal", (b"a,\nb, c[d=]", PORT, PAGE), b"2 8 invalid ident"),
+    ("simplecss_refusal", (b"a, b >", PORT, PAGE), b"1 7 selector missing"),
+    ("simplecss_refusal", (b"a, b/c", PORT, PAGE), b"1 5 unexpected text after a selector"),
     (
         "simplecss_port_sheet",
         SHEET,
@@ -530,15 +568,15 @@ ANSWERS: Sequence[Tuple[str, Tuple[Any, ...], bytes]] = (
         b"a > bc::BEFOREd:not(.e, #f)",
     ),
     ("simplecss_printed", ("é/*,*/,[b=',']".encode(), HTML), 'é[b=","]'.encode()),
-    ("simplecss_refusal", (b"a, b:nth-child(2n+1) ~ c", MODERN), b""),
+    ("simplecss_refusal", (b"a, b:nth-child(2n+1) ~ c", MODERN, PAGE), b""),
     (
         "simplecss_refusal",
-        (b"a,\n b:nth-child(2x", MODERN),
+        (b"a,\n b:nth-child(2x", MODERN, PAGE),
         b"2 14 `2x` is no An+B",
     ),
     (
         "simplecss_refusal",
-        (b"a,", MODERN),
+        (b"a,", MODERN, PAGE),
         b"1 3 a blank or the end of the text begins no selector",
     ),
     (
@@ -580,6 +618,24 @@ ANSWERS: Sequence[Tuple[str, Tuple[Any, ...], bytes]] = (
     ("simplecss_select", (b"*|*:not(a)", MODERN, DEFAULT), b"2\n3\n4\n5\n"),
     ("simplecss_select", (b":own", MODERN, SPACED), b""),
     ("simplecss_select", (b"a", PORT, SPACED), b"1\n2\n4\n"),
+    ("simplecss_select", (b"[n|k]", MODERN, ATTRIBUTED), b"2\n3\n"),
+    ("simplecss_select", (b"[m|k]", MODERN, ATTRIBUTED), b"1\n2\n"),
+    ("simplecss_select", (b"[*|k]", MODERN, ATTRIBUTED), b"1\n2\n3\n"),
+    ("simplecss_select", (b"[k]", MODERN, ATTRIBUTED), b"3\n"),
+    ("simplecss_select", (b"[|k]", MODERN, ATTRIBUTED), b"3\n"),
+    ("simplecss_select", (b"[o|k]", MODERN, ATTRIBUTED), b"3\n"),
+    ("simplecss_select", (b"[p|k]", MODERN, ATTRIBUTED), b""),
+    ("simplecss_select", (b"[n|k~=w], [*|l]", MODERN, ATTRIBUTED), b"2\n3\n"),
+    ("simplecss_select", (b"[n|k='V W' i], [n|k='1']", MODERN, ATTRIBUTED), b"2\n"),
+    ("simplecss_select", (b"[*|k='1']", MODERN, ATTRIBUTED), b"3\n"),
+    ("simplecss_select", (b"[m|K]", MODERN, ATTRIBUTED), b""),
+    ("simplecss_select", (b"[m|K]", HTML, ATTRIBUTED), b"1\n2\n"),
+    ("simplecss_select", (b":not([*|k])", MODERN, ATTRIBUTED), b"4\n"),
+    ("simplecss_select", (b"[k]", PORT, ATTRIBUTED), b"3\n"),
+    ("simplecss_refusal", (b"s|a, n|*", MODERN, SPACED), b""),
+    ("simplecss_refusal", (b"s|a,\n m|b", MODERN, SPACED), b"2 2 `m` is no declared prefix"),
+    ("simplecss_refusal", (b"[s|a], [m|b]", MODERN, SPACED), b"1 9 `m` is no declared prefix"),
+    ("simplecss_refusal", (b"a", PORT, (Elements([0, 0, 0]), b"\xff", sizes([1]))), b""),
     *(
         ("simplecss_media", (text, device), answer)
         for text, *answers in MEDIA
@@ -623,6 +679,9 @@ BAD_PAGES: Sequence[Tuple[Tree, int, int]] = (
     ((Elements([0, 0, 0], 2), b"a", sizes([1])), 3, 1),
     ((Elements([0, 0, 0], 1), b"abc", sizes([1, 2, 3])), 3, 2),
     ((Elements([0, 0, 0], 1), "aé".encode(), sizes([1, 2])), 3, 1),
+    # An attribute in a namespace with one string, and one with three.
+    ((Elements([0, 0, 0], attributes=[0, 1]), b"ak", sizes([1, 2])), 3, 1),
+    ((Elements([0, 0, 0], attributes=[0, 1]), b"akvw", sizes([1, 2, 3, 4])), 3, 2),
     (tree_of((0, b"a"), (1, b"b", b"k", b"1", b"k", b"2")), 4, 2),
     (tree_of((0, b"a", *[b"k%d" % (n // 2 % 40) for n in range(82)])), 4, 1),
 )
@@ -636,7 +695,7 @@ for _text, _status in ((b"", REFUSED), (b"a:none(b)", REFUSED), (BROKEN, NOT_UTF
         for name, each in itertools.product(("list", "printed"), _GRAMMARS)
     ]
     FAILURES += [("simplecss_port_selector", (_text,), _status)]
-FAILURES += [("simplecss_refusal", (BROKEN, each), NOT_UTF8) for each in _GRAMMARS]
+FAILURES += [("simplecss_refusal", (BROKEN, each, PAGE), NOT_UTF8) for each in _GRAMMARS]
 FAILURES += [
     (f"simplecss_{name}", (BROKEN,), NOT_UTF8)
     for name in (
@@ -646,11 +705,12 @@ FAILURES += [
 ]
 FAILURES += [("simplecss_decode", (BROKEN, each), NOT_UTF8) for each in (0, 1)]
 # What is no grammar is refused before anything else.
-FAILURES += [(f"simplecss_{name}", (BROKEN, 4), REFUSED) for name in ("list", "printed", "refusal")]
+FAILURES += [(f"simplecss_{name}", (BROKEN, 4), REFUSED) for name in ("list", "printed")]
+FAILURES += [("simplecss_refusal", (BROKEN, 4, PAGE), REFUSED)]
 FAILURES += [("simplecss_print", (b"a{}", 2), REFUSED), ("simplecss_print", (BROKEN, 0), NOT_UTF8)]
 FAILURES += [("simplecss_close", (value,), REFUSED) for value in UNCLOSED]
 FAILURES += [
-    ("simplecss_select", (text, MODERN, SPACED), REFUSED) for text in (b"m|a", b"[n|a]", b"N|a")
+    ("simplecss_select", (text, MODERN, SPACED), REFUSED) for text in (b"m|a", b"[m|a]", b"N|a")
 ]
 FAILURES += [
     ("simplecss_media", (BROKEN, SCREEN), NOT_UTF8),
@@ -719,6 +779,25 @@ _AROUND = sheets_of(
     (0, 0, 0, 1, 2, 9, 2),
     (1, 0, 1, 3, 1),
 )
+# Sheets that declare namespaces, of which one is not known; the rules of the same where none is; and a page whose
+# elements have attributes in namespaces.
+_DECLARED = buffer_of(
+    (
+        b"@namespace url(u);@namespace n'v';@namespace m 'w';"
+        b"a{c:1}n|b{c:2}m|*{c:3}[n|k]{c:4}*|*{c:5}q|a{c:6}",
+        b"b{c:7}n|b{c:8}",
+    )
+)
+_KNOWN = sheets_of(_DECLARED, _NO_GROUPS, namespaces=buffer_of((b"u", b"v")))
+_UNKNOWN = sheets_of(_DECLARED, _NO_GROUPS)
+_KNOWN_PAGE = tree_of(
+    ((0, 0, 1), b"a"),
+    ((1, 0, 2), b"a"),
+    ((1, 0, 2), b"b"),
+    ((1, 0, 0), b"a"),
+    ((1, 0, 1), b"b"),
+    attributes=((4, 2, b"k", b""), (2, 2, b"k", b"")),
+)
 NO_OWN = own_of()
 # Of the second element: its attribute, and its presentation declarations.
 _OWN = own_of(b"", b"", b"B:x;y:z", b"b:v;f:w;u:v!important")
@@ -746,6 +825,11 @@ for _texts, _status in (
         FAILURES += [
             ("simplecss_rules", (_sheets, 2), _status),
             ("simplecss_winners", (_sheets, HTML, 2, PAGE, NO_OWN), _status),
+        ]
+        _sheets = sheets_of(_NO_GROUPS, _NO_GROUPS, namespaces=_texts)
+        FAILURES += [
+            ("simplecss_rules", (_sheets, 2), _status),
+            ("simplecss_matches", (_sheets, HTML, 2, PAGE), _status),
         ]
         _own, _asked = OwnArrays(*fields_of(_texts)), AskedArrays(*fields_of(_texts))
         FAILURES += [
@@ -855,6 +939,36 @@ NUMBERS: Sequence[Tuple[str, Tuple[Any, ...], Sequence[Sequence[int]]]] = (
         (_NESTED, HTML, NO_LIMIT, PAGE),
         ((0,), (5, 0, 2, 3, 4, 5), (4, 0, 2, 3, 4)),
     ),
+    # The rules are `m|*`, `*|*`, `a`, `n|b`, `b` and `[n|k]`; without namespaces `*|*`, `a` and `b`.
+    (
+        "simplecss_matches",
+        (_KNOWN, MODERN, NO_LIMIT, _KNOWN_PAGE),
+        ((2, 1, 2), (1, 1), (3, 1, 3, 4), (1, 1), (3, 1, 4, 5)),
+    ),
+    (
+        "simplecss_matches",
+        (_UNKNOWN, MODERN, NO_LIMIT, _KNOWN_PAGE),
+        ((2, 0, 1), (2, 0, 1), (2, 0, 2), (2, 0, 1), (2, 0, 2)),
+    ),
+    (
+        "simplecss_winners",
+        (_KNOWN, MODERN, NO_LIMIT, _KNOWN_PAGE, NO_OWN),
+        ((1, 2, 0), (1, 1, 0), (1, 4, 0), (1, 1, 0), (1, 5, 0)),
+    ),
+    (
+        "simplecss_read",
+        (b"@namespace n 'u';n|a,b{c:d}m|a{}[n|k]{}",),
+        (
+            (2, 0, 17, 1, 1, 9, 11, 5, 0, 0, 0, 0, 0),
+            (3, 17, 10, 1, 17, 5, 23, 3, 0, 0, 0, 18, 10),
+            (17, 3, 0, 0, 0, 0, 20, 20, 0),
+            (21, 1, 1, 0, 0, 1, 22, 22, 0),
+            (0, 23, 3, 1, 23, 1, 25, 1, 0, 0),
+            (11, 27, 5, *[0] * 10),
+            (3, 32, 7, 1, 32, 5, 38, 0, 0, 0, 0, 9, 0),
+            (32, 5, 0, 0, 0, 0, 37, 37, 0),
+        ),
+    ),
     ("simplecss_read", (MODERN_SHEET,), MODERN_NUMBERS),
     ("simplecss_read", ("é{é:é".encode(),), BYTES_NUMBERS),
     (
@@ -903,6 +1017,8 @@ FAILURES += [
     ("simplecss_match_selectors", (*buffer_of((b"a,b",)), MODERN, PAGE), REFUSED),
     ("simplecss_match_selectors", (*buffer_of((b"a",)), 4, PAGE), REFUSED),
     ("simplecss_match_selectors", (*buffer_of((b"a",)), MODERN, _BROKEN_PAGE), NOT_UTF8),
+    ("simplecss_refusal", (b"a", MODERN, _BROKEN_PAGE), NOT_UTF8),
+    ("simplecss_refusal", (b"a", HTML, _BROKEN_PAGE), NOT_UTF8),
     ("simplecss_select", (b"a", 4, PAGE), REFUSED),
     ("simplecss_select", (BROKEN, 4, _BROKEN_PAGE), REFUSED),
     ("simplecss_select", (b"a,", MODERN, PAGE), REFUSED),
@@ -985,6 +1101,7 @@ class Calls(Case):
                 ("simplecss_match_selectors", (b"a", sizes([1]), PORT, page)),
                 ("simplecss_match_selectors", (b"a", sizes([1]), HTML, page)),
                 ("simplecss_select", (b"a", HTML, page)),
+                ("simplecss_refusal", (b"a", HTML, page)),
                 ("simplecss_winners", (_RULES, HTML, NO_LIMIT, page, NO_OWN)),
             ):
                 self.fails(name, arguments, TREE_FAULT, (fault, element))
@@ -1126,7 +1243,7 @@ class Large(Case):
 
     def test_list(self) -> None:
         listed = b"a," * (self.count // 2) + b"a"
-        self.assertEqual(self.ends("simplecss_refusal", listed, PORT), (DONE, 0))
+        self.assertEqual(self.ends("simplecss_refusal", listed, PORT, PAGE), (DONE, 0))
 
     def test_tree(self) -> None:
         number = 400_000

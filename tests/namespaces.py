@@ -1,5 +1,6 @@
-"""Selectors with namespaces beside a browser and soupsieve: which elements random ones match in trees
-of HTML, SVG, MathML and others, where prefixes are declared, and which are refused.
+"""Namespaces beside a browser and soupsieve: which elements random selectors match in trees of HTML,
+SVG, MathML and others, where prefixes are declared, and which are refused; and which rules of random
+sheets apply, by the `@namespace` rules of each.
 
 The browser is Debian's `chromium`, soupsieve Debian's `python3-soupsieve`, used by
 /usr/bin/python3. The library is built by `./build library`. The trees and the texts are equal in each
@@ -17,10 +18,11 @@ from tests import modern_selectors
 from tests.common import DEBIAN, Case, browser_answers, count, has_modules, package
 
 package()
-from simplecss import SelectorError, Tree  # noqa: E402
+from simplecss import SelectorError, StyleSheet, Tree, escape  # noqa: E402
 
-# An element: its namespace, its name, its attributes, and its children, elements and texts.
-Element = Tuple[str, str, Dict[str, str], List[Any]]
+# An element: its namespace, its name, its attributes, each with its namespace, its name and its
+# value, and its children, elements and texts.
+Element = Tuple[str, str, List[Tuple[str, str, str]], List[Any]]
 # Prefixes and their namespaces, and a tree and texts for them.
 Namespaces = Dict[str, str]
 # The numbers of the elements that a text matches, or None if it is refused.
@@ -40,21 +42,15 @@ NAMES = ("a", "b", "g", "li")
 PREFIXES = ("svg", "h", "SVG", "x-y", "\xe9", "not", "a")
 UNDECLARED = ("u", "Svg", "html")
 ATTRIBUTES, WORDS = ("class", "id", "title"), ("c", "d", "c d", "")
+# Those of attributes, which are seldom in one.
+OF_ATTRIBUTES = (SVG, "urn:x", MATH)
+OPERATORS = ("", "", "=c", "~=d", "^=c", "$='d'", "*=c", "|=c", "='C' i")
 # fmt: off
 STRUCTURES = (
     "root", "empty", "first-child", "last-child", "only-child", "first-of-type", "last-of-type",
     "only-of-type", "scope", "nth-of-type(2n)", "nth-last-of-type(2)", "nth-child(odd)",
 )
 # fmt: on
-# Attributes whose prefixes have a meaning that the library does not support.
-SPACED_ATTRIBUTES = (
-    "[svg|href]",
-    "[*|href]",
-    "a[svg|href=b]",
-    ":not([*|title])",
-    "svg|a:has([svg|title])",
-    ":nth-child(1 of [*|class])",
-)
 
 
 class Source(modern_selectors.Source):
@@ -65,9 +61,17 @@ class Source(modern_selectors.Source):
     def spaced_tree(self, depth: int = 0) -> Element:
         """A random element."""
         space = self.choice(SPACES)
-        attributes = {name: self.choice(WORDS) for name in ATTRIBUTES if self.random() < 0.4}
-        if space not in STYLED:
-            attributes.pop("class", None)
+        attributes = [
+            ("", name, self.choice(WORDS))
+            for name in ATTRIBUTES
+            if self.random() < 0.4 and (name != "class" or space in STYLED)
+        ]
+        attributes += [
+            (each, name, self.choice(WORDS))
+            for each in OF_ATTRIBUTES
+            for name in ATTRIBUTES
+            if self.random() < 0.1
+        ]
         children: List[Any] = []
         for _ in range(self.choice((1, 2, 3, 4)) if depth < 3 else 0):
             children.append(self.spaced_tree(depth + 1))
@@ -101,8 +105,8 @@ class Source(modern_selectors.Source):
         if kind < 0.4:
             return self.choice((".c", ".d", "#c", "#d"))
         if kind < 0.7:
-            front = self.choice(("", "", "|"))
-            return f"[{front}{self.choice(ATTRIBUTES)}{self.choice(('', '=c', '~=d', '^=c'))}]"
+            front = self.prefix() if self.random() < 0.6 else ""
+            return f"[{front}{self.choice(ATTRIBUTES)}{self.choice(OPERATORS)}]"
         return ":" + self.choice(STRUCTURES)
 
     def plain(self) -> str:
@@ -135,10 +139,17 @@ class Source(modern_selectors.Source):
         return self.spaced_tree(), self.declared, texts
 
 
+def named(space: str, name: str) -> str:
+    """A name in a namespace, as ElementTree has it."""
+    return f"{{{space}}}{name}" if space else name
+
+
 def etree_of(element: Element) -> xml.etree.ElementTree.Element:
     """The element as one of ElementTree."""
     space, name, attributes, children = element
-    made = xml.etree.ElementTree.Element(f"{{{space}}}{name}" if space else name, attributes)
+    made = xml.etree.ElementTree.Element(named(space, name))
+    for inner, key, value in attributes:
+        made.set(named(inner, key), value)
     for child in children:
         if isinstance(child, str):
             made.text = child
@@ -161,7 +172,7 @@ PAGE = r"""
 CSS.registerProperty({ name: "--found", syntax: "*", inherits: false });
 function build([space, name, attributes, children]) {
     const made = document.createElementNS(space || null, name);
-    for (const key in attributes) made.setAttribute(key, attributes[key]);
+    for (const [space, key, value] of attributes) made.setAttributeNS(space || null, key, value);
     for (const child of children) made.append(typeof child == "string" ? child : build(child));
     return made;
 }
@@ -190,10 +201,43 @@ document.documentElement.replaceWith(shown);
 </script>
 """
 
+SHEETS = r"""
+<!DOCTYPE html><meta charset=utf-8><script id=input type="application/json">%s</script>
+<script>
+const names = [...Array(12).keys()].map(at => `--p${at}`);
+for (const name of names) CSS.registerProperty({ name, syntax: "*", inherits: false });
+function build([space, name, attributes, children]) {
+    const made = document.createElementNS(space || null, name);
+    for (const [space, key, value] of attributes) made.setAttributeNS(space || null, key, value);
+    for (const child of children) made.append(typeof child == "string" ? child : build(child));
+    return made;
+}
+const answers = [];
+for (const [tree, texts] of JSON.parse(document.getElementById("input").textContent)) {
+    const root = build(tree);
+    document.documentElement.replaceWith(root);
+    const all = [...document.querySelectorAll("*")];
+    answers.push(texts.map(text => {
+        const sheet = new CSSStyleSheet();
+        sheet.replaceSync(text);
+        root.remove();
+        document.adoptedStyleSheets = [sheet];
+        document.append(root);
+        const styles = all.map(element => getComputedStyle(element));
+        return names.map(name => [...all.keys()].filter(at => styles[at].getPropertyValue(name) != ""));
+    }));
+}
+const shown = document.createElementNS("http://www.w3.org/1999/xhtml", "html");
+shown.textContent = "ANS" + "WER" + JSON.stringify(answers) + "END";
+document.documentElement.replaceWith(shown);
+</script>
+"""
+
 SOUP = r"""
 import json, sys
 import soupsieve
 from bs4 import BeautifulSoup, Comment, Tag
+from bs4.element import NamespacedAttribute
 from soupsieve.css_match import CSSMatch
 
 class Above(Tag):
@@ -210,8 +254,8 @@ def commented(tag):
 def build(soup, element):
     space, name, attributes, children = element
     tag = soup.new_tag(name, namespace=space or None)
-    for key, value in attributes.items():
-        tag[key] = value
+    for at, (space, key, value) in enumerate(attributes):
+        tag[NamespacedAttribute(f"p{at}", key, space) if space else key] = value
     for child in children:
         tag.append(child if isinstance(child, str) else build(soup, child))
     return commented(tag)
@@ -251,14 +295,14 @@ def works() -> List[Work]:
     return [source.work(50) for _ in range(count(2000) // 50)]
 
 
-# What docs/DIFFERENCES.md names: types are names here, without namespaces.
-OF_TYPE = re.compile(r"of-type", re.IGNORECASE)
 # A browser takes a large number for another. It exempts the last subject of a list alone from the
 # default namespace: soupsieve exempts each of them, as the standard does.
 ODD_IN_BROWSERS = re.compile(r"\d{10}")
 LISTED = re.compile(r":(is|not|where|has)\(.*,", re.IGNORECASE | re.DOTALL)
-# soupsieve refuses comments round `|` too.
-ODD_IN_SOUP = re.compile(r"\|/\*|\*/\s*\|")
+# soupsieve refuses comments round `|`, and of attributes with a name in any namespace it asks one. It
+# has no prefix of no namespace for them.
+ODD_IN_SOUP = re.compile(r"\|/\*|\*/\s*\||\[\s*(/\*.*?\*/)*\*\||\[\|")
+SPACED_ATTRIBUTE = re.compile(r"\[[^\]|]+\|(?!=)")
 # In soupsieve compound selectors without a type selector are in any namespace.
 NO_TYPE = re.compile(r"(^|[\s,(>+~]|\*/)[.#:\[]")
 ALL_DECLARED = {prefix: SVG for prefix in (*PREFIXES, *UNDECLARED)}
@@ -271,6 +315,104 @@ def bare_refusal(tree: Tree, text: str) -> str:
     except SelectorError as error:
         return error.reason
     return ""
+
+
+# Statements of sheets that may be before `@namespace`, or between two, and others that end these: all
+# that a browser knows.
+FRONTS = (
+    *(
+        '@charset "utf-8";',
+        "@import 'a';",
+        "@import url(b) print;",
+        "@layer x;",
+        "@layer x, y.z;",
+    ),
+    *(
+        "@foo;",
+        "@foo {}",
+        "@media;",
+        "@import;",
+        "@layer 1;",
+        "@layer x y;",
+        "1 {}",
+        "a..b {}",
+        "}",
+    ),
+    *(
+        "<!--",
+        "-->",
+        "/**/",
+        "@namespace;",
+        "@namespace x;",
+        "@import 'a' {}",
+        "@layer x",
+    ),
+)
+ENDS = (
+    *(
+        "a {}",
+        "@media print {}",
+        "@font-face {}",
+        "@supports (a: b) {}",
+        "@layer {}",
+        "@layer x {}",
+    ),
+    *(
+        "@page {}",
+        "@keyframes a {}",
+        "@counter-style a {}",
+        "svg|a {}",
+        "*|a {}",
+        "|a {}",
+        "u|a {}",
+    ),
+)
+# How many properties the rules of a sheet have. The first is that of rules between `@namespace` rules.
+PROPERTIES = 12
+
+
+class SheetSource(Source):
+    """Random sheets with `@namespace` rules."""
+
+    def url(self, space: str) -> str:
+        """A url, in one of its forms."""
+        if self.random() < 0.6:
+            return self.string(space)
+        inner = space if space and self.random() < 0.5 else self.string(space)
+        return self.choice((f"url({inner})", f"URL( {inner} )"))
+
+    def declaration(self) -> str:
+        """A `@namespace` rule, which may be invalid."""
+        gap = self.choice((" ", "  ", "/**/ ", "\n"))
+        prefix = self.choice(("", *PREFIXES, *PREFIXES))
+        front = self.choice(("@namespace", "@namespace", "@NameSpace", "@n\\61mespace")) + gap
+        front += self.name(prefix) + gap if prefix else ""
+        self.declared[prefix] = ""
+        end = self.choice((";",) * 12 + (" ;", "/**/;", " x;", " {}", " {};", ' "a";'))
+        return front + self.url(self.choice(DECLARED)) + end
+
+    def rule(self, number: int) -> str:
+        """A rule with a property of its own, perhaps in another."""
+        self.is_rare = number % 3 == 0
+        text, own = self.listed(), f"--p{number}: 1"
+        kind = self.random()
+        if kind < 0.15:
+            return f"@media all {{{text} {{{own}}}}}"
+        if kind < 0.3:
+            inner = self.choice(("&", "& ", "", "> ", "~ ")) + self.plain()
+            return f"{text} {{{inner} {{{own}}}}}"
+        return f"{text} {{{own}}}"
+
+    def sheet(self) -> Tuple[str, List[str]]:
+        """A sheet, and its rules."""
+        self.declared = {}
+        parts = []
+        for _ in range(self.choice((0, 1, 2, 3, 5, 8))):
+            kind = self.random()
+            ends = (*ENDS, self.rule(0)) if kind > 0.95 else FRONTS
+            parts.append(self.declaration() if kind < 0.7 else self.choice(ends))
+        rules = [self.rule(number) for number in range(1, PROPERTIES)]
+        return self.choice((" ", "\n", "")).join((*parts, *rules)), rules
 
 
 class Judge:
@@ -296,8 +438,6 @@ class Judge:
 
     def is_known(self, tree: Tree, namespaces: Namespaces, text: str, found: Found) -> bool:
         """Whether the difference is one of those that are named."""
-        if OF_TYPE.search(text):
-            return True
         reason = "" if found is not None else bare_refusal(tree, text)
         if reason:
             # Combinators in lists of lists are unsupported; `:has()` in `:has()` is in soupsieve alone.
@@ -312,7 +452,9 @@ class Judge:
             return bool(is_listed or ODD_IN_BROWSERS.search(text))
         if "" in namespaces and NO_TYPE.search(text):
             return True
-        return bool(ODD_IN_SOUP.search(text) or modern_selectors.ODD_IN_SOUP.search(text))
+        is_spaced = "" in namespaces.values() and SPACED_ATTRIBUTE.search(text)
+        odd = ODD_IN_SOUP.search(text) or modern_selectors.ODD_IN_SOUP.search(text)
+        return bool(is_spaced or odd)
 
 
 class Random(Case):
@@ -343,19 +485,109 @@ class Random(Case):
         self.compare("soupsieve", soup_finds(self.work))
 
 
+class Sheets(Case):
+    """Which rules of random sheets apply to which elements."""
+
+    def test_chromium(self) -> None:
+        source = SheetSource("sheets")
+        number = count(1600) // 16
+        work = [(source.spaced_tree(), [source.sheet() for _ in range(8)]) for _ in range(number)]
+        asked = [(tree, [text for text, _ in sheets]) for tree, sheets in work]
+        theirs = browser_answers(SHEETS, asked)
+        if theirs is None:
+            self.skipTest("sheets with namespaces: chromium is missing or does not answer")
+        failures: List[str] = []
+        total = applied = left_out = 0
+        for (element, sheets), answers in zip(work, theirs):
+            tree = Tree.from_etree(etree_of(element))
+            for (text, rules), due in zip(sheets, answers):
+                found = styled(tree, text)
+                total += len(rules)
+                applied += sum(map(bool, due[1:]))
+                for at in range(1, PROPERTIES):
+                    if found[at] == due[at]:
+                        continue
+                    if is_known_in_sheets(tree, rules[at - 1]):
+                        left_out += 1
+                    else:
+                        said = f"{text!r}: --p{at} applies to {due[at]} in chromium, and not {found[at]}"
+                        failures.append(said)
+        self.assertGreater(5 * applied, total)
+        self.assertLess(15 * left_out, total)
+        print(
+            f"{total} rules of sheets with namespaces beside chromium, of which {applied} apply;"
+            f" {left_out} left out, of named differences"
+        )
+        self.sweep(total - left_out, failures)
+
+
+def styled(tree: Tree, text: str) -> List[List[int]]:
+    """For each property the numbers of the elements that a sheet's rules set it on."""
+    found: List[List[int]] = [[] for _ in range(PROPERTIES)]
+    for index, declarations in enumerate(StyleSheet(text).styles(tree)):
+        for each in declarations:
+            found[int(each.name[3:])].append(index)
+    return found
+
+
+def is_known_in_sheets(tree: Tree, rule: str) -> bool:
+    """Whether a rule has what `Judge.is_known` names: a list in which a prefix may not be declared, or
+    a default namespace may not count; or combinators in a list of a list. A browser does not restrict
+    an `&` that is not written to the default namespace."""
+    selector, *inner = rule.removeprefix("@media all {").split("{")
+    forgiving = modern_selectors.FORGIVING.search(rule) and "|" in rule
+    odd = forgiving or LISTED.search(rule) or ODD_IN_BROWSERS.search(rule)
+    is_implied = len(inner) > 1 and "&" not in inner[0]
+    return bool(odd or is_implied or bare_refusal(tree, selector).endswith(" is unsupported"))
+
+
 # Tags of pages: elements of HTML, SVG and MathML, those that lead from one into another, and some
 # that end SVG.
 TAGS = (
-    *("a", "p", "div", "span", "table", "title", "font", "font color=x", "br", "select"),
+    *(
+        "a",
+        "p",
+        "div",
+        "span",
+        "table",
+        "title",
+        "font",
+        "font color=x",
+        "br",
+        "select",
+    ),
     *("svg", "g", "foreignObject", "desc", "linearGradient", "svg/", "g/", "image"),
-    *("math", "mi", "mtext", "mglyph", "annotation-xml", "annotation-xml encoding=text/html"),
+    *(
+        "math",
+        "mi",
+        "mtext",
+        "mglyph",
+        "annotation-xml",
+        "annotation-xml encoding=text/html",
+    ),
+)
+# Attributes of pages, of which some are in namespaces in SVG and MathML; and what they may be then.
+OF_PAGES = (
+    *("xlink:href", "XLINK:Title", "xlink:other", "xml:lang", "xml:space", "xmlns", "xmlns:xlink"),
+    *("href", "title", "xml:base"),
+)
+# fmt: off
+LOCAL = (
+    "href", "title", "other", "lang", "space", "xmlns", "xlink", "base", "xlink:href", "xlink:title",
+    "xlink:other", "xml:lang", "xml:space", "xmlns:xlink", "xml:base",
+)
+# fmt: on
+NAMED_SPACES = (
+    *("", "http://www.w3.org/1999/xlink", "http://www.w3.org/XML/1998/namespace"),
+    "http://www.w3.org/2000/xmlns/",
 )
 HTML_PAGE = r"""
 <!DOCTYPE html><meta charset=utf-8><script id=input type="application/json">%s</script>
 <script>
 const answers = JSON.parse(document.getElementById("input").textContent).map(text => {
     const page = new DOMParser().parseFromString(text, "text/html");
-    return [...page.querySelectorAll("*")].map(each => [each.localName, each.namespaceURI]);
+    return [...page.querySelectorAll("*")].map(each => [each.localName, each.namespaceURI,
+        [...each.attributes].map(one => [one.namespaceURI ?? "", one.localName])]);
 });
 document.documentElement.textContent = "ANS" + "WER" + JSON.stringify(answers) + "END";
 </script>
@@ -370,10 +602,27 @@ def random_page(source: Source) -> str:
             tag = source.choice(TAGS)
             # In SVG a browser ends no element of HTML by a tag whose name has a capital there.
             is_open += [tag.split()[0].rstrip("/")] if tag == tag.lower() else []
-            text += f"<{tag}>"
+            text += (
+                f"<{tag}{' ' + source.choice(OF_PAGES) + '=v ' if source.random() < 0.4 else ''}>"
+            )
         else:
             text += f"</{source.choice(is_open[-3:])}>"
     return text
+
+
+def found_in(tree: Tree) -> List[Any]:
+    """The name of each element of a page, its namespace, and its attributes with theirs, but for those of
+    other names."""
+    found: List[Any] = [[element.name, "", []] for element in tree]
+    for space in STYLED:
+        for element in tree.select("x|*", namespaces={"x": space}):
+            found[element.index][1] = space
+    for space in NAMED_SPACES:
+        for name in LOCAL:
+            text = f"[x|{escape(name)}]"
+            for element in tree.select(text, namespaces={"x": space}):
+                found[element.index][2].append([space, name])
+    return found
 
 
 class Pages(Case):
@@ -386,16 +635,16 @@ class Pages(Case):
             self.skipTest("namespaces of pages: chromium is missing or does not answer")
         failures, drawn, left_out = [], 0, 0
         for text, due in zip(pages, theirs):
-            tree = Tree.from_html(text)
-            found = [[element.name, ""] for element in tree]
-            for space in STYLED:
-                for element in tree.select("x|*", namespaces={"x": space}):
-                    found[element.index][1] = space
-            drawn += sum(space != HTML for _, space in due)
-            if [name for name, _ in found] != [name for name, _ in due]:
+            found = found_in(Tree.from_html(text))
+            drawn += sum(space != HTML for _, space, _ in due)
+            for _, _, attributes in due:
+                attributes[:] = sorted(
+                    each for each in attributes if each[1] not in ("color", "encoding")
+                )
+            if [each[0] for each in found] != [each[0] for each in due]:
                 # Chromium corrects some misnested tags in another way than the standard.
                 left_out += 1
-            elif found != due:
+            elif [[*each[:2], sorted(each[2])] for each in found] != due:
                 failures.append(f"{text}: chromium has {due}, and not {found}")
         self.assertGreater(drawn, len(pages))
         self.assertLess(100 * left_out, len(pages))
@@ -404,13 +653,3 @@ class Pages(Case):
             f" {left_out} left out, whose elements differ"
         )
         self.sweep(len(pages) - left_out, failures)
-
-
-class Attributes(Case):
-    def test_prefixes(self) -> None:
-        """Attribute selectors whose prefix has a meaning are unsupported, and are refused."""
-        tree = Tree.from_etree(etree_of((SVG, "a", {"href": "b"}, [])))
-        for text in SPACED_ATTRIBUTES:
-            with self.subTest(text=text):
-                self.assertIsNone(ours(tree, {"svg": SVG}, text))
-                self.assertIsNone(ours(tree, {"svg": SVG, "": SVG}, text))

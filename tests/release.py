@@ -274,7 +274,7 @@ class Library:
             ("decode", text, 1),
             ("list", text, library_calls.MODERN),
             ("printed", text, library_calls.MODERN),
-            ("refusal", text, library_calls.MODERN),
+            ("refusal", text, library_calls.MODERN, self.page),
             ("select", text, library_calls.MODERN, self.page),
             (
                 "match_selectors",
@@ -320,7 +320,7 @@ def page_in_c() -> str:
     elements, strings, ends = Library().page
     shapes, stated = list(elements.array), "static const"
     rows = [f"{{{', '.join(map(str, shapes[at : at + 4]))}}}" for at in range(0, len(shapes), 4)]
-    arrays = f"PAGE, {len(rows)}, STRINGS, {len(strings)}, ENDS, {len(ends)}, 0, 0, 0"
+    arrays = f"PAGE, {len(rows)}, STRINGS, {len(strings)}, ENDS, {len(ends)}, 0, 0, 0, 0, 0"
     return (
         '#include "simplecss.h"\n'
         f"{stated} simplecss_element PAGE[] = {{{', '.join(rows)}}};\n"
@@ -1165,7 +1165,7 @@ for (const call of [
   () => new Tree([{ name: '' }]), () => new Tree([{ name: 'a' }, { name: 'b' }, { name: 'c', parent: 0 }]),
   () => select(halves, 'a,\\n\\u{1F600}:nth-child(2x)'), () => select({}, 'a'), () => css.lint(3),
   () => css.rules('a{b:c}'.repeat(9), { limit: 8 }), () => styles(halves, '*{b:c;e:f}a{b:d}', { answerLimit: 1 }),
-  () => select(halves, 'a', { grammar: 'today' }), () => svg.select('x|a', { namespaces }), () => svg.select('[s|a]', { namespaces }),
+  () => select(halves, 'a', { grammar: 'today' }), () => svg.select('x|a', { namespaces }),
   () => svg.select('a', { namespaces: { a: null } }), () => svg.select('a', { namespaces: 3 }),
   () => svg.select('a', { namespaces, grammar: 'simplecss' }),
 ]) {
@@ -1199,8 +1199,7 @@ TypeError undefined a text is expected, not number
 LimitError undefined the rules would hold more declarations than the limit
 LimitError undefined more declarations than `limit`, or a longer answer than `answerLimit` allows
 TypeError undefined unknown grammar: today
-SelectorError 1 1:1: no selectors, or a prefix that is not declared
-SelectorError 1 1:1: no selectors, or a prefix that is not declared
+SelectorError 1 1:1: `x` is no declared prefix
 TypeError undefined a text is expected, not null
 TypeError undefined namespaces are texts by their prefixes
 TypeError undefined the grammar of the Rust crate has no namespaces

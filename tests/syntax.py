@@ -335,8 +335,12 @@ SELECTORS = (
     ("a/**/.b", ""),
     ("a /**/ b", ""),
     ("a/**/b", "invalid selector"),
-    ("*|a, |a, *|*, |*, b|a, b|*", ""),
-    ("[a|b=c], [*|b=c], [*|b], [|b]", ""),
+    ("*|a, |a, *|*, |*", ""),
+    ("[*|b=c], [*|b], [|b]", ""),
+    # A prefix that the sheet does not declare (CSS Namespaces 3, section 3).
+    ("b|a", "invalid selector"),
+    ("b|*, c", "invalid selector"),
+    ("[a|b=c]", "invalid selector"),
     ("[a=b i], [a='b' S], [a=\"b\"i]", ""),
     ("[a~=b][a|=b][a^=b][a$=b][a*=b]", ""),
     ("[a='b,c']", ""),
@@ -442,7 +446,7 @@ READ = (
         "a ~ b, c[*|d], [ e ], [f=g i], [h^=i], j:HOVER, k:nth-child(2)",
         [
             ("a ~ b", True, ""),
-            ("c[*|d]", False, ""),
+            ("c[*|d]", True, ""),
             ("[ e ]", True, ""),
             ("[f=g i]", True, ""),
             ("[h^=i]", True, ""),
