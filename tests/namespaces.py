@@ -166,16 +166,23 @@ def ours(tree: Tree, namespaces: Namespaces, text: str) -> Found:
         return None
 
 
-PAGE = r"""
-<!DOCTYPE html><meta charset=utf-8><script id=input type="application/json">%s</script>
-<script>
-CSS.registerProperty({ name: "--found", syntax: "*", inherits: false });
+# What makes the elements of a tree in a browser.
+BUILD = """
 function build([space, name, attributes, children]) {
     const made = document.createElementNS(space || null, name);
     for (const [space, key, value] of attributes) made.setAttributeNS(space || null, key, value);
     for (const child of children) made.append(typeof child == "string" ? child : build(child));
     return made;
 }
+"""
+PAGE = (
+    r"""
+<!DOCTYPE html><meta charset=utf-8><script id=input type="application/json">%s</script>
+<script>
+CSS.registerProperty({ name: "--found", syntax: "*", inherits: false });
+"""
+    + BUILD
+    + r"""
 const answers = [];
 for (const [tree, namespaces, texts] of JSON.parse(document.getElementById("input").textContent)) {
     const root = build(tree);
@@ -200,18 +207,17 @@ shown.textContent = "ANS" + "WER" + JSON.stringify(answers) + "END";
 document.documentElement.replaceWith(shown);
 </script>
 """
+)
 
-SHEETS = r"""
+SHEETS = (
+    r"""
 <!DOCTYPE html><meta charset=utf-8><script id=input type="application/json">%s</script>
 <script>
 const names = [...Array(12).keys()].map(at => `--p${at}`);
 for (const name of names) CSS.registerProperty({ name, syntax: "*", inherits: false });
-function build([space, name, attributes, children]) {
-    const made = document.createElementNS(space || null, name);
-    for (const [space, key, value] of attributes) made.setAttributeNS(space || null, key, value);
-    for (const child of children) made.append(typeof child == "string" ? child : build(child));
-    return made;
-}
+"""
+    + BUILD
+    + r"""
 const answers = [];
 for (const [tree, texts] of JSON.parse(document.getElementById("input").textContent)) {
     const root = build(tree);
@@ -232,6 +238,7 @@ shown.textContent = "ANS" + "WER" + JSON.stringify(answers) + "END";
 document.documentElement.replaceWith(shown);
 </script>
 """
+)
 
 SOUP = r"""
 import json, sys
