@@ -1,7 +1,11 @@
 -- Worked layers and declarations, computed with the definitions. The names say which text is meant; a
 -- browser gives the same answers to these texts.
-use Rattle.std.specs.Prelude.{◌≡◌, refl, ℕ, List, [], ◌∷◌, codes, map, Bool, true, false}
+use Rattle.std.specs.Prelude.{◌≡◌, refl, ℕ, List, [], ◌∷◌, codes, map, Bool, true, false, None, Some}
+use Rattle.css_text.specs.Reading.{each}
+use Rattle.css_syntax.specs.Escapes.{decoded_part, unescaped_in}
+use Rattle.css_syntax.specs.Tokens.{gap_part, name_part as name_byte, past_comment, past_escape}
 use Rattle.css_cascade.specs.Layers.{LayerPart, LayerText, named, anonymous, outermost_layers, outermost_number, with_layer, number_of, place_of}
+use Rattle.css_cascade.specs.LayerNames.{block_name, dotted_part, further_name, layer_name, layer_names, name_part}
 use Rattle.css_cascade.specs.Cascade.{Weighed, beats}
 use Rattle.css_cascade.specs.declared.rollback.Rollback.TheVariants.{Nowhere, ToLayer, ToOrigin}
 use Rattle.css_cascade.specs.declared.rollback.Rollback.{Rollback}
@@ -20,6 +24,21 @@ x = named (codes "x")
 
 abbrev y : LayerPart
 y = named (codes "y")
+
+-- the names of lists: comments are no tokens, but no white space is around a dot
+pub names_read :
+    (layer_names (codes "a/**/.b") ≡ Some ((a ∷ b ∷ []) ∷ []))
+    × (layer_names (codes "a./**/b") ≡ Some ((a ∷ b ∷ []) ∷ []))
+    × (layer_names (codes "a/**//**/./**/b/**/") ≡ Some ((a ∷ b ∷ []) ∷ []))
+    × (layer_names (codes "x.b/**/, x/**/.a") ≡ Some ((x ∷ b ∷ []) ∷ (x ∷ a ∷ []) ∷ []))
+    × (layer_names (codes "a /**/.b") ≡ None)
+    × (layer_names (codes "a/**/ .b") ≡ None)
+    × (layer_names (codes "a/**/. b") ≡ None)
+    × (layer_names (codes "a/**/b") ≡ None)
+    × (block_name (codes "a/**/.b") (0 ∷ 0 ∷ []) ≡ Some (a ∷ b ∷ []))
+unfolding each past_escape past_comment name_byte gap_part decoded_part unescaped_in dotted_part further_name
+    layer_name layer_names name_part block_name lib.Utf8.encode
+names_read = (refl, refl, refl, refl, refl, refl, refl, refl, refl)
 
 -- `@layer a.x; @layer b; @layer a.y {..}`: the layers in `a` before what is in `a` itself, then `b`, then
 -- what is in no layer

@@ -8,13 +8,14 @@ use Rattle.css_text.specs.Reading.{before, followed_by, each}
 use Rattle.css_text.specs.Bytes.{past_byte, starts}
 use Rattle.css_text.proofs.reading.EachLemmas.{Takes, Shrinks, took, each-some, each-none}
 use Rattle.css_text.proofs.reading.TakesLemmas.{each-within}
-use Rattle.css_syntax.specs.Tokens.{past_gap, past_word}
+use Rattle.css_syntax.specs.Tokens.{past_comments, past_gap, past_word}
 use Rattle.css_syntax.specs.Statements.{begins_ident}
+use Rattle.css_syntax.proofs.CommentLemmas.{past_comments-within}
 use Rattle.css_syntax.proofs.Shorter.{past_word_within}
 use Rattle.css_syntax.proofs.PartLemmas.{past_gap-within}
 use Rattle.css_syntax.specs.Escapes.{decoded}
 use Rattle.css_cascade.specs.Layers.{LayerPart, named}
-use Rattle.css_cascade.specs.LayerNames.{dot, if_ended, if_whole, is_empty, name_part, dotted_part, layer_name, further_name, then_dotted}
+use Rattle.css_cascade.specs.LayerNames.{dot, after_dot, if_ended, if_whole, is_empty, name_part, dotted_part, layer_name, further_name, then_dotted}
 
 -- what `read` found after these, and the rest
 abbrev pub with_each : {A : Type 0} → (List ℕ → Option (A × List ℕ)) → List A → List ℕ
@@ -79,16 +80,21 @@ name_part-within text =
     by true part = past_word_within text
     by false part = tt
 
+after_dot-shrinks : (text at : List ℕ) → length at ≤ length text → Shrinks text (after_dot at)
+after_dot-shrinks text at within = by (starts dot at) refl
+  where
+    by : (t : Bool) → starts dot at ≡ t
+        → Shrinks text (if t then name_part (past_comments (past_byte dot at)) else None)
+    by true e =
+        let rest = past_comments (past_byte dot at) in
+        to-shrinks text (length rest) (name_part rest)
+        (omega (arith, past-less dot at e, past_comments-within (past_byte dot at), within))
+        (name_part-within rest)
+    by false e = tt
+
 pub dotted-takes : Takes dotted_part
 unfolding dotted_part
-dotted-takes text = by (starts dot text) refl
-  where
-    by : (t : Bool) → starts dot text ≡ t
-        → Shrinks text (if t then name_part (past_byte dot text) else None)
-    by true e =
-        to-shrinks text (length (past_byte dot text)) (name_part (past_byte dot text))
-        (past-less dot text e) (name_part-within (past_byte dot text))
-    by false e = tt
+dotted-takes text = after_dot-shrinks text (past_comments text) (past_comments-within text)
 
 then-within : (n : ℕ) (o : Option (LayerPart × List ℕ)) → Leaves n o → Leaves n (then_dotted o)
 then-within n None l = tt

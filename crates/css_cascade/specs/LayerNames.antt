@@ -1,10 +1,10 @@
--- The names of layers after `@layer` (CSS Cascading 5, section 6.4.2): names with dots directly between
--- their parts, and commas between them.
+-- The names of layers after `@layer` (CSS Cascading 5, section 6.4.2): names with dots between their parts
+-- and no white space around these, and commas between them.
 use Rattle.std.specs.Prelude.{ℕ, Bool, true, false, if◌then◌else◌, List, [], ◌∷◌, Option, Some, None}
 use Rattle.css_text.specs.AsciiBytes.{comma}
 use Rattle.css_text.specs.Reading.{before, each}
 use Rattle.css_text.specs.Bytes.{past_byte, starts}
-use Rattle.css_syntax.specs.Tokens.{past_gap, past_word}
+use Rattle.css_syntax.specs.Tokens.{past_comments, past_gap, past_word}
 use Rattle.css_syntax.specs.Escapes.{decoded}
 use Rattle.css_syntax.specs.Statements.{begins_ident}
 use Rattle.css_cascade.specs.Layers.{LayerPart, named, anonymous}
@@ -23,9 +23,13 @@ name_part text =
     if begins_ident text
     then Some (named (decoded (before text (past_word text))), past_word text) else None
 
--- a dot, and directly after it a name
+-- what is after a dot: a name
+abbrev pub after_dot : List ℕ → Option (LayerPart × List ℕ)
+after_dot text = if starts dot text then name_part (past_comments (past_byte dot text)) else None
+
+-- a dot and a name, with comments before each, but no white space
 unfoldable pub dotted_part : List ℕ → Option (LayerPart × List ℕ)
-dotted_part text = if starts dot text then name_part (past_byte dot text) else None
+dotted_part text = after_dot (past_comments text)
 
 abbrev pub then_dotted : Option (LayerPart × List ℕ) → Option (List LayerPart × List ℕ)
 then_dotted None = None

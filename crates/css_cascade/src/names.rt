@@ -7,7 +7,7 @@ ghost use Rattle.css_cascade.specs.LayerNameViews.{name_of, read_part_of, read_n
 use crate::layers::LayerPart;
 use css_syntax::decode;
 use css_syntax::statements::begins_ident;
-use css_syntax::texts::{front, past_byte, past_gap, past_word};
+use css_syntax::texts::{front, past_byte, past_comments, past_gap, past_word};
 use css_text::readers::starts;
 use std::alloc::{AllocError, Global};
 
@@ -54,13 +54,14 @@ fn read_part<'a>(alloc: Global, text: &'a str) -> Result<Option<ReadPart<'a>>, A
     }
 }
 
-/// Reads a dot and a part of a name directly after it, if they are next.
+/// Reads a dot and a part of a name, if they are next, with comments before each and no white space.
 #[tactic(auto, unfolding(crate::specs::LayerNames::dotted_part))]
 fn read_dotted<'a>(alloc: Global, text: &'a str) -> Result<Option<ReadPart<'a>>, AllocError>
     ensures { IfOk result (λ found. option_map read_part_of found ≡ dotted_part text.now) }
 {
-    if starts(text, b'.') {
-        read_part(alloc, past_byte(text, b'.'))
+    let at = past_comments(text);
+    if starts(at, b'.') {
+        read_part(alloc, past_comments(past_byte(at, b'.')))
     } else {
         Ok(None)
     }
@@ -159,13 +160,15 @@ fn past_part(text: &str) -> Option<&str>
     }
 }
 
-/// Returns the rest after a dot and a part of a name directly after it, if they are next.
+/// Returns the rest after a dot and a part of a name, if they are next, with comments before each and no white
+/// space.
 #[tactic(auto, unfolding(crate::specs::LayerNames::dotted_part))]
 fn past_dotted(text: &str) -> Option<&str>
     ensures { option_map (λ rest. rest.now) result ≡ option_map (λ found. found.1) (dotted_part text.now) }
 {
-    if starts(text, b'.') {
-        past_part(past_byte(text, b'.'))
+    let at = past_comments(text);
+    if starts(at, b'.') {
+        past_part(past_comments(past_byte(at, b'.')))
     } else {
         None
     }

@@ -1,11 +1,13 @@
 -- One step of each loop.
-use Rattle.std.proofs.Common.{◌≡◌, ℕ, zero, suc, Bool, true, false, ◌||◌, not, List, [], ◌∷◌, Some, None, refl}
+use Rattle.std.proofs.Common.{◌≡◌, ℕ, zero, suc, Bool, true, false, ◌||◌, not, List, [], ◌∷◌, Option, Some, None, refl}
 use Rattle.std.specs.Char.{to_ascii_uppercase}
 use Rattle.css_syntax.specs.declared.quality.Quality.{Quality}
 use Rattle.css_syntax.specs.Qualities.{first_flaw}
 use Rattle.css_text.specs.AsciiBytes.{open_parenthesis, comma}
 use Rattle.css_text.specs.Bytes.{starts, past_one}
-use Rattle.css_syntax.specs.Tokens.{past_gap, past_letter}
+use Rattle.css_text.specs.Bytes.{starts_by}
+use Rattle.css_text.specs.Characters.{is_space}
+use Rattle.css_syntax.specs.Tokens.{gap_part, past_gap, past_letter}
 use Rattle.css_syntax.specs.ComponentValues.{deepest, component_value}
 use Rattle.css_conditions.specs.declared.truth.Truth.{Truth}
 use Rattle.css_conditions.specs.declared.truth.Outcome.{Outcome}
@@ -14,6 +16,12 @@ use Rattle.css_conditions.specs.Words.{ends_by, values_from, past_keyword, past_
 use Rattle.css_conditions.specs.Conditions.{Reads, more_from, in_parens, closed, inside_by, function_at}
 use Rattle.css_conditions.specs.declared.truth.Outcome.TheVariants.{Unfit, Broken}
 use Rattle.css_conditions.specs.Media.{Asks, some_query, or_query, whole_query}
+use Rattle.css_conditions.specs.declared.amounts.Amount.{Amount}
+use Rattle.css_conditions.specs.declared.amounts.Step.{Step}
+use Rattle.css_conditions.specs.declared.quantities.View.{View}
+use Rattle.css_conditions.specs.Amounts.{by_step}
+use Rattle.css_conditions.specs.Quantities.{dimension}
+use Rattle.css_conditions.specs.Calculations.{Amounts, parted_from, then_parted, more_from as amounts_from, operand, opened, enclosed, terms}
 
 pub values_stop : (stop : ℕ → Bool) (n : ℕ) (quality : Quality) (text : List ℕ)
     → ends_by stop text ≡ true → values_from stop n quality text ≡ (quality, text)
@@ -88,3 +96,50 @@ pub queries_stop : (is_type : List ℕ → Bool) (ask : Asks) (n : ℕ) (truth :
     → some_query is_type ask n (truth, text) ≡ truth
 queries_stop is_type ask zero truth text e = refl
 queries_stop is_type ask (suc n) truth text e = rw e refl
+
+pub parted_here : (n m : ℕ) (text : List ℕ) → n ≡ suc m → starts_by is_space text ≡ true
+    → parted_from n text ≡ true
+parted_here n m text k e = rw (k, e) refl
+
+pub parted_step : (n m : ℕ) (text : List ℕ) → n ≡ suc m → starts_by is_space text ≡ false
+    → parted_from n text ≡ then_parted (parted_from m) (gap_part text)
+parted_step n m text k e = rw (k, e) refl
+
+pub amounts_stop : (sign : List ℕ → Option (Step × List ℕ)) (read : Amounts) (n : ℕ) (it : Amount)
+    (text : List ℕ) → sign text ≡ None → amounts_from sign read n it text ≡ Some (it, text)
+amounts_stop sign read zero it text e = refl
+amounts_stop sign read (suc n) it text e = rw e refl
+
+pub amounts_unread : (sign : List ℕ → Option (Step × List ℕ)) (read : Amounts) (n m : ℕ) (it : Amount)
+    (text : List ℕ) (step : Step) (after : List ℕ)
+    → n ≡ suc m → sign text ≡ Some (step, after) → read (past_gap after) ≡ None
+    → amounts_from sign read n it text ≡ None
+amounts_unread sign read n m it text step after k e r = rw (k, e, r) refl
+
+pub amounts_lost : (sign : List ℕ → Option (Step × List ℕ)) (read : Amounts) (n m : ℕ) (it other : Amount)
+    (text : List ℕ) (step : Step) (after rest : List ℕ)
+    → n ≡ suc m → sign text ≡ Some (step, after) → read (past_gap after) ≡ Some (other, rest)
+    → by_step step it other ≡ None
+    → amounts_from sign read n it text ≡ None
+amounts_lost sign read n m it other text step after rest k e r s = rw (k, e, r, s) refl
+
+pub amounts_step : (sign : List ℕ → Option (Step × List ℕ)) (read : Amounts) (n m : ℕ)
+    (it other next : Amount) (text : List ℕ) (step : Step) (after rest : List ℕ)
+    → n ≡ suc m → sign text ≡ Some (step, after) → read (past_gap after) ≡ Some (other, rest)
+    → by_step step it other ≡ Some next
+    → amounts_from sign read n it text ≡ amounts_from sign read m next rest
+amounts_step sign read n m it other next text step after rest k e r s = rw (k, e, r, s) refl
+
+pub operand_deep : (view : View) (n : ℕ) (text : List ℕ) → n ≡ 0 → operand view n text ≡ None
+unfolding operand
+operand_deep view n text k = rw k refl
+
+pub operand_bare : (view : View) (n m : ℕ) (text : List ℕ) → n ≡ suc m → opened text ≡ None
+    → operand view n text ≡ dimension view text
+unfolding operand
+operand_bare view n m text k e = rw (k, e) refl
+
+pub operand_open : (view : View) (n m : ℕ) (text inside : List ℕ) → n ≡ suc m → opened text ≡ Some inside
+    → operand view n text ≡ enclosed (terms (operand view m) (past_gap inside))
+unfolding operand
+operand_open view n m text inside k e = rw (k, e) refl

@@ -1,7 +1,7 @@
 -- Conditions (Media Queries 4, section 3; CSS Conditional Rules 3, section 6): what is in parentheses, and
 -- `not`, `and` and `or`. What is asked within parentheses is for the reader `leaf`, and what a function
 -- says for `function`.
-use Rattle.std.specs.Prelude.{ℕ, zero, suc, Bool, true, false, ◌||◌, ◌&&◌, ◌==◌, if◌then◌else◌, List, [], ◌∷◌, length, Option, Some, None}
+use Rattle.std.specs.Prelude.{ℕ, zero, suc, Bool, true, false, not, ◌||◌, ◌&&◌, ◌==◌, if◌then◌else◌, List, [], ◌∷◌, length, Option, Some, None}
 use Rattle.std.specs.Option.{is_some}
 use Rattle.css_text.specs.AsciiBytes.{open_parenthesis, close_parenthesis}
 use Rattle.css_text.specs.Reading.{before}
@@ -122,9 +122,24 @@ not_or_more with_or read text (Some after) =
 abbrev pub condition_by : Bool → Reads → Reads
 condition_by with_or read text = not_or_more with_or read text (past_keyword word_not text)
 
+-- a sign of comparison or a slash, with which no condition goes on
+abbrev pub begins_sign : List ℕ → Bool
+begins_sign [] = false
+begins_sign (b ∷ text) = b == 60 || b == 61 || b == 62 || b == 47
+
+-- the rest after the function that begins here
+abbrev pub past_function : List ℕ → List ℕ
+past_function text = past_one (values closes (past_one (past_word text))).1
+
+-- a function that is a value begins here: a sign follows
+abbrev pub begins_value : List ℕ → Bool
+begins_value text = begins_function text && begins_sign (past_gap (past_function text))
+
 -- a condition in parentheses, or what is asked there
 abbrev pub inside_by : Reads → Reads → Reads
-inside_by read leaf text = if begins_condition text then condition_by true read text else leaf text
+inside_by read leaf text =
+    if begins_condition text && not (begins_value text) then condition_by true read text
+    else leaf text
 
 -- What is in parentheses, nested at most `n` deep, or a function. What is nested deeper is broken.
 unfoldable pub in_parens : Truth → (List ℕ → List ℕ → Truth) → Reads → ℕ → Reads

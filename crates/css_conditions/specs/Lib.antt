@@ -4,5 +4,8 @@ pub mod Conditions
 pub mod Media
 pub mod Supports
 pub mod Choices
+pub mod Amounts
 pub mod Quantities
+pub mod Calculations
+pub mod Values
 pub mod Devices

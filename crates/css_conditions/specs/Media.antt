@@ -139,7 +139,7 @@ after_first_value ask text r =
 -- `value < name < value`.
 abbrev pub feature : Asks → Reads
 feature ask text =
-    if begins_name text
+    if begins_name text && not (begins_function text)
     then after_name ask (before text (past_word text)) (past_gap (past_word text))
     else after_first_value ask text (values ends_value text)
 

@@ -1,28 +1,17 @@
--- Lengths and resolutions, compared exactly: a number is its digits over a power of ten, and a unit is so
--- many parts of a pixel, or thousandths of a dot for each pixel.
-use Rattle.std.specs.Prelude.{ℕ, Bool, true, false, not, ◌||◌, ◌&&◌, ◌==◌, ◌+◌, ◌*◌, ◌-◌, nat_lt, nat_le, if◌then◌else◌, List, [], ◌∷◌, Option, Some, None, codes}
+-- Numbers and units (CSS Values and Units 4, sections 5 and 6), each an exact amount.
+use Rattle.std.specs.Prelude.{ℕ, Bool, not, ◌||◌, ◌&&◌, ◌+◌, ◌*◌, ◌-◌, ◌^◌, nat_lt, nat_le, if◌then◌else◌, List, [], ◌∷◌, Option, Some, None, codes}
 use Rattle.css_text.specs.AsciiBytes.{hyphen, plus_sign, full_stop}
 use Rattle.css_text.specs.Reading.{before}
 use Rattle.css_text.specs.Bytes.{is_digit, past_one, starts, starts_by}
-use Rattle.css_syntax.specs.Tokens.{past_gap, past_word, spells}
-use Rattle.css_conditions.specs.declared.truth.Truth.{Truth}
-use Rattle.css_conditions.specs.declared.truth.Truth.TheVariants.{Unknown}
-use Rattle.css_conditions.specs.declared.truth.Comparison.{Comparison}
-use Rattle.css_conditions.specs.declared.truth.Comparison.TheVariants.{Present, Is, Equal, Less, AtMost, More, AtLeast}
-use Rattle.css_conditions.specs.declared.quantities.Quantity.{Quantity}
-use Rattle.css_conditions.specs.declared.quantities.Quantity.TheVariants.{Length, Resolution}
-use Rattle.css_conditions.specs.Truths.{truth_of}
+use Rattle.css_syntax.specs.Tokens.{past_word, spells}
+use Rattle.css_conditions.specs.declared.amounts.Kind.{Kind}
+use Rattle.css_conditions.specs.declared.amounts.Kind.TheVariants.{Number, Length, Resolution}
+use Rattle.css_conditions.specs.declared.amounts.Amount.{Amount}
+use Rattle.css_conditions.specs.declared.quantities.View.{View}
+use Rattle.css_conditions.specs.Amounts.{cross, fitted, negated}
 use Rattle.css_conditions.specs.Words.{is_end}
 
--- how a number compares with another
-abbrev pub compares : Comparison → ℕ → ℕ → Bool
-compares Present mine other = true
-compares Is mine other = mine == other
-compares Equal mine other = mine == other
-compares Less mine other = nat_lt mine other
-compares AtMost mine other = nat_le mine other
-compares More mine other = nat_lt other mine
-compares AtLeast mine other = nat_le other mine
+-- ---- numbers
 
 -- the greatest number to which a digit is added
 abbrev pub most : ℕ
@@ -53,18 +42,64 @@ number text =
     if starts_by is_digit text || begins_fraction text then with_fraction (digits_from 0 1 text)
     else None
 
+-- the rest after a sign, if one is next
+abbrev pub past_sign : List ℕ → List ℕ
+past_sign text = if starts hyphen text || starts plus_sign text then past_one text else text
+
+-- an `e`, and digits after it, with or without a sign
+abbrev pub begins_exponent : List ℕ → Bool
+begins_exponent text =
+    (starts 101 text || starts 69 text) && starts_by is_digit (past_sign (past_one text))
+
+-- a number over another, and so many zeros more or less; none if there are more than 18
+abbrev pub raised : ℕ × ℕ → Bool → Option ((ℕ × ℕ) × List ℕ) → Option ((ℕ × ℕ) × List ℕ)
+raised of negative None = None
+raised of negative (Some r) =
+    if nat_lt 18 r.0.0 then None
+    else (if negative then Some ((of.0, of.1 * 10 ^ r.0.0), r.1)
+    else Some ((of.0 * 10 ^ r.0.0, of.1), r.1))
+
+-- the exponent of a number, if one follows
+abbrev pub with_exponent : Option ((ℕ × ℕ) × List ℕ) → Option ((ℕ × ℕ) × List ℕ)
+with_exponent None = None
+with_exponent (Some r) =
+    if begins_exponent r.1
+    then raised r.0 (starts hyphen (past_one r.1)) (digits_from 0 1 (past_sign (past_one r.1)))
+    else Some r
+
+-- ---- units
+
 -- How many pixels a unit of length is: the first number over the second. In a media query an em is 16
--- pixels, since no style sheet makes the letters of the initial font larger.
+-- pixels, since no style sheet makes the letters of the initial font larger. How large they are in that font
+-- is not known, so that an `ex` and a `ch` are half an em, and an `ic` is an em.
 abbrev pub length_unit : List ℕ → Option (ℕ × ℕ)
 length_unit name =
     if spells (codes "px") name then Some (1, 1)
     else (if spells (codes "em") name || spells (codes "rem") name || spells (codes "pc") name
+    || spells (codes "ic") name
     then Some (16, 1)
+    else (if spells (codes "ex") name || spells (codes "ch") name then Some (8, 1)
     else (if spells (codes "in") name then Some (96, 1)
     else (if spells (codes "cm") name then Some (4800, 127)
     else (if spells (codes "mm") name then Some (480, 127)
     else (if spells (codes "q") name then Some (120, 127)
-    else (if spells (codes "pt") name then Some (4, 3) else None))))))
+    else (if spells (codes "pt") name then Some (4, 3) else None)))))))
+
+-- the lesser one, and the greater one
+abbrev pub lesser : ℕ → ℕ → ℕ
+lesser one other = if nat_le one other then one else other
+
+abbrev pub greater : ℕ → ℕ → ℕ
+greater one other = if nat_le one other then other else one
+
+-- how many pixels a unit of the viewport is: a hundredth of its width, its height, or one of them
+abbrev pub view_unit : View → List ℕ → Option (ℕ × ℕ)
+view_unit view name =
+    if spells (codes "vw") name || spells (codes "vi") name then Some (view.width, 100)
+    else (if spells (codes "vh") name || spells (codes "vb") name then Some (view.height, 100)
+    else (if spells (codes "vmin") name then Some (lesser view.width view.height, 100)
+    else (if spells (codes "vmax") name then Some (greater view.width view.height, 100)
+    else None)))
 
 -- how many thousandths of a dot for each pixel a unit of resolution is
 abbrev pub resolution_unit : List ℕ → Option (ℕ × ℕ)
@@ -73,36 +108,46 @@ resolution_unit name =
     else (if spells (codes "dpi") name then Some (125, 12)
     else (if spells (codes "dpcm") name then Some (635, 24) else None))
 
--- a unit; a length that is zero needs none
-abbrev pub unit_after : Quantity → ℕ → List ℕ → Option (ℕ × ℕ)
-unit_after Length number text =
-    if number == 0 && is_end text then Some (1, 1) else length_unit text
-unit_after Resolution number text = resolution_unit text
+-- a number over a scale in a unit of this kind
+abbrev pub in_unit : ℕ × ℕ → Kind → ℕ × ℕ → Option Amount
+in_unit n kind unit =
+    fitted kind (cross n.0 unit.0 0 0) (Some 0) (cross n.1 unit.1 0 0)
 
--- compared with a number below zero, which no resolution is
-abbrev pub compared_below : Quantity → Comparison → Truth
-compared_below Length how = truth_of (compares how 1 0)
-compared_below Resolution how = Unknown
+-- the same, in the first of the units that is there
+abbrev pub by_resolution : ℕ × ℕ → Option (ℕ × ℕ) → Option Amount
+by_resolution n None = None
+by_resolution n (Some unit) = in_unit n Resolution unit
 
--- a quantity compared with a number over a scale, in a unit
-abbrev pub in_unit : Quantity → ℕ → Comparison → Bool → ℕ → ℕ → Option (ℕ × ℕ) → Truth
-in_unit quantity mine how negative number scale None = Unknown
-in_unit quantity mine how negative number scale (Some unit) =
-    if negative && not (number == 0) then compared_below quantity how
-    else truth_of (compares how (mine * unit.1 * scale) (number * unit.0))
+abbrev pub by_view : ℕ × ℕ → List ℕ → Option (ℕ × ℕ) → Option Amount
+by_view n name None = by_resolution n (resolution_unit name)
+by_view n name (Some unit) = in_unit n Length unit
 
--- a quantity compared with a number and the unit after it
-abbrev pub by_number : Quantity → ℕ → Comparison → Bool → Option ((ℕ × ℕ) × List ℕ) → Truth
-by_number quantity mine how negative None = Unknown
-by_number quantity mine how negative (Some r) =
-    if is_end (past_gap (past_word r.1))
-    then in_unit quantity mine how negative r.0.0 r.0.1
-    (unit_after quantity r.0.0 (before r.1 (past_word r.1)))
-    else Unknown
+abbrev pub by_length : View → ℕ × ℕ → List ℕ → Option (ℕ × ℕ) → Option Amount
+by_length view n name None = by_view n name (view_unit view name)
+by_length view n name (Some unit) = in_unit n Length unit
 
--- a quantity compared with a value
-unfoldable pub quantity_says : Quantity → ℕ → Comparison → List ℕ → Truth
-quantity_says quantity mine how value =
-    if starts hyphen value then by_number quantity mine how true (number (past_one value))
-    else (if starts plus_sign value then by_number quantity mine how false (number (past_one value))
-    else by_number quantity mine how false (number value))
+-- a number over a scale with what stands after it: nothing, or a unit
+abbrev pub with_unit : View → ℕ × ℕ → List ℕ → Option Amount
+with_unit view n name =
+    if is_end name then in_unit n Number (1, 1) else by_length view n name (length_unit name)
+
+-- an amount, and the rest
+abbrev pub found_at : List ℕ → Option Amount → Option (Amount × List ℕ)
+found_at text None = None
+found_at text (Some it) = Some (it, text)
+
+-- below zero, if that is said
+abbrev pub signed : Bool → Option Amount → Option Amount
+signed negative None = None
+signed negative (Some it) = Some (if negative then negated it else it)
+
+-- a number with a unit after it
+abbrev pub unit_after : View → Bool → Option ((ℕ × ℕ) × List ℕ) → Option (Amount × List ℕ)
+unit_after view negative None = None
+unit_after view negative (Some r) =
+    found_at (past_word r.1) (signed negative (with_unit view r.0 (before r.1 (past_word r.1))))
+
+-- a number, a length or a resolution: a sign, digits and a unit
+abbrev pub dimension : View → List ℕ → Option (Amount × List ℕ)
+dimension view text =
+    unit_after view (starts hyphen text) (with_exponent (number (past_sign text)))

@@ -4,7 +4,8 @@ ghost use Rattle.css_conditions.specs.Conditions.{closed, closed_at, function_at
 ghost use Rattle.css_conditions.specs.Conditions.{in_parens as in_parens_of, inside_by, condition_by};
 ghost use Rattle.css_conditions.specs.Conditions.{begins_condition as begins_condition_of};
 ghost use Rattle.css_conditions.specs.Conditions.{more as more_of, or_else, with_more};
-ghost use Rattle.css_conditions.specs.Conditions.{condition as condition_of};
+ghost use Rattle.css_conditions.specs.Conditions.{condition as condition_of, begins_sign as begins_sign_of};
+ghost use Rattle.css_conditions.specs.Conditions.{begins_value as begins_value_of};
 ghost use Rattle.css_conditions.specs.Choices.{join_of, word_of};
 
 use crate::answers::{Asked, Read, broken, unfit};
@@ -95,6 +96,27 @@ pub fn begins_condition(bytes: &[u8]) -> bool
     }
 }
 
+/// Whether a sign of comparison or a slash is next, with which no condition goes on.
+fn begins_sign(bytes: &[u8]) -> bool
+    ensures { result ≡ begins_sign_of bytes.now }
+{
+    match bytes {
+        [] => false,
+        [byte, ..] => matches!(byte, b'<' | b'=' | b'>' | b'/'),
+    }
+}
+
+/// Whether a function begins here that is a value: a sign follows.
+fn begins_value(bytes: &[u8]) -> bool
+    ensures { result ≡ begins_value_of bytes.now }
+{
+    if !begins_function(bytes) {
+        return false;
+    }
+    let arguments = read_values(Stop::Parenthesis, past_one(past_word(bytes)));
+    begins_sign(past_gap(past_one(arguments.rest)))
+}
+
 /// Reads what is in parentheses, or a function.
 #[cycle(conditions)]
 #[tactic(auto, unfolding(crate::specs::Conditions::in_parens), using(crate::proofs::Steps::parens_open, crate::proofs::Steps::parens_function, crate::proofs::Steps::parens_unfit, crate::proofs::Steps::parens_deep))]
@@ -125,7 +147,7 @@ fn inside<'t, A: Asked>(asked: &A, bytes: &'t [u8], depth: usize) -> Result<Read
         (A.leaf asked.now) depth) (A.leaf asked.now) bytes.now ≡ (read.outcome, read.rest.now))
         (λ _. A.may_fail asked.now ≡ true) }
 {
-    if begins_condition(bytes) {
+    if begins_condition(bytes) && !begins_value(bytes) {
         read_condition(asked, true, bytes, depth)
     } else {
         Ok(asked.leaf(bytes))

@@ -9,7 +9,9 @@ ghost use Rattle.css_conditions.specs.Media.{feature as feature_of};
 
 use crate::answers::{Features, Read, broken, unfit};
 use crate::truth::{Comparison, Outcome, span};
-use crate::words::{Stop, before, begins_name, ends_parens, ends_run, read_values, starts_with};
+use crate::words::{
+    Stop, before, begins_function, begins_name, ends_parens, ends_run, read_values, starts_with,
+};
 use css_syntax::quality::is_good;
 use css_syntax::tokens::{past_gap, past_one, past_word};
 
@@ -177,7 +179,7 @@ fn second_name<'t, F: Features>(
 pub fn feature<'t, F: Features>(features: &F, bytes: &'t [u8]) -> Read<'t>
     ensures { feature_of (F.says features.now) bytes.now ≡ (result.outcome, result.rest.now) }
 {
-    if begins_name(bytes) {
+    if begins_name(bytes) && !begins_function(bytes) {
         let after = past_word(bytes);
         return after_name(features, before(bytes, after), past_gap(after));
     }

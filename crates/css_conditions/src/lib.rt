@@ -4,7 +4,9 @@
 //! allocate.
 #![tactic(auto)]
 
+mod amounts;
 mod answers;
+mod calculations;
 mod conditions;
 mod device;
 mod features;
@@ -12,10 +14,11 @@ mod media;
 mod quantities;
 mod supports;
 mod truth;
+mod values;
 mod words;
 
 pub use answers::{Features, Supported};
-pub use device::{Device, Medium, Pointer};
+pub use device::{Contrast, Device, Display, Gamut, Medium, Pointer, Scripting, Update};
 pub use media::media_says;
 pub use supports::supports_holds;
 pub use truth::{Comparison, Truth, truth_of};

@@ -1,61 +1,64 @@
-//! Lengths and resolutions, and how they compare with values.
-ghost use Rattle.std.specs.Prelude.{◌≡◌, ◌≤◌, ◌<◌, ◌*◌, ◌^◌, option_map, IfSome, Some, codes, ◌||◌, ◌&&◌, true};
+//! Numbers, and units of lengths and resolutions.
+ghost use Rattle.std.specs.Prelude.{◌≡◌, ◌≤◌, ◌<◌, ◌*◌, ◌^◌, option_map, IfSome, Some, codes, ◌||◌, ◌&&◌, true, if◌then◌else◌};
 ghost use Rattle.css_text.specs.Bytes.{starts_by, is_digit as is_digit_of};
-ghost use Rattle.css_conditions.specs.Quantities.{compares as compares_of};
 ghost use Rattle.css_conditions.specs.Quantities.{digits_from, begins_fraction as begins_fraction_of};
-ghost use Rattle.css_conditions.specs.Quantities.{number as number_of, with_fraction as with_fraction_of};
-ghost use Rattle.css_conditions.specs.Quantities.{length_unit as length_unit_of};
+ghost use Rattle.css_conditions.specs.Quantities.{number as number_of, past_sign as past_sign_of};
+ghost use Rattle.css_conditions.specs.Quantities.{begins_exponent as begins_exponent_of, with_exponent, raised as raised_of};
+ghost use Rattle.css_conditions.specs.Quantities.{length_unit as length_unit_of, view_unit as view_unit_of};
 ghost use Rattle.css_conditions.specs.Quantities.{resolution_unit as resolution_unit_of};
-ghost use Rattle.css_conditions.specs.Quantities.{unit_after as unit_after_of, compared_below as below_of};
-ghost use Rattle.css_conditions.specs.Quantities.{in_unit as in_unit_of, by_number as by_number_of};
-ghost use Rattle.css_conditions.specs.Quantities.{quantity_says as quantity_says_of};
+ghost use Rattle.css_conditions.specs.Quantities.{in_unit as in_unit_of, with_unit as with_unit_of};
+ghost use Rattle.css_conditions.specs.Quantities.{signed as signed_of, dimension as dimension_of};
+ghost use Rattle.css_conditions.specs.Quantities.{lesser as lesser_of, greater as greater_of};
 
-use crate::truth::{Comparison, Truth, truth_of};
+use crate::amounts::{Amount, Kind, cross, fitted};
 use crate::words::{before, is_end, starts_with};
-use css_syntax::tokens::{past_gap, past_one, past_word, spells};
+use css_syntax::tokens::{past_one, past_word, spells};
 
-/// What is compared.
-#[derive(Clone, Copy, Debug, PartialEq)]
-pub enum Quantity {
-    /// A length in pixels.
-    Length,
-    /// A resolution in thousandths of a dot for each pixel.
-    Resolution,
+/// What is seen of a page at a time, in pixels.
+#[derive(Clone, Copy)]
+pub struct View {
+    /// Its width.
+    pub width: u32,
+    /// Its height.
+    pub height: u32,
 }
 
 /// A number over a power of ten, and the rest.
 #[derive(Clone, Copy)]
-struct Number<'t> {
-    /// Its digits.
-    digits: u64,
+pub struct Number<'t> {
+    /// Its digits, and zeros after them.
+    pub digits: u64,
     /// What it is over.
-    scale: u64,
+    pub scale: u64,
+    /// The rest.
+    pub rest: &'t [u8],
+}
+
+/// A number over another.
+#[derive(Clone, Copy)]
+pub struct Fraction {
+    /// So many
+    pub num: u128,
+    /// of so many parts.
+    pub den: u128,
+}
+
+/// An amount, and the rest.
+#[derive(Clone, Copy)]
+pub struct Found<'t> {
+    /// The amount.
+    pub amount: Amount,
+    /// The rest.
+    pub rest: &'t [u8],
+}
+
+/// A number over another, and the rest.
+#[derive(Clone, Copy)]
+struct Numeral<'t> {
+    /// The number.
+    number: Fraction,
     /// The rest.
     rest: &'t [u8],
-}
-
-/// How much a unit is: a fraction.
-#[derive(Clone, Copy)]
-struct Unit {
-    /// So many
-    num: u64,
-    /// of so many parts.
-    den: u64,
-}
-
-/// Compares two numbers.
-fn compares(how: Comparison, mine: u128, other: u128) -> bool
-    ensures { result ≡ compares_of how mine other }
-{
-    match how {
-        Comparison::Present => true,
-        Comparison::Is => mine == other,
-        Comparison::Equal => mine == other,
-        Comparison::Less => mine < other,
-        Comparison::AtMost => mine <= other,
-        Comparison::More => other < mine,
-        Comparison::AtLeast => other <= mine,
-    }
 }
 
 /// Whether the byte is a digit.
@@ -116,7 +119,7 @@ fn begins_fraction(bytes: &[u8]) -> bool
 }
 
 /// Reads a number without a sign or an exponent.
-fn read_number(bytes: &[u8]) -> Option<Number<'_>>
+pub fn read_number(bytes: &[u8]) -> Option<Number<'_>>
     ensures read { number_of bytes.now
         ≡ option_map (λ it. ((it.digits, it.scale), it.rest.now)) result }
     ensures small { IfSome result (λ it. (it.digits ≤ 1000000000000000000)
@@ -141,134 +144,225 @@ fn read_number(bytes: &[u8]) -> Option<Number<'_>>
     }
 }
 
-/// Finds the unit of length of this name.
-fn length_unit(name: &[u8]) -> Option<Unit>
-    ensures found { length_unit_of name.now ≡ option_map (λ it. (it.num, it.den)) result }
-    ensures small { IfSome result (λ it. (it.num ≤ 4800) × (it.den ≤ 127)) }
+/// Returns the rest after a sign, if one is next.
+pub fn past_sign(bytes: &[u8]) -> &[u8]
+    ensures { result.now ≡ past_sign_of bytes.now }
 {
-    if spells(b"px", name) {
-        return Some(Unit { num: 1, den: 1 });
+    if starts_with(bytes, b'-') || starts_with(bytes, b'+') {
+        past_one(bytes)
+    } else {
+        bytes
     }
-    if spells(b"em", name) || spells(b"rem", name) || spells(b"pc", name) {
-        return Some(Unit { num: 16, den: 1 });
+}
+
+/// Whether an exponent is next.
+fn begins_exponent(bytes: &[u8]) -> bool
+    ensures { result ≡ begins_exponent_of bytes.now }
+{
+    (starts_with(bytes, b'e') || starts_with(bytes, b'E'))
+        && starts_digit(past_sign(past_one(bytes)))
+}
+
+/// Returns a power of ten.
+#[tactic(auto, using(crate::proofs::Products::ten_fits, crate::proofs::Products::ten_small))]
+fn power_of_ten(exponent: u64) -> u128
+    requires { exponent ≤ 18 }
+    ensures value { result ≡ 10 ^ exponent }
+    ensures small { result ≤ 1000000000000000000 }
+{
+    10u128.pow(exponent as u32)
+}
+
+/// Puts zeros after a number, or takes them away.
+#[tactic(auto, using(crate::proofs::Products::zeros_fit))]
+fn raised(digits: u64, scale: u64, exponent: u64, negative: bool) -> Fraction
+    requires digits { digits ≤ 1000000000000000000 }
+    requires scale { scale ≤ 1000000000000000000 }
+    requires exponent { exponent ≤ 18 }
+    ensures num { result.num ≡ (if negative then digits else digits * 10 ^ exponent) }
+    ensures den { result.den ≡ (if negative then scale * 10 ^ exponent else scale) }
+{
+    let zeros = power_of_ten(exponent);
+    if negative {
+        Fraction {
+            num: u128::from(digits),
+            den: u128::from(scale) * zeros,
+        }
+    } else {
+        Fraction {
+            num: u128::from(digits) * zeros,
+            den: u128::from(scale),
+        }
     }
-    if spells(b"in", name) {
-        return Some(Unit { num: 96, den: 1 });
-    }
-    if spells(b"cm", name) {
-        return Some(Unit {
-            num: 4800,
-            den: 127,
+}
+
+/// Reads a number without a sign.
+fn read_raised(bytes: &[u8]) -> Option<Numeral<'_>>
+    ensures { with_exponent (number_of bytes.now)
+        ≡ option_map (λ it. ((it.number.num, it.number.den), it.rest.now)) result }
+{
+    let Some(number) = read_number(bytes) else {
+        return None;
+    };
+    if !begins_exponent(number.rest) {
+        return Some(Numeral {
+            number: Fraction {
+                num: u128::from(number.digits),
+                den: u128::from(number.scale),
+            },
+            rest: number.rest,
         });
     }
-    if spells(b"mm", name) {
-        return Some(Unit { num: 480, den: 127 });
+    let sign = past_one(number.rest);
+    match read_digits(0, past_sign(sign)) {
+        Some(exponent) if exponent.digits <= 18 => Some(Numeral {
+            number: raised(
+                number.digits,
+                number.scale,
+                exponent.digits,
+                starts_with(sign, b'-'),
+            ),
+            rest: exponent.rest,
+        }),
+        _ => None,
     }
-    if spells(b"q", name) {
-        return Some(Unit { num: 120, den: 127 });
+}
+
+/// Finds the unit of length of this name.
+fn length_unit(name: &[u8]) -> Option<Fraction>
+    ensures { length_unit_of name.now ≡ option_map (λ it. (it.num, it.den)) result }
+{
+    let (num, den) = if spells(b"px", name) {
+        (1, 1)
+    } else if spells(b"em", name)
+        || spells(b"rem", name)
+        || spells(b"pc", name)
+        || spells(b"ic", name)
+    {
+        (16, 1)
+    } else if spells(b"ex", name) || spells(b"ch", name) {
+        (8, 1)
+    } else if spells(b"in", name) {
+        (96, 1)
+    } else if spells(b"cm", name) {
+        (4800, 127)
+    } else if spells(b"mm", name) {
+        (480, 127)
+    } else if spells(b"q", name) {
+        (120, 127)
+    } else if spells(b"pt", name) {
+        (4, 3)
+    } else {
+        return None;
+    };
+    Some(Fraction { num, den })
+}
+
+impl View {
+    /// Finds the unit of this name.
+    fn unit(self, name: &[u8]) -> Option<Fraction>
+        ensures { view_unit_of self name.now ≡ option_map (λ it. (it.num, it.den)) result }
+    {
+        let pixels = if spells(b"vw", name) || spells(b"vi", name) {
+            self.width
+        } else if spells(b"vh", name) || spells(b"vb", name) {
+            self.height
+        } else if spells(b"vmin", name) {
+            lesser(self.width, self.height)
+        } else if spells(b"vmax", name) {
+            greater(self.width, self.height)
+        } else {
+            return None;
+        };
+        Some(Fraction {
+            num: u128::from(pixels),
+            den: 100,
+        })
     }
-    if spells(b"pt", name) {
-        return Some(Unit { num: 4, den: 3 });
-    }
-    None
+}
+
+/// Returns the lesser one.
+fn lesser(one: u32, other: u32) -> u32
+    ensures { result ≡ lesser_of one other }
+{
+    if one <= other { one } else { other }
+}
+
+/// Returns the greater one.
+fn greater(one: u32, other: u32) -> u32
+    ensures { result ≡ greater_of one other }
+{
+    if one <= other { other } else { one }
 }
 
 /// Finds the unit of resolution of this name.
-fn resolution_unit(name: &[u8]) -> Option<Unit>
-    ensures found { resolution_unit_of name.now ≡ option_map (λ it. (it.num, it.den)) result }
-    ensures small { IfSome result (λ it. (it.num ≤ 4800) × (it.den ≤ 127)) }
+fn resolution_unit(name: &[u8]) -> Option<Fraction>
+    ensures { resolution_unit_of name.now ≡ option_map (λ it. (it.num, it.den)) result }
 {
-    if spells(b"dppx", name) || spells(b"x", name) {
-        return Some(Unit { num: 1000, den: 1 });
-    }
-    if spells(b"dpi", name) {
-        return Some(Unit { num: 125, den: 12 });
-    }
-    if spells(b"dpcm", name) {
-        return Some(Unit { num: 635, den: 24 });
-    }
-    None
-}
-
-/// Finds the unit after a number. A length that is zero needs none.
-fn unit_after(quantity: Quantity, number: u64, name: &[u8]) -> Option<Unit>
-    ensures found { unit_after_of quantity number name.now
-        ≡ option_map (λ it. (it.num, it.den)) result }
-    ensures small { IfSome result (λ it. (it.num ≤ 4800) × (it.den ≤ 127)) }
-{
-    match quantity {
-        Quantity::Length => {
-            if number == 0 && is_end(name) {
-                Some(Unit { num: 1, den: 1 })
-            } else {
-                length_unit(name)
-            }
-        }
-        Quantity::Resolution => resolution_unit(name),
-    }
-}
-
-/// Multiplies.
-#[tactic(auto, using(crate::proofs::Products::product_fits))]
-fn product(one: u64, other: u64) -> u128
-    ensures { result ≡ one * other }
-{
-    u128::from(one) * u128::from(other)
-}
-
-/// Multiplies a quantity.
-#[tactic(auto, using(crate::proofs::Products::parts_fit))]
-fn parts(mine: u32, den: u64) -> u64
-    requires { den ≤ 127 }
-    ensures { result ≡ mine * den }
-{
-    u64::from(mine) * den
-}
-
-/// Compares a quantity with a number below zero, which no resolution is.
-fn compared_below(quantity: Quantity, how: Comparison) -> Truth
-    ensures { result ≡ below_of quantity how }
-{
-    match quantity {
-        Quantity::Length => truth_of(compares(how, 1, 0)),
-        Quantity::Resolution => Truth::Unknown,
-    }
-}
-
-/// Compares a quantity with a number and the unit after it.
-fn by_number(quantity: Quantity, mine: u32, how: Comparison, negative: bool, bytes: &[u8]) -> Truth
-    ensures { result ≡ by_number_of quantity mine how negative (number_of bytes.now) }
-{
-    let Some(number) = read_number(bytes) else {
-        return Truth::Unknown;
+    let (num, den) = if spells(b"dppx", name) || spells(b"x", name) {
+        (1000, 1)
+    } else if spells(b"dpi", name) {
+        (125, 12)
+    } else if spells(b"dpcm", name) {
+        (635, 24)
+    } else {
+        return None;
     };
-    let after = past_word(number.rest);
-    if !is_end(past_gap(after)) {
-        return Truth::Unknown;
+    Some(Fraction { num, den })
+}
+
+/// Returns a number in a unit.
+pub fn in_unit(number: Fraction, kind: Kind, unit: Fraction) -> Option<Amount>
+    ensures { result ≡ in_unit_of (number.num, number.den) kind (unit.num, unit.den) }
+{
+    fitted(
+        kind,
+        cross(number.num, unit.num, 0, 0),
+        Some(0),
+        cross(number.den, unit.den, 0, 0),
+    )
+}
+
+/// Returns a number in the unit of this name, or without one.
+fn with_unit(view: View, number: Fraction, name: &[u8]) -> Option<Amount>
+    ensures { result ≡ with_unit_of view (number.num, number.den) name.now }
+{
+    if is_end(name) {
+        return in_unit(number, Kind::Number, Fraction { num: 1, den: 1 });
     }
-    match unit_after(quantity, number.digits, before(number.rest, after)) {
-        None => Truth::Unknown,
-        Some(unit) => {
-            if negative && number.digits != 0 {
-                compared_below(quantity, how)
-            } else {
-                let scaled = product(parts(mine, unit.den), number.scale);
-                truth_of(compares(how, scaled, product(number.digits, unit.num)))
-            }
-        }
+    if let Some(unit) = length_unit(name) {
+        return in_unit(number, Kind::Length, unit);
+    }
+    if let Some(unit) = view.unit(name) {
+        return in_unit(number, Kind::Length, unit);
+    }
+    match resolution_unit(name) {
+        None => None,
+        Some(unit) => in_unit(number, Kind::Resolution, unit),
     }
 }
 
-/// Compares a quantity with a value.
-#[tactic(auto, unfolding(crate::specs::Quantities::quantity_says))]
-pub fn quantity_says(quantity: Quantity, mine: u32, how: Comparison, value: &[u8]) -> Truth
-    ensures { result ≡ quantity_says_of quantity mine how value.now }
+/// Returns an amount below zero, if that is said.
+pub fn signed(negative: bool, amount: Option<Amount>) -> Option<Amount>
+    ensures { result ≡ signed_of negative amount }
 {
-    if starts_with(value, b'-') {
-        return by_number(quantity, mine, how, true, past_one(value));
+    match amount {
+        None => None,
+        Some(it) => Some(if negative { it.negated() } else { it }),
     }
-    if starts_with(value, b'+') {
-        return by_number(quantity, mine, how, false, past_one(value));
+}
+
+/// Reads a number, a length or a resolution.
+pub fn read_dimension(view: View, bytes: &[u8]) -> Option<Found<'_>>
+    ensures { dimension_of view bytes.now ≡ option_map (λ it. (it.amount, it.rest.now)) result }
+{
+    let Some(read) = read_raised(past_sign(bytes)) else {
+        return None;
+    };
+    let rest = past_word(read.rest);
+    let amount = with_unit(view, read.number, before(read.rest, rest));
+    match signed(starts_with(bytes, b'-'), amount) {
+        None => None,
+        Some(amount) => Some(Found { amount, rest }),
     }
-    by_number(quantity, mine, how, false, value)
 }

@@ -8,10 +8,10 @@ use Rattle.css_matching.specs.Bounds.{longest_fixed}
 use Rattle.css_matching.specs.declared.Combinator.{Combinator}
 use Rattle.css_selectors.specs.AfterKeys.{have_no_greater, begin_with_key, is_led_by_key, begins_with_key, after_first, conditions_after_key, MatchesAfterKey, MatchesFoundBy}
 use Rattle.css_selectors.specs.AncestorKeys.{is_exact_condition, is_exact_key, keys_among}
-use Rattle.css_selectors.specs.Components.{Condition, Conditions, Part, Selector, conditions_from, parts_from}
-use Rattle.css_selectors.specs.Components.Simple.{universal, type_name, id, class, has_attribute, attribute, structure, language, state, function, named_element, nesting, namespaced}
-use Rattle.css_selectors.specs.Components.Condition.{simple, negation, any_of, where_any, tested}
-use Rattle.css_selectors.specs.Components.Parts.{end_of_selector, with_part}
+use Rattle.css_selector_text.specs.Components.{Condition, Conditions, Part, Selector, conditions_from, parts_from}
+use Rattle.css_selector_text.specs.Components.Simple.{universal, type_name, id, class, has_attribute, attribute, structure, language, state, function, named_element, nesting, namespaced}
+use Rattle.css_selector_text.specs.Components.Condition.{simple, negation, any_of, where_any, tested}
+use Rattle.css_selector_text.specs.Components.Parts.{end_of_selector, with_part}
 use Rattle.css_selectors.specs.Costs.{compound_cost, dearest_part, most_questions, most_tests}
 use Rattle.css_selectors.specs.Documents.{Document}
 use Rattle.css_selectors.specs.Keys.{Key, has_key, keys_of, best_keys, better_keys, condition_keys, conditions_at, least_rank}

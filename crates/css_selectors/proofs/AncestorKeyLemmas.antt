@@ -17,17 +17,17 @@ use Rattle.css_matching.specs.declared.Combinator.{Combinator}
 use Rattle.css_matching.specs.declared.Combinator.TheVariants.{Descendant, Child, Adjacent, Sibling}
 use Rattle.css_matching.proofs.Steps.{sibling_parent, beyond_parent}
 use Rattle.css_selectors.specs.AncestorKeys.{keys_among, alone, step_keys, keys_before, ancestor_keys, SomeAncestorHas, parent_step_keys, keys_of_parent, parent_keys, ParentHas, is_exact, is_whole, is_exact_key, is_one_id_or_class, is_lone_id_or_class, are_exact, is_only_key, are_only_keys, are_only_part, is_only_keys}
-use Rattle.css_selectors.specs.declared.components.Part.{Part as PartOf}
-use Rattle.css_selectors.specs.declared.components.Complex.{Complex, out-Complex}
-use Rattle.css_selectors.specs.Views.{condition_of, part_of, complex_of}
+use Rattle.css_selector_text.specs.declared.components.Part.{Part as PartOf}
+use Rattle.css_selector_text.specs.declared.components.Complex.{Complex, out-Complex}
+use Rattle.css_selector_text.specs.Views.{condition_of, part_of, complex_of}
 use Rattle.css_selectors.specs.Documents.{Document, shape}
-use Rattle.css_selectors.specs.declared.components.Condition.{Condition as ConditionOf}
-use Rattle.css_selectors.specs.Components.{Simple, Condition, Conditions, Parts, Selectors, conditions_from, parts_from, Part, PseudoElement, Selector}
-use Rattle.css_selectors.specs.Components.Simple.{universal, type_name, id, class, has_attribute, attribute, structure, language, state, function, named_element, nesting, namespaced}
-use Rattle.css_selectors.specs.Components.Condition.{simple, negation, any_of, where_any, tested}
-use Rattle.css_selectors.specs.Components.Conditions.{end_of_compound, with_condition}
-use Rattle.css_selectors.specs.Components.Parts.{end_of_selector, with_part}
-use Rattle.css_selectors.specs.Components.Selectors.{end_of_list, with_selector}
+use Rattle.css_selector_text.specs.declared.components.Condition.{Condition as ConditionOf}
+use Rattle.css_selector_text.specs.Components.{Simple, Condition, Conditions, Parts, Selectors, conditions_from, parts_from, Part, PseudoElement, Selector}
+use Rattle.css_selector_text.specs.Components.Simple.{universal, type_name, id, class, has_attribute, attribute, structure, language, state, function, named_element, nesting, namespaced}
+use Rattle.css_selector_text.specs.Components.Condition.{simple, negation, any_of, where_any, tested}
+use Rattle.css_selector_text.specs.Components.Conditions.{end_of_compound, with_condition}
+use Rattle.css_selector_text.specs.Components.Parts.{end_of_selector, with_part}
+use Rattle.css_selector_text.specs.Components.Selectors.{end_of_list, with_selector}
 use Rattle.css_selectors.specs.Keys.{Key, has_key, simple_key, rank, compound_key, parts_key, selector_keys, condition_keys, least_rank, better_keys, conditions_at, keys_of}
 use Rattle.css_selectors.specs.Keys.Key.{by_nothing}
 use Rattle.css_selectors.specs.Meanings.{holds, combinator_at, part_count, IsMet, AreMet, MeetsPart, MatchesAny, IsPlaced, Matches}

@@ -7,7 +7,7 @@ use Rattle.css_matching.specs.declared.Combinator.TheVariants.{Descendant, Child
 use Rattle.css_matching.specs.Bounds.{is_adjacent, is_sibling, run_length, longest_free, fixed_by, free_by, fixed_and_free, fixed_length, longest_fixed, levels_by, level_count, most_levels}
 use Rattle.css_matching.proofs.Counting.{fixed_length-bound}
 use Rattle.css_selectors.specs.Documents.{Document}
-use Rattle.css_selectors.specs.Components.{Part, Selector, parts_from}
+use Rattle.css_selector_text.specs.Components.{Part, Selector, parts_from}
 use Rattle.css_selectors.specs.Meanings.{combinator_at}
 use Rattle.css_selectors.specs.Costs.{most_questions}
 use Rattle.css_selectors.proofs.PlacementListLemmas.{count_from}

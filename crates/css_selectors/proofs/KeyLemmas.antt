@@ -5,24 +5,24 @@ use Rattle.std.specs.Prelude.{is_none, nat_lt, min, if◌then◌else◌}
 use Rattle.std.specs.List.{list_any}
 use Rattle.std.specs.Option.{option_map_or}
 use Rattle.css_selectors.specs.Documents.{Document}
-use Rattle.css_selectors.specs.Components.Namespace.{absent, any_namespace, of_prefix, default}
-use Rattle.css_selectors.specs.Components.Local.{any_type, a_type, some_attribute, an_attribute, implied}
-use Rattle.css_selectors.specs.Components.{Namespace, Local, is_absent, Simple, Condition, Conditions, Parts, Selectors, Part, Selector, conditions_from, parts_from, selectors_from}
-use Rattle.css_selectors.specs.Components.Simple.{universal, type_name, id, class, has_attribute, attribute, structure, language, state, function, named_element, nesting, namespaced}
-use Rattle.css_selectors.specs.Components.Condition.{simple, negation, any_of, where_any, tested}
-use Rattle.css_selectors.specs.Components.Conditions.{end_of_compound, with_condition}
-use Rattle.css_selectors.specs.Components.Parts.{end_of_selector, with_part}
-use Rattle.css_selectors.specs.Components.Selectors.{end_of_list, with_selector}
+use Rattle.css_selector_text.specs.Components.Namespace.{absent, any_namespace, of_prefix, default}
+use Rattle.css_selector_text.specs.Components.Local.{any_type, a_type, some_attribute, an_attribute, implied}
+use Rattle.css_selector_text.specs.Components.{Namespace, Local, is_absent, Simple, Condition, Conditions, Parts, Selectors, Part, Selector, conditions_from, parts_from, selectors_from}
+use Rattle.css_selector_text.specs.Components.Simple.{universal, type_name, id, class, has_attribute, attribute, structure, language, state, function, named_element, nesting, namespaced}
+use Rattle.css_selector_text.specs.Components.Condition.{simple, negation, any_of, where_any, tested}
+use Rattle.css_selector_text.specs.Components.Conditions.{end_of_compound, with_condition}
+use Rattle.css_selector_text.specs.Components.Parts.{end_of_selector, with_part}
+use Rattle.css_selector_text.specs.Components.Selectors.{end_of_list, with_selector}
 use Rattle.css_matching.specs.declared.Combinator.{Combinator}
-use Rattle.css_selectors.specs.declared.components.Condition.{Condition as ConditionOf, Is, Where}
-use Rattle.css_selectors.specs.declared.components.Complex.{Complex, out-Complex}
-use Rattle.css_selectors.specs.declared.components.Part.{Part as PartOf}
-use Rattle.css_selectors.specs.Views.{condition_of, part_of, complex_of}
-use Rattle.css_selectors.specs.AttributeTests.{is_satisfied}
+use Rattle.css_selector_text.specs.declared.components.Condition.{Condition as ConditionOf, Is, Where}
+use Rattle.css_selector_text.specs.declared.components.Complex.{Complex, out-Complex}
+use Rattle.css_selector_text.specs.declared.components.Part.{Part as PartOf}
+use Rattle.css_selector_text.specs.Views.{condition_of, part_of, complex_of}
+use Rattle.css_selector_text.specs.AttributeTests.{is_satisfied}
 use Rattle.css_selectors.specs.Meanings.{accepts, has_attribute_in, is_in, holds_in, holds, part_count, IsMet, AreMet, MeetsPart, MatchesAny, IsPlaced, Matches}
 use Rattle.css_selectors.specs.Keys.{Key, has_key, local_key, simple_key, lone_key, rank, better_key, best_key, compound_key, subject_from, parts_key, selector_keys, condition_keys, least_rank, better_keys, best_keys, conditions_at, keys_of}
 use Rattle.css_selectors.specs.Keys.Key.{by_attribute, by_nothing}
-use Rattle.css_selectors.proofs.ConditionViews.{condition_is, condition_where}
+use Rattle.css_selector_text.proofs.ConditionViews.{condition_is, condition_where}
 use Rattle.css_selectors.proofs.PlacementListLemmas.{count_from}
 
 or_first : (a b : Bool) → IsTrue a → IsTrue (a || b)

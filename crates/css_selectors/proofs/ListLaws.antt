@@ -4,11 +4,11 @@ use Rattle.std.proofs.Common.{zero, suc, ◌↔◌, inl, inr, List, [], ◌∷�
 use Rattle.std.specs.List.{Contains}
 use Rattle.css_matching.specs.declared.Combinator.{Combinator}
 use Rattle.css_selectors.specs.Documents.{Document}
-use Rattle.css_selectors.specs.Components.{Condition, Part, parts_from, selectors_from}
+use Rattle.css_selector_text.specs.Components.{Condition, Part, parts_from, selectors_from}
 use Rattle.css_selectors.specs.LoneSelectors.{of_parts, of_condition}
-use Rattle.css_selectors.specs.Components.Condition.{negation, any_of, where_any}
-use Rattle.css_selectors.specs.Components.Conditions.{end_of_compound, with_condition}
-use Rattle.css_selectors.specs.Components.Parts.{end_of_selector, with_part}
+use Rattle.css_selector_text.specs.Components.Condition.{negation, any_of, where_any}
+use Rattle.css_selector_text.specs.Components.Conditions.{end_of_compound, with_condition}
+use Rattle.css_selector_text.specs.Components.Parts.{end_of_selector, with_part}
 use Rattle.css_selectors.specs.Meanings.{IsMet, MeetsPart, MatchesAny, IsPlaced, Matches}
 use Rattle.css_selectors.proofs.AncestorKeyLemmas.{lone_placed}
 

@@ -4,15 +4,17 @@ use Rattle.std.proofs.Common.{◌≡◌, ℕ, zero, suc, ◌+◌, ◌-◌, ◌*�
 use Rattle.std.proofs.Math.Nat.{mul-le-mul_left, mul-le-mul_right}
 use Rattle.css_matching.specs.Bounds.{longest_free, longest_fixed, most_levels}
 use Rattle.css_selectors.specs.Documents.{Document}
-use Rattle.css_selectors.specs.Components.{Condition, Conditions, Parts, Selectors}
-use Rattle.css_selectors.specs.Components.Condition.{simple, negation, any_of, where_any, tested}
-use Rattle.css_selectors.specs.Components.Conditions.{end_of_compound, with_condition}
-use Rattle.css_selectors.specs.Components.Parts.{end_of_selector, with_part}
-use Rattle.css_selectors.specs.Components.Selectors.{end_of_list, with_selector}
+use Rattle.css_selector_text.specs.Components.{Condition, Conditions, Parts, Selectors}
+use Rattle.css_selector_text.specs.Components.Condition.{simple, negation, any_of, where_any, tested}
+use Rattle.css_selector_text.specs.Components.Conditions.{end_of_compound, with_condition}
+use Rattle.css_selector_text.specs.Components.Parts.{end_of_selector, with_part}
+use Rattle.css_selector_text.specs.Components.Selectors.{end_of_list, with_selector}
 use Rattle.css_selectors.specs.Meanings.{combinator_at, part_count}
 use Rattle.css_selectors.specs.TestBounds.{earlier_siblings}
-use Rattle.css_selectors.specs.Costs.{most_questions, is_lone, selector_cost_by, condition_cost, compound_cost, dearest_part, list_cost, most_tests}
-use Rattle.css_selectors.specs.NestedTests.{condition_size, compound_size, parts_size, selectors_size, JoinsWithin, CompoundJoinsWithin, PartsJoinWithin, ListJoinsWithin, searches_if, search_count, searches, nested_tests}
+use Rattle.css_selectors.specs.Costs.{most_questions, selector_cost_by, condition_cost, compound_cost, dearest_part, list_cost, most_tests}
+use Rattle.css_selector_text.specs.reading.SearchCounts.{is_lone}
+use Rattle.css_selectors.specs.NestedTests.{condition_size, compound_size, parts_size, selectors_size, JoinsWithin, CompoundJoinsWithin, PartsJoinWithin, ListJoinsWithin, searches, nested_tests}
+use Rattle.css_selector_text.specs.reading.SearchCounts.{searches_if, search_count}
 use Rattle.css_selectors.proofs.BoundLemmas.{longest_fixed-le, longest_free-le, most_levels-le, sum_le}
 
 -- ---- numbers

@@ -3,13 +3,14 @@
 use Rattle.std.proofs.Common.{◌≡◌, ℕ, ◌-◌, ◌≤◌, Bool, true, false, refl, arith}
 use Rattle.std.specs.Prelude.{◌&&◌, nat_le}
 use Rattle.std.proofs.lemmas.Bool.Decides.{nat_tests}
-use Rattle.css_selectors.specs.Components.{Condition, Conditions, Parts, Selectors, Selector, parts_from}
-use Rattle.css_selectors.specs.Components.Condition.{simple, negation, any_of, where_any, tested}
-use Rattle.css_selectors.specs.Components.Conditions.{end_of_compound, with_condition}
-use Rattle.css_selectors.specs.Components.Parts.{end_of_selector, with_part}
-use Rattle.css_selectors.specs.Components.Selectors.{end_of_list, with_selector}
-use Rattle.css_selectors.specs.NestedTests.{JoinsWithin, CompoundJoinsWithin, PartsJoinWithin, ListJoinsWithin, search_count}
-use Rattle.css_selectors.specs.Supported.{deepest_joined, is_supported, have_meaning, parts_supported, are_supported, is_plain_element, is_supported_selector}
+use Rattle.css_selector_text.specs.Components.{Condition, Conditions, Parts, Selectors, Selector, parts_from}
+use Rattle.css_selector_text.specs.Components.Condition.{simple, negation, any_of, where_any, tested}
+use Rattle.css_selector_text.specs.Components.Conditions.{end_of_compound, with_condition}
+use Rattle.css_selector_text.specs.Components.Parts.{end_of_selector, with_part}
+use Rattle.css_selector_text.specs.Components.Selectors.{end_of_list, with_selector}
+use Rattle.css_selectors.specs.NestedTests.{JoinsWithin, CompoundJoinsWithin, PartsJoinWithin, ListJoinsWithin}
+use Rattle.css_selector_text.specs.reading.SearchCounts.{search_count}
+use Rattle.css_selector_text.specs.reading.Supported.{deepest_joined, is_supported, have_meaning, parts_supported, are_supported, is_plain_element, is_supported_selector}
 
 first_true : (a b : Bool) → (a && b) ≡ true → a ≡ true
 first_true true b h = refl

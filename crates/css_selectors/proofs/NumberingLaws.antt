@@ -1,15 +1,15 @@
 -- What is numbered has no list without a number, and counts as before.
 -- Serves `numbering_laws`.
 use Rattle.std.proofs.Common.{◌≡◌, ℕ, List, Option, None, Some, refl, sym, ap, ◌∙◌, subst}
-use Rattle.css_selectors.specs.Components.{Simple, Condition, Conditions, Parts, Selectors, PseudoElement, Selector, conditions_from, parts_from}
-use Rattle.css_selectors.specs.Components.Simple.{universal, type_name, id, class, has_attribute, attribute, structure, language, state, function, named_element, nesting, namespaced}
-use Rattle.css_selectors.specs.Components.Condition.{simple, negation, any_of, where_any, tested}
-use Rattle.css_selectors.specs.Components.Conditions.{end_of_compound, with_condition}
-use Rattle.css_selectors.specs.Components.Parts.{end_of_selector, with_part}
-use Rattle.css_selectors.specs.Components.Selectors.{end_of_list, with_selector}
+use Rattle.css_selector_text.specs.Components.{Simple, Condition, Conditions, Parts, Selectors, PseudoElement, Selector, conditions_from, parts_from}
+use Rattle.css_selector_text.specs.Components.Simple.{universal, type_name, id, class, has_attribute, attribute, structure, language, state, function, named_element, nesting, namespaced}
+use Rattle.css_selector_text.specs.Components.Condition.{simple, negation, any_of, where_any, tested}
+use Rattle.css_selector_text.specs.Components.Conditions.{end_of_compound, with_condition}
+use Rattle.css_selector_text.specs.Components.Parts.{end_of_selector, with_part}
+use Rattle.css_selector_text.specs.Components.Selectors.{end_of_list, with_selector}
 use Rattle.css_selectors.specs.MarkedLists.{ListText}
 use Rattle.css_selectors.specs.Numberings.{NumberingText, numbered_simple, numbered_condition, numbered_compound, numbered_complex, numbered_list, numbered_parts, numbered_element, numbered_selector, IsAnswered, CompoundAnswered, PartsAnswered, ListAnswered, ElementAnswered, SelectorAnswered}
-use Rattle.css_selectors.specs.Specificities.{Counts, nothing, one_name, plus, greater, of_simple, of_condition, of_compound, of_parts, greatest, of_pseudo_element, specificity}
+use Rattle.css_selector_text.specs.Specificities.{Counts, nothing, one_name, plus, greater, of_simple, of_condition, of_compound, of_parts, greatest, of_pseudo_element, specificity}
 use Rattle.css_selectors.proofs.NumberingLemmas.{compound-from, complex-from}
 
 module _ (numbers : List ℕ) where

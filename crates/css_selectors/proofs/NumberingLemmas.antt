@@ -3,26 +3,26 @@
 -- Serves `numbering`.
 use Rattle.std.proofs.Common.{◌≡◌, ℕ, ◌+◌, ◌<◌, List, [], ◌∷◌, ◌++◌, length, map, Vec, Global, refl, sym, ap, ◌∙◌, append-nil, append_assoc, arith}
 use Rattle.std.proofs.lemmas.List.{length-map, length-append, map-append}
-use Rattle.css_selectors.specs.declared.components.Complex.{Complex}
-use Rattle.css_selectors.specs.declared.components.Condition.{Condition as ConditionOf, Simple as SimpleIs, Not, Is, Where, Tested}
-use Rattle.css_selectors.specs.declared.components.ListTest.{ListTest as ListTestOf}
-use Rattle.css_selectors.specs.declared.components.Simple.TheVariants.{Nesting as NestingIs}
+use Rattle.css_selector_text.specs.declared.components.Complex.{Complex}
+use Rattle.css_selector_text.specs.declared.components.Condition.{Condition as ConditionOf, Simple as SimpleIs, Not, Is, Where, Tested}
+use Rattle.css_selector_text.specs.declared.components.ListTest.{ListTest as ListTestOf}
+use Rattle.css_selector_text.specs.declared.components.Simple.TheVariants.{Nesting as NestingIs}
 use Rattle.css_selectors.specs.declared.marked_list.MarkedList.{MarkedList}
 use Rattle.css_selectors.specs.declared.marked_list.MarkedList.TheVariants.{Tested as TestedList}
-use Rattle.css_selectors.specs.declared.specificity.Specificity.{Specificity}
-use Rattle.css_selectors.specs.Components.{Condition, Part, Selectors, conditions_from, parts_from, selectors_from}
-use Rattle.css_selectors.specs.Components.Simple.{nesting}
-use Rattle.css_selectors.specs.Components.Condition.{simple, negation, any_of, where_any}
-use Rattle.css_selectors.specs.Components.Conditions.{with_condition}
-use Rattle.css_selectors.specs.Components.Parts.{with_part}
-use Rattle.css_selectors.specs.Components.Selectors.{with_selector}
+use Rattle.css_selector_text.specs.declared.specificity.Specificity.{Specificity}
+use Rattle.css_selector_text.specs.Components.{Condition, Part, Selectors, conditions_from, parts_from, selectors_from}
+use Rattle.css_selector_text.specs.Components.Simple.{nesting}
+use Rattle.css_selector_text.specs.Components.Condition.{simple, negation, any_of, where_any}
+use Rattle.css_selector_text.specs.Components.Conditions.{with_condition}
+use Rattle.css_selector_text.specs.Components.Parts.{with_part}
+use Rattle.css_selector_text.specs.Components.Selectors.{with_selector}
 use Rattle.css_selectors.specs.MarkedLists.{ListText, list_of}
 use Rattle.css_selectors.specs.Numberings.{Numbered, one_then, made_of, numbered_test, numbered_condition, numbered_compound, numbered_complex, numbered_list, numbered_each, numbered_conditions, numbered_parts, specificity_of}
-use Rattle.css_selectors.specs.Specificities.{Counts, nothing, of_test, greatest}
-use Rattle.css_selectors.specs.SpecificityViews.{counts_of}
-use Rattle.css_selectors.specs.Views.{complex_of, condition_of, list_test_of}
-use Rattle.css_selectors.proofs.ConditionViews.{condition_not, condition_is, condition_where, condition_tested}
-use Rattle.css_selectors.proofs.NestLemmas.{condition_simple}
+use Rattle.css_selector_text.specs.Specificities.{Counts, nothing, of_test, greatest}
+use Rattle.css_selector_text.specs.SpecificityViews.{counts_of}
+use Rattle.css_selector_text.specs.Views.{complex_of, condition_of, list_test_of}
+use Rattle.css_selector_text.proofs.ConditionViews.{condition_not, condition_is, condition_where, condition_tested}
+use Rattle.css_selector_text.proofs.NestLemmas.{condition_simple}
 
 module _ (numbers : List ℕ) where
   pub compound-from : (lists : List ListText) (cs : List Condition)

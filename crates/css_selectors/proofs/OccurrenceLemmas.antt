@@ -7,7 +7,7 @@ use Rattle.memchr.specs.TwoWay.{IsCut as IsTwoWayCut}
 use Rattle.memchr.specs.declared.arch.all.twoway.Shift.TheVariants.{Large}
 use Rattle.memchr.proofs.lemmas.CriticalLemmas.{IsCutPlace-of, IsCut-wide, IsCut-long, IsCut-small}
 use Rattle.memchr.proofs.lemmas.SearchLemmas.{IsShift-large, IsShift-small}
-use Rattle.css_selectors.specs.AttributeTests.{begins, occurs_in, same_byte}
+use Rattle.css_selector_text.specs.AttributeTests.{begins, occurs_in, same_byte}
 use Rattle.css_selectors.specs.internal.Occurrences.{folded, folded_at, OccursAt, IsBefore, IsCut}
 
 pub IsBefore-trans : (reverse : Bool) (a b c : ℕ) → IsBefore reverse a b → IsBefore reverse b c

@@ -1,20 +1,19 @@
 -- A selector as the definitions see it and as the code goes through it.
--- Serves `meeting` and `support`.
+-- Serves `meeting`.
 use Rattle.std.proofs.Common.{◌≡◌, ℕ, zero, suc, ◌+◌, ◌<◌, ◌≤◌, ◌↔◌, ◌⊎◌, Bool, true, false, List, [], ◌∷◌, length, get_or, map, drop, IsTrue, Option, None, Some, Vec, Global, refl, sym, ◌∙◌, ap, subst, inl, inr, arith, add-one, drop-cons}
 use Rattle.std.specs.Prelude.{not, ◌==◌}
 use Rattle.std.specs.Option.{option_map, is_some}
 use Rattle.std.proofs.lemmas.Bool.{false≢true}
-use Rattle.css_selectors.specs.declared.components.Condition.{Condition as ConditionOf, Not, Is, Where, Tested}
-use Rattle.css_selectors.specs.declared.components.ListTest.{ListTest as ListTestOf}
-use Rattle.css_selectors.specs.declared.components.Complex.{Complex, out-Complex}
-use Rattle.css_selectors.specs.declared.components.Part.{Part as PartOf}
+use Rattle.css_selector_text.specs.declared.components.Condition.{Condition as ConditionOf, Not, Is, Where, Tested}
+use Rattle.css_selector_text.specs.declared.components.ListTest.{ListTest as ListTestOf}
+use Rattle.css_selector_text.specs.declared.components.Complex.{Complex, out-Complex}
+use Rattle.css_selector_text.specs.declared.components.Part.{Part as PartOf}
 use Rattle.css_selectors.specs.Documents.{Document}
-use Rattle.css_selectors.specs.Components.{Selector, conditions_from, parts_from, selectors_from}
+use Rattle.css_selector_text.specs.Components.{Selector, conditions_from, parts_from, selectors_from}
 use Rattle.css_selectors.specs.Meanings.{combinator_at, part_count, IsMet, AreMet, MeetsPart, MatchesAny, IsPlaced, Matches}
 use Rattle.css_selectors.specs.Costs.{condition_cost, compound_cost, dearest_part, list_cost, most_tests, selector_cost}
-use Rattle.css_selectors.specs.NestedTests.{search_count}
-use Rattle.css_selectors.specs.Views.{condition_of, part_of, complex_of}
-use Rattle.css_selectors.proofs.ConditionViews.{condition_not, condition_is, condition_where, condition_tested}
+use Rattle.css_selector_text.specs.Views.{condition_of, part_of, complex_of}
+use Rattle.css_selector_text.proofs.ConditionViews.{condition_not, condition_is, condition_where, condition_tested}
 
 pub part_count-from : (ps : List PartOf) → part_count (parts_from (map part_of ps)) ≡ length ps
 part_count-from [] = refl
@@ -25,18 +24,6 @@ pub combinator_at-from : (ps : List PartOf) (i : ℕ) (x : PartOf) → i < lengt
 combinator_at-from [] i x lt = absurd (omega (arith, lt))
 combinator_at-from (p ∷ ps) zero x lt = refl
 combinator_at-from (p ∷ ps) (suc i) x lt = combinator_at-from ps i x (omega (arith, lt))
-
-pub count_lone : (ps : List PartOf) → length ps < 2
-    → 0 ≡ search_count (parts_from (map part_of ps))
-count_lone [] h = refl
-count_lone (p ∷ []) h = refl
-count_lone (p ∷ q ∷ ps) h = absurd (omega (arith, h))
-
-pub count_joined : (ps : List PartOf) → 2 ≤ length ps
-    → 1 ≡ search_count (parts_from (map part_of ps))
-count_joined [] h = absurd (omega (arith, h))
-count_joined (p ∷ []) h = absurd (omega (arith, h))
-count_joined (p ∷ q ∷ ps) h = refl
 
 module _ {Node : Type 0} (d : Document Node) where
   pub meets_part : (ps : List PartOf) (i : ℕ) (x : PartOf) (n : Node) (b : Bool) → i < length ps

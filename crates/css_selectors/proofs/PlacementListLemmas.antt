@@ -3,7 +3,7 @@
 use Rattle.std.proofs.Common.{◌≡◌, ◌↔◌, ℕ, zero, suc, ◌-◌, ◌<◌, ◌≤◌, List, [], ◌∷◌, length, get_or, None, refl, sym, subst, arith, add-one}
 use Rattle.css_matching.specs.Placements.{Relates, HasPlacement}
 use Rattle.css_selectors.specs.Documents.{Document, shape}
-use Rattle.css_selectors.specs.Components.{Part, Selector, parts_from}
+use Rattle.css_selector_text.specs.Components.{Part, Selector, parts_from}
 use Rattle.css_selectors.specs.Meanings.{combinator_at, part_count, MeetsPart, Matches}
 use Rattle.css_selectors.specs.PlacementLists.{ContinuesPlacement, IsPlacementList, HasPlacementList}
 

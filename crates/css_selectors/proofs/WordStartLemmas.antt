@@ -3,7 +3,7 @@
 use Rattle.std.proofs.Common.{◌≡◌, ℕ, ◌<◌, ◌≤◌, ◌||◌, Bool, true, false, List, [], ◌∷◌, length, refl, ap, ◌∙◌, arith}
 use Rattle.std.specs.Prelude.{if◌then◌else◌}
 use Rattle.css_text.specs.Characters.{is_space}
-use Rattle.css_selectors.specs.AttributeTests.{begins_up_to, is_word_of}
+use Rattle.css_selector_text.specs.AttributeTests.{begins_up_to, is_word_of}
 use Rattle.css_selectors.specs.internal.WordStarts.{after_space}
 
 -- where no word may begin, one begins after the next white space

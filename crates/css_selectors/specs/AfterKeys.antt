@@ -1,7 +1,7 @@
 -- Selectors that begin with their key: of an element that is known to have it only the rest is tested.
 use Rattle.std.specs.Prelude.{◌≡◌, ℕ, ◌-◌, ◌&&◌, not, nat_lt, Bool, true, false, List, [], ◌∷◌, length, None}
 use Rattle.css_selectors.specs.AncestorKeys.{is_exact_condition}
-use Rattle.css_selectors.specs.Components.{Condition, Part, Selector, conditions_from}
+use Rattle.css_selector_text.specs.Components.{Condition, Part, Selector, conditions_from}
 use Rattle.css_selectors.specs.Documents.{Document}
 use Rattle.css_selectors.specs.Keys.{condition_keys, conditions_at, least_rank}
 use Rattle.css_selectors.specs.Meanings.{AreMet, Matches}

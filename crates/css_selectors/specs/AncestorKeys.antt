@@ -5,12 +5,12 @@ use Rattle.css_matching.specs.Placements.{IsBeyond}
 use Rattle.css_matching.specs.declared.Combinator.{Combinator}
 use Rattle.css_matching.specs.declared.Combinator.TheVariants.{Descendant, Child, Adjacent, Sibling}
 use Rattle.css_selectors.specs.Documents.{Document}
-use Rattle.css_selectors.specs.Components.{Simple, Condition, Conditions, Parts, Selectors, Part, Selector, parts_from}
-use Rattle.css_selectors.specs.Components.Simple.{universal, type_name, id, class, has_attribute, attribute, structure, language, state, function, named_element, nesting, namespaced}
-use Rattle.css_selectors.specs.Components.Condition.{simple, negation, any_of, where_any, tested}
-use Rattle.css_selectors.specs.Components.Conditions.{end_of_compound, with_condition}
-use Rattle.css_selectors.specs.Components.Parts.{end_of_selector, with_part}
-use Rattle.css_selectors.specs.Components.Selectors.{end_of_list, with_selector}
+use Rattle.css_selector_text.specs.Components.{Simple, Condition, Conditions, Parts, Selectors, Part, Selector, parts_from}
+use Rattle.css_selector_text.specs.Components.Simple.{universal, type_name, id, class, has_attribute, attribute, structure, language, state, function, named_element, nesting, namespaced}
+use Rattle.css_selector_text.specs.Components.Condition.{simple, negation, any_of, where_any, tested}
+use Rattle.css_selector_text.specs.Components.Conditions.{end_of_compound, with_condition}
+use Rattle.css_selector_text.specs.Components.Parts.{end_of_selector, with_part}
+use Rattle.css_selector_text.specs.Components.Selectors.{end_of_list, with_selector}
 use Rattle.css_selectors.specs.Keys.{Key, has_key, best_keys, conditions_at}
 use Rattle.css_selectors.specs.Keys.Key.{by_id, by_class, by_name, by_attribute, by_nothing}
 use Rattle.css_selectors.specs.Meanings.{combinator_at}

@@ -8,13 +8,14 @@ use Rattle.css_matching.specs.Bounds.{longest_fixed, longest_free, most_levels, 
 use Rattle.css_matching.specs.Trees.{Counts, SiblingsShareParent, IsMonotone}
 use Rattle.css_matching.proofs.Steps.{count_less, sibling_parent}
 use Rattle.css_selectors.specs.Documents.{Document, shape}
-use Rattle.css_selectors.specs.Components.{Condition, Conditions, Parts, Selectors}
-use Rattle.css_selectors.specs.Components.Condition.{simple, negation, any_of, where_any, tested}
-use Rattle.css_selectors.specs.Components.Conditions.{end_of_compound, with_condition}
-use Rattle.css_selectors.specs.Components.Parts.{end_of_selector, with_part}
-use Rattle.css_selectors.specs.Components.Selectors.{end_of_list, with_selector}
+use Rattle.css_selector_text.specs.Components.{Condition, Conditions, Parts, Selectors}
+use Rattle.css_selector_text.specs.Components.Condition.{simple, negation, any_of, where_any, tested}
+use Rattle.css_selector_text.specs.Components.Conditions.{end_of_compound, with_condition}
+use Rattle.css_selector_text.specs.Components.Parts.{end_of_selector, with_part}
+use Rattle.css_selector_text.specs.Components.Selectors.{end_of_list, with_selector}
 use Rattle.css_selectors.specs.Meanings.{combinator_at, part_count}
-use Rattle.css_selectors.specs.Costs.{most_questions, condition_cost, compound_cost, dearest_part, list_cost, is_lone, selector_cost_by, IsPlain, ArePlain, HasPlainParts, IsPlainList, most_tests}
+use Rattle.css_selectors.specs.Costs.{most_questions, condition_cost, compound_cost, dearest_part, list_cost, selector_cost_by, IsPlain, ArePlain, HasPlainParts, IsPlainList, most_tests}
+use Rattle.css_selector_text.specs.reading.SearchCounts.{is_lone}
 
 product-le : (a b c e : ℕ) → a ≤ b → c ≤ e → a * c ≤ b * e
 product-le a b c e h k =

@@ -2,12 +2,13 @@
 use Rattle.std.specs.Prelude.{ℕ, ◌+◌, ◌-◌, ◌*◌, Bool, true, false, IsTrue, max}
 use Rattle.css_matching.specs.Bounds.{longest_fixed, longest_free, most_levels, width}
 use Rattle.css_selectors.specs.Documents.{Document, shape}
-use Rattle.css_selectors.specs.Components.{Condition, Conditions, Parts, Selectors}
-use Rattle.css_selectors.specs.Components.Condition.{simple, negation, any_of, where_any, tested}
-use Rattle.css_selectors.specs.Components.Conditions.{end_of_compound, with_condition}
-use Rattle.css_selectors.specs.Components.Parts.{end_of_selector, with_part}
-use Rattle.css_selectors.specs.Components.Selectors.{end_of_list, with_selector}
+use Rattle.css_selector_text.specs.Components.{Condition, Conditions, Parts, Selectors}
+use Rattle.css_selector_text.specs.Components.Condition.{simple, negation, any_of, where_any, tested}
+use Rattle.css_selector_text.specs.Components.Conditions.{end_of_compound, with_condition}
+use Rattle.css_selector_text.specs.Components.Parts.{end_of_selector, with_part}
+use Rattle.css_selector_text.specs.Components.Selectors.{end_of_list, with_selector}
 use Rattle.css_selectors.specs.Meanings.{combinator_at, part_count}
+use Rattle.css_selector_text.specs.reading.SearchCounts.{is_lone}
 
 -- how many times the search for a placement asks at most whether a node meets a part
 abbrev pub most_questions : {Node : Type 0} → Document Node → Parts → Node → ℕ
@@ -17,12 +18,6 @@ most_questions document parts n =
     longest_fixed combinator last * (document.depth n + 1)
     + longest_free combinator last
     * (most_levels combinator last * width (shape document) (document.depth n + 1) n)
-
--- there is no combinator
-abbrev pub is_lone : Parts → Bool
-is_lone end_of_selector = true
-is_lone (with_part k c end_of_selector) = true
-is_lone (with_part k c (with_part l e parts)) = false
 
 -- the tests of a selector in a list that asks so many questions, and whose dearest part makes so many
 -- tests: a lone compound selector is looked at within the test that the list belongs to

@@ -1,12 +1,12 @@
 -- What contracts see of keys.
 use Rattle.std.specs.Prelude.{List, [], ◌∷◌, Option, None, Some}
 use Rattle.std.specs.Borrow.{Bor}
-use Rattle.css_selectors.specs.declared.components.Condition.{Condition as ConditionOf}
+use Rattle.css_selector_text.specs.declared.components.Condition.{Condition as ConditionOf}
 use Rattle.css_selectors.specs.declared.key.Key.{Key as KeyIs}
 use Rattle.css_selectors.specs.declared.key.Key.TheVariants.{Id, Class, Name, Attribute, Any}
 use Rattle.css_selectors.specs.Keys.{Key, condition_keys}
 use Rattle.css_selectors.specs.Keys.Key.{by_id, by_class, by_name, by_attribute, by_nothing}
-use Rattle.css_selectors.specs.Views.{condition_of}
+use Rattle.css_selector_text.specs.Views.{condition_of}
 
 abbrev pub key_of : KeyIs → Key
 key_of (Id text) = by_id text.now

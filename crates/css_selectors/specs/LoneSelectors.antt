@@ -1,7 +1,7 @@
 -- Selectors of one condition, and of parts without a pseudo-element.
 use Rattle.std.specs.Prelude.{List, [], ◌∷◌, None}
 use Rattle.css_matching.specs.declared.Combinator.TheVariants.{Descendant}
-use Rattle.css_selectors.specs.Components.{Condition, Part, Selector}
+use Rattle.css_selector_text.specs.Components.{Condition, Part, Selector}
 
 -- the selector of these parts alone
 abbrev pub of_parts : List Part → Selector

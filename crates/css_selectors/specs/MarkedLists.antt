@@ -2,8 +2,8 @@
 use Rattle.std.specs.Prelude.{List, map}
 use Rattle.css_selectors.specs.declared.marked_list.MarkedList.{MarkedList}
 use Rattle.css_selectors.specs.declared.marked_list.MarkedList.TheVariants.{Matched, Tested}
-use Rattle.css_selectors.specs.Components.{ListTest, Selectors, Selector, selectors_from}
-use Rattle.css_selectors.specs.Views.{complex_of, list_test_of}
+use Rattle.css_selector_text.specs.Components.{ListTest, Selectors, Selector, selectors_from}
+use Rattle.css_selector_text.specs.Views.{complex_of, list_test_of}
 
 -- The elements that one of the selectors matches, which is what `&` denotes, or those of which a
 -- pseudo-class with this list holds.

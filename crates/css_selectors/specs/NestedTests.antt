@@ -1,11 +1,11 @@
 -- How many tests matching makes at most, by how deep selectors with combinators are nested.
-use Rattle.std.specs.Prelude.{ℕ, zero, suc, ◌+◌, ◌-◌, ◌*◌, ◌≤◌, Bool, true, false}
-use Rattle.css_selectors.specs.Components.{Condition, Conditions, Parts, Selectors}
-use Rattle.css_selectors.specs.Components.Condition.{simple, negation, any_of, where_any, tested}
-use Rattle.css_selectors.specs.Components.Conditions.{end_of_compound, with_condition}
-use Rattle.css_selectors.specs.Components.Parts.{end_of_selector, with_part}
-use Rattle.css_selectors.specs.Components.Selectors.{end_of_list, with_selector}
-use Rattle.css_selectors.specs.Costs.{is_lone}
+use Rattle.std.specs.Prelude.{ℕ, zero, suc, ◌+◌, ◌-◌, ◌*◌, ◌≤◌}
+use Rattle.css_selector_text.specs.Components.{Condition, Conditions, Parts, Selectors}
+use Rattle.css_selector_text.specs.Components.Condition.{simple, negation, any_of, where_any, tested}
+use Rattle.css_selector_text.specs.Components.Conditions.{end_of_compound, with_condition}
+use Rattle.css_selector_text.specs.Components.Parts.{end_of_selector, with_part}
+use Rattle.css_selector_text.specs.Components.Selectors.{end_of_list, with_selector}
+use Rattle.css_selector_text.specs.reading.SearchCounts.{search_count}
 
 -- how many compound selectors there are, including those within lists that make tests
 abbrev mutual
@@ -27,14 +27,6 @@ abbrev mutual
   pub selectors_size : Selectors → ℕ
   selectors_size end_of_list = 0
   selectors_size (with_selector parts selectors) = parts_size parts + selectors_size selectors
-
-abbrev pub searches_if : Bool → ℕ
-searches_if true = 0
-searches_if false = 1
-
--- a selector of a list makes a search of its own, unless it has no combinator
-abbrev pub search_count : Parts → ℕ
-search_count parts = searches_if (is_lone parts)
 
 -- of the selectors with combinators that stand in lists that make tests, at most `k` are within one
 -- another

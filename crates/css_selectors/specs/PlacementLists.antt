@@ -2,7 +2,7 @@
 use Rattle.std.specs.Prelude.{◌≡◌, List, [], ◌∷◌}
 use Rattle.css_matching.specs.Placements.{Relates}
 use Rattle.css_selectors.specs.Documents.{Document, shape}
-use Rattle.css_selectors.specs.Components.{Part, conditions_from}
+use Rattle.css_selector_text.specs.Components.{Part, conditions_from}
 use Rattle.css_selectors.specs.Meanings.{AreMet}
 
 -- The nodes continue a placement from the node `before`, one for each part: each meets its part, and

@@ -5,7 +5,7 @@ use Rattle.css_matching.specs.declared.Combinator.{Combinator}
 use Rattle.css_matching.specs.declared.Combinator.TheVariants.{Descendant, Child, Adjacent, Sibling}
 use Rattle.css_matching.specs.Bounds.{width}
 use Rattle.css_selectors.specs.Documents.{Document, shape}
-use Rattle.css_selectors.specs.Components.{Part, parts_from}
+use Rattle.css_selector_text.specs.Components.{Part, parts_from}
 use Rattle.css_selectors.specs.Meanings.{combinator_at}
 
 -- the number of earlier siblings of the node and of all its ancestors

@@ -1,4 +1,3 @@
 -- Definitions that no public contract names.
 pub mod Occurrences
-pub mod Reads
 pub mod WordStarts

@@ -3,14 +3,14 @@ ghost use Rattle.std.specs.Prelude.{◌≡◌, ◌+◌, ◌<◌, ◌≤◌, ◌�
 ghost use Rattle.std.specs.List.{list_any};
 ghost use Rattle.css_selectors.specs.AfterKeys.{have_no_greater, begin_with_key, begins_with_key as begins_with_key_by};
 ghost use Rattle.css_selectors.specs.AfterKeys.{after_first as all_but_first, MatchesAfterKey};
-ghost use Rattle.css_selectors.specs.Components.{Selector, parts_from};
+ghost use Rattle.css_selector_text.specs.Components.{Selector, parts_from};
 ghost use Rattle.css_selectors.specs.Costs.{most_tests};
 ghost use Rattle.css_selectors.specs.Keys.{has_key, keys_of};
 ghost use Rattle.css_selectors.specs.Meanings.{Matches};
-ghost use Rattle.css_selectors.specs.Views.{condition_of};
+ghost use Rattle.css_selector_text.specs.Views.{condition_of};
 
 use crate::ancestor_keys::is_id_or_class;
-use crate::key::rank_of_condition;
+use crate::key::{last_conditions, rank_of_condition};
 use crate::meeting::are_met;
 use crate::{Condition, Element, Selector};
 use css_matching::Tests;
@@ -49,37 +49,39 @@ fn after_first<'s, 'a>(conditions: &'s [Condition<'a>]) -> &'s [Condition<'a>]
     }
 }
 
-impl<'a> Selector<'a> {
-    /// Whether the selector is one compound selector that begins with an id or a class, which is its
-    /// key, as `.a:hover`.
-    pub fn begins_with_key(&self) -> bool
-        ensures { result ≡ begins_with_key_by self.now }
-    {
-        let [part] = self.parts.as_slice() else {
-            return false;
-        };
-        is_key_first(part.conditions.as_slice())
-    }
+/// Whether the selector is one compound selector that begins with an id or a class, which is its
+/// key, as `.a:hover`.
+pub fn begins_with_key(selector: &Selector<'_>) -> bool
+    ensures { result ≡ begins_with_key_by selector.now }
+{
+    let [part] = selector.parts() else {
+        return false;
+    };
+    is_key_first(part.conditions.as_slice())
+}
 
-    /// Whether the selector, which begins with its key, matches an element that has this key, as
-    /// [`Selector::matches_counted`] says. The key is not tested again.
-    pub fn matches_after_key<E: Element>(&self, element: &E, tests: &mut Tests) -> bool
-        requires { begins_with_key_by self.now ≡ true }
-        ensures answer { IsTrue (list_any (has_key E.document (E.node element.now)) (keys_of self.now))
-            → (IsTrue result ↔ Matches E.document self.now (E.node element.now)) }
-        ensures rest { IsTrue result ↔ MatchesAfterKey E.document self.now (E.node element.now) }
-        ensures at_most { tests.new
-            ≤ tests.old + most_tests E.document (parts_from self.now.parts) (E.node element.now) }
-        ensures untested { IsTrue (is_some self.now.pseudo_element) → tests.new ≡ tests.old }
-        ensures at_least_one { IsTrue (is_none self.now.pseudo_element) → tests.old < tests.new }
-        ensures all_when_true { IsTrue result → tests.old + length self.now.parts ≤ tests.new }
-    {
-        if self.pseudo_element.is_some() {
-            return false;
-        }
-        tests.tick();
-        are_met(after_first(self.last_conditions()), element, tests)
+/// Whether the selector, which begins with its key, matches an element that has this key, as
+/// `Matching::matches_counted` says. The key is not tested again.
+pub fn matches_after_key<E: Element>(
+    selector: &Selector<'_>,
+    element: &E,
+    tests: &mut Tests,
+) -> bool
+    requires { begins_with_key_by selector.now ≡ true }
+    ensures answer { IsTrue (list_any (has_key E.document (E.node element.now)) (keys_of selector.now))
+        → (IsTrue result ↔ Matches E.document selector.now (E.node element.now)) }
+    ensures rest { IsTrue result ↔ MatchesAfterKey E.document selector.now (E.node element.now) }
+    ensures at_most { tests.new
+        ≤ tests.old + most_tests E.document (parts_from selector.now.parts) (E.node element.now) }
+    ensures untested { IsTrue (is_some selector.now.pseudo_element) → tests.new ≡ tests.old }
+    ensures at_least_one { IsTrue (is_none selector.now.pseudo_element) → tests.old < tests.new }
+    ensures all_when_true { IsTrue result → tests.old + length selector.now.parts ≤ tests.new }
+{
+    if selector.pseudo_element().is_some() {
+        return false;
     }
+    tests.tick();
+    are_met(after_first(last_conditions(selector)), element, tests)
 }
 
 /// A selector that begins with its key matches an element that has this key exactly if the element

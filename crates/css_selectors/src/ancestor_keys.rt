@@ -3,17 +3,17 @@
 ghost use Rattle.std.specs.Prelude.{◌≡◌, ◌++◌, IsTrue, OnOk, List, map};
 ghost use Rattle.std.specs.List.{list_any, list_all, Contains};
 ghost use Rattle.css_selectors.specs.AncestorKeys.{keys_among, alone, step_keys, ancestor_keys};
-ghost use Rattle.css_selectors.specs.AncestorKeys.{parent_step_keys, parent_keys, ParentHas};
+ghost use Rattle.css_selectors.specs.AncestorKeys.{parent_step_keys, parent_keys, ParentHas, is_only_keys as is_only_keys_of};
 ghost use Rattle.css_selectors.specs.AncestorKeys.{SomeAncestorHas, is_exact_condition, are_exact};
 ghost use Rattle.css_selectors.specs.AncestorKeys.{is_one_id_or_class as is_one_id_or_class_compound};
 ghost use Rattle.css_selectors.specs.AncestorKeys.{is_lone_id_or_class as is_lone_id_or_class_selector};
-ghost use Rattle.css_selectors.specs.AncestorKeys.{is_exact_key, is_only_keys};
+ghost use Rattle.css_selectors.specs.AncestorKeys.{is_exact_key};
 ghost use Rattle.css_selectors.specs.AncestorKeys.{is_only_key as is_only_condition};
-ghost use Rattle.css_selectors.specs.Components.{Selector, conditions_from, parts_from, selectors_from};
+ghost use Rattle.css_selector_text.specs.Components.{Selector, conditions_from, parts_from, selectors_from};
 ghost use Rattle.css_selectors.specs.Keys.{Key as KeyOf, has_key, keys_of};
 ghost use Rattle.css_selectors.specs.KeyViews.{key_of};
 ghost use Rattle.css_selectors.specs.Meanings.{Matches};
-ghost use Rattle.css_selectors.specs.Views.{complex_of, condition_of};
+ghost use Rattle.css_selector_text.specs.Views.{complex_of, condition_of};
 
 use crate::key::{best_condition, push_best};
 use crate::{Combinator, Complex, Condition, Element, Key, Selector, Simple};
@@ -127,62 +127,64 @@ fn is_only_key(condition: &Condition<'_>) -> bool
     }
 }
 
-impl<'a> Selector<'a> {
-    ghost use Rattle.std.specs.Prelude.{◌≡◌, ◌++◌, OnOk, map};
-    ghost use Rattle.css_selectors.specs.AncestorKeys.{ancestor_keys, parent_keys, is_only_keys};
-    ghost use Rattle.css_selectors.specs.KeyViews.{key_of};
-
-    /// Appends the keys that ancestors of an element must have for the selector to match it: of each
-    /// compound selector to which a child or a descendant combinator leads back, the key if it has
-    /// one alone. So `:is(.a, .b) p` has none.
-    pub fn push_ancestor_keys<'s>(&'s self, keys: &mut Vec<Key<'s>>) -> Result<(), AllocError>
-        ensures { OnOk result (map key_of keys.new.items
-            ≡ map key_of keys.old.items ++ ancestor_keys self.now) }
-    {
-        for index in 0..self.parts.len() - 1 {
-            push_step(
-                self.parts[index + 1].combinator,
-                self.parts[index].conditions.as_slice(),
-                keys,
-            )?;
-        }
-        Ok(())
-    }
-
-    /// Appends the keys that the parent of an element must have for the selector to match it: if a
-    /// child combinator leads back from the last compound selector, the key of the one before, if
-    /// that has one alone.
-    pub fn push_parent_keys<'s>(&'s self, keys: &mut Vec<Key<'s>>) -> Result<(), AllocError>
-        ensures { OnOk result (map key_of keys.new.items
-            ≡ map key_of keys.old.items ++ parent_keys self.now) }
-    {
-        let count = self.parts.len();
-        if count < 2 {
-            return Ok(());
-        }
-        push_parent_step(
-            self.parts[count - 1].combinator,
-            self.parts[count - 2].conditions.as_slice(),
+/// Appends the keys that ancestors of an element must have for the selector to match it: of each
+/// compound selector to which a child or a descendant combinator leads back, the key if it has
+/// one alone. So `:is(.a, .b) p` has none.
+pub fn push_ancestor_keys<'s>(
+    selector: &'s Selector<'_>,
+    keys: &mut Vec<Key<'s>>,
+) -> Result<(), AllocError>
+    ensures { OnOk result (map key_of keys.new.items
+        ≡ map key_of keys.old.items ++ ancestor_keys selector.now) }
+{
+    let parts = selector.parts();
+    for index in 0..parts.len() - 1 {
+        push_step(
+            parts[index + 1].combinator,
+            parts[index].conditions.as_slice(),
             keys,
-        )
+        )?;
     }
+    Ok(())
+}
 
-    /// Whether the selector requires nothing but one of its keys: it is an id or a class, a list of
-    /// such, or `*`, as `.a` and `:is(.a, #b)`.
-    pub fn is_only_keys(&self) -> bool
-        ensures { result ≡ is_only_keys self.now }
-    {
-        if self.pseudo_element.is_some() {
-            return false;
-        }
-        let [part] = self.parts.as_slice() else {
-            return false;
-        };
-        let [condition] = part.conditions.as_slice() else {
-            return false;
-        };
-        is_only_key(condition)
+/// Appends the keys that the parent of an element must have for the selector to match it: if a
+/// child combinator leads back from the last compound selector, the key of the one before, if
+/// that has one alone.
+pub fn push_parent_keys<'s>(
+    selector: &'s Selector<'_>,
+    keys: &mut Vec<Key<'s>>,
+) -> Result<(), AllocError>
+    ensures { OnOk result (map key_of keys.new.items
+        ≡ map key_of keys.old.items ++ parent_keys selector.now) }
+{
+    let parts = selector.parts();
+    let count = parts.len();
+    if count < 2 {
+        return Ok(());
     }
+    push_parent_step(
+        parts[count - 1].combinator,
+        parts[count - 2].conditions.as_slice(),
+        keys,
+    )
+}
+
+/// Whether the selector requires nothing but one of its keys: it is an id or a class, a list of
+/// such, or `*`, as `.a` and `:is(.a, #b)`.
+pub fn is_only_keys(selector: &Selector<'_>) -> bool
+    ensures { result ≡ is_only_keys_of selector.now }
+{
+    if selector.pseudo_element().is_some() {
+        return false;
+    }
+    let [part] = selector.parts() else {
+        return false;
+    };
+    let [condition] = part.conditions.as_slice() else {
+        return false;
+    };
+    is_only_key(condition)
 }
 
 /// An element that a selector matches has ancestors with the keys that the selector requires of
@@ -197,8 +199,8 @@ pub fn ancestor_key_law<E: Element>()
 /// A selector that requires nothing but one of its keys matches each element that has one, and each
 /// of them is an id, a class or no condition.
 pub fn only_keys_law<E: Element>()
-    ensures matches { (s : Selector) (n : E.Node) → IsTrue (is_only_keys s)
+    ensures matches { (s : Selector) (n : E.Node) → IsTrue (is_only_keys_of s)
         → IsTrue (list_any (has_key E.document n) (keys_of s)) → Matches E.document s n }
-    ensures exact { (s : Selector) → IsTrue (is_only_keys s)
+    ensures exact { (s : Selector) → IsTrue (is_only_keys_of s)
         → IsTrue (list_all is_exact_key (keys_of s)) }
 {}

@@ -2,51 +2,21 @@
 ghost use Rattle.std.specs.Prelude.{◌≡◌, ◌≤◌, true, IsTrue, drop, length};
 ghost use Rattle.std.specs.List.{list_any};
 ghost use Rattle.css_text.specs.Characters.{is_space as is_space_byte};
-ghost use Rattle.css_selectors.specs.AttributeTests.{same_byte as is_same_byte, begins as begins_by};
-ghost use Rattle.css_selectors.specs.AttributeTests.{begins_up_to, is_word_of, occurs_in, is_satisfied};
-ghost use Rattle.css_selectors.specs.AttributeTests.{is_hyphen};
+ghost use Rattle.css_selector_text.specs.AttributeTests.{same_byte as is_same_byte, begins as begins_by};
+ghost use Rattle.css_selector_text.specs.AttributeTests.{begins_up_to, is_word_of, occurs_in, is_satisfied};
+ghost use Rattle.css_selector_text.specs.AttributeTests.{is_hyphen};
 ghost use Rattle.css_selectors.specs.internal.WordStarts.{after_space as after_space_of};
-ghost use Rattle.css_selectors.specs.Views.{comparison_of};
+ghost use Rattle.css_selector_text.specs.Views.{comparison_of};
 
 use crate::Comparison;
 use crate::occurrences::has_occurrence;
+use css_selector_text::bytes::begins;
 
 /// Whether the byte is white space.
 pub(crate) fn is_space(byte: u8) -> bool
     ensures { result ≡ is_space_byte byte }
 {
     matches!(byte, b' ' | b'\t' | b'\n' | b'\r' | b'\x0C')
-}
-
-/// Whether the bytes are the same, but for the case of ASCII letters if it is ignored.
-#[inline(always)]
-fn same_byte(ignores_case: bool, one: u8, other: u8) -> bool
-    ensures { result ≡ is_same_byte ignores_case one other }
-{
-    if ignores_case {
-        one.eq_ignore_ascii_case(&other)
-    } else {
-        one == other
-    }
-}
-
-/// Whether the value begins with the text.
-pub(crate) fn begins(ignores_case: bool, text: &[u8], value: &[u8]) -> bool
-    ensures answer { result ≡ begins_by ignores_case text.now value.now }
-    ensures within { IsTrue result → length text.now ≤ length value.now }
-{
-    let mut wanted = text;
-    let mut found = value;
-    'bytes: while let [byte, wanted_after @ ..] = wanted {
-        match found {
-            [other, found_after @ ..] if same_byte(ignores_case, *byte, *other) => {
-                found = found_after;
-            }
-            _ => return false,
-        }
-        wanted = wanted_after;
-    }
-    true
 }
 
 /// Whether the value is the text, or the text and then a hyphen at its start.

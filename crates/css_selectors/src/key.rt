@@ -1,15 +1,15 @@
 //! The keys of a selector: conditions of which each element that it matches satisfies one.
-ghost use Rattle.std.specs.Prelude.{◌≡◌, ◌++◌, ◌∷◌, [], OnOk, MatchOption, List, map, if◌then◌else◌};
+ghost use Rattle.std.specs.Prelude.{◌≡◌, ◌++◌, ◌-◌, ◌∷◌, [], OnOk, MatchOption, List, length, map, if◌then◌else◌};
 ghost use Rattle.css_selectors.specs.Keys.{local_key, simple_key, lone_key, compound_key, parts_key, selector_keys};
-ghost use Rattle.css_selectors.specs.Keys.{condition_keys, least_rank, best_keys, keys_of};
+ghost use Rattle.css_selectors.specs.Keys.{condition_keys, conditions_at, least_rank, best_keys, keys_of};
 ghost use Rattle.css_selectors.specs.Keys.{rank as rank_of};
 ghost use Rattle.css_selectors.specs.Keys.Key.{by_attribute, by_nothing};
-ghost use Rattle.css_selectors.specs.Components.{is_absent as is_absent_of, conditions_from, parts_from, selectors_from};
+ghost use Rattle.css_selector_text.specs.Components.{is_absent as is_absent_of, conditions_from, parts_from, selectors_from};
 ghost use Rattle.css_selectors.specs.KeyViews.{key_of, keys_of_best};
-ghost use Rattle.css_selectors.specs.Views.{namespace_of, local_of, simple_of, complex_of, condition_of};
+ghost use Rattle.css_selector_text.specs.Views.{namespace_of, local_of, simple_of, complex_of, condition_of};
 
-use crate::namespaces::is_absent;
 use crate::{Complex, Condition, Local, Namespace, Namespaced, Selector, Simple};
+use css_selector_text::is_absent;
 use std::alloc::AllocError;
 
 /// A condition that an element satisfies or not. Each element that a selector matches satisfies one
@@ -228,27 +228,21 @@ pub(crate) fn push_best<'s>(
     }
 }
 
-impl<'a> Selector<'a> {
-    ghost use Rattle.std.specs.Prelude.{◌≡◌, ◌++◌, ◌-◌, OnOk, length, map};
-    ghost use Rattle.css_selectors.specs.Keys.{keys_of, conditions_at};
-    ghost use Rattle.css_selectors.specs.KeyViews.{key_of};
-    ghost use Rattle.css_selectors.specs.Views.{condition_of};
+/// Returns the conditions of the last compound selector.
+pub(crate) fn last_conditions<'s, 'a>(selector: &'s Selector<'a>) -> &'s [Condition<'a>]
+    ensures { map condition_of result.now
+        ≡ conditions_at selector.now.parts (length selector.now.parts - 1) }
+{
+    let parts = selector.parts();
+    parts[parts.len() - 1].conditions.as_slice()
+}
 
-    /// Returns the conditions of the last compound selector.
-    pub(crate) fn last_conditions(&self) -> &[Condition<'a>]
-        ensures { map condition_of result.now
-            ≡ conditions_at self.now.parts (length self.now.parts - 1) }
-    {
-        self.parts[self.parts.len() - 1].conditions.as_slice()
-    }
-
-    /// Appends the selector's keys: each element that it matches has one of them. They are those of
-    /// one condition of the last compound selector, of one that few elements satisfy. Nothing
-    /// within `:not()` is a key, nor within a list that is answered by its number.
-    pub fn push_keys<'s>(&'s self, keys: &mut Vec<Key<'s>>) -> Result<(), AllocError>
-        ensures { OnOk result (map key_of keys.new.items
-            ≡ map key_of keys.old.items ++ keys_of self.now) }
-    {
-        push_best(best_condition(self.last_conditions()), keys)
-    }
+/// Appends the keys of a selector: each element that it matches has one of them. They are those of
+/// one condition of the last compound selector, of one that few elements satisfy. Nothing
+/// within `:not()` is a key, nor within a list that is answered by its number.
+pub fn push_keys<'s>(selector: &'s Selector<'_>, keys: &mut Vec<Key<'s>>) -> Result<(), AllocError>
+    ensures { OnOk result (map key_of keys.new.items
+        ≡ map key_of keys.old.items ++ keys_of selector.now) }
+{
+    push_best(best_condition(last_conditions(selector)), keys)
 }

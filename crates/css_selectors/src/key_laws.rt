@@ -1,7 +1,7 @@
 //! The law of keys.
 ghost use Rattle.std.specs.Prelude.{IsTrue};
 ghost use Rattle.std.specs.List.{list_any};
-ghost use Rattle.css_selectors.specs.Components.{Selector};
+ghost use Rattle.css_selector_text.specs.Components.{Selector};
 ghost use Rattle.css_selectors.specs.Keys.{has_key, keys_of};
 ghost use Rattle.css_selectors.specs.Meanings.{Matches};
 

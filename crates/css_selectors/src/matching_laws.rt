@@ -1,12 +1,12 @@
 //! Laws of matching.
 ghost use Rattle.std.specs.Prelude.{ℕ, ◌≡◌, ◌+◌, ◌*◌, ◌<◌, ◌≤◌, ◌↔◌, List, None, length, true};
 ghost use Rattle.std.specs.List.{Contains};
-ghost use Rattle.css_selectors.specs.Components.{Part, Parts, Selector, parts_from, selectors_from};
+ghost use Rattle.css_selector_text.specs.Components.{Part, Parts, Selector, parts_from, selectors_from};
 ghost use Rattle.css_selectors.specs.LoneSelectors.{of_parts, of_condition};
-ghost use Rattle.css_selectors.specs.Components.Condition.{negation, any_of, where_any};
+ghost use Rattle.css_selector_text.specs.Components.Condition.{negation, any_of, where_any};
 ghost use Rattle.css_selectors.specs.Costs.{HasPlainParts, most_questions, most_tests};
 ghost use Rattle.css_selectors.specs.NestedTests.{PartsJoinWithin, parts_size, searches, nested_tests};
-ghost use Rattle.css_selectors.specs.Supported.{deepest_joined, is_supported_selector};
+ghost use Rattle.css_selector_text.specs.reading.Supported.{deepest_joined, is_supported_selector};
 ghost use Rattle.css_selectors.specs.Meanings.{Matches};
 ghost use Rattle.css_selectors.specs.PlacementLists.{HasPlacementList};
 ghost use Rattle.css_selectors.specs.TestBounds.{HasNoSibling, longest_stretch, earlier_siblings};

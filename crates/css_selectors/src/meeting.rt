@@ -6,20 +6,20 @@ ghost use Rattle.std.specs.Cow.{cow_str_bytes};
 ghost use Rattle.css_selectors.specs.Meanings.{satisfies, is_placed as is_placed_at, holds as holds_on, is_in as is_in_of, holds_in as holds_in_of};
 ghost use Rattle.css_selectors.specs.Meanings.{accepts as accepts_of, has_plain as has_plain_of, is_spaced as is_spaced_of, has_spaced as has_spaced_of, has_attribute_in as has_attribute_in_of};
 ghost use Rattle.css_selectors.specs.ElementViews.{namespaced_attribute_of};
-ghost use Rattle.css_selectors.specs.Components.{conditions_from, parts_from, selectors_from};
+ghost use Rattle.css_selector_text.specs.Components.{conditions_from, parts_from, selectors_from};
 ghost use Rattle.css_selectors.specs.Costs.{condition_cost, compound_cost, dearest_part, list_cost, selector_cost, most_tests as most};
 ghost use Rattle.css_selectors.specs.Meanings.{IsMet, AreMet, MeetsPart, MatchesAny, IsPlaced};
-ghost use Rattle.css_selectors.specs.declared.components.Simple.TheVariants.{Function};
+ghost use Rattle.css_selector_text.specs.declared.components.Simple.TheVariants.{Function};
 ghost use Rattle.css_selectors.specs.TriedElements.{element_of};
-ghost use Rattle.css_selectors.specs.Views.{comparison_of, local_of, namespace_of, progression_of, structure_of, simple_of, condition_of, part_of, complex_of};
+ghost use Rattle.css_selector_text.specs.Views.{comparison_of, local_of, namespace_of, progression_of, structure_of, simple_of, condition_of, part_of, complex_of};
 
 use crate::attributes::is_satisfied;
-use crate::directions::direction_state;
 use crate::{
     Comparison, Complex, Condition, Element, FunctionCall, Local, Namespace, Namespaced,
     NamespacedAttribute, Part, Simple, Structure,
 };
 use css_matching::{Candidate, Combinator, Parts, Tests, matches};
+use css_selector_text::direction_state;
 use std::borrow::CowStr;
 
 /// Whether there is a value, and it satisfies the comparison with the text.
@@ -248,9 +248,9 @@ struct PartsOf<'s, 'a> {
 
 impl<'s, 'a> Parts for PartsOf<'s, 'a> {
     ghost use Rattle.std.specs.Prelude.{length, map};
-    ghost use Rattle.css_selectors.specs.Components.{parts_from};
+    ghost use Rattle.css_selector_text.specs.Components.{parts_from};
     ghost use Rattle.css_selectors.specs.Meanings.{combinator_at};
-    ghost use Rattle.css_selectors.specs.Views.{part_of};
+    ghost use Rattle.css_selector_text.specs.Views.{part_of};
 
     ghost count = { λ s. length s.parts.now };
 
@@ -288,12 +288,12 @@ impl<'e, E: Element> Tried<'e, E> {
 
 impl<'e, 's, 'a, E: Element> Candidate<PartsOf<'s, 'a>> for Tried<'e, E> {
     ghost use Rattle.std.specs.Prelude.{◌≡◌, map, option_map};
-    ghost use Rattle.css_selectors.specs.Components.{parts_from};
+    ghost use Rattle.css_selector_text.specs.Components.{parts_from};
     ghost use Rattle.css_selectors.specs.Costs.{dearest_part};
     ghost use Rattle.css_selectors.specs.Documents.{shape};
     ghost use Rattle.css_selectors.specs.Meanings.{MeetsPart};
     ghost use Rattle.css_selectors.specs.TriedElements.{element_of};
-    ghost use Rattle.css_selectors.specs.Views.{part_of};
+    ghost use Rattle.css_selector_text.specs.Views.{part_of};
     ghost use Rattle.css_selectors.specs.CostLemmas.{dearest_part-monotone};
 
     ghost Node = { E.Node };

@@ -1,11 +1,11 @@
 //! Laws of `&`.
 ghost use Rattle.std.specs.Prelude.{◌≡◌, ◌↔◌, IsTrue};
-ghost use Rattle.css_selectors.specs.Components.{Selector, Selectors};
-ghost use Rattle.css_selectors.specs.declared.components.Nesting.{Nesting as NestingOf};
+ghost use Rattle.css_selector_text.specs.Components.{Selector, Selectors};
+ghost use Rattle.css_selector_text.specs.declared.components.Nesting.{Nesting as NestingOf};
 ghost use Rattle.css_selectors.specs.Meanings.{Matches, MatchesAny};
-ghost use Rattle.css_selectors.specs.Nested.{selector_under};
-ghost use Rattle.css_selectors.specs.Specificities.{greatest, nothing, specificity};
-ghost use Rattle.css_selectors.specs.SpecificityViews.{counts_of};
+ghost use Rattle.css_selector_text.specs.reading.Nested.{selector_under};
+ghost use Rattle.css_selector_text.specs.Specificities.{greatest, nothing, specificity};
+ghost use Rattle.css_selector_text.specs.SpecificityViews.{counts_of};
 ghost use Rattle.css_selectors.specs.SpelledOut.{spelled_selector};
 
 use crate::Element;

@@ -3,10 +3,10 @@ ghost use Rattle.std.specs.Prelude.{◌≡◌, ◌++◌, IfOk, List, map, option
 ghost use Rattle.css_selectors.specs.MarkedLists.{ListText, list_of};
 ghost use Rattle.css_selectors.specs.Numberings.{number_of, numbered_simple, numbered_condition, numbered_conditions};
 ghost use Rattle.css_selectors.specs.Numberings.{numbered_parts, numbered_element, numbered_each};
-ghost use Rattle.css_selectors.specs.Views.{simple_of, condition_of, part_of, complex_of, pseudo_element_of};
+ghost use Rattle.css_selector_text.specs.Views.{simple_of, condition_of, part_of, complex_of, pseudo_element_of};
 
-use crate::specificity::{greatest, of_test};
 use crate::{Complex, Condition, MarkedList, Nesting, Part, PseudoElement, Selector, Simple};
+use css_selector_text::{greatest, of_test};
 use std::alloc::{AllocError, Global};
 use std::marker::Model;
 
@@ -178,8 +178,8 @@ pub struct Numbering<'a> {
 impl<'a> Model for Numbering<'a> {
     ghost use Rattle.std.specs.Prelude.{map};
     ghost use Rattle.std.specs.Coded.{Coded, codes};
-    ghost use Rattle.css_selectors.specs.Codes.{condition_code, selectors_code};
-    ghost use Rattle.css_selectors.specs.Components.{Simple};
+    ghost use Rattle.css_selector_text.specs.Codes.{condition_code, selectors_code};
+    ghost use Rattle.css_selector_text.specs.Components.{Simple};
     ghost use Rattle.css_selectors.specs.MarkedLists.{list_of};
     ghost use Rattle.css_selectors.specs.Numberings.{NumberingText};
 
@@ -229,10 +229,7 @@ impl<'a> Numbering<'a> {
         ensures { IfOk result (λ numbered.
             numbered_selector self.old selector.entry ≡ (numbered, self.new)) }
     {
-        let Selector {
-            parts,
-            pseudo_element,
-        } = selector;
+        let (parts, pseudo_element) = selector.into_parts();
         let numbers = self.numbers.as_slice();
         let parts = number_parts(alloc, numbers, &mut self.lists, parts)?;
         let pseudo_element = number_element(alloc, numbers, &mut self.lists, pseudo_element)?;

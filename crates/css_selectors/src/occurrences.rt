@@ -2,7 +2,7 @@
 //! grows as both lengths, and without memory.
 ghost use Rattle.std.specs.Prelude.{◌≡◌, ◌≢◌, ◌↔◌, ◌+◌, ◌<◌, ◌≤◌, ℕ, length, IsTrue};
 ghost use Rattle.memchr.specs.Critical.{IsSuffixAt, IsCutPlace};
-ghost use Rattle.css_selectors.specs.AttributeTests.{occurs_in};
+ghost use Rattle.css_selector_text.specs.AttributeTests.{occurs_in};
 ghost use Rattle.css_selectors.specs.internal.Occurrences.{folded as folded_byte, folded_at, IsBefore, IsCut};
 
 /// A suffix of a text.

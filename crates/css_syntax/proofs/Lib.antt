@@ -1,4 +1,5 @@
 pub mod Shorter
+pub mod CommentLemmas
 pub mod OpenBlocks
 pub mod Utf8Ends
 pub mod PartLemmas

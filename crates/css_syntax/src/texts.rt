@@ -7,13 +7,14 @@ ghost use Rattle.css_text.specs.Characters.{is_space};
 ghost use Rattle.css_syntax.specs.Tokens.{past_gap as past_gap_of, past_word as past_word_of};
 ghost use Rattle.css_syntax.specs.Tokens.{past_string_parts as past_string_parts_of};
 ghost use Rattle.css_syntax.specs.Tokens.{past_url_parts as past_url_parts_of};
+ghost use Rattle.css_syntax.specs.Tokens.{past_comments as past_comments_of};
 ghost use Rattle.css_syntax.specs.Tokens.{spells as spells_of, token};
 ghost use Rattle.css_syntax.specs.ComponentValues.{component_value, deepest};
 
 use crate::component_values::read_component_value;
 use crate::quality::Quality;
 use crate::tokens;
-use css_text::readers;
+use css_text::{readers, scan};
 
 /// A token or a component value that was read.
 #[derive(Clone, Copy)]
@@ -38,6 +39,17 @@ pub fn past_gap(text: &str) -> &str
 {
     let rest = tokens::past_gap(text.as_bytes());
     &text[text.len() - rest.len()..]
+}
+
+/// Returns the rest after comments.
+pub fn past_comments(text: &str) -> &str
+    ensures { result.now ≡ past_comments_of text.now }
+{
+    let mut rest = text;
+    'comments: while scan::opens_comment(rest) {
+        rest = read_token(rest).rest;
+    }
+    rest
 }
 
 /// Returns the rest after a word.

@@ -375,6 +375,115 @@ pub const SHORTHANDS: &str = "\
     white-space:white-space-collapse text-wrap-mode\n\
     word-wrap:overflow-wrap\n";
 
+/// The logical and the physical name of each property that has both (CSS Logical Properties 1), where text is
+/// horizontal, from left to right: a row a line, a name, a colon, and the other name of what it sets. Each is
+/// what Chromium sets.
+pub const LOGICAL: &str = "\
+    block-size:height\n\
+    border-block-end-color:border-bottom-color\n\
+    border-block-end-style:border-bottom-style\n\
+    border-block-end-width:border-bottom-width\n\
+    border-block-start-color:border-top-color\n\
+    border-block-start-style:border-top-style\n\
+    border-block-start-width:border-top-width\n\
+    border-bottom-color:border-block-end-color\n\
+    border-bottom-left-radius:border-end-start-radius\n\
+    border-bottom-right-radius:border-end-end-radius\n\
+    border-bottom-style:border-block-end-style\n\
+    border-bottom-width:border-block-end-width\n\
+    border-end-end-radius:border-bottom-right-radius\n\
+    border-end-start-radius:border-bottom-left-radius\n\
+    border-inline-end-color:border-right-color\n\
+    border-inline-end-style:border-right-style\n\
+    border-inline-end-width:border-right-width\n\
+    border-inline-start-color:border-left-color\n\
+    border-inline-start-style:border-left-style\n\
+    border-inline-start-width:border-left-width\n\
+    border-left-color:border-inline-start-color\n\
+    border-left-style:border-inline-start-style\n\
+    border-left-width:border-inline-start-width\n\
+    border-right-color:border-inline-end-color\n\
+    border-right-style:border-inline-end-style\n\
+    border-right-width:border-inline-end-width\n\
+    border-start-end-radius:border-top-right-radius\n\
+    border-start-start-radius:border-top-left-radius\n\
+    border-top-color:border-block-start-color\n\
+    border-top-left-radius:border-start-start-radius\n\
+    border-top-right-radius:border-start-end-radius\n\
+    border-top-style:border-block-start-style\n\
+    border-top-width:border-block-start-width\n\
+    bottom:inset-block-end\n\
+    contain-intrinsic-block-size:contain-intrinsic-height\n\
+    contain-intrinsic-height:contain-intrinsic-block-size\n\
+    contain-intrinsic-inline-size:contain-intrinsic-width\n\
+    contain-intrinsic-width:contain-intrinsic-inline-size\n\
+    corner-bottom-left-shape:corner-end-start-shape\n\
+    corner-bottom-right-shape:corner-end-end-shape\n\
+    corner-end-end-shape:corner-bottom-right-shape\n\
+    corner-end-start-shape:corner-bottom-left-shape\n\
+    corner-start-end-shape:corner-top-right-shape\n\
+    corner-start-start-shape:corner-top-left-shape\n\
+    corner-top-left-shape:corner-start-start-shape\n\
+    corner-top-right-shape:corner-start-end-shape\n\
+    height:block-size\n\
+    inline-size:width\n\
+    inset-block-end:bottom\n\
+    inset-block-start:top\n\
+    inset-inline-end:right\n\
+    inset-inline-start:left\n\
+    left:inset-inline-start\n\
+    margin-block-end:margin-bottom\n\
+    margin-block-start:margin-top\n\
+    margin-bottom:margin-block-end\n\
+    margin-inline-end:margin-right\n\
+    margin-inline-start:margin-left\n\
+    margin-left:margin-inline-start\n\
+    margin-right:margin-inline-end\n\
+    margin-top:margin-block-start\n\
+    max-block-size:max-height\n\
+    max-height:max-block-size\n\
+    max-inline-size:max-width\n\
+    max-width:max-inline-size\n\
+    min-block-size:min-height\n\
+    min-height:min-block-size\n\
+    min-inline-size:min-width\n\
+    min-width:min-inline-size\n\
+    overflow-block:overflow-y\n\
+    overflow-inline:overflow-x\n\
+    overflow-x:overflow-inline\n\
+    overflow-y:overflow-block\n\
+    overscroll-behavior-block:overscroll-behavior-y\n\
+    overscroll-behavior-inline:overscroll-behavior-x\n\
+    overscroll-behavior-x:overscroll-behavior-inline\n\
+    overscroll-behavior-y:overscroll-behavior-block\n\
+    padding-block-end:padding-bottom\n\
+    padding-block-start:padding-top\n\
+    padding-bottom:padding-block-end\n\
+    padding-inline-end:padding-right\n\
+    padding-inline-start:padding-left\n\
+    padding-left:padding-inline-start\n\
+    padding-right:padding-inline-end\n\
+    padding-top:padding-block-start\n\
+    right:inset-inline-end\n\
+    scroll-margin-block-end:scroll-margin-bottom\n\
+    scroll-margin-block-start:scroll-margin-top\n\
+    scroll-margin-bottom:scroll-margin-block-end\n\
+    scroll-margin-inline-end:scroll-margin-right\n\
+    scroll-margin-inline-start:scroll-margin-left\n\
+    scroll-margin-left:scroll-margin-inline-start\n\
+    scroll-margin-right:scroll-margin-inline-end\n\
+    scroll-margin-top:scroll-margin-block-start\n\
+    scroll-padding-block-end:scroll-padding-bottom\n\
+    scroll-padding-block-start:scroll-padding-top\n\
+    scroll-padding-bottom:scroll-padding-block-end\n\
+    scroll-padding-inline-end:scroll-padding-right\n\
+    scroll-padding-inline-start:scroll-padding-left\n\
+    scroll-padding-left:scroll-padding-inline-start\n\
+    scroll-padding-right:scroll-padding-inline-end\n\
+    scroll-padding-top:scroll-padding-block-start\n\
+    top:inset-block-start\n\
+    width:inline-size\n";
+
 /// The properties that are inherited, with spaces between them: those of CSS 2.1 and SVG, and those of
 /// Chromium. A shorthand is one of them if all that it sets are.
 pub const INHERITED: &str = "\

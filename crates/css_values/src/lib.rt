@@ -18,7 +18,7 @@ mod setting;
 mod table;
 mod validity;
 
-pub use data::{INHERITED, SHORTHANDS};
+pub use data::{INHERITED, LOGICAL, SHORTHANDS};
 pub use drafts::Value;
 pub use lines::{name_lines, properties_in, value_lines};
 pub use names::{is_named_in, longhands_in, shorthands_in};

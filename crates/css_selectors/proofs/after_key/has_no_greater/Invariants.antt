@@ -1,6 +1,6 @@
 use Rattle.std.proofs.Common.{◌≡◌, length, map}
 use Rattle.css_selectors.specs.AfterKeys.{have_no_greater}
-use Rattle.css_selectors.specs.Views.{condition_of}
+use Rattle.css_selector_text.specs.Views.{condition_of}
 use Rattle.css_selectors.proofs.after_key.has_no_greater.Given as goal
 
 -- the answer is that for what is left

@@ -1,7 +1,7 @@
 use Rattle.std.proofs.Common.{◌≡◌, length, map}
 use Rattle.css_selectors.specs.AncestorKeys.{are_exact}
-use Rattle.css_selectors.specs.Components.{selectors_from}
-use Rattle.css_selectors.specs.Views.{complex_of}
+use Rattle.css_selector_text.specs.Components.{selectors_from}
+use Rattle.css_selector_text.specs.Views.{complex_of}
 use Rattle.css_selectors.proofs.ancestor_keys.are_ids_or_classes.Given as goal
 
 -- the answer is that for what is left

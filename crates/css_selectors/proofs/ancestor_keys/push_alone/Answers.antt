@@ -1,7 +1,7 @@
 use Rattle.std.proofs.Common.{rules, ◌≡◌, ◌++◌, ◌-◌, length, map, take, sym, ap, ◌∙◌}
 use Rattle.css_selectors.specs.AncestorKeys.{keys_among}
 use Rattle.css_selectors.specs.KeyViews.{key_of}
-use Rattle.css_selectors.specs.Views.{condition_of}
+use Rattle.css_selector_text.specs.Views.{condition_of}
 use Rattle.css_selectors.proofs.AncestorKeyLemmas.{alone_kept, alone_cut}
 use Rattle.css_selectors.proofs.ancestor_keys.push_alone.Goals as goal
 

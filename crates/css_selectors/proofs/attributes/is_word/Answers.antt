@@ -1,5 +1,5 @@
 use Rattle.std.proofs.Common.{rules, ◌<◌, length, true, ap, subst, ◌∙◌, sym}
-use Rattle.css_selectors.specs.AttributeTests.{is_word_of}
+use Rattle.css_selector_text.specs.AttributeTests.{is_word_of}
 use Rattle.css_selectors.proofs.WordStartLemmas.{word_further, after_space-less}
 use Rattle.css_selectors.proofs.attributes.is_word.Goals as goal
 

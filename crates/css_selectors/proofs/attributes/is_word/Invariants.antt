@@ -1,5 +1,5 @@
 use Rattle.std.proofs.Common.{◌≡◌, length, true}
-use Rattle.css_selectors.specs.AttributeTests.{is_word_of}
+use Rattle.css_selector_text.specs.AttributeTests.{is_word_of}
 use Rattle.css_selectors.proofs.attributes.is_word.Given as goal
 
 abbrev pub invariant-words : goal.invariant-words

@@ -1,5 +1,5 @@
 use Rattle.std.proofs.Common.{◌≡◌, length}
-use Rattle.css_selectors.specs.AttributeTests.{occurs_in}
+use Rattle.css_selector_text.specs.AttributeTests.{occurs_in}
 use Rattle.css_selectors.proofs.attributes.occurs.Given as goal
 
 abbrev pub invariant-bytes : goal.invariant-bytes

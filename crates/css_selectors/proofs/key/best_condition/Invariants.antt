@@ -2,7 +2,7 @@ use Rattle.std.proofs.Common.{◌≡◌, [], ◌∷◌, length, map}
 use Rattle.css_selectors.specs.KeyViews.{keys_of_best}
 use Rattle.css_selectors.specs.Keys.{best_keys, least_rank}
 use Rattle.css_selectors.specs.Keys.Key.{by_nothing}
-use Rattle.css_selectors.specs.Views.{condition_of}
+use Rattle.css_selector_text.specs.Views.{condition_of}
 use Rattle.css_selectors.proofs.key.best_condition.Given as goal
 
 -- the best of what is left is the best of all, and the rank is that of the best so far

@@ -1,8 +1,8 @@
 use Rattle.std.proofs.Common.{◌≡◌, length, map}
-use Rattle.css_selectors.specs.Components.{conditions_from}
+use Rattle.css_selector_text.specs.Components.{conditions_from}
 use Rattle.css_selectors.specs.KeyViews.{key_of}
 use Rattle.css_selectors.specs.Keys.{best_key, compound_key}
-use Rattle.css_selectors.specs.Views.{condition_of}
+use Rattle.css_selector_text.specs.Views.{condition_of}
 use Rattle.css_selectors.proofs.key.key_of_compound.Given as goal
 
 -- the best of what is left is the best of all

@@ -1,7 +1,7 @@
 use Rattle.std.proofs.Common.{map, arith}
-use Rattle.css_selectors.specs.Components.{selectors_from}
+use Rattle.css_selector_text.specs.Components.{selectors_from}
 use Rattle.css_selectors.specs.Keys.{selector_keys, least_rank}
-use Rattle.css_selectors.specs.Views.{complex_of}
+use Rattle.css_selector_text.specs.Views.{complex_of}
 use Rattle.css_selectors.proofs.KeyLemmas.{least_rank-at_most, min_right}
 use Rattle.css_selectors.proofs.key.least_of.Goals as goal
 

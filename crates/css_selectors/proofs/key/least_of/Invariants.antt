@@ -1,8 +1,8 @@
 use Rattle.std.proofs.Common.{◌≡◌, ◌≤◌, length, map}
 use Rattle.std.specs.Prelude.{min}
-use Rattle.css_selectors.specs.Components.{selectors_from}
+use Rattle.css_selector_text.specs.Components.{selectors_from}
 use Rattle.css_selectors.specs.Keys.{selector_keys, least_rank}
-use Rattle.css_selectors.specs.Views.{complex_of}
+use Rattle.css_selector_text.specs.Views.{complex_of}
 use Rattle.css_selectors.proofs.key.least_of.Given as goal
 
 -- the least of what was read and of what is left

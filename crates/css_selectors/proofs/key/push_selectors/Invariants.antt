@@ -1,8 +1,8 @@
 use Rattle.std.proofs.Common.{◌≡◌, ◌++◌, map, take}
-use Rattle.css_selectors.specs.Components.{parts_from}
+use Rattle.css_selector_text.specs.Components.{parts_from}
 use Rattle.css_selectors.specs.KeyViews.{key_of}
 use Rattle.css_selectors.specs.Keys.{parts_key}
-use Rattle.css_selectors.specs.Views.{complex_of}
+use Rattle.css_selector_text.specs.Views.{complex_of}
 use Rattle.css_selectors.proofs.key.push_selectors.Given as goal
 
 -- the keys so far

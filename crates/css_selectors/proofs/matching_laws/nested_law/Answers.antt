@@ -1,5 +1,5 @@
 use Rattle.std.proofs.Common.{◌<◌, sym, subst}
-use Rattle.css_selectors.specs.Components.{parts_from}
+use Rattle.css_selector_text.specs.Components.{parts_from}
 use Rattle.css_selectors.proofs.NestedCosts.{tests-le}
 use Rattle.css_selectors.proofs.NestedReads.{supported_joins}
 use Rattle.css_selectors.proofs.PlacementListLemmas.{count_from}

@@ -1,8 +1,8 @@
 use Rattle.std.proofs.Common.{◌<◌, length, map, sym, ◌∙◌, ap, refl, arith}
 use Rattle.std.proofs.lemmas.Bool.{false≢true}
 use Rattle.css_selectors.specs.Meanings.{MatchesAny}
-use Rattle.css_selectors.specs.Components.{selectors_from}
-use Rattle.css_selectors.specs.Views.{complex_of}
+use Rattle.css_selector_text.specs.Components.{selectors_from}
+use Rattle.css_selector_text.specs.Views.{complex_of}
 use Rattle.css_selectors.proofs.PartLemmas.{part_count-from, part_answered, part_charged, lone_answered, lone_charged, more_charged, met_not, met_listed, charged_not, charged_listed, met_tested, any_here, any_step, list_step}
 use Rattle.css_selectors.proofs.meeting.+meeting.Goals as goal
 

@@ -1,10 +1,10 @@
 use Rattle.std.proofs.Common.{◌+◌, ◌*◌, ◌≤◌, ◌↔◌, drop, map}
 use denote.Param.Weighed.{most}
-use Rattle.css_selectors.specs.Components.{conditions_from, selectors_from}
+use Rattle.css_selector_text.specs.Components.{conditions_from, selectors_from}
 use Rattle.css_selectors.specs.Costs.{compound_cost, list_cost}
 use Rattle.css_selectors.specs.Meanings.{AreMet, MatchesAny}
-use Rattle.css_selectors.specs.Views.{condition_of, complex_of}
-use Rattle.css_selectors.specs.declared.components.Part.{size-Part}
+use Rattle.css_selector_text.specs.Views.{condition_of, complex_of}
+use Rattle.css_selector_text.specs.declared.components.Part.{size-Part}
 use Rattle.css_selectors.proofs.meeting.+meeting.Given as goal
 
 -- at the same depth, each function calls those before it

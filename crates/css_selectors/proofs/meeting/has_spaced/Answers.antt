@@ -1,7 +1,7 @@
 use Rattle.std.proofs.Common.{arith}
 use Rattle.css_selectors.specs.ElementViews.{namespaced_attribute_of}
 use Rattle.css_selectors.specs.Meanings.{accepts, is_spaced}
-use Rattle.css_selectors.specs.Views.{local_of}
+use Rattle.css_selector_text.specs.Views.{local_of}
 use Rattle.css_selectors.proofs.SpacedLemmas.{is_within, is_found, is_passed, none_found}
 use Rattle.css_selectors.proofs.meeting.has_spaced.Goals as goal
 

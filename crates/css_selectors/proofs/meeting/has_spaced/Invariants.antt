@@ -2,7 +2,7 @@ use Rattle.std.proofs.Common.{◌≡◌, ◌≤◌, ◌-◌, Bool, List, drop, l
 use Rattle.std.specs.List.{list_any}
 use Rattle.css_selectors.specs.Documents.{NamespacedAttribute}
 use Rattle.css_selectors.specs.Meanings.{accepts, is_spaced}
-use Rattle.css_selectors.specs.Views.{local_of}
+use Rattle.css_selector_text.specs.Views.{local_of}
 use Rattle.css_selectors.proofs.meeting.has_spaced.Given as goal
 
 -- one of those from the index on is such an attribute, if one of all is

@@ -1,8 +1,8 @@
 use Rattle.std.proofs.Common.{map, ap, ◌∙◌}
-use Rattle.css_selectors.specs.Components.{selectors_from}
+use Rattle.css_selector_text.specs.Components.{selectors_from}
 use Rattle.css_selectors.specs.MarkedLists.{list_of}
-use Rattle.css_selectors.specs.Specificities.{nothing, of_test, greatest}
-use Rattle.css_selectors.specs.Views.{complex_of, list_test_of}
+use Rattle.css_selector_text.specs.Specificities.{nothing, of_test, greatest}
+use Rattle.css_selector_text.specs.Views.{complex_of, list_test_of}
 use Rattle.css_selectors.proofs.NumberingLemmas.{not_numbered, is_numbered, where_numbered, tested_numbered}
 use Rattle.css_selectors.proofs.numbering.+numbering.Goals as goal
 

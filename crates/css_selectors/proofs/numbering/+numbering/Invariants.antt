@@ -2,7 +2,7 @@ use Rattle.std.proofs.Common.{◌≡◌, map}
 use Rattle.std.specs.Vec.Iter.{into_iter_items}
 use Rattle.css_selectors.specs.MarkedLists.{list_of}
 use Rattle.css_selectors.specs.Numberings.{numbered_each, numbered_condition, numbered_part, numbered_parts}
-use Rattle.css_selectors.specs.Views.{complex_of, condition_of, part_of}
+use Rattle.css_selector_text.specs.Views.{complex_of, condition_of, part_of}
 use Rattle.css_selectors.proofs.NumberingLemmas.{before}
 use Rattle.css_selectors.proofs.numbering.+numbering.Given as goal
 

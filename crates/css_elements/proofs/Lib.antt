@@ -1,0 +1,4 @@
+mod Growing
+pub mod Languages
+pub mod ErrorWrites
+pub mod Walking

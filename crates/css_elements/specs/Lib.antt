@@ -1,0 +1,4 @@
+pub mod Rows
+pub mod TreeNodes
+pub mod Messages
+pub mod Ways

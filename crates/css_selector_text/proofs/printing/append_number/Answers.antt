@@ -1,0 +1,7 @@
+use Rattle.std.proofs.Common.{refl}
+use Rattle.css_text.proofs.round_trip.StyledWrites.{appends_on_ok}
+use Rattle.css_selector_text.proofs.printing.append_number.Goals as goal
+
+pub returns : goal.returns
+returns c =
+    appends_on_ok c.args.text.now _ _ c.write.new.self c.write.result c.write.ensures.writes refl

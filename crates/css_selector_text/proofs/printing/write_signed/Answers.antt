@@ -1,0 +1,9 @@
+use Rattle.std.proofs.Common.{◌++◌, true, refl, ap, decimal}
+use Rattle.css_text.proofs.round_trip.StyledWrites.{styled_two}
+use Rattle.css_selector_text.proofs.printing.write_signed.Goals as goal
+
+pub returns : goal.returns
+returns g c = λ flush ok.
+    let one = c.in_ok-write_str.ensures.styled flush (refl {a = true}) in
+    let two = c.write_number.ensures one.flush ok in
+    styled_two _ _ _ _ _ _ _ one two (ap (λ l. l ++ decimal c.args.number.size) c.minus.ensures)

@@ -1,0 +1,15 @@
+pub mod AttributeTests
+pub mod Codes
+pub mod Components
+pub mod reading
+pub mod NameViews
+pub mod Names
+pub mod Originating
+pub mod printing
+pub mod RefusalWords
+pub mod Simples
+pub mod Specificities
+pub mod SpecificityViews
+pub mod Runs
+pub mod Views
+pub mod internal

@@ -1,9 +1,0 @@
-use Rattle.std.proofs.Common.{true, refl}
-use Rattle.css_text.proofs.round_trip.StyledWrites.{styled_two}
-use Rattle.css_selectors.proofs.printing.write_at_end.Goals as goal
-
-pub returns : goal.returns
-returns g c = λ flush ok.
-    let one = c.in_ok-write_element.ensures flush (refl {a = true}) in
-    let two = c.write_conditions.ensures one.flush ok in
-    styled_two _ _ _ _ _ _ _ one two (rw c.as_slice.ensures.value refl)

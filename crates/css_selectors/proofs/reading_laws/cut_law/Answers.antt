@@ -1,5 +1,0 @@
-use Rattle.css_selectors.proofs.CutLemmas.{list_cut, cut_list}
-use Rattle.css_selectors.proofs.reading_laws.cut_law.Goals as goal
-
-pub returns : goal.returns
-returns c names start text all = (list_cut names start text all, cut_list names start text all)

@@ -1,5 +1,0 @@
-use Rattle.css_selectors.proofs.OwnLemmas.{own}
-use Rattle.css_selectors.proofs.reading_laws.own_law.Goals as goal
-
-pub returns : goal.returns
-returns c names start text rest p h = own names start text p rest h

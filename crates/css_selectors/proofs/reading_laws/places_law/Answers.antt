@@ -1,7 +1,0 @@
-use Rattle.std.proofs.lemmas.List.Elements.{All-contains}
-use Rattle.css_selectors.proofs.ReadEnds.{IsIn, all_in}
-use Rattle.css_selectors.proofs.reading_laws.places_law.Goals as goal
-
-pub returns : goal.returns
-returns c names start text rest all h p within =
-    All-contains (IsIn text) all p (all_in names start text rest all h) within
